@@ -1,0 +1,154 @@
+-- Filling the row of times and adding up the sum: what is done with what is left is the whole, and nothing wraps.
+use Prim.Native.Nat.{ℕ, zero, suc, _+_, _-_, _*_, _≤_, _<_, _^_}
+use mathlib.Core.Path.{_≡_, refl, ap, sym, _∙_}
+use mathlib.Core.Bool.{Bool, true, false, cond}
+use mathlib.Core.Logic.{⊎-elim}
+use mathlib.Core.List.{List, [], _∷_, _++_, append-assoc, append-nil}
+use native.Mathlib.Omega.{arith}
+use native.Mathlib.Nat.{mul-le-mul-left}
+use native.Mathlib.Numerals.{add-one}
+use lib.ListN.{length, getD, take, drop, set, length-set, take-append-drop, drop-of-length-le}
+use lib.Seq.{drop-cons, take-suc-set, drop-set-lt, drop-drop}
+use lib.Dec.{leb}
+use borrow.Author.Tests.{leb-true}
+use Rattle.walk.specs.declared.Head.{Head}
+use Rattle.walk.specs.declared.Leg.{Leg}
+use Rattle.walk.specs.Run.{Stop, stopOf, stopsFrom, total, mostReads, lastPlace, highestTurn}
+use Rattle.walk.specs.Walk.{headAt, runRight, setOff, afterLeg, Moves, reads, timeOf, timesOf, sumOf}
+use Rattle.walk.specs.Rows.{legAt, Walkable}
+use Rattle.walk.proofs.Search.{true-or-false}
+use Rattle.walk.proofs.Accepted.{total-drop, total-end}
+use Rattle.walk.proofs.Steps.{set-off-clock}
+use Rattle.walk.proofs.Legs.{legMost, and-true-both}
+
+-- The stops read off the rows, one for each want.
+module _ (starts lengths : List ℕ) where
+  pub stops-length : (ns cs : List ℕ) → length cs ≡ length ns → length (stopsFrom starts lengths ns cs) ≡ length ns
+  unfolding stopsFrom
+  stops-length [] cs e = refl
+  stops-length (n ∷ ns) [] e = absurd (omega arith)
+  stops-length (n ∷ ns) (c ∷ cs) e = ap suc (stops-length ns cs (omega arith))
+
+  pub stop-at : (ns cs : List ℕ) → length cs ≡ length ns → (i : ℕ) → i < length ns → (d : Stop)
+      → getD (stopsFrom starts lengths ns cs) i d ≡ stopOf starts lengths (getD ns i 0) (getD cs i 0)
+  unfolding stopsFrom
+  stop-at [] cs e i l d = absurd (omega arith)
+  stop-at (n ∷ ns) [] e i l d = absurd (omega arith)
+  stop-at (n ∷ ns) (c ∷ cs) e zero l d = refl
+  stop-at (n ∷ ns) (c ∷ cs) e (suc i) l d = stop-at ns cs (omega arith) i (omega arith) d
+
+  stops-drop : (ns cs : List ℕ) → length cs ≡ length ns → (i : ℕ) → i < length ns
+      → drop i (stopsFrom starts lengths ns cs) ≡ stopOf starts lengths (getD ns i 0) (getD cs i 0) ∷ drop (i + 1) (stopsFrom starts lengths ns cs)
+  stops-drop ns cs e i l =
+      let nowhere : Stop = record { file = 0; start = 0; end = 0; count = 0 } in
+      rw (add-one, drop-cons (stopsFrom starts lengths ns cs) i nowhere (omega (arith, stops-length ns cs e)), stop-at ns cs e i l nowhere)
+
+  -- How often a file is wanted has no part in its time.
+  count-free : (price : ℕ) (h : Head) (gs : List Leg) (f c : ℕ) → timeOf price h gs (stopOf starts lengths f 0) ≡ timeOf price h gs (stopOf starts lengths f c)
+  unfolding timeOf
+  count-free price h [] f c = refl
+  count-free price h (g ∷ gs) f c = rw (count-free price (afterLeg price h g) gs f c)
+
+-- No time passes what the legs can cost.
+abbrev pub timeMost : ℕ
+timeMost = 141287244169216
+
+time-within : (turn : ℕ) → turn ≤ highestTurn → (gs : List Leg) (h : Head) → h .place ≤ lastPlace → Moves (h .place) gs
+    → ((i : ℕ) → i < length gs → legAt gs i .right ≤ lastPlace) → (s : Stop) → timeOf turn h gs s ≤ h .clock + length gs * legMost
+unfolding timeOf
+time-within turn cheap [] h near m onTape s = omega arith
+time-within turn cheap (g ∷ gs) h near m onTape s =
+    ⊎-elim here (later (time-within turn cheap gs (afterLeg turn h g) (onTape 0 (omega arith)) (m .2) (λ i l. onTape (suc i) (omega arith)) s)) (true-or-false (reads g s))
+  where
+    off : setOff turn h g .clock ≤ h .clock + turn + (h .place - g .left) + turn
+    off = set-off-clock turn h g
+
+    short : g .right ≤ lastPlace
+    short = onTape 0 (omega arith)
+
+    here : reads g s ≡ true → timeOf turn h (g ∷ gs) s ≤ h .clock + length (g ∷ gs) * legMost
+    here e =
+        let both = and-true-both (leb (g .left) (s .start)) (leb (s .end) (g .right)) e in
+        let end = leb-true (s .end) (g .right) (both .1) in
+        rw e (omega (arith, off, short, end))
+
+    later : timeOf turn (afterLeg turn h g) gs s ≤ afterLeg turn h g .clock + length gs * legMost → reads g s ≡ false
+        → timeOf turn h (g ∷ gs) s ≤ h .clock + length (g ∷ gs) * legMost
+    later rest e = rw e (omega (arith, off, short, rest, m .1))
+
+pub time-bound : (gs : List Leg) (head turn : ℕ) → Walkable gs head turn → (s : Stop) → timeOf turn (headAt head) gs s ≤ timeMost
+time-bound gs head turn w s =
+    let b = time-within turn (w .cheap) gs (headAt head) (w .near) (w .moves) (w .onTape) s in
+    omega (arith, b, w .few)
+
+pub record Filling (gs : List Leg) (head turn : ℕ) (stops : List Stop) (counts row₀ row : List ℕ) (sum i : ℕ) : Type 0 where
+  pub within : i ≤ length stops
+  pub same : length row ≡ length row₀
+  pub done : take i row ++ timesOf turn (headAt head) gs (drop i stops) ≡ timesOf turn (headAt head) gs stops
+  pub rest : drop i row ≡ drop i row₀
+  pub whole : sum + sumOf turn (headAt head) gs (drop i stops) ≡ sumOf turn (headAt head) gs stops
+  pub small : sum + timeMost * total (drop i counts) ≤ timeMost * total counts
+
+-- Nothing filled yet.
+pub filling-start : (gs : List Leg) (head turn : ℕ) (stops : List Stop) (counts row : List ℕ) → Filling gs head turn stops counts row row 0 0
+filling-start gs head turn stops counts row =
+    record { within = omega arith; same = refl; done = start row stops; rest = refl; whole = added stops; small = reads-left counts }
+  where
+    start : (row : List ℕ) (stops : List Stop) → take 0 row ++ timesOf turn (headAt head) gs (drop 0 stops) ≡ timesOf turn (headAt head) gs stops
+    start [] [] = refl
+    start [] (s ∷ ss) = refl
+    start (x ∷ row) [] = refl
+    start (x ∷ row) (s ∷ ss) = refl
+
+    added : (stops : List Stop) → 0 + sumOf turn (headAt head) gs (drop 0 stops) ≡ sumOf turn (headAt head) gs stops
+    added [] = omega arith
+    added (s ∷ ss) = omega arith
+
+    reads-left : (counts : List ℕ) → 0 + timeMost * total (drop 0 counts) ≤ timeMost * total counts
+    reads-left [] = omega arith
+    reads-left (c ∷ cs) = omega arith
+
+module _ (starts lengths ns cs : List ℕ) (equal : length cs ≡ length ns) (gs : List Leg) (head turn : ℕ) (row₀ row : List ℕ) (sum i : ℕ)
+    (p : Filling gs head turn (stopsFrom starts lengths ns cs) cs row₀ row sum i) where
+  module _ (w : Walkable gs head turn) (l : i < length ns) (t : ℕ) (is : t ≡ timeOf turn (headAt head) gs (stopOf starts lengths (getD ns i 0) 0)) where
+    pub time-small : t ≤ timeMost
+    time-small = rw is (time-bound gs head turn w (stopOf starts lengths (getD ns i 0) 0))
+
+    is-time : t ≡ timeOf turn (headAt head) gs (stopOf starts lengths (getD ns i 0) (getD cs i 0))
+    is-time = is ∙ count-free starts lengths turn (headAt head) gs (getD ns i 0) (getD cs i 0)
+
+    product-small : getD cs i 0 * t ≤ getD cs i 0 * timeMost
+    product-small = mul-le-mul-left (getD cs i 0) time-small
+
+    -- The product and the sum stay far below what a word holds.
+    pub product-fits : total cs ≤ mostReads → getD cs i 0 * t < 2 ^ 64
+    product-fits few = omega (arith, product-small, total-drop cs i (omega arith), p .small)
+
+    pub sum-fits : total cs ≤ mostReads → sum + getD cs i 0 * t < 2 ^ 64
+    sum-fits few = omega (arith, product-small, total-drop cs i (omega arith), p .small)
+
+    pub filled-one : i < length row → Filling gs head turn (stopsFrom starts lengths ns cs) cs row₀ (set row i t) (sum + getD cs i 0 * t) (i + 1)
+    unfolding timesOf sumOf
+    filled-one h =
+        record {
+          within = omega (arith, stops-length starts lengths ns cs equal);
+          same = length-set row i t ∙ p .same;
+          done = rw (add-one, take-suc-set row i t h, append-assoc, ← add-one i) (rw (is-time) (rw (stops-drop starts lengths ns cs equal i l) at (p .done)));
+          rest = rw (drop-set-lt (i + 1) row i t (omega arith), ← (drop-drop 1 i row), p .rest, drop-drop 1 i row₀);
+          whole = rw is-time (omega (arith, rw (stops-drop starts lengths ns cs equal i l) at (p .whole)));
+          small = omega (arith, product-small, total-drop cs i (omega arith), p .small);
+        }
+
+  -- All filled.
+  none-left : length ns ≤ i → drop i (stopsFrom starts lengths ns cs) ≡ []
+  none-left h = let past : length (stopsFrom starts lengths ns cs) ≤ i = omega (arith, stops-length starts lengths ns cs equal) in drop-of-length-le (stopsFrom starts lengths ns cs) past
+
+  pub filled-row : length ns ≤ i → row ≡ timesOf turn (headAt head) gs (stopsFrom starts lengths ns cs) ++ drop (length ns) row₀
+  unfolding timesOf
+  filled-row h =
+      let at : length ns ≡ i = omega (arith, p .within, stops-length starts lengths ns cs equal) in
+      rw (at, ← (p .done), none-left h, append-nil, ← (p .rest), take-append-drop)
+
+  pub filled-sum : length ns ≤ i → sum ≡ sumOf turn (headAt head) gs (stopsFrom starts lengths ns cs)
+  unfolding sumOf
+  filled-sum h = omega (arith, rw (none-left h) at (p .whole))

@@ -1,0 +1,360 @@
+-- From an accepted run and an accepted list to a walk within the limits: the list is short, its legs are a movement, and the rows hold them.
+use Prim.Native.Nat.{ℕ, zero, suc, _+_, _-_, _≤_, _<_}
+use mathlib.Core.Path.{_≡_, refl, ap, sym, _∙_}
+use mathlib.Core.Bool.{Bool, true, false, not, cond, _||_, true≢false}
+use mathlib.Core.Logic.{⊎-elim}
+use mathlib.Core.List.{List, [], _∷_, _++_, map}
+use native.Mathlib.Omega.{arith}
+use native.Mathlib.Nat.{eq-or-lt-of-le, le-of-suc-le-suc}
+use native.Mathlib.Decide.{decLt}
+use lib.ListN.{length, getD}
+use lib.Dec.{ltb, leb, eqb}
+use borrow.Author.Tests.{eqb-true, eq-eqb, ltb-false, leb-false, not-false}
+use Rattle.walk.specs.declared.Leg.{Leg}
+use Rattle.walk.specs.declared.Refusal.the-variants.{BadEntry}
+use Rattle.walk.specs.Refusals.{refuseIf, refuseAt, firstWhere}
+use Rattle.walk.specs.Run.{Run, Stop, stopsFrom, stopsOf, rightEnd, endAt, lastPlace, mostWants, highestTurn}
+use Rattle.walk.specs.Judging.{numberBefore, judgeOf}
+use Rattle.walk.specs.Walk.{Moves}
+use Rattle.walk.specs.Detours.{Detour, listOf, startOf, endOf, badAfter, firstBadEntry, listVerdict, legOf, lastSweep, legsOf}
+use Rattle.walk.specs.Rows.{SoundTable, InTable, listed, rowEntry, rowAlone, rowBad, detourLegs, sweepLegs, rowLegs, legAt, RowsFit, Walkable}
+use Rattle.walk.proofs.Search.{first-zero, any-zero, or-false-both, true-or-false}
+use Rattle.walk.proofs.Verdicts.{refuses, all-accept, accepts-if, accepts-at}
+use Rattle.walk.proofs.Accepted.{GoodWant}
+use Rattle.walk.proofs.Judged.{GoodWants, GoodRun, accepted-run}
+use Rattle.walk.proofs.Table.{table-file, named-file, start-to-end, right-end-last, right-end-row}
+use Rattle.walk.proofs.Entries.{first-bad-row, wanted-listed, listed-some}
+use Rattle.walk.proofs.Legs.{leg-of-detour, leg-of-sweep, legs-most}
+
+-- An entry that is not bad.
+pub record GoodEntry (numbers froms tos : List ℕ) (i : ℕ) : Type 0 where
+  pub fromWanted : listed numbers (getD froms i 0) ≡ true
+  pub toWanted : listed numbers (getD tos i 0) ≡ true
+  pub ordered : getD froms i 0 ≤ getD tos i 0
+  pub inner : getD numbers 0 0 < getD froms i 0
+  pub falls : (j : ℕ) → j < i → getD froms i 0 < getD froms j 0
+
+good-entry : (numbers froms tos : List ℕ) (i : ℕ) → rowBad numbers froms tos i ≡ false → GoodEntry numbers froms tos i
+good-entry numbers froms tos i e =
+    let all = or-false-both _ _ e in
+    let four = or-false-both _ _ (all .0) in
+    let three = or-false-both _ _ (four .0) in
+    let two = or-false-both _ _ (three .0) in
+    record {
+      fromWanted = not-false _ (two .0);
+      toWanted = not-false _ (two .1);
+      ordered = ltb-false (getD tos i 0) (getD froms i 0) (three .1);
+      inner = leb-false (getD froms i 0) (getD numbers 0 0) (four .1);
+      falls = λ j l. leb-false (getD froms j 0) (getD froms i 0) (or-false-both _ _ (any-zero (λ k. badAfter (rowEntry froms tos k) (rowEntry froms tos i)) i (all .1) j l) .0);
+    }
+
+pub record GoodList (numbers froms tos : List ℕ) : Type 0 where
+  pub even : length froms ≡ length tos
+  pub each : (i : ℕ) → i < length froms → GoodEntry numbers froms tos i
+
+pub accepted-list : (starts lengths ns cs froms tos : List ℕ) → length cs ≡ length ns
+    → refuses (listVerdict (stopsFrom starts lengths ns cs) froms tos) ≡ false → GoodList ns froms tos
+unfolding listVerdict
+accepted-list starts lengths ns cs froms tos same e =
+    let all =
+    all-accept
+    (refuseIf (not (eqb (length froms) (length tos))) BadEntry ∷ refuseAt (firstBadEntry (stopsFrom starts lengths ns cs) (listOf froms tos)) BadEntry ∷ [])
+    e
+    in
+    let even : length froms ≡ length tos = eqb-true _ _ (not-false _ (accepts-if _ BadEntry refl (all .0))) in
+    let none = sym (first-bad-row starts lengths ns cs froms tos same even) ∙ accepts-at _ BadEntry refl (all .1 .0) in
+    record { even = even; each = λ i l. good-entry ns froms tos i (first-zero (rowBad ns froms tos) (length froms) none i l) }
+
+-- The first number of a row is listed.
+first-listed : (numbers : List ℕ) → 0 < length numbers → listed numbers (getD numbers 0 0) ≡ true
+unfolding listed
+first-listed [] l = absurd (omega arith)
+first-listed (n ∷ ns) l = rw (eq-eqb n n refl)
+
+-- A listed number stands somewhere in the row.
+pub record Place (numbers : List ℕ) (f : ℕ) : Type 0 where
+  pub index : ℕ
+  pub within : index < length numbers
+  pub is : getD numbers index 0 ≡ f
+
+pub listed-place : (numbers : List ℕ) (f : ℕ) → listed numbers f ≡ true → Place numbers f
+unfolding listed
+listed-place [] f e = absurd (true≢false (sym e))
+listed-place (n ∷ ns) f e =
+    ⊎-elim
+    (λ here. record { index = 0; within = omega arith; is = eqb-true n f here })
+    (λ not-here. let later = listed-place ns f (rw not-here at e) in record { index = suc (later .index); within = omega (arith, later .within); is = later .is })
+    (true-or-false (eqb n f))
+
+module _ (files : ℕ) (numbers counts : List ℕ) (w : GoodWants files numbers counts) where
+  -- The numbers of accepted wants rise.
+  pub numbers-rise : (i j : ℕ) → i < j → j < length numbers → getD numbers i 0 < getD numbers j 0
+  numbers-rise i zero l h = absurd (omega arith)
+  numbers-rise i (suc j) l h =
+      ⊎-elim
+      (λ e. rw e (w .each (suc j) h .above))
+      (λ lt. let below = numbers-rise i j lt (omega arith) in omega (arith, below, w .each (suc j) h .above))
+      (eq-or-lt-of-le (le-of-suc-le-suc l))
+
+  pub numbers-order : (i j : ℕ) → i < length numbers → getD numbers i 0 < getD numbers j 0 → i < j
+  numbers-order i j h l =
+      elim (decLt i j) [
+        | yes lt ↦ lt
+        | no n ↦ ⊎-elim (λ e. absurd (apart e)) (λ lt. let back = numbers-rise j i lt h in absurd (omega arith)) (eq-or-lt-of-le (down n))
+      ]
+    where
+      down : ¬ (i < j) → j ≤ i
+      down n = omega arith
+
+      apart : j ≡ i → ⊥
+      apart e = let same : getD numbers j 0 ≡ getD numbers i 0 = ap (λ x. getD numbers x 0) e in omega arith
+
+  pub in-table : (starts : List ℕ) → files ≡ length starts → (i : ℕ) → i < length numbers → InTable starts (getD numbers i 0)
+  in-table starts e i l = record { least = w .each i l .named; most = omega (arith, w .each i l .inTable) }
+
+  listed-in-table : (starts : List ℕ) → files ≡ length starts → (f : ℕ) → listed numbers f ≡ true → InTable starts f
+  listed-in-table starts e f h = let p = listed-place numbers f h in rw (p .is) at (in-table starts e (p .index) (p .within))
+
+  -- No listed number is right of the last.
+  listed-last : (f : ℕ) → listed numbers f ≡ true → f ≤ getD numbers (length numbers - 1) 0
+  listed-last f h =
+      let p = listed-place numbers f h in
+      ⊎-elim
+      (λ e. omega (arith, sym (p .is) ∙ ap (λ x. getD numbers x 0) e))
+      (λ lt. let rise = numbers-rise (p .index) (length numbers - 1) lt (omega (arith, p .within)) in omega (arith, rise, p .is))
+      (eq-or-lt-of-le (before (p .index) (p .within)))
+    where
+      before : (i : ℕ) → i < length numbers → i ≤ length numbers - 1
+      before i l = omega arith
+
+  module _ (froms tos : List ℕ) (g : GoodList numbers froms tos) where
+    -- Starts fall among the wants, so the entry at i starts at most so far right.
+    places-fall : (i : ℕ) → i < length froms → (p : ℕ) → p < length numbers → getD numbers p 0 ≡ getD froms i 0 → p + i < length numbers
+    places-fall zero l p h e = omega arith
+    places-fall (suc i) l p h e =
+        let q = listed-place numbers (getD froms i 0) (g .each i (omega arith) .fromWanted) in
+        let bound = places-fall i (omega arith) (q .index) (q .within) (q .is) in
+        let less = numbers-order p (q .index) h (omega (arith, e, q .is, g .each (suc i) l .falls i (omega arith))) in
+        omega (arith, bound, less)
+
+    -- A well-formed list has fewer entries than there are wants.
+    pub list-short : 0 < length numbers → length froms < length numbers
+    list-short some = elim (decLt 0 (length froms)) [ yes l ↦ last l | no n ↦ omega arith ]
+      where
+        last : 0 < length froms → length froms < length numbers
+        last l =
+            let e = g .each (length froms - 1) (omega arith) in
+            let p = listed-place numbers (getD froms (length froms - 1) 0) (e .fromWanted) in
+            let bound = places-fall (length froms - 1) (omega arith) (p .index) (p .within) (p .is) in
+            let inside = numbers-order 0 (p .index) some (omega (arith, p .is, e .inner)) in
+            omega (arith, bound, inside)
+
+    pub list-none : length numbers ≡ 0 → length froms ≡ 0
+    list-none none = elim (decLt 0 (length froms)) [ yes l ↦ absurd (empty l) | no n ↦ omega arith ]
+      where
+        empty : 0 < length froms → ⊥
+        empty l = let some = listed-some numbers (getD froms 0 0) (g .each 0 l .fromWanted) in omega (arith, some)
+
+-- A movement, leg by leg: each leg turns no further right than the one before it ended.
+moves-by-leg : (p : ℕ) (gs : List Leg) → (0 < length gs → legAt gs 0 .left ≤ p) → ((i : ℕ) → i < length gs → legAt gs i .left ≤ legAt gs i .right)
+    → ((i : ℕ) → suc i < length gs → legAt gs (suc i) .left ≤ legAt gs i .right) → Moves p gs
+moves-by-leg p [] first each next = tt
+moves-by-leg p (g ∷ gs) first each next =
+    (first (omega arith), each 0 (omega arith), moves-by-leg (g .right) gs (λ l. next 0 (omega arith)) (λ i l. each (suc i) (omega arith)) (λ i l. next (suc i) (omega arith)))
+
+-- Where a wanted file starts and ends is in the table.
+module _ (starts lengths : List ℕ) where
+  start-listed : (ns cs : List ℕ) → length cs ≡ length ns → (f : ℕ) → listed ns f ≡ true → startOf (stopsFrom starts lengths ns cs) f ≡ getD starts (f - 1) 0
+  unfolding listed startOf stopsFrom
+  start-listed [] cs e f h = absurd (true≢false (sym h))
+  start-listed (n ∷ ns) [] e f h = absurd (omega arith)
+  start-listed (n ∷ ns) (c ∷ cs) e f h =
+      ⊎-elim
+      (λ here. rw here (ap (λ x. getD starts (x - 1) 0) (eqb-true n f here)))
+      (λ away. rw away (start-listed ns cs (omega arith) f (rw away at h)))
+      (true-or-false (eqb n f))
+
+  end-listed : (ns cs : List ℕ) → length cs ≡ length ns → (f : ℕ) → listed ns f ≡ true → endOf (stopsFrom starts lengths ns cs) f ≡ endAt starts lengths (f - 1)
+  unfolding listed endOf stopsFrom
+  end-listed [] cs e f h = absurd (true≢false (sym h))
+  end-listed (n ∷ ns) [] e f h = absurd (omega arith)
+  end-listed (n ∷ ns) (c ∷ cs) e f h =
+      ⊎-elim
+      (λ here. rw here (ap (λ x. endAt starts lengths (x - 1)) (eqb-true n f here)))
+      (λ away. rw away (end-listed ns cs (omega arith) f (rw away at h)))
+      (true-or-false (eqb n f))
+
+  module _ (ns cs : List ℕ) (same : length cs ≡ length ns) where
+    detours-in-rows : (froms tos : List ℕ) → length froms ≡ length tos
+        → ((i : ℕ) → i < length froms → listed ns (getD froms i 0) ≡ true) → ((i : ℕ) → i < length froms → listed ns (getD tos i 0) ≡ true)
+        → map (legOf (stopsFrom starts lengths ns cs)) (listOf froms tos) ≡ detourLegs starts lengths froms tos
+    unfolding listOf detourLegs
+    detours-in-rows [] tos even a b = refl
+    detours-in-rows (f ∷ froms) [] even a b = absurd (omega arith)
+    detours-in-rows (f ∷ froms) (t ∷ tos) even a b =
+        rw
+        (start-listed ns cs same f (a 0 (omega arith)), end-listed ns cs same t (b 0 (omega arith)))
+        (ap
+        (λ rest. record { left = getD starts (f - 1) 0; right = endAt starts lengths (t - 1) } ∷ rest)
+        (detours-in-rows froms tos (omega arith) (λ i l. a (suc i) (omega arith)) (λ i l. b (suc i) (omega arith))))
+
+  sweep-in-rows : (ns cs : List ℕ) → length cs ≡ length ns → (list : List Detour) → lastSweep (stopsFrom starts lengths ns cs) list ≡ sweepLegs starts lengths ns
+  unfolding lastSweep stopsFrom sweepLegs
+  sweep-in-rows [] cs same list = refl
+  sweep-in-rows (n ∷ ns) [] same list = absurd (omega arith)
+  sweep-in-rows (n ∷ ns) (c ∷ cs) same list =
+      ap (λ e. record { left = getD starts (n - 1) 0; right = e } ∷ []) (right-end-last starts lengths n ns (c ∷ cs) same)
+
+-- The legs of an accepted list are those that the rows hold.
+pub legs-in-rows : (starts lengths ns cs froms tos : List ℕ) → length cs ≡ length ns → GoodList ns froms tos
+    → legsOf (stopsFrom starts lengths ns cs) (listOf froms tos) ≡ rowLegs starts lengths ns froms tos
+unfolding legsOf rowLegs
+legs-in-rows starts lengths ns cs froms tos same g =
+    rw (
+      detours-in-rows starts lengths ns cs same froms tos (g .even) (λ i l. g .each i l .fromWanted) (λ i l. g .each i l .toWanted),
+      sweep-in-rows starts lengths ns cs same (listOf froms tos),
+    )
+
+module _ (r : Run) (run : GoodRun r) (froms tos : List ℕ) (g : GoodList (r .numbers) froms tos) where
+  gs : List Leg
+  gs = rowLegs (r .starts) (r .lengths) (r .numbers) froms tos
+
+  pub rows-fit : RowsFit (r .starts) (r .lengths) (r .numbers) froms tos
+  rows-fit =
+      record {
+        table = run .files .table;
+        even = g .even;
+        wants = in-table _ _ _ (run .wants) (r .starts) refl;
+        lefts = λ i l. listed-in-table _ _ _ (run .wants) (r .starts) refl (getD froms i 0) (g .each i l .fromWanted);
+        rights = λ i l. listed-in-table _ _ _ (run .wants) (r .starts) refl (getD tos i 0) (g .each i l .toWanted);
+      }
+
+  -- A detour's leg and the sweep's, by their files.
+  detour-is : (i : ℕ) → i < length froms
+      → (legAt gs i .left ≡ getD (r .starts) (getD froms i 0 - 1) 0) × (legAt gs i .right ≡ endAt (r .starts) (r .lengths) (getD tos i 0 - 1))
+  unfolding gs
+  detour-is i l =
+      let e = sym (leg-of-detour (r .starts) (r .lengths) (r .numbers) froms tos (g .even) i l) in
+      (ap (λ x. x .left) e, ap (λ x. x .right) e)
+
+  last : ℕ
+  last = getD (r .numbers) (length (r .numbers) - 1) 0
+
+  record Sweep (i : ℕ) : Type 0 where
+    some : 0 < length (r .numbers)
+    leftIs : legAt gs i .left ≡ getD (r .starts) (getD (r .numbers) 0 0 - 1) 0
+    rightIs : legAt gs i .right ≡ endAt (r .starts) (r .lengths) (last - 1)
+
+  sweep-is : (i : ℕ) → length froms ≤ i → i < length gs → Sweep i
+  unfolding gs last
+  sweep-is i l h =
+      let e = leg-of-sweep (r .starts) (r .lengths) (r .numbers) froms tos (g .even) i l h in
+      record { some = e .0; leftIs = ap (λ x. x .left) (sym (e .1)); rightIs = ap (λ x. x .right) (sym (e .1)) }
+
+  few-legs : length gs ≤ length froms + 1
+  unfolding gs
+  few-legs = legs-most (r .starts) (r .lengths) (r .numbers) froms tos (g .even)
+
+  -- From the start of one file of the table to the end of another at or right of it.
+  reach : (f h : ℕ) → InTable (r .starts) f → InTable (r .starts) h → f ≤ h → getD (r .starts) (f - 1) 0 ≤ endAt (r .starts) (r .lengths) (h - 1)
+  reach = start-to-end (r .starts) (r .lengths) (run .files .table)
+
+  want-in : (i : ℕ) → i < length (r .numbers) → InTable (r .starts) (getD (r .numbers) i 0)
+  want-in = rows-fit .wants
+
+  last-in : 0 < length (r .numbers) → InTable (r .starts) last
+  unfolding last
+  last-in some = want-in (length (r .numbers) - 1) (omega arith)
+
+  first-to-last : 0 < length (r .numbers) → getD (r .numbers) 0 0 ≤ last
+  unfolding last
+  first-to-last some = listed-last _ _ _ (run .wants) (getD (r .numbers) 0 0) (first-listed (r .numbers) some)
+
+  listed-to-last : (f : ℕ) → listed (r .numbers) f ≡ true → f ≤ last
+  unfolding last
+  listed-to-last f h = listed-last _ _ _ (run .wants) f h
+
+  leg-forth : (i : ℕ) → i < length gs → legAt gs i .left ≤ legAt gs i .right
+  leg-forth i h = elim (decLt i (length froms)) [ yes l ↦ in-list l | no n ↦ in-sweep (sweep-is i (omega arith) h) ]
+    where
+      in-list : i < length froms → legAt gs i .left ≤ legAt gs i .right
+      in-list l =
+          let e = detour-is i l in
+          let way = reach (getD froms i 0) (getD tos i 0) (rows-fit .lefts i l) (rows-fit .rights i l) (g .each i l .ordered) in
+          omega (arith, e .0, e .1, way)
+
+      in-sweep : Sweep i → legAt gs i .left ≤ legAt gs i .right
+      in-sweep s =
+          let way = reach (getD (r .numbers) 0 0) last (want-in 0 (s .some)) (last-in (s .some)) (first-to-last (s .some)) in
+          omega (arith, s .leftIs, s .rightIs, way)
+
+  leg-back : (i : ℕ) → suc i < length gs → legAt gs (suc i) .left ≤ legAt gs i .right
+  leg-back i h = elim (decLt (suc i) (length froms)) [ yes l ↦ in-list l | no n ↦ in-sweep (sweep-is (suc i) (omega arith) h) ]
+    where
+      here : i < length froms
+      here = omega (arith, few-legs)
+
+      in-list : suc i < length froms → legAt gs (suc i) .left ≤ legAt gs i .right
+      in-list l =
+          let way = reach (getD froms (suc i) 0) (getD tos i 0) (rows-fit .lefts (suc i) l) (rows-fit .rights i here) (omega (arith, g .each (suc i) l .falls i (omega arith), g .each i here .ordered)) in
+          omega (arith, detour-is (suc i) l .0, detour-is i here .1, way)
+
+      in-sweep : Sweep (suc i) → legAt gs (suc i) .left ≤ legAt gs i .right
+      in-sweep s =
+          let way = reach (getD (r .numbers) 0 0) (getD tos i 0) (want-in 0 (s .some)) (rows-fit .rights i here) (omega (arith, g .each i here .inner, g .each i here .ordered)) in
+          omega (arith, s .leftIs, detour-is i here .1, way)
+
+  right-is-last : 0 < length (r .numbers) → endAt (r .starts) (r .lengths) (last - 1) ≡ rightEnd (stopsOf r)
+  unfolding last
+  right-is-last some = right-end-row (r .starts) (r .lengths) (r .numbers) (r .counts) (omega arith) (sym (run .wants .equal))
+
+  leg-first : 0 < length gs → legAt gs 0 .left ≤ r .head
+  leg-first h = elim (decLt 0 (length froms)) [ yes l ↦ in-list l | no n ↦ in-sweep (sweep-is 0 (omega arith) h) ]
+    where
+      in-list : 0 < length froms → legAt gs 0 .left ≤ r .head
+      in-list l =
+          let e = g .each 0 l in
+          let some = listed-some (r .numbers) (getD froms 0 0) (e .fromWanted) in
+          let way = reach (getD froms 0 0) last (rows-fit .lefts 0 l) (last-in some) (listed-to-last (getD froms 0 0) (e .fromWanted)) in
+          omega (arith, detour-is 0 l .0, way, right-is-last some, run .start .past)
+
+      in-sweep : Sweep 0 → legAt gs 0 .left ≤ r .head
+      in-sweep s =
+          let way = reach (getD (r .numbers) 0 0) last (want-in 0 (s .some)) (last-in (s .some)) (first-to-last (s .some)) in
+          omega (arith, s .leftIs, way, right-is-last (s .some), run .start .past)
+
+  leg-on-tape : (i : ℕ) → i < length gs → legAt gs i .right ≤ lastPlace
+  leg-on-tape i h = elim (decLt i (length froms)) [ yes l ↦ in-list l | no n ↦ in-sweep (sweep-is i (omega arith) h) ]
+    where
+      ends : (f : ℕ) → InTable (r .starts) f → endAt (r .starts) (r .lengths) (f - 1) ≤ lastPlace
+      ends f e = named-file (r .starts) (r .lengths) (run .files .table) f e .ends
+
+      in-list : i < length froms → legAt gs i .right ≤ lastPlace
+      in-list l = omega (arith, detour-is i l .1, ends (getD tos i 0) (rows-fit .rights i l))
+
+      in-sweep : Sweep i → legAt gs i .right ≤ lastPlace
+      in-sweep s = omega (arith, s .rightIs, ends last (last-in (s .some)))
+
+  legs-within : length gs ≤ mostWants
+  legs-within = elim (decLt 0 (length (r .numbers))) [ yes l ↦ omega (arith, few-legs, list-short _ _ _ (run .wants) froms tos g l, run .wants .few) | no n ↦ none n ]
+    where
+      none : ¬ (0 < length (r .numbers)) → length gs ≤ mostWants
+      none n = omega (arith, few-legs, list-none _ _ _ (run .wants) froms tos g (omega arith))
+
+  -- The walk of an accepted list in an accepted run is within the limits.
+  pub walkable : Walkable (rowLegs (r .starts) (r .lengths) (r .numbers) froms tos) (r .head) (r .turn)
+  unfolding gs
+  walkable =
+      record {
+        moves = moves-by-leg (r .head) gs leg-first leg-forth leg-back;
+        few = legs-within;
+        onTape = leg-on-tape;
+        near = run .start .near;
+        cheap = run .start .cheap;
+      }
+
+  pub list-fits : length froms ≤ length (r .numbers)
+  list-fits = elim (decLt 0 (length (r .numbers))) [ yes l ↦ omega (arith, list-short _ _ _ (run .wants) froms tos g l) | no n ↦ none n ]
+    where
+      none : ¬ (0 < length (r .numbers)) → length froms ≤ length (r .numbers)
+      none n = omega (arith, list-none _ _ _ (run .wants) froms tos g (omega arith))

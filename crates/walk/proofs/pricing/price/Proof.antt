@@ -1,0 +1,157 @@
+-- `walk::pricing::price` meets its contract: the first check that refuses answers; where none does, the walk's numbers.
+-- Assumes nothing.
+use borrow.Author.Needs.{needs}
+use mathlib.Core.Path.{_≡_, sym}
+use native.Mathlib.Omega.{arith}
+use Rattle.walk.specs.Run.{Run, runOf, stopsOf}
+use Rattle.walk.specs.Detours.{listVerdict}
+use Rattle.walk.proofs.Judged.{GoodRun}
+use Rattle.walk.proofs.Walks.{GoodList, rows-fit, walkable, list-fits}
+use Rattle.walk.proofs.Priced.{run-refused, run-good, list-refused, list-good, row-refused, priced}
+use Rattle.walk.proofs.pricing.price.Statement.{statement}
+use Rattle.walk.proofs.pricing.price.Tie as tie
+
+-- The run, the list and the row that were handed in.
+abbrev run : tie.Start → Run
+run s = let a = s .args in runOf (a .starts .now) (a .lengths .now) (a .numbers .now) (a .counts .now) (a .head) (a .turn)
+
+judge-requires : tie.Need-judge-requires
+judge-requires c κs = search needs
+
+refused-requires : tie.Need-refused-requires
+refused-requires c κs = search needs
+
+refusal-requires : tie.Need-refusal-requires
+refusal-requires c κs = search needs
+
+returns : tie.Need-returns
+returns c =
+    let j = c .before .before .before in
+    let s = j .before .before .before .before .before .before .before .before in
+    run-refused (run s) (s .args .froms .now) (s .args .tos .now) (s .args .times .now) _ _ (j .judge .ensures) (c .before .before .refused .ensures) (c .before .if1 .taken) _ (c .refusal .ensures)
+
+judge-list-requires : tie.Need-judge-list-requires
+judge-list-requires c κs = search needs
+
+refused-requires-2 : tie.Need-refused-requires-2
+refused-requires-2 c κs = search needs
+
+refusal-requires-2 : tie.Need-refusal-requires-2
+refusal-requires-2 c κs = search needs
+
+-- Past the first check the run is good; and the list's verdict is that of its stops.
+abbrev start : tie.Else1 → tie.Start
+start e = e .before .before .before .before .before .before .before .before .before .before
+
+good-run : (e : tie.Else1) → GoodRun (run (start e))
+good-run e =
+    let s = start e in
+    run-good (run s) (s .args .froms .now) (s .args .tos .now) (s .args .times .now) _ _ (e .before .before .judge .ensures) (e .before .refused .ensures) (e .if1 .left)
+
+list-is : (c : tie.After-judge-list) → let s = start (c .before) in c .judge-list .result ≡ listVerdict (stopsOf (run s)) (s .args .froms .now) (s .args .tos .now)
+list-is c =
+    let s = start (c .before) in
+    c .judge-list .ensures (s .args .starts .now) (s .args .lengths .now) (s .args .counts .now) (sym (good-run (c .before) .wants .equal))
+
+returns-2 : tie.Need-returns-2
+returns-2 c =
+    let l = c .before .before .before in
+    let e = l .before in
+    let s = start e in
+    list-refused (run s) (s .args .froms .now) (s .args .tos .now) (s .args .times .now) _ _ (e .before .before .judge .ensures) (e .before .refused .ensures)
+    _ _ (list-is l) (c .before .before .refused2 .ensures) (e .if1 .left) (c .before .if2 .taken) _ (c .refusal2 .ensures)
+
+refusal-requires-3 : tie.Need-refusal-requires-3
+refusal-requires-3 c κs = search needs
+
+returns-3 : tie.Need-returns-3
+returns-3 c =
+    let d = c .before .before in
+    let l = d .before .before in
+    let e = l .before in
+    let s = start e in
+    row-refused (run s) (s .args .froms .now) (s .args .tos .now) (s .args .times .now) _ _ (e .before .before .judge .ensures) (e .before .refused .ensures)
+    _ _ (list-is l) (d .before .refused2 .ensures) (e .if1 .left) (d .if2 .left) (c .before .if3 .taken) _ (c .refusal3 .ensures)
+
+-- Past the second check the list is good too.
+good-list : (d : tie.Else2) → let s = start (d .before .before .before) in GoodList (s .args .numbers .now) (s .args .froms .now) (s .args .tos .now)
+good-list d =
+    let l = d .before .before in
+    let e = l .before in
+    let s = start e in
+    list-good (run s) (s .args .froms .now) (s .args .tos .now) (s .args .times .now) _ _ (e .before .before .judge .ensures) (e .before .refused .ensures)
+    _ _ (list-is l) (d .before .refused2 .ensures) (e .if1 .left) (d .if2 .left)
+
+leg-count-requires : tie.Need-leg-count-requires
+leg-count-requires c κs =
+    let d = c .before in
+    let e = d .before .before .before in
+    let s = start e in
+    list-fits (run s) (good-run e) (s .args .froms .now) (s .args .tos .now) (good-list d)
+
+fill-times-requires : tie.Need-fill-times-requires
+fill-times-requires c κs =
+    let d = c .before .before .before in
+    let e = d .before .before .before in
+    let s = start e in
+    let r = good-run e in
+    let g = good-list d in (
+      rows-fit (run s) r (s .args .froms .now) (s .args .tos .now) g,
+      (
+        walkable (run s) r (s .args .froms .now) (s .args .tos .now) g,
+        (
+          c .before .leg-count .ensures (s .args .starts .now) (s .args .lengths .now) (s .args .tos .now) (g .even),
+          ((sym (r .wants .equal), r .wants .reads), c .before .before .if3 .left),
+        ),
+      ),
+    )
+
+walk-end-requires : tie.Need-walk-end-requires
+walk-end-requires c κs =
+    let n = c .before .before .before .before in
+    let d = n .before .before in
+    let e = d .before .before .before in
+    let s = start e in
+    let r = good-run e in
+    let g = good-list d in (
+      rows-fit (run s) r (s .args .froms .now) (s .args .tos .now) g,
+      (
+        walkable (run s) r (s .args .froms .now) (s .args .tos .now) g,
+        n .leg-count .ensures (s .args .starts .now) (s .args .lengths .now) (s .args .tos .now) (g .even),
+      ),
+    )
+
+same-length : tie.Need-same-length
+same-length c = search needs
+
+returns-4 : tie.Need-returns-4
+returns-4 c =
+    let f = c .before .before .before in
+    let n = f .before .before in
+    let d = n .before .before in
+    let l = d .before .before in
+    let e = l .before in
+    let s = start e in
+    priced (run s) (s .args .froms .now) (s .args .tos .now) (s .args .times .now) _ _ (e .before .before .judge .ensures) (e .before .refused .ensures)
+    _ _ (list-is l) (d .before .refused2 .ensures) (e .if1 .left) (d .if2 .left) (n .before .if3 .left)
+    _ (f .fill-times .ensures .0) _ (f .fill-times .ensures .1) _ (c .walk-end .ensures)
+
+pub price-spec : {M : Type 1} → statement M
+price-spec =
+    tie.close
+    (tie.spec
+    judge-requires
+    refused-requires
+    refusal-requires
+    returns
+    judge-list-requires
+    refused-requires-2
+    refusal-requires-2
+    returns-2
+    refusal-requires-3
+    returns-3
+    leg-count-requires
+    fill-times-requires
+    walk-end-requires
+    same-length
+    returns-4)

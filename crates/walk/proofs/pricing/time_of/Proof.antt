@@ -1,0 +1,123 @@
+-- `walk::pricing::time_of` meets its contract: no leg so far has read the file, and the legs that are left decide its time.
+-- Assumes nothing.
+use borrow.Author.Needs.{needs}
+use Prim.Native.Nat.{_-_, _<_, _≤_}
+use mathlib.Core.Path.{_≡_}
+use mathlib.Core.Bool.{_&&_}
+use native.Mathlib.Omega.{arith}
+use lib.ListN.{length}
+use lib.Dec.{leb}
+use Rattle.walk.specs.Run.{stopOf}
+use Rattle.walk.specs.Rows.{rowLegs}
+use Rattle.walk.proofs.Legs.{Timing, timing-start, timing-on, read-now, reads-within, never-read, next-leg, NextLeg}
+use Rattle.walk.proofs.pricing.time_of.Statement.{statement}
+use Rattle.walk.proofs.pricing.time_of.Tie as tie
+
+abbrev Inv-loop : tie.InvT-loop
+Inv-loop starts lengths numbers froms tos head turn file legs start end h₀ i₀ h i =
+    Timing (rowLegs starts lengths numbers froms tos) head turn (stopOf starts lengths file 0) h i
+
+abbrev μ-loop : tie.MeasureT-loop
+μ-loop starts lengths numbers froms tos head turn file legs start end h₀ i₀ h i = legs - i
+
+file-start-requires : tie.Need-file-start-requires Inv-loop μ-loop
+file-start-requires c κs = search needs
+
+file-end-requires : tie.Need-file-end-requires Inv-loop μ-loop
+file-end-requires c κs =
+    let s = c .before .before .before .before .before .before in
+    (s .pre .0 .table, s .pre .1 .1 .0)
+
+at-requires : tie.Need-at-requires Inv-loop μ-loop
+at-requires c κs = search needs
+
+loop-holds : tie.Need-loop-holds Inv-loop μ-loop
+loop-holds c =
+    let s = c .before .before .before .before .before .before .before .before in
+    rw (c .at .ensures) (timing-start _ _ _ _ (s .pre .1 .0))
+
+leg-at-requires : tie.Need-leg-at-requires Inv-loop μ-loop
+leg-at-requires c κs =
+    let s = c .before .before .before .before .before .before .before .before .before .before in
+    (s .pre .0, omega (arith, s .pre .1 .1 .1, c .loop-test .taken))
+
+-- The leg that was looked up is the walk's next.
+next : (c : tie.After-leg-at Inv-loop μ-loop)
+    → let a = c .before .before .before .before .before .before .before .before .before .before .before .args in
+    NextLeg (rowLegs (a .starts .now) (a .lengths .now) (a .numbers .now) (a .froms .now) (a .tos .now)) (c .before .before .loop .h) (c .before .before .loop .i) (a .turn) (c .leg-at .result)
+next c =
+    let s = c .before .before .before .before .before .before .before .before .before .before .before in
+    next-leg _ _ _ (s .pre .1 .0) _ _ (c .before .before .loop .inv .walking) (omega (arith, s .pre .1 .1 .1, c .before .loop-test .taken)) _ (c .leg-at .ensures)
+
+set-off-requires : tie.Need-set-off-requires Inv-loop μ-loop
+set-off-requires c κs = (next c .back, next c .room)
+
+reads-file-requires : tie.Need-reads-file-requires Inv-loop μ-loop
+reads-file-requires c κs = search needs
+
+-- The test of the leg is that of the definition.
+test : (c : tie.After-reads-file Inv-loop μ-loop)
+    → let a = c .before .before .before .before .before .before .before .before .before .before .before .before .before .args in
+    let s = stopOf (a .starts .now) (a .lengths .now) (a .file) 0 in
+    c .reads-file .result ≡ (leb (c .before .before .leg-at .result .left) (s .start) && leb (s .end) (c .before .before .leg-at .result .right))
+test c =
+    let e = c .before .before .before .before .before .before in
+    rw (c .reads-file .ensures, e .file-end .ensures, e .before .file-start .ensures)
+
+run-right-requires : tie.Need-run-right-requires Inv-loop μ-loop
+run-right-requires c κs =
+    let e = c .before .before .before .before .before .before .before in
+    let n = next (c .before .before .before) in
+    let r = reads-within _ _ _ _ _ _ (c .before .before .before .before .before .loop .inv) _ n _ (test (c .before)) (c .if1 .taken) in
+    rw (c .before .before .set-off .ensures, e .file-end .ensures) (omega (arith, r .0, r .1, n .off))
+
+returns : tie.Need-returns Inv-loop μ-loop
+returns c =
+    let b = c .before .before in
+    let e = b .before .before .before .before .before .before in
+    rw (c .run-right .ensures, b .before .set-off .ensures, e .file-end .ensures)
+    (read-now _ _ _ _ _ _ (b .before .before .before .before .loop .inv) _ (next (b .before .before)) _ (test b) (c .before .if1 .taken))
+
+run-right-requires-2 : tie.Need-run-right-requires-2 Inv-loop μ-loop
+run-right-requires-2 c κs = rw (c .before .before .set-off .ensures) (next (c .before .before .before) .forth, next (c .before .before .before) .off)
+
+add-i : tie.Need-add-i Inv-loop μ-loop
+add-i c =
+    let b = c .before .before in
+    omega (arith, b .before .before .before .loop-test .taken, b .before .before .before .before .before .before .before .before .before .before .before .before .before .fits .legs)
+
+loop-less : tie.Need-loop-less Inv-loop μ-loop
+loop-less c = search needs
+
+loop-again : tie.Need-loop-again Inv-loop μ-loop
+loop-again c =
+    let b = c .before .before in
+    let s = b .before .before .before .before .before .before .before .before .before .before .before .before .before in
+    rw (c .run-right2 .ensures, b .before .set-off .ensures)
+    (timing-on _ _ _ _ _ _ (b .before .before .before .before .loop .inv) _ (next (b .before .before)) _ (test b) (s .pre .1 .0) (omega (arith, s .pre .1 .1 .1, b .before .before .before .loop-test .taken)) (c .before .if1 .left))
+
+returns-2 : tie.Need-returns-2 Inv-loop μ-loop
+returns-2 c =
+    let s = c .before .before .before .before .before .before .before .before .before .before in
+    never-read _ _ _ _ _ _ (c .before .loop .inv) (omega (arith, s .pre .1 .1 .1, c .loop-test .left))
+
+pub time-of-spec : {M : Type 1} → statement M
+time-of-spec =
+    tie.close
+    (tie.spec
+    Inv-loop
+    μ-loop
+    file-start-requires
+    file-end-requires
+    at-requires
+    loop-holds
+    leg-at-requires
+    set-off-requires
+    reads-file-requires
+    run-right-requires
+    returns
+    run-right-requires-2
+    add-i
+    loop-less
+    loop-again
+    returns-2)

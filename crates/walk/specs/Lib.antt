@@ -1,0 +1,8 @@
+-- What a reader of the pricer must believe, in document 01's words. Read in this order.
+pub mod Refusals
+pub mod Run
+pub mod Judging
+pub mod Walk
+pub mod Detours
+pub mod Price
+pub mod Rows

@@ -1,0 +1,68 @@
+-- The tape and the run, and the stops: the wanted files with their places and counts, left to right.
+use Prim.Native.Nat.{ℕ, suc, zero, _+_, _-_, pred}
+use mathlib.Core.List.{List, [], _∷_}
+use lib.ListN.{length, getD}
+
+-- What is handed in. File f (from 1) starts at entry f - 1 of `starts` and is that long in `lengths`; want i names a file and how often.
+pub record Run : Type 0 where
+  pub starts : List ℕ
+  pub lengths : List ℕ
+  pub numbers : List ℕ
+  pub counts : List ℕ
+  pub head : ℕ
+  pub turn : ℕ
+
+abbrev pub runOf : List ℕ → List ℕ → List ℕ → List ℕ → ℕ → ℕ → Run
+runOf starts lengths numbers counts head turn =
+    record { starts = starts; lengths = lengths; numbers = numbers; counts = counts; head = head; turn = turn }
+
+-- The limits of 01, "The tape and the run". All of them are inclusive.
+abbrev pub mostFiles : ℕ
+mostFiles = 4096
+
+abbrev pub mostWants : ℕ
+mostWants = 64
+
+abbrev pub mostReads : ℕ
+mostReads = 1024
+
+abbrev pub lastPlace : ℕ
+lastPlace = 1099511627776
+
+abbrev pub highestTurn : ℕ
+highestTurn = 4294967296
+
+-- The total of a row, as a whole number.
+abbrev pub total : List ℕ → ℕ
+total [] = 0
+total (c ∷ cs) = c + total cs
+
+-- The end of the file at an index of the table, r = l + s, as a whole number.
+abbrev pub endAt : List ℕ → List ℕ → ℕ → ℕ
+endAt starts lengths i = getD starts i 0 + getD lengths i 0
+
+-- A wanted file: its number, its start, its end and how often it is wanted.
+pub record Stop : Type 0 where
+  pub file : ℕ
+  pub start : ℕ
+  pub end : ℕ
+  pub count : ℕ
+
+abbrev pub stopOf : List ℕ → List ℕ → ℕ → ℕ → Stop
+stopOf starts lengths f c =
+    record { file = f; start = getD starts (f - 1) 0; end = endAt starts lengths (f - 1); count = c }
+
+unfoldable pub stopsFrom : List ℕ → List ℕ → List ℕ → List ℕ → List Stop
+stopsFrom starts lengths [] cs = []
+stopsFrom starts lengths (f ∷ fs) [] = []
+stopsFrom starts lengths (f ∷ fs) (c ∷ cs) = stopOf starts lengths f c ∷ stopsFrom starts lengths fs cs
+
+-- The stops of a run. Unwanted files and gaps disappear here and nowhere else.
+abbrev pub stopsOf : Run → List Stop
+stopsOf r = stopsFrom (r .starts) (r .lengths) (r .numbers) (r .counts)
+
+-- The end of the rightmost stop; 0 where there is none.
+unfoldable pub rightEnd : List Stop → ℕ
+rightEnd [] = 0
+rightEnd (s ∷ []) = s .end
+rightEnd (s ∷ t ∷ ts) = rightEnd (t ∷ ts)

@@ -1,0 +1,259 @@
+// The pricer: refusals 1 to 7, 10 and 8, then one time for each want, the sum, and where and when the walk ends.
+// It holds nothing per leg or file: only the head and positions in the caller's rows.
+ghost use mathlib.Core.Path.{_≡_};
+ghost use mathlib.Core.List.{List, _++_};
+ghost use Prim.Native.Nat.{ℕ, _-_, _≤_, _<_};
+ghost use mathlib.Core.Bool.{_&&_};
+ghost use lib.ListN.{length, getD, drop};
+ghost use lib.Dec.{leb};
+ghost use Rattle.walk.specs.Run.{runOf, total, endAt, stopOf, stopsFrom, mostReads};
+ghost use Rattle.walk.specs.Walk.{headAt, walked, timeOf, timesOf, sumOf};
+ghost use Rattle.walk.specs.Price.{refusalAnswer, priceAnswer, priceRow};
+ghost use Rattle.walk.specs.Rows.{SoundTable, InTable, RowsFit, Walkable, rowLegs, legAt};
+use crate::Answer;
+use crate::Head;
+use crate::Leg;
+use crate::Refusal;
+use crate::Verdict;
+use crate::judging::file_end;
+use crate::judging::file_start;
+use crate::judging::judge;
+use crate::lists::judge_list;
+use crate::refused;
+
+// How many legs a list has: its detours, and the last sweep where anything is wanted.
+fn leg_count(numbers: &[u64], froms: &[u64]) -> usize
+    requires { ⌜ length (now froms) ≤ length (now numbers) ⌝ }
+    ensures { λ r. ⌜ ((s l tos : List ℕ) → length (now (froms .entry)) ≡ length tos → r ≡ length (rowLegs s l (now (numbers .entry)) (now (froms .entry)) tos)) ⌝ }
+{
+    if numbers.len() == 0 {
+        return 0;
+    }
+    froms.len() + 1
+}
+
+// A detour's leg: left to the start of one file, right to the end of another.
+fn detour_leg(starts: &[u64], lengths: &[u64], from: u64, to: u64) -> Leg
+    requires { ⌜ SoundTable (now starts) (now lengths) ⌝ }
+    requires { ⌜ InTable (now starts) from ⌝ }
+    requires { ⌜ InTable (now starts) to ⌝ }
+    ensures { λ r. ⌜ r ≡ record { left = getD (now (starts .entry)) (from - 1) 0; right = endAt (now (starts .entry)) (now (lengths .entry)) (to - 1) } ⌝ }
+{
+    let left = file_start(starts, from);
+    let right = file_end(starts, lengths, to);
+    Leg { left, right }
+}
+
+// The last sweep: from the leftmost wanted file to the end of the rightmost.
+fn sweep_leg(starts: &[u64], lengths: &[u64], numbers: &[u64]) -> Leg
+    requires { ⌜ SoundTable (now starts) (now lengths) ⌝ }
+    requires { ⌜ ((i : ℕ) → i < length (now numbers) → InTable (now starts) (getD (now numbers) i 0)) ⌝ }
+    requires { ⌜ 0 < length (now numbers) ⌝ }
+    ensures { λ r. ⌜ r ≡ record { left = getD (now (starts .entry)) (getD (now (numbers .entry)) 0 0 - 1) 0; right = endAt (now (starts .entry)) (now (lengths .entry)) (getD (now (numbers .entry)) (length (now (numbers .entry)) - 1) 0 - 1) } ⌝ }
+{
+    let last = numbers.len() - 1;
+    detour_leg(starts, lengths, numbers[0], numbers[last])
+}
+
+// A leg of the walk, counted from 0: a detour, or the last sweep.
+fn leg_at(
+    starts: &[u64],
+    lengths: &[u64],
+    numbers: &[u64],
+    froms: &[u64],
+    tos: &[u64],
+    i: usize,
+) -> Leg
+    requires { ⌜ RowsFit (now starts) (now lengths) (now numbers) (now froms) (now tos) ⌝ }
+    requires { ⌜ i < length (rowLegs (now starts) (now lengths) (now numbers) (now froms) (now tos)) ⌝ }
+    ensures { λ r. ⌜ r ≡ legAt (rowLegs (now (starts .entry)) (now (lengths .entry)) (now (numbers .entry)) (now (froms .entry)) (now (tos .entry))) i ⌝ }
+{
+    if i < froms.len() {
+        return detour_leg(starts, lengths, froms[i], tos[i]);
+    }
+    sweep_leg(starts, lengths, numbers)
+}
+
+// Whether a leg's rightward run starts at or left of a file's start and ends at or right of its end.
+fn reads_file(leg: Leg, start: u64, end: u64) -> bool
+    ensures { λ r. ⌜ r ≡ (leb (leg .left) start && leb end (leg .right)) ⌝ }
+{
+    let left = leg.left;
+    let right = leg.right;
+    if left <= start {
+        return end <= right;
+    }
+    false
+}
+
+// When the walk reads a file of the table: walk the legs until the one that reads it.
+fn time_of(
+    starts: &[u64],
+    lengths: &[u64],
+    numbers: &[u64],
+    froms: &[u64],
+    tos: &[u64],
+    head: u64,
+    turn: u64,
+    file: u64,
+    legs: usize,
+) -> u64
+    requires { ⌜ RowsFit (now starts) (now lengths) (now numbers) (now froms) (now tos) ⌝ }
+    requires { ⌜ Walkable (rowLegs (now starts) (now lengths) (now numbers) (now froms) (now tos)) head turn ⌝ }
+    requires { ⌜ InTable (now starts) file ⌝ }
+    requires { ⌜ legs ≡ length (rowLegs (now starts) (now lengths) (now numbers) (now froms) (now tos)) ⌝ }
+    ensures { λ r. ⌜ r ≡ timeOf turn (headAt head) (rowLegs (now (starts .entry)) (now (lengths .entry)) (now (numbers .entry)) (now (froms .entry)) (now (tos .entry))) (stopOf (now (starts .entry)) (now (lengths .entry)) file 0) ⌝ }
+{
+    let start = file_start(starts, file);
+    let end = file_end(starts, lengths, file);
+    let mut h = Head::at(head);
+    let mut i: usize = 0;
+    while i < legs {
+        let leg = leg_at(starts, lengths, numbers, froms, tos, i);
+        let right = leg.right;
+        let out = h.set_off(turn, leg);
+        if reads_file(leg, start, end) {
+            let there = out.run_right(end);
+            return there.clock;
+        }
+        h = out.run_right(right);
+        i += 1;
+    }
+    0
+}
+
+// The head at the end of the walk.
+fn walk_end(
+    starts: &[u64],
+    lengths: &[u64],
+    numbers: &[u64],
+    froms: &[u64],
+    tos: &[u64],
+    head: u64,
+    turn: u64,
+    legs: usize,
+) -> Head
+    requires { ⌜ RowsFit (now starts) (now lengths) (now numbers) (now froms) (now tos) ⌝ }
+    requires { ⌜ Walkable (rowLegs (now starts) (now lengths) (now numbers) (now froms) (now tos)) head turn ⌝ }
+    requires { ⌜ legs ≡ length (rowLegs (now starts) (now lengths) (now numbers) (now froms) (now tos)) ⌝ }
+    ensures { λ r. ⌜ r ≡ walked turn (headAt head) (rowLegs (now (starts .entry)) (now (lengths .entry)) (now (numbers .entry)) (now (froms .entry)) (now (tos .entry))) ⌝ }
+{
+    let mut h = Head::at(head);
+    let mut i: usize = 0;
+    while i < legs {
+        let leg = leg_at(starts, lengths, numbers, froms, tos, i);
+        let right = leg.right;
+        h = h.set_off(turn, leg).run_right(right);
+        i += 1;
+    }
+    h
+}
+
+// One time for each want into the first entries of the row; the sum of count times time.
+fn fill_times(
+    starts: &[u64],
+    lengths: &[u64],
+    numbers: &[u64],
+    counts: &[u64],
+    froms: &[u64],
+    tos: &[u64],
+    head: u64,
+    turn: u64,
+    legs: usize,
+    times: &mut [u64],
+) -> u64
+    requires { ⌜ RowsFit (now starts) (now lengths) (now numbers) (now froms) (now tos) ⌝ }
+    requires { ⌜ Walkable (rowLegs (now starts) (now lengths) (now numbers) (now froms) (now tos)) head turn ⌝ }
+    requires { ⌜ legs ≡ length (rowLegs (now starts) (now lengths) (now numbers) (now froms) (now tos)) ⌝ }
+    requires { ⌜ (length (now counts) ≡ length (now numbers)) × (total (now counts) ≤ mostReads) ⌝ }
+    requires { ⌜ length (now numbers) ≤ length (now times) ⌝ }
+    ensures { λ r. ⌜ r ≡ sumOf turn (headAt head) (rowLegs (now (starts .entry)) (now (lengths .entry)) (now (numbers .entry)) (now (froms .entry)) (now (tos .entry))) (stopsFrom (now (starts .entry)) (now (lengths .entry)) (now (numbers .entry)) (now (counts .entry))) ⌝ }
+    ensures { λ r. ⌜ now (times .exit) ≡ timesOf turn (headAt head) (rowLegs (now (starts .entry)) (now (lengths .entry)) (now (numbers .entry)) (now (froms .entry)) (now (tos .entry))) (stopsFrom (now (starts .entry)) (now (lengths .entry)) (now (numbers .entry)) (now (counts .entry))) ++ drop (length (now (numbers .entry))) (now (times .entry)) ⌝ }
+{
+    let mut sum: u64 = 0;
+    let mut i: usize = 0;
+    while i < numbers.len() {
+        let time = time_of(
+            starts,
+            lengths,
+            numbers,
+            froms,
+            tos,
+            head,
+            turn,
+            numbers[i],
+            legs,
+        );
+        times[i] = time;
+        sum += counts[i] * time;
+        i += 1;
+    }
+    sum
+}
+
+fn refusal(v: Verdict) -> Answer
+    ensures { λ r. ⌜ r ≡ refusalAnswer v ⌝ }
+{
+    let kind = v.refusal;
+    Answer {
+        refusal: kind,
+        place: v.place,
+        sum: 0,
+        finish: 0,
+        end: 0,
+        detours: 0,
+    }
+}
+
+// The price of a detour list for a run. All is judged before the first write.
+pub fn price(
+    starts: &[u64],
+    lengths: &[u64],
+    numbers: &[u64],
+    counts: &[u64],
+    head: u64,
+    turn: u64,
+    froms: &[u64],
+    tos: &[u64],
+    times: &mut [u64],
+) -> Answer
+    ensures { λ r. ⌜ r ≡ priceAnswer (runOf (now (starts .entry)) (now (lengths .entry)) (now (numbers .entry)) (now (counts .entry)) head turn) (now (froms .entry)) (now (tos .entry)) (now (times .entry)) ⌝ }
+    ensures { λ r. ⌜ now (times .exit) ≡ priceRow (runOf (now (starts .entry)) (now (lengths .entry)) (now (numbers .entry)) (now (counts .entry)) head turn) (now (froms .entry)) (now (tos .entry)) (now (times .entry)) ⌝ }
+{
+    let run = judge(starts, lengths, numbers, counts, head, turn);
+    if refused(run) {
+        return refusal(run);
+    }
+    let list = judge_list(numbers, froms, tos);
+    if refused(list) {
+        return refusal(list);
+    }
+    if times.len() < numbers.len() {
+        return refusal(Verdict {
+            refusal: Refusal::ShortRow,
+            place: 0,
+        });
+    }
+    let legs = leg_count(numbers, froms);
+    let sum = fill_times(
+        starts,
+        lengths,
+        numbers,
+        counts,
+        froms,
+        tos,
+        head,
+        turn,
+        legs,
+        times,
+    );
+    let last = walk_end(starts, lengths, numbers, froms, tos, head, turn, legs);
+    Answer {
+        refusal: Refusal::Accepted,
+        place: 0,
+        sum,
+        finish: last.clock,
+        end: last.place,
+        detours: froms.len() as u64,
+    }
+}
