@@ -9,17 +9,15 @@ use native.Mathlib.Nat.{mul-le-mul-left}
 use native.Mathlib.Numerals.{add-one}
 use lib.ListN.{length, getD, take, drop, set, length-set, take-append-drop, drop-of-length-le}
 use lib.Seq.{drop-cons, take-suc-set, drop-set-lt, drop-drop}
-use lib.Dec.{leb}
-use borrow.Author.Tests.{leb-true}
 use Rattle.walk.specs.declared.Head.{Head}
 use Rattle.walk.specs.declared.Leg.{Leg}
 use Rattle.walk.specs.Run.{Stop, stopOf, stopsFrom, total, mostReads, lastPlace, highestTurn}
-use Rattle.walk.specs.Walk.{headAt, runRight, setOff, afterLeg, Moves, reads, timeOf, timesOf, sumOf}
+use Rattle.walk.specs.Walk.{headAt, runRight, setOff, afterLeg, Moves, walked, reads, timeOf, timesOf, sumOf}
 use Rattle.walk.specs.Rows.{legAt, Walkable}
 use Rattle.walk.proofs.Search.{true-or-false}
 use Rattle.walk.proofs.Accepted.{total-drop, total-end}
-use Rattle.walk.proofs.Steps.{set-off-clock}
-use Rattle.walk.proofs.Legs.{legMost, and-true-both}
+use Rattle.walk.proofs.Steps.{set-off-clock, read-inside}
+use Rattle.walk.proofs.Legs.{legMost}
 
 -- The stops read off the rows, one for each want.
 module _ (starts lengths : List ℕ) where
@@ -67,14 +65,30 @@ time-within turn cheap (g ∷ gs) h near m onTape s =
     short = onTape 0 (omega arith)
 
     here : reads g s ≡ true → timeOf turn h (g ∷ gs) s ≤ h .clock + length (g ∷ gs) * legMost
-    here e =
-        let both = and-true-both (leb (g .left) (s .start)) (leb (s .end) (g .right)) e in
-        let end = leb-true (s .end) (g .right) (both .1) in
-        rw e (omega (arith, off, short, end))
+    here e = rw e (omega (arith, off, short, read-inside g s e .1))
 
     later : timeOf turn (afterLeg turn h g) gs s ≤ afterLeg turn h g .clock + length gs * legMost → reads g s ≡ false
         → timeOf turn h (g ∷ gs) s ≤ h .clock + length (g ∷ gs) * legMost
     later rest e = rw e (omega (arith, off, short, rest, m .1))
+
+-- Nor does the walk's end.
+end-within : (turn : ℕ) → turn ≤ highestTurn → (gs : List Leg) (h : Head) → h .place ≤ lastPlace → Moves (h .place) gs
+    → ((i : ℕ) → i < length gs → legAt gs i .right ≤ lastPlace) → walked turn h gs .clock ≤ h .clock + length gs * legMost
+unfolding walked
+end-within turn cheap [] h near m onTape = omega arith
+end-within turn cheap (g ∷ gs) h near m onTape =
+    omega (
+      arith,
+      end-within turn cheap gs (afterLeg turn h g) (onTape 0 (omega arith)) (m .2) (λ i l. onTape (suc i) (omega arith)),
+      set-off-clock turn h g,
+      onTape 0 (omega arith),
+      m .1,
+    )
+
+pub end-bound : (gs : List Leg) (head turn : ℕ) → Walkable gs head turn → walked turn (headAt head) gs .clock ≤ timeMost
+end-bound gs head turn w =
+    let b = end-within turn (w .cheap) gs (headAt head) (w .near) (w .moves) (w .onTape) in
+    omega (arith, b, w .few)
 
 pub time-bound : (gs : List Leg) (head turn : ℕ) → Walkable gs head turn → (s : Stop) → timeOf turn (headAt head) gs s ≤ timeMost
 time-bound gs head turn w s =

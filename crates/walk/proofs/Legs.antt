@@ -1,20 +1,19 @@
 -- The legs of a list as the rows hold them, and a walk over them within the limits: no clock wraps, and each step is the machine's.
 use Prim.Native.Nat.{ℕ, zero, suc, _+_, _-_, _*_, _≤_, _<_, _^_}
 use mathlib.Core.Path.{_≡_, refl, ap, sym, _∙_}
-use mathlib.Core.Bool.{Bool, true, false, not, _||_, _&&_, cond, false≢true}
+use mathlib.Core.Bool.{Bool, true, false, not, _||_, _&&_, cond}
 use mathlib.Core.List.{List, [], _∷_, _++_}
 use native.Mathlib.Omega.{arith}
 use native.Mathlib.Numerals.{add-one}
 use lib.ListN.{length, getD, drop, length-append, drop-of-length-le, List·getD-append}
 use lib.Seq.{drop-cons, getD-append-add, drop-length}
 use lib.Dec.{ltb, leb, eqb}
-use borrow.Author.Tests.{leb-true}
 use Rattle.walk.specs.declared.Head.{Head}
 use Rattle.walk.specs.declared.Leg.{Leg}
 use Rattle.walk.specs.Run.{Stop, endAt, mostWants, lastPlace, highestTurn}
 use Rattle.walk.specs.Walk.{headAt, runRight, setOff, afterLeg, Moves, walked, reads, timeOf}
 use Rattle.walk.specs.Rows.{detourLegs, sweepLegs, rowLegs, legAt, Walkable}
-use Rattle.walk.proofs.Steps.{ready-place, set-off-clock}
+use Rattle.walk.proofs.Steps.{ready-place, set-off-clock, read-inside}
 
 module _ (starts lengths : List ℕ) where
   pub length-detours : (froms tos : List ℕ) → length froms ≡ length tos → length (detourLegs starts lengths froms tos) ≡ length froms
@@ -158,10 +157,6 @@ module _ (gs : List Leg) (head turn : ℕ) where
     unfolding walked
     ended l = rw (drop-of-length-le gs l) at (p .same)
 
-pub and-true-both : (a b : Bool) → (a && b) ≡ true → (a ≡ true) × (b ≡ true)
-and-true-both true b e = (refl, e)
-and-true-both false b e = absurd (false≢true e)
-
 -- A file's time, as the loop has it: no leg so far has read it.
 pub record Timing (gs : List Leg) (head turn : ℕ) (s : Stop) (h : Head) (i : ℕ) : Type 0 where
   pub walking : Walking gs h i
@@ -185,9 +180,7 @@ module _ (gs : List Leg) (head turn : ℕ) (s : Stop) where
 
         -- A file is read from at or left of its start to its end, within the tape.
         pub reads-within : t ≡ true → (g .left ≤ s .start) × (s .end ≤ g .right)
-        reads-within e =
-            let both = and-true-both (leb (g .left) (s .start)) (leb (s .end) (g .right)) (sym test ∙ e) in
-            (leb-true (g .left) (s .start) (both .0), leb-true (s .end) (g .right) (both .1))
+        reads-within e = read-inside g s (sym test ∙ e)
 
     pub never-read : length gs ≤ i → 0 ≡ timeOf turn (headAt head) gs s
     unfolding timeOf

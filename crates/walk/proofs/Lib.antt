@@ -10,4 +10,5 @@ pub mod Legs
 pub mod Walks
 pub mod Filling
 pub mod Priced
+pub mod Laws
 pub mod Sound

@@ -62,3 +62,10 @@ pub start-to-end : (starts lengths : List ℕ) → SoundTable starts lengths →
 start-to-end starts lengths t f g a b l =
     let rise = ends-rise starts lengths t (f - 1) (g - 1) (omega arith) (omega arith) in
     omega (arith, rise)
+
+-- A file ends at or left of the start of any later one.
+pub end-before-start : (starts lengths : List ℕ) → SoundTable starts lengths → (i j : ℕ) → i < j → j < length starts → endAt starts lengths i ≤ getD starts j 0
+end-before-start starts lengths t i zero l h = absurd (omega arith)
+end-before-start starts lengths t i (suc j) l h =
+    let rise = ends-rise starts lengths t i j (omega arith) (omega arith) in
+    omega (arith, rise, table-file starts lengths t (suc j) h .after)

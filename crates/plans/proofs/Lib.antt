@@ -1,0 +1,21 @@
+-- Laws of plans, for the crates above: Scan, Value, Bounds and Best for a table engine, LeastList and Unbeaten as the final theorems.
+pub mod Plan
+pub mod Rising
+pub mod Sums
+pub mod Cost
+pub mod Scan
+pub mod Columns
+pub mod Value
+pub mod Bounds
+pub mod Best
+pub mod Ties
+pub mod Times
+pub mod Identity
+pub mod LeastPlan
+pub mod Movements
+pub mod Feasible
+pub mod Walks
+pub mod Rules
+pub mod Lists
+pub mod LeastList
+pub mod Unbeaten
