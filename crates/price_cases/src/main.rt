@@ -1,0 +1,352 @@
+// Prices the lists of document 01's worked cases, its limits and the two longest walks, and prints a line for each.
+// What it must print stands beside it, worked out from the paper's sentences by another program.
+ghost use mathlib.Core.Path.{_≡_};
+ghost use Prim.Native.Nat.{_≤_};
+ghost use lib.ListN.{length};
+use libc::STDOUT_FILENO;
+use walk::Answer;
+
+fn text(bytes: &[u8]) {
+    io::write_all(STDOUT_FILENO, bytes);
+}
+
+fn field(name: &[u8], value: u64) {
+    text(name);
+    io::print_decimal(STDOUT_FILENO, value);
+}
+
+// The times of an accepted answer, and the end of the line.
+fn times_line(times: &[u64], wants: usize) {
+    text(b" times=");
+    let mut i: usize = 0;
+    while i < wants {
+        if i >= times.len() {
+            return;
+        }
+        field(b" ", times[i]);
+        i += 1;
+    }
+    text(b"\n");
+}
+
+fn answer_line(a: Answer, times: &[u64], wants: usize) {
+    let kind = a.refusal;
+    let number = walk::number(kind);
+    if number != 0 {
+        field(b": refused=", number);
+        field(b" place=", a.place);
+        text(b"\n");
+        return;
+    }
+    field(b": sum=", a.sum);
+    field(b" finish=", a.finish);
+    field(b" end=", a.end);
+    field(b" detours=", a.detours);
+    times_line(times, wants);
+}
+
+fn show(
+    label: &[u8],
+    starts: &[u64],
+    lengths: &[u64],
+    numbers: &[u64],
+    counts: &[u64],
+    head: u64,
+    turn: u64,
+    froms: &[u64],
+    tos: &[u64],
+) {
+    let mut times = [9u64; 65];
+    let a = walk::price(
+        starts,
+        lengths,
+        numbers,
+        counts,
+        head,
+        turn,
+        froms,
+        tos,
+        &mut times,
+    );
+    text(label);
+    answer_line(a, &times, numbers.len());
+}
+
+// Files at 0 and 10, length 10 each, head 20.
+fn two_files(label: &[u8], numbers: &[u64], counts: &[u64], turn: u64, froms: &[u64], tos: &[u64]) {
+    let starts = [0u64, 10];
+    let lengths = [10u64, 10];
+    show(
+        label,
+        &starts,
+        &lengths,
+        numbers,
+        counts,
+        20,
+        turn,
+        froms,
+        tos,
+    );
+}
+
+// Both files wanted, once by the empty list and once by (2,2).
+fn both_ways(label: &[u8], counts: &[u64], turn: u64) {
+    let numbers = [1u64, 2];
+    let froms = [2u64];
+    let tos = [2u64];
+    two_files(label, &numbers, counts, turn, &froms[..0], &tos[..0]);
+    two_files(label, &numbers, counts, turn, &froms, &tos);
+}
+
+fn small_runs() {
+    let row = [5u64];
+    let length = [3u64];
+    let number = [1u64];
+    let count = [3u64];
+    let froms = [2u64];
+    let tos = [2u64];
+    show(
+        b"no wants",
+        &row,
+        &length,
+        &number[..0],
+        &count[..0],
+        60,
+        1,
+        &froms[..0],
+        &tos[..0],
+    );
+    show(
+        b"no wants, one entry",
+        &row,
+        &length,
+        &number[..0],
+        &count[..0],
+        60,
+        1,
+        &froms,
+        &tos,
+    );
+    show(
+        b"one file",
+        &row,
+        &length,
+        &number,
+        &count,
+        8,
+        2,
+        &froms[..0],
+        &tos[..0],
+    );
+}
+
+fn two_file_runs() {
+    let second = [2u64];
+    let once = [1u64];
+    let froms = [2u64];
+    let tos = [2u64];
+    two_files(b"only file 2", &second, &once, 0, &froms[..0], &tos[..0]);
+    let each = [1u64, 1];
+    both_ways(b"two files", &each, 0);
+    let more = [1u64, 2];
+    both_ways(b"two reads of file 2", &more, 0);
+    both_ways(b"turn price 1", &each, 1);
+}
+
+// The sheet of document 01.
+fn sheet(froms: &[u64], tos: &[u64]) {
+    let starts = [0u64, 10, 20];
+    let lengths = [10u64, 4, 30];
+    let numbers = [1u64, 2, 3];
+    let counts = [1u64, 3, 1];
+    show(
+        b"sheet",
+        &starts,
+        &lengths,
+        &numbers,
+        &counts,
+        60,
+        1,
+        froms,
+        tos,
+    );
+}
+
+fn sheet_runs() {
+    let froms = [3u64, 2];
+    let tos = [3u64, 2];
+    let two = [2u64];
+    let three = [3u64];
+    sheet(&froms[..0], &tos[..0]);
+    sheet(&froms[1..], &tos[1..]);
+    sheet(&two, &three);
+    sheet(&froms[..1], &tos[..1]);
+    sheet(&froms, &tos);
+}
+
+// Four files of length 2 from 0, one read each, turn price 1.
+fn four_files(label: &[u8], head: u64, froms: &[u64], tos: &[u64]) {
+    let starts = [0u64, 2, 4, 6];
+    let lengths = [2u64, 2, 2, 2];
+    let numbers = [1u64, 2, 3, 4];
+    let counts = [1u64, 1, 1, 1];
+    show(
+        label,
+        &starts,
+        &lengths,
+        &numbers,
+        &counts,
+        head,
+        1,
+        froms,
+        tos,
+    );
+}
+
+fn four_file_runs() {
+    let froms = [3u64, 2];
+    let inside = [3u64, 4];
+    let equal = [4u64, 4];
+    let crossing = [4u64, 3];
+    four_files(b"four files", 8, &froms, &inside);
+    four_files(b"four files", 8, &froms[..0], &inside[..0]);
+    four_files(b"equal ends", 8, &froms, &equal);
+    four_files(b"crossing", 8, &froms, &crossing);
+    four_files(b"unequal rows", 8, &froms, &inside[..1]);
+    four_files(b"head one left", 7, &froms[..0], &inside[..0]);
+}
+
+// Fills a row with first, first + step, first + 2 step, .. as far as a word holds them.
+fn rising(row: &mut [u64], first: u64, step: u64) {
+    let mut value = first;
+    let mut i: usize = 0;
+    while i < row.len() {
+        row[i] = value;
+        value = std::num::wrapping_add_u64(value, step);
+        i += 1;
+    }
+}
+
+// Fills a row with first, first - 1, first - 2, ..
+fn falling(row: &mut [u64], first: u64) {
+    let mut value = first;
+    let mut i: usize = 0;
+    while i < row.len() {
+        row[i] = value;
+        value = std::num::wrapping_sub_u64(value, 1);
+        i += 1;
+    }
+}
+
+// 64 files that fill the tape, all wanted.
+fn whole_tape(label: &[u8], counts: &[u64], head: u64, turn: u64, froms: &[u64], tos: &[u64]) {
+    let mut starts = [0u64; 64];
+    rising(&mut starts, 0, 17_179_869_184);
+    let lengths = [17_179_869_184u64; 64];
+    let mut numbers = [0u64; 64];
+    rising(&mut numbers, 1, 1);
+    show(
+        label,
+        &starts,
+        &lengths,
+        &numbers,
+        counts,
+        head,
+        turn,
+        froms,
+        tos,
+    );
+}
+
+// 63 entries: each file but the first by itself.
+fn longest_list() {
+    let counts = [16u64; 64];
+    let mut froms = [0u64; 63];
+    falling(&mut froms, 64);
+    let mut tos = [0u64; 63];
+    falling(&mut tos, 64);
+    whole_tape(
+        b"longest list",
+        &counts,
+        walk::LAST_PLACE,
+        walk::HIGHEST_TURN,
+        &froms,
+        &tos,
+    );
+}
+
+// 32 entries, each around the one before it.
+fn deepest_list() {
+    let counts = [16u64; 64];
+    let mut froms = [0u64; 32];
+    falling(&mut froms, 33);
+    let mut tos = [0u64; 32];
+    rising(&mut tos, 33, 1);
+    whole_tape(
+        b"deepest list",
+        &counts,
+        walk::LAST_PLACE,
+        walk::HIGHEST_TURN,
+        &froms,
+        &tos,
+    );
+}
+
+fn swept_tape(label: &[u8], counts: &[u64], head: u64, turn: u64) {
+    let froms = [0u64];
+    let tos = [0u64];
+    whole_tape(label, counts, head, turn, &froms[..0], &tos[..0]);
+}
+
+fn past_the_limits() {
+    let counts = [16u64; 64];
+    swept_tape(b"one place past the tape", &counts, walk::LAST_PLACE + 1, 0);
+    swept_tape(
+        b"head one left of the last end",
+        &counts,
+        walk::LAST_PLACE - 1,
+        0,
+    );
+    swept_tape(
+        b"turn price one too high",
+        &counts,
+        walk::LAST_PLACE,
+        walk::HIGHEST_TURN + 1,
+    );
+    let mut more = [16u64; 64];
+    more[63] = 17;
+    swept_tape(b"1,025 reads", &more, walk::LAST_PLACE, 0);
+    let ones = [1u64; 65];
+    swept_tape(b"65 counts", &ones, walk::LAST_PLACE, 0);
+}
+
+fn one_want_too_many() {
+    let starts = [0u64];
+    let lengths = [1u64];
+    let numbers = [1u64; 65];
+    let counts = [1u64; 65];
+    let froms = [0u64];
+    let tos = [0u64];
+    show(
+        b"65 wants",
+        &starts,
+        &lengths,
+        &numbers,
+        &counts,
+        1,
+        0,
+        &froms[..0],
+        &tos[..0],
+    );
+}
+
+fn main() {
+    small_runs();
+    two_file_runs();
+    sheet_runs();
+    four_file_runs();
+    longest_list();
+    deepest_list();
+    past_the_limits();
+    one_want_too_many();
+}
