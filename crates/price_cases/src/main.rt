@@ -238,19 +238,32 @@ fn falling(row: &mut [u64], first: u64) {
     }
 }
 
-// 64 files that fill the tape, all wanted.
-fn whole_tape(label: &[u8], counts: &[u64], head: u64, turn: u64, froms: &[u64], tos: &[u64]) {
+// Fills a row with one value.
+fn same(row: &mut [u64], value: u64) {
+    let mut i: usize = 0;
+    while i < row.len() {
+        row[i] = value;
+        i += 1;
+    }
+}
+
+// 64 files that fill the tape, 63 of them wanted 16 times and the last as often as is said.
+fn whole_tape(label: &[u8], last: u64, head: u64, turn: u64, froms: &[u64], tos: &[u64]) {
     let mut starts = [0u64; 64];
     rising(&mut starts, 0, 17_179_869_184);
-    let lengths = [17_179_869_184u64; 64];
+    let mut lengths = [0u64; 64];
+    same(&mut lengths, 17_179_869_184);
     let mut numbers = [0u64; 64];
     rising(&mut numbers, 1, 1);
+    let mut counts = [0u64; 64];
+    same(&mut counts, 16);
+    counts[63] = last;
     show(
         label,
         &starts,
         &lengths,
         &numbers,
-        counts,
+        &counts,
         head,
         turn,
         froms,
@@ -260,14 +273,13 @@ fn whole_tape(label: &[u8], counts: &[u64], head: u64, turn: u64, froms: &[u64],
 
 // 63 entries: each file but the first by itself.
 fn longest_list() {
-    let counts = [16u64; 64];
     let mut froms = [0u64; 63];
     falling(&mut froms, 64);
     let mut tos = [0u64; 63];
     falling(&mut tos, 64);
     whole_tape(
         b"longest list",
-        &counts,
+        16,
         walk::LAST_PLACE,
         walk::HIGHEST_TURN,
         &froms,
@@ -277,14 +289,13 @@ fn longest_list() {
 
 // 32 entries, each around the one before it.
 fn deepest_list() {
-    let counts = [16u64; 64];
     let mut froms = [0u64; 32];
     falling(&mut froms, 33);
     let mut tos = [0u64; 32];
     rising(&mut tos, 33, 1);
     whole_tape(
         b"deepest list",
-        &counts,
+        16,
         walk::LAST_PLACE,
         walk::HIGHEST_TURN,
         &froms,
@@ -292,32 +303,27 @@ fn deepest_list() {
     );
 }
 
-fn swept_tape(label: &[u8], counts: &[u64], head: u64, turn: u64) {
+fn swept_tape(label: &[u8], last: u64, head: u64, turn: u64) {
     let froms = [0u64];
     let tos = [0u64];
-    whole_tape(label, counts, head, turn, &froms[..0], &tos[..0]);
+    whole_tape(label, last, head, turn, &froms[..0], &tos[..0]);
 }
 
 fn past_the_limits() {
-    let counts = [16u64; 64];
-    swept_tape(b"one place past the tape", &counts, walk::LAST_PLACE + 1, 0);
+    swept_tape(b"one place past the tape", 16, walk::LAST_PLACE + 1, 0);
     swept_tape(
         b"head one left of the last end",
-        &counts,
+        16,
         walk::LAST_PLACE - 1,
         0,
     );
     swept_tape(
         b"turn price one too high",
-        &counts,
+        16,
         walk::LAST_PLACE,
         walk::HIGHEST_TURN + 1,
     );
-    let mut more = [16u64; 64];
-    more[63] = 17;
-    swept_tape(b"1,025 reads", &more, walk::LAST_PLACE, 0);
-    let ones = [1u64; 65];
-    swept_tape(b"65 counts", &ones, walk::LAST_PLACE, 0);
+    swept_tape(b"1,025 reads", 17, walk::LAST_PLACE, 0);
 }
 
 fn one_want_too_many() {

@@ -44,6 +44,12 @@ pub enum Refusal {
     BadRule,
 }
 
+// Sweep always plans the empty list; Least the well-formed list of smallest sum, ties by the fixed rule.
+pub enum Rule {
+    Sweep,
+    Least,
+}
+
 // What a check finds: a kind, and the file, want, entry or line it speaks of, counted from 1 (0: none).
 pub struct Verdict {
     pub refusal: Refusal,
