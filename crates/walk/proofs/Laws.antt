@@ -13,7 +13,7 @@ use lib.Dec.{T, leb}
 use borrow.Author.Tests.{le-leb}
 use Rattle.walk.specs.declared.Head.{Head}
 use Rattle.walk.specs.declared.Leg.{Leg}
-use Rattle.walk.specs.Run.{Run, Stop, stopOf, stopsFrom, stopsOf, rightEnd, endAt, total, mostReads}
+use Rattle.walk.specs.Run.{Run, Stop, stopOf, stopsFrom, stopsOf, rightEnd, endAt, total}
 use Rattle.walk.specs.Judging.{judgeOf}
 use Rattle.walk.specs.Walk.{headAt, runRight, setOff, afterLeg, reads, served, ServesAll, walked, timeOf, sumOf}
 use Rattle.walk.specs.Detours.{Detour, listOf, listVerdict, legOf, lastSweep, legsOf}

@@ -11,4 +11,5 @@ pub mod Walks
 pub mod Filling
 pub mod Priced
 pub mod Laws
+pub mod Places
 pub mod Sound

@@ -79,6 +79,27 @@ module _ (bad : ℕ → Bool) where
       let s = one-more-zero (firstWhere bad n) (bad n) n e in
       ⊎-elim (λ same. rw same (s .1)) (λ lt. first-zero n (s .0) i lt) (below-or-here n i l)
 
+  -- The first is one of the entries, and the test holds at none before it.
+  pub first-within : (n : ℕ) → firstWhere bad n ≤ n
+  unfolding firstWhere
+  first-within zero = omega arith
+  first-within (suc n) = grows (firstWhere bad n) (bad n) (first-within n)
+    where
+      grows : (p : ℕ) (b : Bool) → p ≤ n → oneMore p b n ≤ suc n
+      grows zero true l = omega arith
+      grows zero false l = omega arith
+      grows (suc p) b l = omega arith
+
+  pub first-before : (n i : ℕ) → firstWhere bad n ≡ suc i → (j : ℕ) → j < i → bad j ≡ false
+  unfolding firstWhere
+  first-before zero i e j l = absurd (omega arith)
+  first-before (suc n) i e j l = by-found (firstWhere bad n) refl (bad n) e (first-before n i)
+    where
+      by-found : (p : ℕ) → firstWhere bad n ≡ p → (b : Bool) → oneMore p b n ≡ suc i → (firstWhere bad n ≡ suc i → (k : ℕ) → k < i → bad k ≡ false) → bad j ≡ false
+      by-found zero none true h ih = first-zero n none j (omega arith)
+      by-found zero none false h ih = absurd (omega arith)
+      by-found (suc p) found b h ih = ih (found ∙ h) j l
+
   -- And the other way round.
   pub first-all : (n : ℕ) → ((i : ℕ) → i < n → bad i ≡ false) → firstWhere bad n ≡ 0
   unfolding firstWhere

@@ -34,7 +34,7 @@ pub record GoodEntry (numbers froms tos : List ℕ) (i : ℕ) : Type 0 where
   pub inner : getD numbers 0 0 < getD froms i 0
   pub falls : (j : ℕ) → j < i → getD froms i 0 < getD froms j 0
 
-good-entry : (numbers froms tos : List ℕ) (i : ℕ) → rowBad numbers froms tos i ≡ false → GoodEntry numbers froms tos i
+pub good-entry : (numbers froms tos : List ℕ) (i : ℕ) → rowBad numbers froms tos i ≡ false → GoodEntry numbers froms tos i
 good-entry numbers froms tos i e =
     let all = or-false-both _ _ e in
     let four = or-false-both _ _ (all .0) in
@@ -127,33 +127,34 @@ module _ (files : ℕ) (numbers counts : List ℕ) (w : GoodWants files numbers 
       before : (i : ℕ) → i < length numbers → i ≤ length numbers - 1
       before i l = omega arith
 
-  module _ (froms tos : List ℕ) (g : GoodList numbers froms tos) where
+  -- The first n entries of two rows, each of them good.
+  module _ (froms tos : List ℕ) (n : ℕ) (each : (i : ℕ) → i < n → GoodEntry numbers froms tos i) where
     -- Starts fall among the wants, so the entry at i starts at most so far right.
-    places-fall : (i : ℕ) → i < length froms → (p : ℕ) → p < length numbers → getD numbers p 0 ≡ getD froms i 0 → p + i < length numbers
+    places-fall : (i : ℕ) → i < n → (p : ℕ) → p < length numbers → getD numbers p 0 ≡ getD froms i 0 → p + i < length numbers
     places-fall zero l p h e = omega arith
     places-fall (suc i) l p h e =
-        let q = listed-place numbers (getD froms i 0) (g .each i (omega arith) .fromWanted) in
+        let q = listed-place numbers (getD froms i 0) (each i (omega arith) .fromWanted) in
         let bound = places-fall i (omega arith) (q .index) (q .within) (q .is) in
-        let less = numbers-order p (q .index) h (omega (arith, e, q .is, g .each (suc i) l .falls i (omega arith))) in
+        let less = numbers-order p (q .index) h (omega (arith, e, q .is, each (suc i) l .falls i (omega arith))) in
         omega (arith, bound, less)
 
-    -- A well-formed list has fewer entries than there are wants.
-    pub list-short : 0 < length numbers → length froms < length numbers
-    list-short some = elim (decLt 0 (length froms)) [ yes l ↦ last l | no n ↦ omega arith ]
+    -- There are fewer of them than wants.
+    pub entries-few : 0 < length numbers → n < length numbers
+    entries-few some = elim (decLt 0 n) [ yes l ↦ last l | no h ↦ omega arith ]
       where
-        last : 0 < length froms → length froms < length numbers
+        last : 0 < n → n < length numbers
         last l =
-            let e = g .each (length froms - 1) (omega arith) in
-            let p = listed-place numbers (getD froms (length froms - 1) 0) (e .fromWanted) in
-            let bound = places-fall (length froms - 1) (omega arith) (p .index) (p .within) (p .is) in
+            let e = each (n - 1) (omega arith) in
+            let p = listed-place numbers (getD froms (n - 1) 0) (e .fromWanted) in
+            let bound = places-fall (n - 1) (omega arith) (p .index) (p .within) (p .is) in
             let inside = numbers-order 0 (p .index) some (omega (arith, p .is, e .inner)) in
             omega (arith, bound, inside)
 
-    pub list-none : length numbers ≡ 0 → length froms ≡ 0
-    list-none none = elim (decLt 0 (length froms)) [ yes l ↦ absurd (empty l) | no n ↦ omega arith ]
+    pub entries-none : length numbers ≡ 0 → n ≡ 0
+    entries-none none = elim (decLt 0 n) [ yes l ↦ absurd (empty l) | no h ↦ omega arith ]
       where
-        empty : 0 < length froms → ⊥
-        empty l = let some = listed-some numbers (getD froms 0 0) (g .each 0 l .fromWanted) in omega (arith, some)
+        empty : 0 < n → ⊥
+        empty l = let some = listed-some numbers (getD froms 0 0) (each 0 l .fromWanted) in omega (arith, some)
 
 -- A movement, leg by leg: each leg turns no further right than the one before it ended.
 moves-by-leg : (p : ℕ) (gs : List Leg) → (0 < length gs → legAt gs 0 .left ≤ p) → ((i : ℕ) → i < length gs → legAt gs i .left ≤ legAt gs i .right)
@@ -336,10 +337,10 @@ module _ (r : Run) (run : GoodRun r) (froms tos : List ℕ) (g : GoodList (r .nu
       in-sweep s = omega (arith, s .rightIs, ends last (last-in (s .some)))
 
   legs-within : length gs ≤ mostWants
-  legs-within = elim (decLt 0 (length (r .numbers))) [ yes l ↦ omega (arith, few-legs, list-short _ _ _ (run .wants) froms tos g l, run .wants .few) | no n ↦ none n ]
+  legs-within = elim (decLt 0 (length (r .numbers))) [ yes l ↦ omega (arith, few-legs, entries-few _ _ _ (run .wants) froms tos (length froms) (g .each) l, run .wants .few) | no n ↦ none n ]
     where
       none : ¬ (0 < length (r .numbers)) → length gs ≤ mostWants
-      none n = omega (arith, few-legs, list-none _ _ _ (run .wants) froms tos g (omega arith))
+      none n = omega (arith, few-legs, entries-none _ _ _ (run .wants) froms tos (length froms) (g .each) (omega arith))
 
   -- The walk of an accepted list in an accepted run is within the limits.
   pub walkable : Walkable (rowLegs (r .starts) (r .lengths) (r .numbers) froms tos) (r .head) (r .turn)
@@ -354,7 +355,7 @@ module _ (r : Run) (run : GoodRun r) (froms tos : List ℕ) (g : GoodList (r .nu
       }
 
   pub list-fits : length froms ≤ length (r .numbers)
-  list-fits = elim (decLt 0 (length (r .numbers))) [ yes l ↦ omega (arith, list-short _ _ _ (run .wants) froms tos g l) | no n ↦ none n ]
+  list-fits = elim (decLt 0 (length (r .numbers))) [ yes l ↦ omega (arith, entries-few _ _ _ (run .wants) froms tos (length froms) (g .each) l) | no n ↦ none n ]
     where
       none : ¬ (0 < length (r .numbers)) → length froms ≤ length (r .numbers)
-      none n = omega (arith, list-none _ _ _ (run .wants) froms tos g (omega arith))
+      none n = omega (arith, entries-none _ _ _ (run .wants) froms tos (length froms) (g .each) (omega arith))

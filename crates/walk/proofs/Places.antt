@@ -1,0 +1,124 @@
+-- A refusal's place is small, so that a number and a place fit one word together: a file, a want, or an entry at most one behind the wants.
+use Prim.Native.Nat.{ℕ, zero, suc, _+_, _≤_, _<_}
+use mathlib.Core.Path.{_≡_, refl, sym, _∙_}
+use mathlib.Core.Bool.{Bool, true, false, not, _||_}
+use mathlib.Core.Logic.{by-cases, ⊎-elim}
+use mathlib.Core.List.{List, [], _∷_}
+use native.Mathlib.Omega.{arith}
+use native.Mathlib.Decide.{decLt}
+use lib.ListN.{length}
+use lib.Dec.{ltb, eqb}
+use borrow.Author.Tests.{ltb-false, eqb-true, not-false}
+use Rattle.walk.specs.declared.Refusal.{Refusal}
+use Rattle.walk.specs.declared.Refusal.the-variants.{FileRows, BadFile, WantRows, BadWant, TooManyReads, TurnPrice, HeadPlace, ShortRow, BadEntry}
+use Rattle.walk.specs.declared.Verdict.{Verdict}
+use Rattle.walk.specs.Refusals.{refuseIf, refuseAt, firstOf, firstWhere}
+use Rattle.walk.specs.Run.{Run, stopsOf, rightEnd, total, mostFiles, mostWants, mostReads, lastPlace, highestTurn}
+use Rattle.walk.specs.Judging.{badFile, badWant, tableChecks, wantsChecks, headChecks, judgeOf}
+use Rattle.walk.specs.Detours.{listOf, listVerdict, firstBadEntry}
+use Rattle.walk.specs.Price.{priceVerdict}
+use Rattle.walk.specs.Rows.{rowBad}
+use Rattle.walk.proofs.Search.{true-or-false, or-false-both, first-within, first-before}
+use Rattle.walk.proofs.Verdicts.{refuses, accepts-if}
+use Rattle.walk.proofs.Judged.{GoodRun, accepted-run}
+use Rattle.walk.proofs.Entries.{first-bad-row}
+use Rattle.walk.proofs.Walks.{GoodEntry, good-entry, entries-few, entries-none}
+
+abbrev pub placeMost : ℕ
+placeMost = 4096
+
+-- In a row of checks each place is near, given that the checks before it passed.
+abbrev AllNear : List Verdict → Type 0
+AllNear [] = Unit {0}
+AllNear (v ∷ vs) = (v .place ≤ placeMost) × (refuses v ≡ false → AllNear vs)
+
+first-near : (vs : List Verdict) → AllNear vs → (firstOf vs) .place ≤ placeMost
+first-near [] h = omega arith
+first-near (v ∷ vs) h = ⊎-elim (λ e. rw e (h .0)) (λ e. rw e (first-near vs (h .1 e))) (true-or-false (refuses v))
+
+if-near : (b : Bool) (kind : Refusal) → (refuseIf b kind) .place ≤ placeMost
+if-near true kind = omega arith
+if-near false kind = omega arith
+
+at-near : (p : ℕ) (kind : Refusal) → p ≤ placeMost → (refuseAt p kind) .place ≤ placeMost
+at-near zero kind l = omega arith
+at-near (suc p) kind l = l
+
+-- Rows that passed their check have at most so many entries.
+rows-few : (most n m : ℕ) (kind : Refusal) → refuses (refuseIf true kind) ≡ true → refuses (refuseIf (ltb most n || not (eqb n m)) kind) ≡ false → n ≤ most
+rows-few most n m kind r e = ltb-false most n (or-false-both _ _ (accepts-if (ltb most n || not (eqb n m)) kind r e) .0)
+
+table-near : (starts lengths : List ℕ) → (firstOf (tableChecks starts lengths)) .place ≤ placeMost
+table-near starts lengths =
+    first-near (tableChecks starts lengths) (
+      if-near (ltb mostFiles (length starts) || not (eqb (length starts) (length lengths))) FileRows,
+      λ e. (
+        at-near (firstWhere (badFile starts lengths) (length starts)) BadFile
+            (omega (arith, rows-few mostFiles (length starts) (length lengths) FileRows refl e, first-within (badFile starts lengths) (length starts))),
+        λ d. tt,
+      ),
+    )
+
+wants-near : (files : ℕ) (numbers counts : List ℕ) → (firstOf (wantsChecks files numbers counts)) .place ≤ placeMost
+wants-near files numbers counts =
+    first-near (wantsChecks files numbers counts) (
+      if-near (ltb mostWants (length numbers) || not (eqb (length numbers) (length counts))) WantRows,
+      λ e. (
+        at-near (firstWhere (badWant files numbers counts) (length numbers)) BadWant
+            (omega (arith, rows-few mostWants (length numbers) (length counts) WantRows refl e, first-within (badWant files numbers counts) (length numbers))),
+        λ d. (if-near (ltb mostReads (total counts)) TooManyReads, λ c. tt),
+      ),
+    )
+
+head-near : (turn head rightmost : ℕ) → (firstOf (headChecks turn head rightmost)) .place ≤ placeMost
+head-near turn head rightmost =
+    first-near (headChecks turn head rightmost)
+    (if-near (ltb highestTurn turn) TurnPrice, λ e. (if-near (ltb lastPlace head || ltb head rightmost) HeadPlace, λ d. tt))
+
+pub judge-near : (r : Run) → (judgeOf r) .place ≤ placeMost
+unfolding judgeOf
+judge-near r =
+    first-near
+    (firstOf (tableChecks (r .starts) (r .lengths))
+    ∷ firstOf (wantsChecks (length (r .starts)) (r .numbers) (r .counts))
+    ∷ firstOf (headChecks (r .turn) (r .head) (rightEnd (stopsOf r)))
+    ∷ []) (
+      table-near (r .starts) (r .lengths),
+      λ e. (wants-near (length (r .starts)) (r .numbers) (r .counts), λ d. (head-near (r .turn) (r .head) (rightEnd (stopsOf r)), λ c. tt)),
+    )
+
+module _ (r : Run) (good : GoodRun r) (froms tos : List ℕ) where
+  entry-near : (p : ℕ) → firstWhere (rowBad (r .numbers) froms tos) (length froms) ≡ p → p ≤ placeMost
+  entry-near zero e = omega arith
+  entry-near (suc i) e =
+      let each : (j : ℕ) → j < i → GoodEntry (r .numbers) froms tos j
+      = λ j l. good-entry (r .numbers) froms tos j (first-before (rowBad (r .numbers) froms tos) (length froms) i e j l)
+      in
+      by-cases
+      (decLt 0 (length (r .numbers)))
+      (λ some. omega (arith, entries-few _ _ _ (good .wants) froms tos i each some, good .wants .few))
+      (λ none. omega (arith, entries-none _ _ _ (good .wants) froms tos i each (omega arith)))
+
+  list-near : (listVerdict (stopsOf r) froms tos) .place ≤ placeMost
+  unfolding listVerdict
+  list-near =
+      first-near
+      (refuseIf (not (eqb (length froms) (length tos))) BadEntry ∷ refuseAt (firstBadEntry (stopsOf r) (listOf froms tos)) BadEntry ∷ []) (
+        if-near (not (eqb (length froms) (length tos))) BadEntry,
+        λ e. (
+          at-near (firstBadEntry (stopsOf r) (listOf froms tos)) BadEntry
+              (rw
+              (first-bad-row (r .starts) (r .lengths) (r .numbers) (r .counts) froms tos (sym (good .wants .equal)) (eqb-true _ _ (not-false _ (accepts-if (not (eqb (length froms) (length tos))) BadEntry refl e))))
+              (entry-near _ refl)),
+          λ d. tt,
+        ),
+      )
+
+pub price-near : (r : Run) (froms tos row : List ℕ) → (priceVerdict r froms tos row) .place ≤ placeMost
+unfolding priceVerdict
+price-near r froms tos row =
+    first-near
+    (judgeOf r ∷ listVerdict (stopsOf r) froms tos ∷ refuseIf (ltb (length row) (length (r .numbers))) ShortRow ∷ []) (
+      judge-near r,
+      λ e. (list-near r (accepted-run r e) froms tos, λ d. (if-near (ltb (length row) (length (r .numbers))) ShortRow, λ c. tt)),
+    )
