@@ -13,6 +13,7 @@ mod pricing;
 
 pub use judging::judge;
 pub use pricing::price;
+pub use pricing::refuse;
 
 // The limits of the tape and the run. All are inclusive.
 pub const MOST_FILES: usize = 4096;

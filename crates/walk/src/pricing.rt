@@ -191,7 +191,8 @@ fn fill_times(
     sum
 }
 
-fn refusal(v: Verdict) -> Answer
+// The answer of a refusal: kind and place, and every other number 0.
+pub fn refuse(v: Verdict) -> Answer
     ensures { λ r. ⌜ r ≡ refusalAnswer v ⌝ }
 {
     let kind = v.refusal;
@@ -222,14 +223,14 @@ pub fn price(
 {
     let run = judge(starts, lengths, numbers, counts, head, turn);
     if refused(run) {
-        return refusal(run);
+        return refuse(run);
     }
     let list = judge_list(numbers, froms, tos);
     if refused(list) {
-        return refusal(list);
+        return refuse(list);
     }
     if times.len() < numbers.len() {
-        return refusal(Verdict {
+        return refuse(Verdict {
             refusal: Refusal::ShortRow,
             place: 0,
         });

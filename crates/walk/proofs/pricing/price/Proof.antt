@@ -21,14 +21,14 @@ judge-requires c κs = search needs
 refused-requires : tie.Need-refused-requires
 refused-requires c κs = search needs
 
-refusal-requires : tie.Need-refusal-requires
-refusal-requires c κs = search needs
+refuse-requires : tie.Need-refuse-requires
+refuse-requires c κs = search needs
 
 returns : tie.Need-returns
 returns c =
     let j = c .before .before .before in
     let s = j .before .before .before .before .before .before .before .before in
-    run-refused (run s) (s .args .froms .now) (s .args .tos .now) (s .args .times .now) _ _ (j .judge .ensures) (c .before .before .refused .ensures) (c .before .if1 .taken) _ (c .refusal .ensures)
+    run-refused (run s) (s .args .froms .now) (s .args .tos .now) (s .args .times .now) _ _ (j .judge .ensures) (c .before .before .refused .ensures) (c .before .if1 .taken) _ (c .refuse .ensures)
 
 judge-list-requires : tie.Need-judge-list-requires
 judge-list-requires c κs = search needs
@@ -36,8 +36,8 @@ judge-list-requires c κs = search needs
 refused-requires-2 : tie.Need-refused-requires-2
 refused-requires-2 c κs = search needs
 
-refusal-requires-2 : tie.Need-refusal-requires-2
-refusal-requires-2 c κs = search needs
+refuse-requires-2 : tie.Need-refuse-requires-2
+refuse-requires-2 c κs = search needs
 
 -- Past the first check the run is good; and the list's verdict is that of its stops.
 abbrev start : tie.Else1 → tie.Start
@@ -59,10 +59,10 @@ returns-2 c =
     let e = l .before in
     let s = start e in
     list-refused (run s) (s .args .froms .now) (s .args .tos .now) (s .args .times .now) _ _ (e .before .before .judge .ensures) (e .before .refused .ensures)
-    _ _ (list-is l) (c .before .before .refused2 .ensures) (e .if1 .left) (c .before .if2 .taken) _ (c .refusal2 .ensures)
+    _ _ (list-is l) (c .before .before .refused2 .ensures) (e .if1 .left) (c .before .if2 .taken) _ (c .refuse2 .ensures)
 
-refusal-requires-3 : tie.Need-refusal-requires-3
-refusal-requires-3 c κs = search needs
+refuse-requires-3 : tie.Need-refuse-requires-3
+refuse-requires-3 c κs = search needs
 
 returns-3 : tie.Need-returns-3
 returns-3 c =
@@ -71,7 +71,7 @@ returns-3 c =
     let e = l .before in
     let s = start e in
     row-refused (run s) (s .args .froms .now) (s .args .tos .now) (s .args .times .now) _ _ (e .before .before .judge .ensures) (e .before .refused .ensures)
-    _ _ (list-is l) (d .before .refused2 .ensures) (e .if1 .left) (d .if2 .left) (c .before .if3 .taken) _ (c .refusal3 .ensures)
+    _ _ (list-is l) (d .before .refused2 .ensures) (e .if1 .left) (d .if2 .left) (c .before .if3 .taken) _ (c .refuse3 .ensures)
 
 -- Past the second check the list is good too.
 good-list : (d : tie.Else2) → let s = start (d .before .before .before) in GoodList (s .args .numbers .now) (s .args .froms .now) (s .args .tos .now)
@@ -142,13 +142,13 @@ price-spec =
     (tie.spec
     judge-requires
     refused-requires
-    refusal-requires
+    refuse-requires
     returns
     judge-list-requires
     refused-requires-2
-    refusal-requires-2
+    refuse-requires-2
     returns-2
-    refusal-requires-3
+    refuse-requires-3
     returns-3
     leg-count-requires
     fill-times-requires
