@@ -1,0 +1,23 @@
+-- The recurrence at stop b + 1, in the terms of the code: what a choice comes to, how the loop over the choices goes on and ends, and the bounds for words.
+use Prim.Native.Nat.{ℕ, zero, suc, _+_, _-_, _<_}
+use mathlib.Core.Path.{_≡_, refl}
+use native.Mathlib.Omega.{arith}
+use Rattle.plans.proofs.Cost.{early, wait}
+use Rattle.plans.proofs.Scan.{lower, lowest, lowest-turn}
+use Rattle.plans.proofs.Value.{Table, candidate}
+
+-- One choice more of a loop that goes down to a + 1.
+pub lowest-one-more : (f : ℕ → ℕ) (a c x : ℕ) → a < c → lowest f a c x ≡ lowest f a (c - 1) (lower x (f c))
+lowest-one-more f a zero x h = absurd (omega arith)
+lowest-one-more f a (suc d) x h = let e : suc d - 1 ≡ d = omega arith in rw e (lowest-turn f a d x (omega arith))
+
+module _ (L R C : ℕ → ℕ) (U : ℕ) where
+  pub candidate-skip : (E : Table) (a b s : ℕ) → candidate L R C U E a b s 0 ≡ early L C a (suc b) + E a b (s + C (suc b))
+  unfolding candidate
+  candidate-skip E a b s = refl
+
+  pub candidate-detour : (E : Table) (a b s c : ℕ) → 0 < c
+      → candidate L R C U E a b s c ≡ wait L R C U c (suc b) s + early L C c (suc b) + E c b (s + C (suc b)) + E a (c - 1) s
+  unfolding candidate
+  candidate-detour E a b s zero h = absurd (omega arith)
+  candidate-detour E a b s (suc d) h = let e : suc d - 1 ≡ d = omega arith in rw e

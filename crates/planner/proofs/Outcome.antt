@@ -1,0 +1,185 @@
+-- From the list that is written to the planner's answer: the list is the rule's, its price is accepted, and each row is what it should be.
+use Prim.Native.Nat.{ℕ, _+_, _-_, _*_, _≤_, _<_}
+use mathlib.Core.Path.{_≡_, refl, sym, ap, _∙_}
+use mathlib.Core.Bool.{false}
+use mathlib.Core.Logic.{by-cases}
+use mathlib.Core.List.{List, [], _∷_, _++_, map}
+use native.Mathlib.Omega.{arith}
+use native.Mathlib.Decide.{decLt}
+use native.Mathlib.Nat.{mul-le-mul}
+use lib.ListN.{length, getD, take, drop, replicate, length-append, length-replicate, length-drop, getD-replicate, List·getD-append, take-append-drop}
+use lib.Seq.{ext-getD, getD-append-add, getD-drop, length-take-le}
+use borrow.Author.Tests.{le-ltb, eq-eqb}
+use Rattle.walk.specs.declared.Answer.{Answer}
+use Rattle.walk.specs.Refusals.{isRefusal, firstWhere}
+use Rattle.walk.specs.Run.{Run, Stop, runOf, stopsFrom, stopsOf, total, mostReads}
+use Rattle.walk.specs.Judging.{judgeOf}
+use Rattle.walk.specs.Detours.{Detour, listOf, listVerdict, firstBadEntry, WellFormed}
+use Rattle.walk.specs.Price.{priceVerdict, priceAnswer, priceRow, pricedTimes}
+use Rattle.walk.proofs.Verdicts.{refuses}
+use Rattle.walk.proofs.Entries.{length-list}
+use Rattle.walk.proofs.Judged.{accepted-run}
+use Rattle.walk.proofs.Laws.{accepted-sound}
+use Rattle.plans.proofs.LeastList.{leastList, least-list-none, least-list-some, least-list}
+use Rattle.walk.specs.declared.Rule.{Rule}
+use Rattle.walk.specs.declared.Rule.the-variants.{Sweep, Least}
+use Rattle.planner.specs.Plan.{ByRule, Planned, rowsOf, roomSize}
+use Rattle.planner.specs.Table.{Judged, Written, Beyond, ListWritten, listAt, ruleList, tableSize}
+use Rattle.planner.proofs.Facts.{stops-length}
+
+-- Nothing is written.
+pub list-none-written : (list : List Detour) (froms tos : List ℕ) → list ≡ [] → ListWritten list 0 froms tos froms tos
+unfolding listOf
+list-none-written list froms tos e =
+    record { fits-from = omega arith; fits-to = omega arith; entries = sym e; later-from = refl; later-to = refl }
+
+pub list-same-written : (l l′ : List Detour) (n : ℕ) (froms tos froms′ tos′ : List ℕ) → l ≡ l′ → ListWritten l n froms tos froms′ tos′ → ListWritten l′ n froms tos froms′ tos′
+list-same-written l l′ n froms tos froms′ tos′ e w =
+    record { fits-from = w .fits-from; fits-to = w .fits-to; entries = w .entries ∙ e; later-from = w .later-from; later-to = w .later-to }
+
+no-stops : (turn : ℕ) (stops : List Stop) → length stops ≡ 0 → leastList turn stops ≡ []
+no-stops turn [] e = least-list-none turn
+no-stops turn (s ∷ stops) e = absurd (omega arith)
+
+module _ (starts lengths numbers counts : List ℕ) (turn reads : ℕ) (j : Judged starts lengths numbers counts turn reads) where
+  pub least-of-none : length numbers ≡ 0 → leastList turn (stopsFrom starts lengths numbers counts) ≡ []
+  least-of-none e = no-stops turn (stopsFrom starts lengths numbers counts) (stops-length starts lengths numbers counts turn reads j ∙ e)
+
+  pub least-of-some : (length numbers ≡ 0 → ⊥) → listAt (stopsFrom starts lengths numbers counts) turn 0 (length numbers - 1) 0 ≡ leastList turn (stopsFrom starts lengths numbers counts)
+  least-of-some n =
+      sym (least-list-some turn (length numbers - 1) (stopsFrom starts lengths numbers counts) (omega (arith, stops-length starts lengths numbers counts turn reads j)))
+
+-- The list of a rule is what the rule asks for, and well formed.
+module _ (r : Run) (accepts : isRefusal (judgeOf r .refusal) ≡ false) where
+  pub rule-list : (rule : Rule) → ByRule rule r (ruleList rule (r .turn) (stopsOf r))
+  rule-list Sweep = refl
+  rule-list Least = least-list (r .turn) (r .head) (stopsOf r) (accepted-sound r accepts)
+
+  rule-formed : (rule : Rule) → WellFormed (stopsOf r) (ruleList rule (r .turn) (stopsOf r))
+  unfolding firstBadEntry firstWhere
+  rule-formed Sweep = refl
+  rule-formed Least = least-list (r .turn) (r .head) (stopsOf r) (accepted-sound r accepts) .formed
+
+list-accepted : (stops : List Stop) (froms tos : List ℕ) → length froms ≡ length tos → WellFormed stops (listOf froms tos) → refuses (listVerdict stops froms tos) ≡ false
+unfolding listVerdict
+list-accepted stops froms tos e w = rw (eq-eqb (length froms) (length tos) e, w)
+
+price-accepted : (r : Run) (froms tos times : List ℕ) → isRefusal (judgeOf r .refusal) ≡ false → length froms ≡ length tos → WellFormed (stopsOf r) (listOf froms tos) → length (r .numbers) ≤ length times
+    → refuses (priceVerdict r froms tos times) ≡ false
+unfolding priceVerdict
+price-accepted r froms tos times a e w l = rw (a, list-accepted (stopsOf r) froms tos e w, le-ltb (length times) (length (r .numbers)) l)
+
+-- A list in two rows has its starts in one and its ends in the other.
+starts-in-row : (xs ys : List ℕ) → length xs ≡ length ys → map (λ d. d .from) (listOf xs ys) ≡ xs
+unfolding listOf
+starts-in-row [] ys e = refl
+starts-in-row (x ∷ xs) [] e = absurd (omega arith)
+starts-in-row (x ∷ xs) (y ∷ ys) e = ap (λ l. x ∷ l) (starts-in-row xs ys (omega arith))
+
+ends-in-row : (xs ys : List ℕ) → length xs ≡ length ys → map (λ d. d .to) (listOf xs ys) ≡ ys
+unfolding listOf
+ends-in-row [] [] e = refl
+ends-in-row [] (y ∷ ys) e = absurd (omega arith)
+ends-in-row (x ∷ xs) [] e = absurd (omega arith)
+ends-in-row (x ∷ xs) (y ∷ ys) e = ap (λ l. y ∷ l) (ends-in-row xs ys (omega arith))
+
+module _ (list : List Detour) (n : ℕ) (froms tos froms′ tos′ : List ℕ) (w : ListWritten list n froms tos froms′ tos′) where
+  even : length (take n froms′) ≡ length (take n tos′)
+  even = length-take-le n froms′ (w .fits-from) ∙ sym (length-take-le n tos′ (w .fits-to))
+
+  list-long : length list ≡ n
+  list-long = sym (ap length (w .entries)) ∙ length-list (take n froms′) (take n tos′) even ∙ length-take-le n froms′ (w .fits-from)
+
+  froms-after : froms′ ≡ map (λ d. d .from) list ++ drop (length list) froms
+  froms-after =
+      rw (list-long, ← w .later-from, ← w .entries, starts-in-row (take n froms′) (take n tos′) even)
+      (sym (take-append-drop n froms′))
+
+  tos-after : tos′ ≡ map (λ d. d .to) list ++ drop (length list) tos
+  tos-after =
+      rw (list-long, ← w .later-to, ← w .entries, ends-in-row (take n froms′) (take n tos′) even)
+      (sym (take-append-drop n tos′))
+
+-- Zero in the first words, all later words as they were.
+room-after : (size : ℕ) (xs ys zs : List ℕ) → size ≤ length xs → Beyond size xs ys → Written 0 size (λ s. 0) ys zs → zs ≡ replicate size 0 ++ drop size xs
+room-after size xs ys zs h b w = ext-getD 0 zs (replicate size 0 ++ drop size xs) same each
+  where
+    same : length zs ≡ length (replicate size 0 ++ drop size xs)
+    same = omega (arith, w .kept .same, b .same, length-append (replicate size 0) (drop size xs), length-replicate {A = ℕ} size 0, length-drop size xs)
+
+    zero-word : (i : ℕ) → i < size → getD zs i 0 ≡ getD (replicate size 0 ++ drop size xs) i 0
+    zero-word i l =
+        let e : 0 + i ≡ i = omega arith in
+        (rw e at (w .words i l)) ∙ sym (List·getD-append (replicate size 0) (drop size xs) 0 i (omega (arith, length-replicate {A = ℕ} size 0)) ∙ getD-replicate {A = ℕ} size i 0 0 l)
+
+    later-word : (i : ℕ) → size ≤ i → getD zs i 0 ≡ getD (replicate size 0 ++ drop size xs) i 0
+    later-word i l =
+        let e : length {A = ℕ} (replicate size 0) + (i - size) ≡ i = omega (arith, length-replicate {A = ℕ} size 0) in
+        let f : size + (i - size) ≡ i = omega arith in
+        let far = getD-append-add (replicate size 0) (drop size xs) (i - size) 0 ∙ getD-drop size xs (i - size) 0 in
+        let there : getD (replicate size 0 ++ drop size xs) i 0 ≡ getD xs i 0 = rw (e, f) at far in
+        w .kept .above i (omega arith) ∙ b .later i l ∙ sym there
+
+    each : (i : ℕ) → i < length zs → getD zs i 0 ≡ getD (replicate size 0 ++ drop size xs) i 0
+    each i l = by-cases (decLt i size) (λ m. zero-word i m) (λ m. later-word i (omega arith))
+
+module _ (starts lengths numbers counts : List ℕ) (head turn reads : ℕ) (rule : Rule) (froms tos times room : List ℕ)
+    (accepts : isRefusal (judgeOf (runOf starts lengths numbers counts head turn) .refusal) ≡ false) (whole : reads ≡ total counts) where
+  abbrev r : Run
+  r = runOf starts lengths numbers counts head turn
+
+  pub judged : Judged starts lengths numbers counts turn reads
+  judged = record { head = head; accepts = accepts; whole = whole }
+
+  -- The list is written, the room is zeroed, and the pricer's answer for the list is the planner's.
+  pub planned-so : (n : ℕ) (froms′ tos′ room₁ room′ times′ : List ℕ) (answer : Answer) → length numbers ≤ length times → tableSize (length numbers) reads ≤ length room
+      → ListWritten (ruleList rule turn (stopsFrom starts lengths numbers counts)) n froms tos froms′ tos′
+      → Beyond (tableSize (length numbers) reads) room room₁ → Written 0 (tableSize (length numbers) reads) (λ s. 0) room₁ room′
+      → answer ≡ priceAnswer (runOf starts lengths numbers counts head turn) (take n froms′) (take n tos′) times
+      → times′ ≡ priceRow (runOf starts lengths numbers counts head turn) (take n froms′) (take n tos′) times
+      → Planned (runOf starts lengths numbers counts head turn) rule (rowsOf froms tos times room) answer (rowsOf froms′ tos′ times′ room′)
+  unfolding priceAnswer priceRow
+  planned-so n froms′ tos′ room₁ room′ times′ answer l big w b z a t =
+      record {
+        list = list;
+        by-rule = rule-list r accepts rule;
+        says = rw (priced, w .entries) at a;
+        rows = rows-are froms-are tos-are times-are room-are;
+      }
+    where
+      list : List Detour
+      list = ruleList rule turn (stopsFrom starts lengths numbers counts)
+
+      size-is : tableSize (length numbers) reads ≡ roomSize r
+      size-is = rw whole
+
+      priced : refuses (priceVerdict r (take n froms′) (take n tos′) times) ≡ false
+      priced =
+          price-accepted r (take n froms′) (take n tos′) times accepts (even list n froms tos froms′ tos′ w)
+          (rw (w .entries) (rule-formed r accepts rule)) l
+
+      froms-are : froms′ ≡ map (λ d. d .from) list ++ drop (length list) froms
+      froms-are = froms-after list n froms tos froms′ tos′ w
+
+      tos-are : tos′ ≡ map (λ d. d .to) list ++ drop (length list) tos
+      tos-are = tos-after list n froms tos froms′ tos′ w
+
+      times-are : times′ ≡ pricedTimes r list ++ drop (length numbers) times
+      times-are = rw (priced, w .entries) at t
+
+      room-are : room′ ≡ replicate (roomSize r) 0 ++ drop (roomSize r) room
+      room-are = rw size-is at (room-after (tableSize (length numbers) reads) room room₁ room′ big b z)
+
+      rows-are : {a a′ b b′ c c′ d d′ : List ℕ} → a ≡ a′ → b ≡ b′ → c ≡ c′ → d ≡ d′ → rowsOf a b c d ≡ rowsOf a′ b′ c′ d′
+      rows-are e f g h = rw (e, f, g, h)
+
+-- What an accepted run's table comes to fits a word.
+module _ (r : Run) (accepts : isRefusal (judgeOf r .refusal) ≡ false) where
+  pub reads-small : total (r .counts) ≤ mostReads
+  reads-small = accepted-run r accepts .wants .reads
+
+  pub square-small : length (r .numbers) * length (r .numbers) ≤ 64 * 64
+  square-small = mul-le-mul (accepted-run r accepts .wants .few) (accepted-run r accepts .wants .few)
+
+  pub room-small : (reads : ℕ) → reads ≡ total (r .counts) → tableSize (length (r .numbers)) reads ≤ 64 * 64 * 1025
+  room-small reads e = let h : reads + 1 ≤ 1025 = omega (arith, reads-small) in mul-le-mul square-small h

@@ -1,0 +1,3 @@
+-- What a reader of the planner must believe stands in Plan; Table is for the contracts of private functions.
+pub mod Plan
+pub mod Table

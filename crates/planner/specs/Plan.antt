@@ -1,0 +1,75 @@
+-- What the planner answers, for every input: the first refusal that applies and nothing changed, or the list of the rule with its walk's numbers, and every row afterwards.
+use Prim.Native.Nat.{ℕ, _+_, _-_, _*_}
+use mathlib.Core.Path.{_≡_}
+use mathlib.Core.Bool.{Bool, true, false, _||_}
+use mathlib.Core.List.{List, [], _∷_, _++_, map}
+use lib.ListN.{length, drop, replicate}
+use lib.Dec.{ltb}
+use Rattle.walk.specs.declared.Refusal.the-variants.{ShortRow, ShortRoom}
+use Rattle.walk.specs.declared.Verdict.{Verdict}
+use Rattle.walk.specs.declared.Answer.{Answer}
+use Rattle.walk.specs.Refusals.{isRefusal, refuseIf, firstOf}
+use Rattle.walk.specs.Run.{Run, stopsOf, total}
+use Rattle.walk.specs.Judging.{judgeOf}
+use Rattle.walk.specs.Detours.{Detour}
+use Rattle.walk.specs.Price.{refusalAnswer, pricedAnswer, pricedTimes}
+use Rattle.plans.specs.Least.{LeastFor}
+use Rattle.walk.specs.declared.Rule.{Rule}
+use Rattle.walk.specs.declared.Rule.the-variants.{Sweep, Least}
+
+-- The lent rows: for starts, ends and times, and the working room.
+pub record Rows : Type 0 where
+  pub froms : List ℕ
+  pub tos : List ℕ
+  pub times : List ℕ
+  pub room : List ℕ
+
+abbrev pub rowsOf : List ℕ → List ℕ → List ℕ → List ℕ → Rows
+rowsOf froms tos times room = record { froms = froms; tos = tos; times = times; room = room }
+
+-- The words of working room that a run asks for, k·k·(R + 1).
+abbrev pub roomSize : Run → ℕ
+roomSize r = length (r .numbers) * length (r .numbers) * (total (r .counts) + 1)
+
+-- 8: a row for times shorter than k, or one for starts or ends shorter than k - 1 (0 when k is 0).
+abbrev pub shortRows : ℕ → Rows → Bool
+shortRows k rows = ltb (length (rows .times)) k || ltb (length (rows .froms)) (k - 1) || ltb (length (rows .tos)) (k - 1)
+
+-- The planner's refusals, under either rule: 1 to 7, then 8, then 9.
+unfoldable pub planVerdict : Run → Rows → Verdict
+planVerdict r rows =
+    firstOf
+    (judgeOf r
+    ∷ refuseIf (shortRows (length (r .numbers)) rows) ShortRow
+    ∷ refuseIf (ltb (length (rows .room)) (roomSize r)) ShortRoom
+    ∷ [])
+
+-- The list that a rule asks for: the empty one, or the least.
+abbrev pub ByRule : Rule → Run → List Detour → Type 0
+ByRule Sweep r list = list ≡ []
+ByRule Least r list = LeastFor (r .turn) (r .head) (stopsOf r) list
+
+-- The rows afterwards: the list and the times in the first entries, zero in the words of the working room; later entries as they were.
+abbrev pub rowsWith : Run → List Detour → Rows → Rows
+rowsWith r list rows =
+    record {
+      froms = map (λ d. d .from) list ++ drop (length list) (rows .froms);
+      tos = map (λ d. d .to) list ++ drop (length list) (rows .tos);
+      times = pricedTimes r list ++ drop (length (r .numbers)) (rows .times);
+      room = replicate (roomSize r) 0 ++ drop (roomSize r) (rows .room);
+    }
+
+-- A refusal changes nothing at all.
+pub record Refused (v : Verdict) (before : Rows) (answer : Answer) (after : Rows) : Type 0 where
+  pub says : answer ≡ refusalAnswer v
+  pub kept : after ≡ before
+
+pub record Planned (r : Run) (rule : Rule) (before : Rows) (answer : Answer) (after : Rows) : Type 0 where
+  pub list : List Detour
+  pub by-rule : ByRule rule r list
+  pub says : answer ≡ pricedAnswer r list
+  pub rows : after ≡ rowsWith r list before
+
+pub record Plans (r : Run) (rule : Rule) (before : Rows) (answer : Answer) (after : Rows) : Type 0 where
+  pub refused : isRefusal (planVerdict r before .refusal) ≡ true → Refused (planVerdict r before) before answer after
+  pub planned : isRefusal (planVerdict r before .refusal) ≡ false → Planned r rule before answer after

@@ -1,0 +1,206 @@
+// The planner: refusals 1 to 7, 8 and 9, before anything is written; then the list of the rule, the room zeroed, and the list's own price.
+ghost use mathlib.Core.Path.{_≡_};
+ghost use mathlib.Core.Bool.{false, _||_};
+ghost use Prim.Native.Nat.{ℕ, _+_, _-_, _≤_, _<_};
+ghost use lib.ListN.{length};
+ghost use lib.Dec.{ltb};
+ghost use Rattle.walk.specs.Refusals.{isRefusal};
+ghost use Rattle.walk.specs.Run.{runOf, stopsFrom, total};
+ghost use Rattle.walk.specs.Judging.{judgeOf};
+ghost use Rattle.plans.proofs.LeastList.{leastList};
+ghost use Rattle.planner.specs.Plan.{Plans, Planned, rowsOf};
+ghost use Rattle.planner.specs.Table.{Judged, ListWritten, Beyond, tableSize, ruleList, LongRows};
+use crate::filling::clear;
+use crate::filling::fill;
+use crate::reading::read_off;
+use crate::stops::reads_before;
+use walk::Answer;
+use walk::Refusal;
+use walk::Rule;
+use walk::Verdict;
+
+// Whether a row is too short for so many wants. The rows for a list hold one entry less, and none where nothing is wanted.
+fn short_rows(wants: usize, froms: usize, tos: usize, times: usize) -> bool
+    ensures { λ r. ⌜ r ≡ (ltb times wants || ltb froms (wants - 1) || ltb tos (wants - 1)) ⌝ }
+{
+    if times < wants {
+        return true;
+    }
+    if wants == 0 {
+        return false;
+    }
+    if froms < wants - 1 {
+        return true;
+    }
+    tos < wants - 1
+}
+
+// The least list into the first entries of two rows, by way of the table.
+fn least_list(
+    starts: &[u64],
+    lengths: &[u64],
+    numbers: &[u64],
+    counts: &[u64],
+    turn: u64,
+    reads: usize,
+    froms: &mut [u64],
+    tos: &mut [u64],
+    room: &mut [u64],
+) -> usize
+    requires { ⌜ Judged (now starts) (now lengths) (now numbers) (now counts) turn reads ⌝ }
+    requires { ⌜ length (now numbers) ≤ length (now froms) + 1 ⌝ }
+    requires { ⌜ length (now numbers) ≤ length (now tos) + 1 ⌝ }
+    requires { ⌜ tableSize (length (now numbers)) reads ≤ length (now room) ⌝ }
+    ensures { λ r. ⌜ ListWritten (leastList turn (stopsFrom (now (starts .entry)) (now (lengths .entry)) (now (numbers .entry)) (now (counts .entry)))) r (now (froms .entry)) (now (tos .entry)) (now (froms .exit)) (now (tos .exit)) ⌝ }
+    ensures { λ r. ⌜ Beyond (tableSize (length (now (numbers .entry))) reads) (now (room .entry)) (now (room .exit)) ⌝ }
+{
+    if numbers.len() == 0 {
+        return 0;
+    }
+    fill(starts, lengths, numbers, counts, turn, room, reads);
+    read_off(
+        starts,
+        lengths,
+        numbers,
+        counts,
+        turn,
+        room,
+        reads,
+        froms,
+        tos,
+    )
+}
+
+// The list of the rule.
+fn list_by(
+    rule: Rule,
+    starts: &[u64],
+    lengths: &[u64],
+    numbers: &[u64],
+    counts: &[u64],
+    turn: u64,
+    reads: usize,
+    froms: &mut [u64],
+    tos: &mut [u64],
+    room: &mut [u64],
+) -> usize
+    requires { ⌜ Judged (now starts) (now lengths) (now numbers) (now counts) turn reads ⌝ }
+    requires { ⌜ length (now numbers) ≤ length (now froms) + 1 ⌝ }
+    requires { ⌜ length (now numbers) ≤ length (now tos) + 1 ⌝ }
+    requires { ⌜ tableSize (length (now numbers)) reads ≤ length (now room) ⌝ }
+    ensures { λ r. ⌜ ListWritten (ruleList rule turn (stopsFrom (now (starts .entry)) (now (lengths .entry)) (now (numbers .entry)) (now (counts .entry)))) r (now (froms .entry)) (now (tos .entry)) (now (froms .exit)) (now (tos .exit)) ⌝ }
+    ensures { λ r. ⌜ Beyond (tableSize (length (now (numbers .entry))) reads) (now (room .entry)) (now (room .exit)) ⌝ }
+{
+    match rule {
+        Rule::Sweep => 0,
+        Rule::Least => least_list(
+            starts,
+            lengths,
+            numbers,
+            counts,
+            turn,
+            reads,
+            froms,
+            tos,
+            room,
+        ),
+    }
+}
+
+// The list of an accepted run, where the rows and the room are long enough.
+fn planned(
+    starts: &[u64],
+    lengths: &[u64],
+    numbers: &[u64],
+    counts: &[u64],
+    head: u64,
+    turn: u64,
+    rule: Rule,
+    reads: usize,
+    froms: &mut [u64],
+    tos: &mut [u64],
+    times: &mut [u64],
+    room: &mut [u64],
+) -> Answer
+    requires { ⌜ isRefusal (judgeOf (runOf (now starts) (now lengths) (now numbers) (now counts) head turn) .refusal) ≡ false ⌝ }
+    requires { ⌜ reads ≡ total (now counts) ⌝ }
+    requires { ⌜ LongRows (length (now numbers)) (length (now froms)) (length (now tos)) (length (now times)) ⌝ }
+    requires { ⌜ tableSize (length (now numbers)) reads ≤ length (now room) ⌝ }
+    ensures { λ r. ⌜ Planned (runOf (now (starts .entry)) (now (lengths .entry)) (now (numbers .entry)) (now (counts .entry)) head turn) rule (rowsOf (now (froms .entry)) (now (tos .entry)) (now (times .entry)) (now (room .entry))) r (rowsOf (now (froms .exit)) (now (tos .exit)) (now (times .exit)) (now (room .exit))) ⌝ }
+{
+    let n = list_by(
+        rule,
+        starts,
+        lengths,
+        numbers,
+        counts,
+        turn,
+        reads,
+        froms,
+        tos,
+        room,
+    );
+    let k = numbers.len();
+    clear(room, 0, k * k * (reads + 1));
+    walk::price(
+        starts,
+        lengths,
+        numbers,
+        counts,
+        head,
+        turn,
+        &froms[..n],
+        &tos[..n],
+        times,
+    )
+}
+
+// The plan of a run: its answer, and in the lent rows the list and the times.
+pub fn plan(
+    starts: &[u64],
+    lengths: &[u64],
+    numbers: &[u64],
+    counts: &[u64],
+    head: u64,
+    turn: u64,
+    rule: Rule,
+    froms: &mut [u64],
+    tos: &mut [u64],
+    times: &mut [u64],
+    room: &mut [u64],
+) -> Answer
+    ensures { λ r. ⌜ Plans (runOf (now (starts .entry)) (now (lengths .entry)) (now (numbers .entry)) (now (counts .entry)) head turn) rule (rowsOf (now (froms .entry)) (now (tos .entry)) (now (times .entry)) (now (room .entry))) r (rowsOf (now (froms .exit)) (now (tos .exit)) (now (times .exit)) (now (room .exit))) ⌝ }
+{
+    let run = walk::judge(starts, lengths, numbers, counts, head, turn);
+    if walk::refused(run) {
+        return walk::refuse(run);
+    }
+    let k = numbers.len();
+    if short_rows(k, froms.len(), tos.len(), times.len()) {
+        return walk::refuse(Verdict {
+            refusal: Refusal::ShortRow,
+            place: 0,
+        });
+    }
+    let reads = reads_before(counts, counts.len()) as usize;
+    if room.len() < k * k * (reads + 1) {
+        return walk::refuse(Verdict {
+            refusal: Refusal::ShortRoom,
+            place: 0,
+        });
+    }
+    planned(
+        starts,
+        lengths,
+        numbers,
+        counts,
+        head,
+        turn,
+        rule,
+        reads,
+        froms,
+        tos,
+        times,
+        room,
+    )
+}
