@@ -28,15 +28,15 @@ abbrev pub placeMost : ℕ
 placeMost = 4096
 
 -- In a row of checks each place is near, given that the checks before it passed.
-abbrev AllNear : List Verdict → Type 0
+abbrev pub AllNear : List Verdict → Type 0
 AllNear [] = Unit {0}
 AllNear (v ∷ vs) = (v .place ≤ placeMost) × (refuses v ≡ false → AllNear vs)
 
-first-near : (vs : List Verdict) → AllNear vs → (firstOf vs) .place ≤ placeMost
+pub first-near : (vs : List Verdict) → AllNear vs → (firstOf vs) .place ≤ placeMost
 first-near [] h = omega arith
 first-near (v ∷ vs) h = ⊎-elim (λ e. rw e (h .0)) (λ e. rw e (first-near vs (h .1 e))) (true-or-false (refuses v))
 
-if-near : (b : Bool) (kind : Refusal) → (refuseIf b kind) .place ≤ placeMost
+pub if-near : (b : Bool) (kind : Refusal) → (refuseIf b kind) .place ≤ placeMost
 if-near true kind = omega arith
 if-near false kind = omega arith
 

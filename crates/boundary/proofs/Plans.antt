@@ -1,0 +1,122 @@
+-- The planner's call: 14 after 7, 8 for the row of sums too, and else the planner's own answer.
+use Prim.Native.Nat.{ℕ, zero, suc, _+_, _*_, _≤_, _<_}
+use mathlib.Core.Path.{_≡_, refl, ap, sym, _∙_}
+use mathlib.Core.Bool.{Bool, true, false, not, cond, _||_, true≢false, or-true, or-false}
+use mathlib.Core.Logic.{⊎-elim}
+use mathlib.Core.List.{List, [], _∷_, _++_}
+use native.Mathlib.Omega.{arith}
+use lib.ListN.{length}
+use lib.Dec.{ltb, eqb}
+use borrow.Author.Tests.{lt-ltb, le-ltb, eq-eqb, ne-eqb}
+use Rattle.walk.specs.declared.Refusal.the-variants.{ShortRow, ShortRoom, BadRule}
+use Rattle.walk.specs.declared.Verdict.{Verdict}
+use Rattle.walk.specs.declared.Answer.{Answer}
+use Rattle.walk.specs.Refusals.{numberOf, isRefusal, refuseIf, firstOf}
+use Rattle.walk.specs.Run.{Run}
+use Rattle.walk.specs.Judging.{judgeOf}
+use Rattle.walk.specs.Price.{refusalAnswer, pricedAnswer}
+use Rattle.walk.proofs.Search.{true-or-false}
+use Rattle.walk.proofs.Verdicts.{refuses, first-passes}
+use Rattle.walk.proofs.Places.{placeMost, judge-near, first-near, if-near}
+use Rattle.planner.specs.Plan.{Rows, Plans, Planned, Refused, planVerdict, shortRows, roomSize}
+use Rattle.boundary.proofs.Calls.{code-accepts}
+use Rattle.boundary.specs.Boundary.{codeOf, sumsWith, shortSums, badRule, ruleNumbered, planCall, CallRefused, CallPlanned, PlanCalled}
+
+-- The checks of the call, one by one.
+module _ (r : Run) (rule : ℕ) (rows : Rows) (sums : List ℕ) where
+  rule-first : refuses (judgeOf r) ≡ false → badRule rule ≡ true → planCall r rule rows sums ≡ record { refusal = BadRule; place = 0 }
+  unfolding planCall
+  rule-first h g = rw (h, g)
+
+  sums-first : refuses (judgeOf r) ≡ false → badRule rule ≡ false → ltb (length sums) 4 ≡ true → planCall r rule rows sums ≡ record { refusal = ShortRow; place = 0 }
+  unfolding planCall
+  sums-first h g s = rw (h, g, s, or-true)
+
+  call-is-plan : refuses (judgeOf r) ≡ false → badRule rule ≡ false → ltb (length sums) 4 ≡ false → planCall r rule rows sums ≡ planVerdict r rows
+  unfolding planCall planVerdict
+  call-is-plan h g s = rw (h, g, s, or-false)
+
+plan-near : (r : Run) (rows : Rows) → (planVerdict r rows) .place ≤ placeMost
+unfolding planVerdict
+plan-near r rows =
+    first-near
+    (judgeOf r ∷ refuseIf (shortRows (length (r .numbers)) rows) ShortRow ∷ refuseIf (ltb (length (rows .room)) (roomSize r)) ShortRoom ∷ [])
+    (judge-near r, λ e. (if-near (shortRows (length (r .numbers)) rows) ShortRow, λ d. (if-near (ltb (length (rows .room)) (roomSize r)) ShortRoom, λ c. tt)))
+
+-- A refused call, whatever the reason: code and kept rows.
+pub refused-call : (r : Run) (rule : ℕ) (rows : Rows) (sums : List ℕ) (v : Verdict) (code : ℕ)
+    → planCall r rule rows sums ≡ v → refuses v ≡ true → code ≡ codeOf v → PlanCalled r rule rows sums code rows sums
+refused-call r rule rows sums v code is h e =
+    record {
+      refused = λ g. record { says = rw is e; kept = refl; keptSums = refl };
+      planned = λ g. absurd (true≢false (sym h ∙ (rw is at g)));
+    }
+
+rule-over : (rule : ℕ) → 1 < rule → badRule rule ≡ true
+rule-over rule l = rw (ne-eqb rule 0 (omega arith), ne-eqb rule 1 (omega arith))
+
+rule-good : (rule : ℕ) → rule ≤ 1 → badRule rule ≡ false
+rule-good zero l = refl
+rule-good (suc zero) l = refl
+rule-good (suc (suc n)) l = absurd (omega arith)
+
+module _ (r : Run) (rule : ℕ) (rows : Rows) (sums : List ℕ) (v : Verdict) (f : Bool) (v-is : v ≡ judgeOf r) (f-is : f ≡ isRefusal (v .refusal)) where
+  run-says : (b : Bool) → f ≡ b → refuses (judgeOf r) ≡ b
+  run-says b e = rw (← v-is, ← f-is, e)
+
+  run-first : refuses (judgeOf r) ≡ true → planCall r rule rows sums ≡ judgeOf r
+  unfolding planCall
+  run-first h = rw h
+
+  pub run-refused : f ≡ true → (a : Answer) → a ≡ refusalAnswer v → (code : ℕ) → code ≡ numberOf (a .refusal) + 256 * a .place → PlanCalled r rule rows sums code rows sums
+  run-refused e a a-is code code-is =
+      refused-call r rule rows sums v code (run-first (run-says true e) ∙ sym v-is) (sym f-is ∙ e) (rw a-is at code-is)
+
+  pub run-placed : (a : Answer) → a ≡ refusalAnswer v → a .place ≤ placeMost
+  run-placed a a-is = rw (a-is, v-is) (judge-near r)
+
+  pub rule-refused : f ≡ false → 1 < rule → PlanCalled r rule rows sums 14 rows sums
+  rule-refused e l = refused-call r rule rows sums (record { refusal = BadRule; place = 0 }) 14 (by-rule l) refl refl
+    where
+      by-rule : 1 < rule → planCall r rule rows sums ≡ record { refusal = BadRule; place = 0 }
+      by-rule l = rule-first r rule rows sums (run-says false e) (rule-over rule l)
+
+  pub sums-refused : f ≡ false → rule ≤ 1 → length sums < 4 → PlanCalled r rule rows sums 8 rows sums
+  sums-refused e l h =
+      refused-call r rule rows sums (record { refusal = ShortRow; place = 0 }) 8 (sums-first r rule rows sums (run-says false e) (rule-good rule l) (lt-ltb (length sums) 4 h)) refl refl
+
+  -- Past these the call is judged as the planner judges.
+  module _ (e : f ≡ false) (l : rule ≤ 1) (long : 4 ≤ length sums) (a : Answer) (after : Rows) (plans : Plans r (ruleNumbered rule) rows a after) where
+    same : planCall r rule rows sums ≡ planVerdict r rows
+    same = call-is-plan r rule rows sums (run-says false e) (rule-good rule l) (le-ltb (length sums) 4 long)
+
+    pub plan-placed : a .place ≤ placeMost
+    unfolding pricedAnswer
+    plan-placed =
+        ⊎-elim
+        (λ h. rw (plans .refused h .says) (plan-near r rows))
+        (λ h. rw (plans .planned h .says) (omega arith))
+        (true-or-false (refuses (planVerdict r rows)))
+
+    module _ (code : ℕ) (code-is : code ≡ numberOf (a .refusal) + 256 * a .place) where
+      accepted-code : refuses (planVerdict r rows) ≡ false → code ≡ 0
+      unfolding pricedAnswer
+      accepted-code h = rw (plans .planned h .says) at code-is
+
+      refused-code : refuses (planVerdict r rows) ≡ true → code ≡ codeOf (planVerdict r rows)
+      refused-code h = rw (plans .refused h .says) at code-is
+
+      pub plan-refused : (code ≡ 0 → ⊥) → PlanCalled r rule rows sums code after sums
+      plan-refused some =
+          let h : refuses (planVerdict r rows) ≡ true = ⊎-elim (λ g. g) (λ g. absurd (some (accepted-code g))) (true-or-false (refuses (planVerdict r rows))) in
+          rw (plans .refused h .kept) (refused-call r rule rows sums (planVerdict r rows) code same h (refused-code h))
+
+      pub plan-filled : code ≡ 0 → (out : List ℕ) → out ≡ sumsWith a sums → PlanCalled r rule rows sums 0 after out
+      plan-filled none out is =
+          let h : refuses (planVerdict r rows) ≡ false
+          = ⊎-elim (λ g. code-accepts (planVerdict r rows) (sym (refused-code g) ∙ none)) (λ g. g) (true-or-false (refuses (planVerdict r rows)))
+          in
+          record {
+            refused = λ g. absurd (true≢false (sym (rw same at g) ∙ h));
+            planned = λ g. record { says = refl; answer = a; planned = plans .planned h; sumsAre = is };
+          }

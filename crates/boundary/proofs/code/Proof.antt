@@ -1,0 +1,22 @@
+-- `boundary::code` meets its contract: a number of the table and a small place fit one word.
+-- Assumes nothing.
+use native.Mathlib.Omega.{arith}
+use Rattle.boundary.proofs.Calls.{number-small}
+use borrow.Author.Needs.{needs}
+use Rattle.boundary.proofs.code.Statement.{statement}
+use Rattle.boundary.proofs.code.Tie as tie
+
+number-requires : tie.Need-number-requires
+number-requires c κs = search needs
+
+mul-result : tie.Need-mul-result
+mul-result c = search needs
+
+add-result : tie.Need-add-result
+add-result c = omega (arith, c .before .number .ensures, number-small (c .before .before .args .a .refusal), c .before .before .pre)
+
+returns : tie.Need-returns
+returns c = search needs
+
+pub code-spec : {M : Type 1} → statement M
+code-spec = tie.close (tie.spec number-requires mul-result add-result returns)

@@ -1,0 +1,89 @@
+-- `boundary::violstream_price` meets its contract: the pricer's own answer, with 8 for the row of sums where nothing comes before it.
+-- Assumes nothing.
+use mathlib.Core.Path.{sym, ap, _∙_}
+use Rattle.walk.specs.Run.{Run, runOf}
+use Rattle.walk.specs.Price.{priceVerdict}
+use Rattle.boundary.specs.Boundary.{codeOf}
+use Rattle.boundary.proofs.Calls.{price-code, price-placed, price-accepted, code-refuses, code-accepts, call-is-price, call-times, call-sums-kept, call-sums-filled, short-times, short-sums}
+use borrow.Author.Needs.{needs}
+use Rattle.boundary.proofs.violstream_price.Statement.{statement}
+use Rattle.boundary.proofs.violstream_price.Tie as tie
+
+-- The run and the rows that were handed in.
+abbrev run : tie.Start → Run
+run s = let a = s .args in runOf (a .starts .now) (a .lengths .now) (a .numbers .now) (a .counts .now) (a .head) (a .turn)
+
+short-price-requires : tie.Need-short-price-requires
+short-price-requires c κs = search needs
+
+returns : tie.Need-returns
+returns c =
+    let s = c .before .before .before .before .before .before .before .before .before .before in
+    record {
+      says = c .short-price .ensures (s .args .times .now) (s .args .sums .now) (c .before .if1 .taken);
+      timesAre = short-times (run s) (s .args .detour-starts .now) (s .args .detour-ends .now) (s .args .times .now) (s .args .sums .now) (c .before .if1 .taken);
+      sumsAre = short-sums (run s) (s .args .detour-starts .now) (s .args .detour-ends .now) (s .args .times .now) (s .args .sums .now) (c .before .if1 .taken);
+    }
+
+price-requires : tie.Need-price-requires
+price-requires c κs = search needs
+
+code-requires : tie.Need-code-requires
+code-requires c κs = price-placed _ _ _ _ _ (c .before .before .price .ensures .0)
+
+same-length : tie.Need-same-length
+same-length c = search needs
+
+returns-2 : tie.Need-returns-2
+returns-2 c =
+    let p = c .before .before .before .before in
+    let e = p .before .before in
+    let s = e .before .before .before .before .before .before .before .before .before in
+    let is = c .before .code .ensures ∙ price-code (run s) (s .args .detour-starts .now) (s .args .detour-ends .now) (s .args .times .now) _ (p .price .ensures .0) in
+    record {
+      says = is ∙ sym (ap codeOf (call-is-price (run s) (s .args .detour-starts .now) (s .args .detour-ends .now) (s .args .times .now) (s .args .sums .now) (e .if1 .left)));
+      timesAre = call-times (run s) (s .args .detour-starts .now) (s .args .detour-ends .now) (s .args .times .now) (s .args .sums .now) _ (e .if1 .left) (p .price .ensures .1);
+      sumsAre =
+          call-sums-kept (run s) (s .args .detour-starts .now) (s .args .detour-ends .now) (s .args .times .now) (s .args .sums .now) (e .if1 .left)
+          (code-refuses _ (λ z. c .if2 .taken (is ∙ z)) (price-accepted (run s) (s .args .detour-starts .now) (s .args .detour-ends .now) (s .args .times .now)));
+    }
+
+fill-sums-requires : tie.Need-fill-sums-requires
+fill-sums-requires c κs = search needs
+
+same-length-2 : tie.Need-same-length-2
+same-length-2 c = search needs
+
+same-length-3 : tie.Need-same-length-3
+same-length-3 c = search needs
+
+returns-3 : tie.Need-returns-3
+returns-3 c =
+    let d = c .before .before .before .before in
+    let p = d .before .before .before .before in
+    let e = p .before .before in
+    let s = e .before .before .before .before .before .before .before .before .before in
+    let is = d .before .code .ensures ∙ price-code (run s) (s .args .detour-starts .now) (s .args .detour-ends .now) (s .args .times .now) _ (p .price .ensures .0) in
+    let none = sym is ∙ d .if2 .left in
+    record {
+      says = sym none ∙ sym (ap codeOf (call-is-price (run s) (s .args .detour-starts .now) (s .args .detour-ends .now) (s .args .times .now) (s .args .sums .now) (e .if1 .left)));
+      timesAre = call-times (run s) (s .args .detour-starts .now) (s .args .detour-ends .now) (s .args .times .now) (s .args .sums .now) _ (e .if1 .left) (p .price .ensures .1);
+      sumsAre =
+          call-sums-filled (run s) (s .args .detour-starts .now) (s .args .detour-ends .now) (s .args .times .now) (s .args .sums .now) _ _ (e .if1 .left)
+          (code-accepts (priceVerdict (run s) (s .args .detour-starts .now) (s .args .detour-ends .now) (s .args .times .now)) none) (p .price .ensures .0) (c .before .before .fill-sums .ensures);
+    }
+
+pub violstream-price-spec : {M : Type 1} → statement M
+violstream-price-spec =
+    tie.close
+    (tie.spec
+    short-price-requires
+    returns
+    price-requires
+    code-requires
+    same-length
+    returns-2
+    fill-sums-requires
+    same-length-2
+    same-length-3
+    returns-3)

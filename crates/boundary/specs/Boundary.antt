@@ -1,0 +1,81 @@
+-- The C boundary: a call gives back 0, or the refusal's number plus 256 times its place; on success sum, finish, end and number of
+-- detours fill the first four words of a row. On a refusal every row keeps its words.
+use Prim.Native.Nat.{ℕ, _+_, _*_}
+use mathlib.Core.Path.{_≡_}
+use mathlib.Core.Bool.{Bool, true, false, cond, _||_, not}
+use mathlib.Core.List.{List, [], _∷_, _++_}
+use lib.ListN.{length, drop}
+use lib.Dec.{ltb, eqb}
+use Rattle.walk.specs.declared.Refusal.the-variants.{ShortRow, ShortRoom, BadRule}
+use Rattle.walk.specs.declared.Verdict.{Verdict}
+use Rattle.walk.specs.declared.Answer.{Answer}
+use Rattle.walk.specs.declared.Rule.{Rule}
+use Rattle.walk.specs.declared.Rule.the-variants.{Sweep, Least}
+use Rattle.walk.specs.Refusals.{numberOf, isRefusal, refuseIf, firstOf}
+use Rattle.walk.specs.Run.{Run}
+use Rattle.walk.specs.Judging.{judgeOf}
+use Rattle.walk.specs.Detours.{listOf}
+use Rattle.walk.specs.Price.{priceVerdict, pricedAnswer, pricedTimes}
+use Rattle.planner.specs.Plan.{Rows, roomSize, shortRows, Planned}
+
+-- What a verdict gives back.
+abbrev pub codeOf : Verdict → ℕ
+codeOf v = numberOf (v .refusal) + 256 * v .place
+
+-- The row of sums afterwards: four numbers, then the later words as they were.
+abbrev pub sumsWith : Answer → List ℕ → List ℕ
+sumsWith a sums = a .sum ∷ a .finish ∷ a .end ∷ a .detours ∷ drop 4 sums
+
+-- 8, at the boundary also: a row for sums below 4 words.
+abbrev pub shortSums : List ℕ → Bool
+shortSums sums = ltb (length sums) 4
+
+-- The pricer: its own refusals, then 8 for the row of sums.
+unfoldable pub priceCall : Run → List ℕ → List ℕ → List ℕ → List ℕ → Verdict
+priceCall r froms tos times sums = firstOf (priceVerdict r froms tos times ∷ refuseIf (shortSums sums) ShortRow ∷ [])
+
+unfoldable pub priceTimes : Run → List ℕ → List ℕ → List ℕ → List ℕ → List ℕ
+priceTimes r froms tos times sums =
+    cond (isRefusal ((priceCall r froms tos times sums) .refusal)) times (pricedTimes r (listOf froms tos) ++ drop (length (r .numbers)) times)
+
+unfoldable pub priceSums : Run → List ℕ → List ℕ → List ℕ → List ℕ → List ℕ
+priceSums r froms tos times sums =
+    cond (isRefusal ((priceCall r froms tos times sums) .refusal)) sums (sumsWith (pricedAnswer r (listOf froms tos)) sums)
+
+-- What a call of the pricer gives back and leaves in the two rows.
+pub record PriceCalled (r : Run) (froms tos times sums : List ℕ) (code : ℕ) (timesOut sumsOut : List ℕ) : Type 0 where
+  pub says : code ≡ codeOf (priceCall r froms tos times sums)
+  pub timesAre : timesOut ≡ priceTimes r froms tos times sums
+  pub sumsAre : sumsOut ≡ priceSums r froms tos times sums
+
+-- The rule numbers: 0 is sweep, 1 is least, and any other is refused by 14.
+abbrev pub badRule : ℕ → Bool
+badRule rule = not (eqb rule 0 || eqb rule 1)
+
+abbrev pub ruleNumbered : ℕ → Rule
+ruleNumbered rule = cond (eqb rule 0) Sweep Least
+
+-- The planner: 1 to 7, then 14, then 8 for any row, then 9.
+unfoldable pub planCall : Run → ℕ → Rows → List ℕ → Verdict
+planCall r rule rows sums =
+    firstOf
+    (judgeOf r
+    ∷ refuseIf (badRule rule) BadRule
+    ∷ refuseIf (shortRows (length (r .numbers)) rows || shortSums sums) ShortRow
+    ∷ refuseIf (ltb (length (rows .room)) (roomSize r)) ShortRoom
+    ∷ [])
+
+pub record CallRefused (v : Verdict) (before : Rows) (sums : List ℕ) (code : ℕ) (after : Rows) (out : List ℕ) : Type 0 where
+  pub says : code ≡ codeOf v
+  pub kept : after ≡ before
+  pub keptSums : out ≡ sums
+
+pub record CallPlanned (r : Run) (rule : ℕ) (before : Rows) (sums : List ℕ) (code : ℕ) (after : Rows) (out : List ℕ) : Type 0 where
+  pub says : code ≡ 0
+  pub answer : Answer
+  pub planned : Planned r (ruleNumbered rule) before answer after
+  pub sumsAre : out ≡ sumsWith answer sums
+
+pub record PlanCalled (r : Run) (rule : ℕ) (before : Rows) (sums : List ℕ) (code : ℕ) (after : Rows) (out : List ℕ) : Type 0 where
+  pub refused : isRefusal ((planCall r rule before sums) .refusal) ≡ true → CallRefused (planCall r rule before sums) before sums code after out
+  pub planned : isRefusal ((planCall r rule before sums) .refusal) ≡ false → CallPlanned r rule before sums code after out

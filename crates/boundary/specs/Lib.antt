@@ -1,0 +1,2 @@
+-- What a C program gets back from the two exported functions.
+pub mod Boundary

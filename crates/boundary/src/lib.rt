@@ -1,0 +1,165 @@
+// boundary: the pricer and the planner for programs in C. Thin: judged and done by the crates below.
+// include/violstream.h tells a C programmer the same in words; parameter order and meaning are fixed there.
+ghost use mathlib.Core.Path.{_≡_};
+ghost use mathlib.Core.List.{List};
+ghost use Prim.Native.Nat.{ℕ, _+_, _*_, _≤_, _<_};
+ghost use lib.ListN.{length};
+ghost use Rattle.walk.specs.Refusals.{numberOf};
+ghost use Rattle.walk.specs.Run.{runOf};
+ghost use Rattle.planner.specs.Plan.{rowsOf};
+ghost use Rattle.boundary.specs.Boundary.{codeOf, sumsWith, priceCall, ruleNumbered, PriceCalled, PlanCalled};
+use walk::Answer;
+use walk::Rule;
+
+// An answer's code: 0, or a refusal's number plus 256 times its place.
+fn code(a: Answer) -> u64
+    requires { ⌜ a .place ≤ 4096 ⌝ }
+    ensures { λ r. ⌜ r ≡ numberOf (a .refusal) + 256 * a .place ⌝ }
+{
+    let kind = a.refusal;
+    walk::number(kind) + 256 * a.place
+}
+
+// The four words of an accepted answer.
+fn fill_sums(a: Answer, sums: &mut [u64])
+    requires { ⌜ 4 ≤ length (now sums) ⌝ }
+    ensures { λ _. ⌜ now (sums .exit) ≡ sumsWith a (now (sums .entry)) ⌝ }
+{
+    sums[0] = a.sum;
+    sums[1] = a.finish;
+    sums[2] = a.end;
+    sums[3] = a.detours;
+}
+
+// The code of a call whose row of sums is short: what comes before 8 is found by pricing into an empty row, where nothing is written.
+fn short_price(
+    starts: &[u64],
+    lengths: &[u64],
+    numbers: &[u64],
+    counts: &[u64],
+    head: u64,
+    turn: u64,
+    froms: &[u64],
+    tos: &[u64],
+) -> u64
+    ensures { λ r. ⌜ ((times sums : List ℕ) → length sums < 4 → r ≡ codeOf (priceCall (runOf (now (starts .entry)) (now (lengths .entry)) (now (numbers .entry)) (now (counts .entry)) head turn) (now (froms .entry)) (now (tos .entry)) times sums)) ⌝ }
+{
+    let mut none = [0u64; 0];
+    let a = walk::price(
+        starts,
+        lengths,
+        numbers,
+        counts,
+        head,
+        turn,
+        froms,
+        tos,
+        &mut none,
+    );
+    let found = code(a);
+    if found == 0 {
+        return 8;
+    }
+    found
+}
+
+#[no_mangle]
+pub extern "C" fn violstream_price(
+    starts: &[u64],
+    lengths: &[u64],
+    numbers: &[u64],
+    counts: &[u64],
+    head: u64,
+    turn: u64,
+    detour_starts: &[u64],
+    detour_ends: &[u64],
+    times: &mut [u64],
+    sums: &mut [u64],
+) -> u64
+    ensures { λ r. ⌜ PriceCalled (runOf (now (starts .entry)) (now (lengths .entry)) (now (numbers .entry)) (now (counts .entry)) head turn) (now («detour_starts» .entry)) (now («detour_ends» .entry)) (now (times .entry)) (now (sums .entry)) r (now (times .exit)) (now (sums .exit)) ⌝ }
+{
+    if sums.len() < 4 {
+        return short_price(
+            starts,
+            lengths,
+            numbers,
+            counts,
+            head,
+            turn,
+            detour_starts,
+            detour_ends,
+        );
+    }
+    let a = walk::price(
+        starts,
+        lengths,
+        numbers,
+        counts,
+        head,
+        turn,
+        detour_starts,
+        detour_ends,
+        times,
+    );
+    let found = code(a);
+    if found != 0 {
+        return found;
+    }
+    fill_sums(a, sums);
+    0
+}
+
+// Rule 0 is sweep; 1, and nothing else that comes here, is least.
+fn rule_numbered(rule: u64) -> Rule
+    ensures { λ r. ⌜ r ≡ ruleNumbered rule ⌝ }
+{
+    if rule == 0 { Rule::Sweep } else { Rule::Least }
+}
+
+#[no_mangle]
+pub extern "C" fn violstream_plan(
+    starts: &[u64],
+    lengths: &[u64],
+    numbers: &[u64],
+    counts: &[u64],
+    head: u64,
+    turn: u64,
+    rule: u64,
+    detour_starts: &mut [u64],
+    detour_ends: &mut [u64],
+    times: &mut [u64],
+    sums: &mut [u64],
+    room: &mut [u64],
+) -> u64
+    ensures { λ r. ⌜ PlanCalled (runOf (now (starts .entry)) (now (lengths .entry)) (now (numbers .entry)) (now (counts .entry)) head turn) rule (rowsOf (now («detour_starts» .entry)) (now («detour_ends» .entry)) (now (times .entry)) (now (room .entry))) (now (sums .entry)) r (rowsOf (now («detour_starts» .exit)) (now («detour_ends» .exit)) (now (times .exit)) (now (room .exit))) (now (sums .exit)) ⌝ }
+{
+    let run = walk::judge(starts, lengths, numbers, counts, head, turn);
+    if walk::refused(run) {
+        return code(walk::refuse(run));
+    }
+    if 1 < rule {
+        return 14;
+    }
+    if sums.len() < 4 {
+        return 8;
+    }
+    let a = planner::plan(
+        starts,
+        lengths,
+        numbers,
+        counts,
+        head,
+        turn,
+        rule_numbered(rule),
+        detour_starts,
+        detour_ends,
+        times,
+        room,
+    );
+    let found = code(a);
+    if found != 0 {
+        return found;
+    }
+    fill_sums(a, sums);
+    0
+}
