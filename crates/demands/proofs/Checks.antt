@@ -1,0 +1,104 @@
+-- A check and the condition of the refusal table that it looks for; and a row of checks, each of which decides its condition, finds the
+-- first that applies.
+use Prim.Native.Nat.{ℕ, zero, suc, _<_}
+use mathlib.Core.Path.{_≡_, refl, sym, _∙_}
+use mathlib.Core.Bool.{Bool, true, false, true≢false}
+use mathlib.Core.List.{List, [], _∷_, _++_}
+use native.Mathlib.Omega.{arith}
+use Rattle.walk.specs.declared.Refusal.{Refusal}
+use Rattle.walk.specs.declared.Verdict.{Verdict}
+use Rattle.walk.specs.Refusals.{isRefusal, accepted, refuseIf, refuseAt, firstOf, firstWhere}
+use Rattle.walk.proofs.Search.{first-zero}
+use Rattle.walk.proofs.Verdicts.{refuses}
+use Rattle.demands.specs.Table.{FirstBad, FirstThatApplies, none, here, later}
+use Rattle.demands.proofs.Tests.{Tells}
+
+-- A check refuses with its kind, at the place at which the condition applies; or it accepts, and the condition applies at no place.
+pub data Decides (kind : Refusal) (applies : ℕ → Type 0) (v : Verdict) : Type 0 where
+  refused : (place : ℕ) → v ≡ record { refusal = kind; place = place } → applies place → Decides kind applies v
+  passed : v ≡ accepted → ((place : ℕ) → applies place → ⊥) → Decides kind applies v
+
+-- A condition without a place of its own.
+pub decides-if : (b : Bool) (kind : Refusal) {P : Type 0} → Tells b P → Decides kind (λ p. (p ≡ 0) × P) (refuseIf b kind)
+decides-if true kind t = refused 0 refl (refl, t .when-true refl)
+decides-if false kind t = passed refl (λ p h. t .when-false refl (h .1))
+
+-- The first place at which a test holds: it holds there, and at none before.
+module _ (bad : ℕ → Bool) where
+  found-at : (n q : ℕ) → firstWhere bad n ≡ suc q → (q < n) × (bad q ≡ true) × (firstWhere bad q ≡ 0)
+  unfolding firstWhere
+  found-at zero q e = absurd (omega arith)
+  found-at (suc n) q e = go (firstWhere bad n) (bad n) refl refl (found-at n)
+    where
+      go : (p : ℕ) (b : Bool) → firstWhere bad n ≡ p → bad n ≡ b → ((q : ℕ) → firstWhere bad n ≡ suc q → (q < n) × (bad q ≡ true) × (firstWhere bad q ≡ 0))
+          → (q < suc n) × (bad q ≡ true) × (firstWhere bad q ≡ 0)
+      go zero true f t rest = let same : n ≡ q = omega (arith, rw (f, t) at e) in rw (← same) (omega arith, t, f)
+      go zero false f t rest = absurd (omega (arith, rw (f, t) at e))
+      go (suc p) b f t rest = let found = rest q (f ∙ (rw f at e)) in (omega (arith, found .0), found .1, found .2)
+
+  module _ (Bad : ℕ → Type 0) (n : ℕ) (each : (i : ℕ) → Tells (bad i) (Bad i)) where
+    first-bad : (q : ℕ) → firstWhere bad n ≡ suc q → FirstBad Bad n (suc q)
+    first-bad q e =
+        let found = found-at n q e in
+        record {
+          index = q;
+          within = found .0;
+          at = refl;
+          here = each q .when-true (found .1);
+          before = λ j l. each j .when-false (first-zero bad q (found .2) j l);
+        }
+
+    none-bad : firstWhere bad n ≡ 0 → (p : ℕ) → FirstBad Bad n p → ⊥
+    none-bad e p f = each (f .index) .when-false (first-zero bad n e (f .index) (f .within)) (f .here)
+
+    pub decides-at : (kind : Refusal) → Decides kind (FirstBad Bad n) (refuseAt (firstWhere bad n) kind)
+    decides-at kind = go (firstWhere bad n) refl
+      where
+        go : (p : ℕ) → firstWhere bad n ≡ p → Decides kind (FirstBad Bad n) (refuseAt (firstWhere bad n) kind)
+        go zero e = passed (rw e) (none-bad e)
+        go (suc q) e = refused (suc q) (rw e) (first-bad q e)
+
+-- A condition in other words.
+pub decides-reworded : {kind : Refusal} {P Q : ℕ → Type 0} {v : Verdict} → ((p : ℕ) → P p → Q p) → ((p : ℕ) → Q p → P p) → Decides kind P v → Decides kind Q v
+decides-reworded there back (refused p e h) = refused p e (there p h)
+decides-reworded there back (passed e n) = passed e (λ p q. n p (back p q))
+
+-- A check is a row of one.
+pub decides-alone : {kind : Refusal} {P : ℕ → Type 0} {v : Verdict} → isRefusal kind ≡ true → Decides kind P v → Decides kind P (firstOf (v ∷ []))
+decides-alone r (refused p e h) = refused p (rw (e, r)) h
+decides-alone r (passed e n) = passed (rw e) n
+
+-- What a verdict finds, of an order of conditions.
+abbrev pub Finds : (Refusal → ℕ → Type 0) → List Refusal → Verdict → Type 0
+Finds applies order v = FirstThatApplies applies order (v .refusal) (v .place)
+
+module _ (applies : Refusal → ℕ → Type 0) where
+  pub finds-none : Finds applies [] accepted
+  finds-none = none
+
+  -- One check more at the front: the others are asked only where it accepts.
+  pub finds-first : {kind : Refusal} {rest : List Refusal} {v : Verdict} (vs : List Verdict) → isRefusal kind ≡ true → Decides kind (applies kind) v
+      → (refuses v ≡ false → Finds applies rest (firstOf vs)) → Finds applies (kind ∷ rest) (firstOf (v ∷ vs))
+  finds-first vs r (refused p e h) others = rw (e, r) (here h)
+  finds-first {v} vs r (passed e n) others = let passes : refuses v ≡ false = rw e in rw passes (later n (others passes))
+
+-- A row of checks at the front of a row.
+pub first-of-joined : (vs ws : List Verdict) → firstOf (firstOf vs ∷ ws) ≡ firstOf (vs ++ ws)
+first-of-joined [] ws = refl
+first-of-joined (v ∷ vs) ws = go (refuses v) refl (first-of-joined vs ws)
+  where
+    go : (b : Bool) → refuses v ≡ b → firstOf (firstOf vs ∷ ws) ≡ firstOf (vs ++ ws) → firstOf (firstOf (v ∷ vs) ∷ ws) ≡ firstOf (v ∷ vs ++ ws)
+    go true h rest = rw (h, h)
+    go false h rest = rw h rest
+
+pub both-pass : (v : Verdict) (vs : List Verdict) → refuses v ≡ false → refuses (firstOf vs) ≡ false → refuses (firstOf (v ∷ vs)) ≡ false
+both-pass v vs e h = rw e h
+
+-- Where no check refuses, the verdict is acceptance, with place 0.
+pub none-refuses : (vs : List Verdict) → refuses (firstOf vs) ≡ false → firstOf vs ≡ accepted
+none-refuses [] e = refl
+none-refuses (v ∷ vs) e = go (refuses v) refl (none-refuses vs)
+  where
+    go : (b : Bool) → refuses v ≡ b → (refuses (firstOf vs) ≡ false → firstOf vs ≡ accepted) → firstOf (v ∷ vs) ≡ accepted
+    go true h rest = absurd (true≢false (sym h ∙ (rw h at e)))
+    go false h rest = rw h (rest (rw h at e))

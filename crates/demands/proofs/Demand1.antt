@@ -1,0 +1,161 @@
+-- Demand 1: the pricer's and the planner's answers are the first of the table that applies, both ways, and a refusal changes nothing.
+-- What each check decides is in Judged (1 to 7) and Listed (10).
+use Prim.Native.Nat.{ℕ, _-_, _≤_, _<_}
+use mathlib.Core.Path.{_≡_, refl, sym, ap, _∙_}
+use mathlib.Core.Bool.{Bool, true, false, _||_, true≢false}
+use mathlib.Core.Logic.{_↔_, _⊎_, inl, inr, ⊎-elim}
+use mathlib.Core.List.{List, [], _∷_}
+use native.Mathlib.Omega.{arith}
+use lib.ListN.{length}
+use lib.Dec.{ltb}
+use Rattle.walk.specs.declared.Refusal.{Refusal}
+use Rattle.walk.specs.declared.Refusal.the-variants.{Accepted, BadEntry, ShortRow, ShortRoom}
+use Rattle.walk.specs.declared.Verdict.{Verdict}
+use Rattle.walk.specs.declared.Answer.{Answer}
+use Rattle.walk.specs.declared.Rule.{Rule}
+use Rattle.walk.specs.Refusals.{isRefusal, numberOf, accepted, refuseIf}
+use Rattle.walk.specs.Run.{Run, stopsOf}
+use Rattle.walk.specs.Judging.{judgeOf}
+use Rattle.walk.specs.Detours.{listVerdict}
+use Rattle.walk.specs.Price.{refusalAnswer, pricedAnswer, priceVerdict, priceAnswer, priceRow}
+use Rattle.walk.proofs.Verdicts.{refuses}
+use Rattle.walk.proofs.Judged.{accepted-run}
+use Rattle.planner.specs.Plan.{Rows, Plans, roomSize, shortRows, planVerdict}
+use Rattle.demands.specs.Table.{RunApplies, ListIsBad, FirstThatApplies, none, here, later, SomeApplies}
+use Rattle.demands.specs.Demand1.{OnlyPlace, PriceApplies, PlanApplies, priceOrder, planOrder, PriceAnswers, PlanAnswers, Demand1Price, Demand1Plan, Demand1PriceIff, Demand1PlanIff}
+use Rattle.demands.proofs.Tests.{tells-below, tells-either, tells-regrouped}
+use Rattle.demands.proofs.Checks.{decides-if, decides-reworded, Finds, finds-none, finds-first, none-refuses}
+use Rattle.demands.proofs.Judged.{run-finds}
+use Rattle.demands.proofs.Listed.{decides-list}
+
+-- Of the first that applies: it is a refusal if and only if some condition applies.
+abbrev AllRefuse : List Refusal → Type 0
+AllRefuse [] = Unit {0}
+AllRefuse (kind ∷ rest) = (isRefusal kind ≡ true) × AllRefuse rest
+
+module _ (applies : Refusal → ℕ → Type 0) where
+  some-applies : {order : List Refusal} {kind : Refusal} {place : ℕ} → FirstThatApplies applies order kind place → (kind ≡ Accepted → ⊥) → SomeApplies applies order
+  some-applies none n = absurd (n refl)
+  some-applies (here {place = p} h) n = inl (p, h)
+  some-applies (later skipped rest) n = inr (some-applies rest n)
+
+  then-refused : {order : List Refusal} {kind : Refusal} {place : ℕ} → FirstThatApplies applies order kind place → AllRefuse order → SomeApplies applies order → kind ≡ Accepted → ⊥
+  then-refused none all s e = s
+  then-refused (here h) all s e = true≢false (sym (all .0) ∙ ap isRefusal e)
+  then-refused (later skipped rest) all s e = ⊎-elim (λ h. skipped (h .0) (h .1)) (λ t. then-refused rest (all .1) t e) s
+
+  pub refused-iff : {order : List Refusal} {kind : Refusal} {place : ℕ} → FirstThatApplies applies order kind place → AllRefuse order → (kind ≡ Accepted → ⊥) ↔ SomeApplies applies order
+  refused-iff f all = (some-applies f, then-refused f all)
+
+-- A refusal's answer.
+refusal-only-place : (v : Verdict) → OnlyPlace (refusalAnswer v)
+refusal-only-place v = record { sum = refl; finish = refl; end = refl; detours = refl }
+
+-- The pricer.
+module _ (r : Run) (froms tos row : List ℕ) where
+  price-of-run : (k : Refusal) (p : ℕ) → numberOf k ≤ 7 → PriceApplies r froms tos row k p → RunApplies r k p
+  price-of-run k p l (PriceApplies.run h) = h
+  price-of-run k p l (PriceApplies.list h) = absurd (omega arith)
+  price-of-run k p l (PriceApplies.row h) = absurd (omega arith)
+
+  price-list : (p : ℕ) → PriceApplies r froms tos row BadEntry p → ListIsBad r froms tos p
+  price-list p (PriceApplies.run h) = absurd h
+  price-list p (PriceApplies.list h) = h
+
+  price-row : (p : ℕ) → PriceApplies r froms tos row ShortRow p → (p ≡ 0) × (length row < length (r .numbers))
+  price-row p (PriceApplies.run h) = absurd h
+  price-row p (PriceApplies.row h) = (refl, h)
+
+  price-finds : Finds (PriceApplies r froms tos row) priceOrder (priceVerdict r froms tos row)
+  unfolding priceVerdict
+  price-finds =
+      let short = refuseIf (ltb (length row) (length (r .numbers))) ShortRow in
+      run-finds r (PriceApplies r froms tos row) (λ k p. PriceApplies.run) price-of-run (BadEntry ∷ ShortRow ∷ []) (listVerdict (stopsOf r) froms tos ∷ short ∷ [])
+      (λ a. finds-first (PriceApplies r froms tos row) (short ∷ []) refl
+      (decides-reworded (λ p. PriceApplies.list) price-list (decides-list r froms tos (sym (accepted-run r a .wants .equal))))
+      (λ b. finds-first (PriceApplies r froms tos row) [] refl
+      (decides-reworded (λ p h. rw (h .0) (PriceApplies.row (h .1))) price-row (decides-if _ ShortRow (tells-below (length row) (length (r .numbers)))))
+      (λ c. finds-none (PriceApplies r froms tos row))))
+
+  price-accepted : refuses (priceVerdict r froms tos row) ≡ false → priceVerdict r froms tos row ≡ accepted
+  unfolding priceVerdict
+  price-accepted e = none-refuses (judgeOf r ∷ listVerdict (stopsOf r) froms tos ∷ refuseIf (ltb (length row) (length (r .numbers))) ShortRow ∷ []) e
+
+  price-says : (b : Bool) → refuses (priceVerdict r froms tos row) ≡ b → PriceAnswers r froms tos row (priceAnswer r froms tos row) (priceRow r froms tos row)
+  unfolding priceAnswer priceRow pricedAnswer
+  price-says true e = rw e (record { first = price-finds; kept = λ n. (refusal-only-place (priceVerdict r froms tos row), refl) })
+  price-says false e = rw e (record { first = rw (price-accepted e) at price-finds; kept = λ n. absurd (n refl) })
+
+pub demand1-price : Demand1Price
+demand1-price r froms tos row answer out says fills = rw (says, fills) (price-says r froms tos row (refuses (priceVerdict r froms tos row)) refl)
+
+pub price-refused-iff : Demand1PriceIff
+price-refused-iff r froms tos row answer says =
+    refused-iff (PriceApplies r froms tos row) (demand1-price r froms tos row answer (priceRow r froms tos row) says refl .first) (refl, (refl, (refl, (refl, (refl, (refl, (refl, (refl, (refl, tt)))))))))
+
+-- The planner.
+module _ (r : Run) (rows : Rows) where
+  plan-of-run : (k : Refusal) (p : ℕ) → numberOf k ≤ 7 → PlanApplies r rows k p → RunApplies r k p
+  plan-of-run k p l (PlanApplies.run h) = h
+  plan-of-run k p l (PlanApplies.times h) = absurd (omega arith)
+  plan-of-run k p l (PlanApplies.froms h) = absurd (omega arith)
+  plan-of-run k p l (PlanApplies.tos h) = absurd (omega arith)
+  plan-of-run k p l (PlanApplies.room h) = absurd (omega arith)
+
+  abbrev IsShort : Type 0
+  IsShort = (length (rows .times) < length (r .numbers)) ⊎ ((length (rows .froms) < length (r .numbers) - 1) ⊎ (length (rows .tos) < length (r .numbers) - 1))
+
+  short-row : (p : ℕ) → (p ≡ 0) × IsShort → PlanApplies r rows ShortRow p
+  short-row p h = rw (h .0) (⊎-elim PlanApplies.times (⊎-elim PlanApplies.froms PlanApplies.tos) (h .1))
+
+  row-short : (p : ℕ) → PlanApplies r rows ShortRow p → (p ≡ 0) × IsShort
+  row-short p (PlanApplies.run h) = absurd h
+  row-short p (PlanApplies.times h) = (refl, inl h)
+  row-short p (PlanApplies.froms h) = (refl, inr (inl h))
+  row-short p (PlanApplies.tos h) = (refl, inr (inr h))
+
+  room-short : (p : ℕ) → PlanApplies r rows ShortRoom p → (p ≡ 0) × (length (rows .room) < roomSize r)
+  room-short p (PlanApplies.run h) = absurd h
+  room-short p (PlanApplies.room h) = (refl, h)
+
+  plan-finds : Finds (PlanApplies r rows) planOrder (planVerdict r rows)
+  unfolding planVerdict
+  plan-finds =
+      let k = length (r .numbers) in
+      let times = ltb (length (rows .times)) k in
+      let froms = ltb (length (rows .froms)) (k - 1) in
+      let tos = ltb (length (rows .tos)) (k - 1) in
+      let room = refuseIf (ltb (length (rows .room)) (roomSize r)) ShortRoom in
+      run-finds r (PlanApplies r rows) (λ k p. PlanApplies.run) plan-of-run (ShortRow ∷ ShortRoom ∷ []) (refuseIf (shortRows k rows) ShortRow ∷ room ∷ [])
+      (λ a. finds-first (PlanApplies r rows) (room ∷ []) refl
+      (decides-reworded short-row row-short
+      (decides-if (shortRows k rows) ShortRow
+      (tells-regrouped
+      (tells-either (times || froms) tos
+      (tells-either times froms (tells-below (length (rows .times)) k) (tells-below (length (rows .froms)) (k - 1)))
+      (tells-below (length (rows .tos)) (k - 1))))))
+      (λ b. finds-first (PlanApplies r rows) [] refl
+      (decides-reworded (λ p h. rw (h .0) (PlanApplies.room (h .1))) room-short (decides-if _ ShortRoom (tells-below (length (rows .room)) (roomSize r))))
+      (λ c. finds-none (PlanApplies r rows))))
+
+  plan-accepted : refuses (planVerdict r rows) ≡ false → planVerdict r rows ≡ accepted
+  unfolding planVerdict
+  plan-accepted e =
+      none-refuses (judgeOf r ∷ refuseIf (shortRows (length (r .numbers)) rows) ShortRow ∷ refuseIf (ltb (length (rows .room)) (roomSize r)) ShortRoom ∷ []) e
+
+  module _ (rule : Rule) (answer : Answer) (after : Rows) (plans : Plans r rule rows answer after) where
+    plan-says : (b : Bool) → refuses (planVerdict r rows) ≡ b → PlanAnswers r rows answer after
+    unfolding pricedAnswer
+    plan-says true e =
+        let no = plans .refused e in
+        rw (no .says, no .kept) (record { first = plan-finds; kept = λ n. (refusal-only-place (planVerdict r rows), refl) })
+    plan-says false e =
+        let yes = plans .planned e in
+        record { first = rw (yes .says) (rw (plan-accepted e) at plan-finds); kept = λ n. absurd (n (ap (λ a. a .refusal) (yes .says))) }
+
+pub demand1-plan : Demand1Plan
+demand1-plan r rule before answer after plans = plan-says r before rule answer after plans (refuses (planVerdict r before)) refl
+
+pub plan-refused-iff : Demand1PlanIff
+plan-refused-iff r rule before answer after plans =
+    refused-iff (PlanApplies r before) (demand1-plan r rule before answer after plans .first) (refl, (refl, (refl, (refl, (refl, (refl, (refl, (refl, (refl, tt)))))))))

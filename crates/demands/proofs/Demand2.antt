@@ -1,0 +1,93 @@
+-- Demand 2: the planner's numbers are the walk's, its list is the least under the least rule and empty under the sweep rule, and its contract fits one answer.
+use Prim.Native.Nat.{ℕ}
+use mathlib.Core.Path.{_≡_, refl, sym, ap, _∙_}
+use mathlib.Core.Bool.{Bool, true, false}
+use mathlib.Core.List.{List, [], _∷_}
+use lib.ListN.{length, drop}
+use lib.Seq.{take-at}
+use Rattle.walk.specs.declared.Answer.{Answer}
+use Rattle.walk.specs.declared.Head.{Head}
+use Rattle.walk.specs.declared.Leg.{Leg}
+use Rattle.walk.specs.declared.Rule.{Rule}
+use Rattle.walk.specs.declared.Rule.the-variants.{Sweep, Least}
+use Rattle.walk.specs.Refusals.{firstWhere}
+use Rattle.walk.specs.Run.{Run, Stop, stopsOf}
+use Rattle.walk.specs.Walk.{timesOf}
+use Rattle.walk.specs.Detours.{Detour, WellFormed, firstBadEntry}
+use Rattle.walk.specs.Price.{pricedAnswer, pricedTimes}
+use Rattle.walk.proofs.Verdicts.{refuses}
+use Rattle.walk.proofs.Judged.{accepted-run}
+use Rattle.walk.proofs.Filling.{stops-length}
+use Rattle.plans.specs.Least.{LeastFor}
+use Rattle.plans.proofs.LeastList.{least-unique}
+use Rattle.planner.specs.Plan.{Rows, ByRule, planVerdict, rowsWith}
+use Rattle.demands.specs.Demand2.{listIn, IsTheWalk, IsLeast, Demand2Walk, Demand2Least, Demand2Sweep, Demand2One}
+use Rattle.demands.proofs.Planned.{plan-in-rows, run-accepted, list-in-rows}
+
+one-time-each : (price : ℕ) (h : Head) (gs : List Leg) (stops : List Stop) → length (timesOf price h gs stops) ≡ length stops
+unfolding timesOf
+one-time-each price h gs [] = refl
+one-time-each price h gs (s ∷ ss) = rw (one-time-each price h gs ss)
+
+-- A list by either rule is well formed.
+by-rule-formed : (rule : Rule) (r : Run) (list : List Detour) → ByRule rule r list → WellFormed (stopsOf r) list
+unfolding firstBadEntry firstWhere
+by-rule-formed Sweep r list e = rw e
+by-rule-formed Least r list least = least .formed
+
+module _ (r : Run) (list : List Detour) (before : Rows) (answer : Answer) (after : Rows) (says : answer ≡ pricedAnswer r list) (rows : after ≡ rowsWith r list before) where
+  in-rows : listIn answer after ≡ list
+  in-rows = list-in-rows r list before answer after says rows
+
+  walk-of-list : WellFormed (stopsOf r) list → length (r .counts) ≡ length (r .numbers) → IsTheWalk r answer after
+  unfolding pricedAnswer pricedTimes
+  walk-of-list formed same =
+      let size = one-time-each _ _ _ (stopsOf r) ∙ stops-length (r .starts) (r .lengths) (r .numbers) (r .counts) same in
+      record {
+        formed = rw in-rows formed;
+        times = rw (in-rows, rows) (take-at (pricedTimes r list) (drop (length (r .numbers)) (before .times)) (length (r .numbers)) size);
+        sum = rw (in-rows, says);
+        finish = rw (in-rows, says);
+        end = rw (in-rows, says);
+      }
+
+  least-of-list : LeastFor (r .turn) (r .head) (stopsOf r) list → IsLeast r answer after
+  unfolding pricedAnswer
+  least-of-list least =
+      record { smallest = λ other v. rw says (least .smallest other v); first = λ other v e. rw in-rows (least .first other v (rw says at e)) }
+
+pub demand2-walk : Demand2Walk
+demand2-walk r rule before answer after plans accepts =
+    let plan = plan-in-rows r rule before answer after plans accepts in
+    walk-of-list r (plan .list) before answer after (plan .says) (plan .rows)
+    (by-rule-formed rule r (plan .list) (plan .by-rule))
+    (sym (accepted-run r (run-accepted r rule before answer after plans accepts) .wants .equal))
+
+pub demand2-least : Demand2Least
+demand2-least r before answer after plans accepts =
+    let plan = plan-in-rows r Least before answer after plans accepts in
+    least-of-list r (plan .list) before answer after (plan .says) (plan .rows) (plan .by-rule)
+
+pub demand2-sweep : Demand2Sweep
+demand2-sweep r before answer after plans accepts =
+    let plan = plan-in-rows r Sweep before answer after plans accepts in
+    list-in-rows r (plan .list) before answer after (plan .says) (plan .rows) ∙ plan .by-rule
+
+-- A rule asks for one list.
+by-rule-unique : (rule : Rule) (r : Run) (l l′ : List Detour) → ByRule rule r l → ByRule rule r l′ → l ≡ l′
+by-rule-unique Sweep r l l′ e e′ = e ∙ sym e′
+by-rule-unique Least r l l′ least least′ = least-unique (r .turn) (r .head) (stopsOf r) l l′ least least′
+
+pub demand2-one : Demand2One
+demand2-one r rule before answer answer′ after after′ plans plans′ = go (refuses (planVerdict r before)) refl
+  where
+    go : (b : Bool) → refuses (planVerdict r before) ≡ b → (answer ≡ answer′) × (after ≡ after′)
+    go true e =
+        let no = plans .refused e in
+        let no′ = plans′ .refused e in
+        (no .says ∙ sym (no′ .says), no .kept ∙ sym (no′ .kept))
+    go false e =
+        let plan = plans .planned e in
+        let plan′ = plans′ .planned e in
+        let same = by-rule-unique rule r (plan .list) (plan′ .list) (plan .by-rule) (plan′ .by-rule) in
+        (plan .says ∙ ap (pricedAnswer r) same ∙ sym (plan′ .says), plan .rows ∙ ap (λ l. rowsWith r l before) same ∙ sym (plan′ .rows))

@@ -1,0 +1,151 @@
+-- The hypotheses of the demands can be met: some answer and rows fit the planner's contract for every input, and the sheet of document 01
+-- gives an accepted run, refusals, and for demand 3 two runs with a movement that is the walk of no detour list.
+use Prim.Native.Nat.{ℕ, _≤_}
+use mathlib.Core.Path.{_≡_, refl, sym, ap, _∙_}
+use mathlib.Core.Bool.{Bool, true, false, cond, true≢false}
+use mathlib.Core.List.{List, [], _∷_, _++_, map}
+use native.Mathlib.Omega.{arith}
+use lib.ListN.{replicate}
+use lib.Dec.{eqb}
+use Rattle.walk.specs.declared.Refusal.the-variants.{Accepted, BadEntry, ShortRoom}
+use Rattle.walk.specs.declared.Answer.{Answer}
+use Rattle.walk.specs.declared.Leg.{Leg}
+use Rattle.walk.specs.declared.Rule.{Rule}
+use Rattle.walk.specs.declared.Rule.the-variants.{Sweep, Least}
+use Rattle.walk.specs.Refusals.{isRefusal, firstWhere}
+use Rattle.walk.specs.Run.{Run, runOf, stopsFrom, stopsOf, rightEnd}
+use Rattle.walk.specs.Judging.{judgeOf}
+use Rattle.walk.specs.Walk.{headAt, Moves, served, ServesAll, timeOf, sumOf}
+use Rattle.walk.specs.Detours.{Detour, wanted, startOf, endOf, anyBelow, firstBadEntry, listVerdict, listOf, legOf, lastSweep, legsOf}
+use Rattle.walk.specs.Price.{refusalAnswer, pricedAnswer, priceVerdict, priceAnswer}
+use Rattle.walk.proofs.Verdicts.{refuses}
+use Rattle.walk.proofs.Laws.{accepted-sound}
+use Rattle.plans.specs.Wants.{readsOf}
+use Rattle.plans.proofs.Plan.{listed}
+use Rattle.plans.proofs.Sums.{W}
+use Rattle.plans.proofs.Scan.{lowest, scan}
+use Rattle.plans.proofs.Columns.{filledTo, filled}
+use Rattle.plans.proofs.Value.{candidate, next, value, choice}
+use Rattle.plans.proofs.Best.{built, nextPlan, best}
+use Rattle.plans.proofs.LeastList.{leastList, least-list}
+use Rattle.planner.specs.Plan.{Rows, rowsOf, rowsWith, ByRule, Plans, planVerdict}
+use Rattle.demands.specs.Demand2.{IsLeast}
+use Rattle.demands.specs.Demand3.{AsksNoLess}
+use Rattle.demands.specs.Cases.{sheetRun, fourFiles}
+use Rattle.demands.proofs.Planned.{verdict-accepts-run}
+use Rattle.demands.proofs.Demand1.{demand1-plan}
+use Rattle.demands.proofs.Demand2.{demand2-least}
+use Rattle.demands.proofs.Demand3.{demand3}
+
+-- For every input: the answer and the rows by the list of the rule.
+unfoldable pub ruleList : Rule → Run → List Detour
+ruleList Sweep r = []
+ruleList Least r = leastList (r .turn) (stopsOf r)
+
+by-rule-list : (rule : Rule) (r : Run) → refuses (judgeOf r) ≡ false → ByRule rule r (ruleList rule r)
+unfolding ruleList
+by-rule-list Sweep r e = refl
+by-rule-list Least r e = least-list (r .turn) (r .head) (stopsOf r) (accepted-sound r e)
+
+unfoldable pub planAnswer : Run → Rule → Rows → Answer
+planAnswer r rule before = cond (refuses (planVerdict r before)) (refusalAnswer (planVerdict r before)) (pricedAnswer r (ruleList rule r))
+
+unfoldable pub planRows : Run → Rule → Rows → Rows
+planRows r rule before = cond (refuses (planVerdict r before)) before (rowsWith r (ruleList rule r) before)
+
+pub plans-for-every-input : (r : Run) (rule : Rule) (before : Rows) → Plans r rule before (planAnswer r rule before) (planRows r rule before)
+unfolding planAnswer planRows
+plans-for-every-input r rule before =
+    record {
+      refused = λ e. record { says = rw e; kept = rw e };
+      planned = λ e. record { list = ruleList rule r; by-rule = by-rule-list rule r (verdict-accepts-run r before e); says = rw e; rows = rw e };
+    }
+
+-- The sheet's run with rows and room that just suffice: the planner accepts, and reports 367.
+abbrev pub sheetRows : ℕ → Rows
+sheetRows words = rowsOf (7 ∷ 7 ∷ []) (7 ∷ 7 ∷ []) (7 ∷ 7 ∷ 7 ∷ []) (replicate words 7)
+
+pub sheet-accepted : planAnswer sheetRun Least (sheetRows 54) .refusal ≡ Accepted
+unfolding planAnswer planVerdict judgeOf firstWhere stopsFrom rightEnd pricedAnswer
+sheet-accepted = refl
+
+pub sheet-reports : planAnswer sheetRun Least (sheetRows 54) .sum ≡ 367
+unfolding planAnswer ruleList planVerdict judgeOf firstWhere stopsFrom rightEnd pricedAnswer startOf endOf lastSweep legsOf timeOf sumOf leastList listed W lowest scan filledTo filled candidate next value choice built nextPlan best
+sheet-reports = refl
+
+-- One word less, and it refuses by 9; the pricer refuses (3,4)(2,4) at entry 2.
+pub short-room-refused : planAnswer sheetRun Least (sheetRows 53) .refusal ≡ ShortRoom
+unfolding planAnswer planVerdict judgeOf firstWhere stopsFrom rightEnd
+short-room-refused = refl
+
+pub crossing-list-refused : priceAnswer fourFiles (3 ∷ 2 ∷ []) (4 ∷ 4 ∷ []) (0 ∷ 0 ∷ 0 ∷ 0 ∷ []) ≡ refusalAnswer (record { refusal = BadEntry; place = 2 })
+unfolding priceAnswer priceVerdict judgeOf firstWhere stopsFrom rightEnd listVerdict listOf firstBadEntry wanted anyBelow
+crossing-list-refused = refl
+
+-- Demand 3. The first run asks more than the sheet's: one more read of file 2, a higher price, a head further right.
+abbrev pub moreAsked : Run
+moreAsked = runOf (0 ∷ 10 ∷ 20 ∷ []) (10 ∷ 4 ∷ 30 ∷ []) (1 ∷ 2 ∷ 3 ∷ []) (1 ∷ 4 ∷ 1 ∷ []) 70 2
+
+-- Legs that turn in gaps, inside a file and beyond the last one.
+abbrev pub wanderings : List Leg
+wanderings = record { left = 18; right = 55 } ∷ record { left = 5; right = 15 } ∷ record { left = 0; right = 33 } ∷ []
+
+more-accepted : refuses (judgeOf moreAsked) ≡ false
+unfolding judgeOf firstWhere stopsFrom rightEnd
+more-accepted = refl
+
+no-fewer-reads : (a b c : Bool) → cond a 1 (cond b 3 (cond c 1 0)) ≤ cond a 1 (cond b 4 (cond c 1 0))
+no-fewer-reads true b c = omega arith
+no-fewer-reads false true c = omega arith
+no-fewer-reads false false true = omega arith
+no-fewer-reads false false false = omega arith
+
+more-asks-no-less : AsksNoLess moreAsked sheetRun
+unfolding stopsFrom readsOf
+more-asks-no-less = record { starts = refl; lengths = refl; reads = λ f. no-fewer-reads (eqb 1 f) (eqb 2 f) (eqb 3 f); turn = omega arith; head = omega arith }
+
+wanderings-move : Moves (moreAsked .head) wanderings
+wanderings-move = omega arith
+
+wanderings-serve : ServesAll wanderings (stopsOf moreAsked)
+unfolding ServesAll served stopsFrom
+wanderings-serve = (tt, (tt, (tt, tt)))
+
+-- Their last leg stops short of the rightmost wanted end, where that of every detour list stops.
+lastRight : List Leg → ℕ
+lastRight [] = 0
+lastRight (g ∷ []) = g .right
+lastRight (g ∷ h ∷ gs) = lastRight (h ∷ gs)
+
+last-right-joined : (gs : List Leg) (g : Leg) → lastRight (gs ++ (g ∷ [])) ≡ g .right
+unfolding lastRight
+last-right-joined [] g = refl
+last-right-joined (a ∷ []) g = refl
+last-right-joined (a ∷ b ∷ gs) g = last-right-joined (b ∷ gs) g
+
+pub wanderings-no-list : (list : List Detour) → wanderings ≡ legsOf (stopsOf moreAsked) list → ⊥
+unfolding lastRight legsOf lastSweep stopsFrom rightEnd
+wanderings-no-list list e =
+    let same : _≡_ {A = ℕ} 33 50 = ap lastRight e ∙ last-right-joined (map (legOf (stopsOf moreAsked)) list) (record { left = 0; right = 50 }) in
+    omega arith
+
+-- So each demand speaks of something.
+sheet-plans : (words : ℕ) → Plans sheetRun Least (sheetRows words) (planAnswer sheetRun Least (sheetRows words)) (planRows sheetRun Least (sheetRows words))
+sheet-plans words = plans-for-every-input sheetRun Least (sheetRows words)
+
+pub short-room-keeps-rows : planRows sheetRun Least (sheetRows 53) ≡ sheetRows 53
+short-room-keeps-rows =
+    demand1-plan sheetRun Least (sheetRows 53) (planAnswer sheetRun Least (sheetRows 53)) (planRows sheetRun Least (sheetRows 53)) (sheet-plans 53) .kept
+    (λ e. not-accepted (sym short-room-refused ∙ e)) .1
+  where
+    not-accepted : ShortRoom ≡ Accepted → ⊥
+    not-accepted e = true≢false (ap isRefusal e)
+
+pub sheet-is-least : IsLeast sheetRun (planAnswer sheetRun Least (sheetRows 54)) (planRows sheetRun Least (sheetRows 54))
+sheet-is-least = demand2-least sheetRun (sheetRows 54) (planAnswer sheetRun Least (sheetRows 54)) (planRows sheetRun Least (sheetRows 54)) (sheet-plans 54) sheet-accepted
+
+pub wanderings-beat-nothing : 367 ≤ sumOf (moreAsked .turn) (headAt (moreAsked .head)) wanderings (stopsOf moreAsked)
+wanderings-beat-nothing =
+    rw
+    sheet-reports at
+    (demand3 moreAsked sheetRun (sheetRows 54) (planAnswer sheetRun Least (sheetRows 54)) (planRows sheetRun Least (sheetRows 54)) more-accepted (sheet-plans 54) sheet-accepted more-asks-no-less wanderings wanderings-move wanderings-serve)

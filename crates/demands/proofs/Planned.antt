@@ -1,0 +1,55 @@
+-- What an accepted answer of the planner says: the run is accepted, there is a list by the rule, and it is the one in the rows.
+use mathlib.Core.Path.{_≡_, refl, sym, ap, ap₂, _∙_}
+use mathlib.Core.Bool.{Bool, true, false}
+use mathlib.Core.List.{List, [], _∷_, map}
+use lib.ListN.{length, drop, length-map}
+use lib.Seq.{take-at}
+use lib.Dec.{ltb}
+use Rattle.walk.specs.declared.Refusal.the-variants.{Accepted, ShortRow, ShortRoom}
+use Rattle.walk.specs.declared.Answer.{Answer}
+use Rattle.walk.specs.declared.Rule.{Rule}
+use Rattle.walk.specs.Refusals.{isRefusal, refuseIf}
+use Rattle.walk.specs.Run.{Run}
+use Rattle.walk.specs.Judging.{judgeOf}
+use Rattle.walk.specs.Detours.{Detour, listOf}
+use Rattle.walk.specs.Price.{pricedAnswer}
+use Rattle.walk.proofs.Verdicts.{refuses, all-accept}
+use Rattle.planner.specs.Plan.{Rows, Plans, Planned, planVerdict, roomSize, shortRows, rowsWith}
+use Rattle.demands.specs.Demand2.{listIn}
+
+-- The list in two rows that hold its starts and its ends.
+list-of-rows : (list : List Detour) → listOf (map (λ d. d .from) list) (map (λ d. d .to) list) ≡ list
+unfolding listOf
+list-of-rows [] = refl
+list-of-rows (d ∷ list) = ap (λ l. d ∷ l) (list-of-rows list)
+
+pub list-in-rows : (r : Run) (list : List Detour) (before : Rows) (answer : Answer) (after : Rows) → answer ≡ pricedAnswer r list → after ≡ rowsWith r list before
+    → listIn answer after ≡ list
+unfolding pricedAnswer
+list-in-rows r list before answer after says rows =
+    rw
+    (says, rows)
+    (ap₂ listOf
+    (take-at (map (λ d. d .from) list) (drop (length list) (before .froms)) (length list) (length-map list (λ d. d .from)))
+    (take-at (map (λ d. d .to) list) (drop (length list) (before .tos)) (length list) (length-map list (λ d. d .to)))
+    ∙ list-of-rows list)
+
+-- The planner accepts only a run that the judging accepts.
+pub verdict-accepts-run : (r : Run) (rows : Rows) → refuses (planVerdict r rows) ≡ false → refuses (judgeOf r) ≡ false
+unfolding planVerdict
+verdict-accepts-run r rows e =
+    all-accept (judgeOf r ∷ refuseIf (shortRows (length (r .numbers)) rows) ShortRow ∷ refuseIf (ltb (length (rows .room)) (roomSize r)) ShortRoom ∷ []) e .0
+
+module _ (r : Run) (rule : Rule) (before : Rows) (answer : Answer) (after : Rows) (plans : Plans r rule before answer after) (accepts : answer .refusal ≡ Accepted) where
+  pub not-refused : refuses (planVerdict r before) ≡ false
+  not-refused = go (refuses (planVerdict r before)) refl
+    where
+      go : (b : Bool) → refuses (planVerdict r before) ≡ b → refuses (planVerdict r before) ≡ false
+      go true e = ap isRefusal (sym (ap (λ a. a .refusal) (plans .refused e .says)) ∙ accepts)
+      go false e = e
+
+  pub plan-in-rows : Planned r rule before answer after
+  plan-in-rows = plans .planned not-refused
+
+  pub run-accepted : refuses (judgeOf r) ≡ false
+  run-accepted = verdict-accepts-run r before not-refused

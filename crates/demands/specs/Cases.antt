@@ -1,0 +1,73 @@
+-- The sums that document 01 works by hand and marks P, as one table, and what is claimed of each entry.
+use Prim.Native.Nat.{ℕ}
+use mathlib.Core.Path.{_≡_}
+use mathlib.Core.Bool.{Bool, true, false}
+use mathlib.Core.Logic.{_↔_}
+use mathlib.Core.List.{List, [], _∷_}
+use Rattle.walk.specs.Refusals.{isRefusal}
+use Rattle.walk.specs.Run.{Run, runOf, stopsOf}
+use Rattle.walk.specs.Judging.{judgeOf}
+use Rattle.walk.specs.Walk.{headAt, timesOf, sumOf}
+use Rattle.walk.specs.Detours.{Detour, WellFormed, legsOf}
+use Rattle.plans.specs.Least.{Least}
+
+-- A run and a detour list, the sum and the times (one for each want) of its walk, and whether the list is the least rule's answer.
+pub record Case : Type 0 where
+  pub run : Run
+  pub list : List Detour
+  pub sum : ℕ
+  pub times : List ℕ
+  pub least : Bool
+
+pub record Holds (c : Case) : Type 0 where
+  pub accepted : isRefusal (judgeOf (c .run) .refusal) ≡ false
+  pub formed : WellFormed (stopsOf (c .run)) (c .list)
+  pub sum : sumOf (c .run .turn) (headAt (c .run .head)) (legsOf (stopsOf (c .run)) (c .list)) (stopsOf (c .run)) ≡ c .sum
+  pub times : timesOf (c .run .turn) (headAt (c .run .head)) (legsOf (stopsOf (c .run)) (c .list)) (stopsOf (c .run)) ≡ c .times
+  pub least : (c .least ≡ true) ↔ Least (c .run) (c .list)
+
+abbrev pub AllHold : List Case → Type 0
+AllHold [] = Unit {0}
+AllHold (c ∷ cs) = Holds c × AllHold cs
+
+abbrev case : Run → List Detour → ℕ → List ℕ → Bool → Case
+case run list sum times least = record { run = run; list = list; sum = sum; times = times; least = least }
+
+abbrev to : ℕ → ℕ → Detour
+to from end = record { from = from; to = end }
+
+-- The tapes: two files of length 10 from 0, the sheet's, and four files of length 2 from 0.
+abbrev pub twoFiles : List ℕ → List ℕ → ℕ → Run
+twoFiles numbers counts turn = runOf (0 ∷ 10 ∷ []) (10 ∷ 10 ∷ []) numbers counts 20 turn
+
+abbrev pub sheet : List ℕ → List ℕ → Run
+sheet numbers counts = runOf (0 ∷ 10 ∷ 20 ∷ []) (10 ∷ 4 ∷ 30 ∷ []) numbers counts 60 1
+
+abbrev pub sheetRun : Run
+sheetRun = sheet (1 ∷ 2 ∷ 3 ∷ []) (1 ∷ 3 ∷ 1 ∷ [])
+
+abbrev pub fourFiles : Run
+fourFiles = runOf (0 ∷ 2 ∷ 4 ∷ 6 ∷ []) (2 ∷ 2 ∷ 2 ∷ 2 ∷ []) (1 ∷ 2 ∷ 3 ∷ 4 ∷ []) (1 ∷ 1 ∷ 1 ∷ 1 ∷ []) 8 1
+
+abbrev pub cases : List Case
+cases =
+    case (sheet [] []) [] 0 [] true
+    ∷ case (runOf (5 ∷ []) (3 ∷ []) (1 ∷ []) (3 ∷ []) 8 2) [] 24 (8 ∷ []) true
+    ∷ case (twoFiles (1 ∷ 2 ∷ []) (1 ∷ 1 ∷ []) 0) [] 70 (30 ∷ 40 ∷ []) true
+    ∷ case (twoFiles (1 ∷ 2 ∷ []) (1 ∷ 1 ∷ []) 0) (to 2 2 ∷ []) 70 (50 ∷ 20 ∷ []) false
+    ∷ case (twoFiles (1 ∷ 2 ∷ []) (1 ∷ 2 ∷ []) 0) [] 110 (30 ∷ 40 ∷ []) false
+    ∷ case (twoFiles (1 ∷ 2 ∷ []) (1 ∷ 2 ∷ []) 0) (to 2 2 ∷ []) 90 (50 ∷ 20 ∷ []) true
+    ∷ case (twoFiles (1 ∷ 2 ∷ []) (1 ∷ 1 ∷ []) 1) [] 72 (31 ∷ 41 ∷ []) true
+    ∷ case (twoFiles (1 ∷ 2 ∷ []) (1 ∷ 1 ∷ []) 1) (to 2 2 ∷ []) 74 (53 ∷ 21 ∷ []) false
+    ∷ case (twoFiles (2 ∷ []) (1 ∷ []) 0) [] 20 (20 ∷ []) true
+    ∷ case sheetRun [] 407 (71 ∷ 75 ∷ 111 ∷ []) false
+    ∷ case sheetRun (to 2 2 ∷ []) 367 (81 ∷ 55 ∷ 121 ∷ []) true
+    ∷ case sheetRun (to 2 3 ∷ []) 409 (153 ∷ 55 ∷ 91 ∷ []) false
+    ∷ case sheetRun (to 3 3 ∷ []) 615 (133 ∷ 137 ∷ 71 ∷ []) false
+    ∷ case sheetRun (to 3 3 ∷ to 2 2 ∷ []) 565 (143 ∷ 117 ∷ 71 ∷ []) false
+    ∷ case fourFiles (to 3 3 ∷ to 2 4 ∷ []) 72 (31 ∷ 15 ∷ 7 ∷ 19 ∷ []) false
+    ∷ case fourFiles [] 56 (11 ∷ 13 ∷ 15 ∷ 17 ∷ []) true
+    ∷ []
+
+abbrev pub CasesHold : Type 0
+CasesHold = AllHold cases

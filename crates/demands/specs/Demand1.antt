@@ -1,0 +1,74 @@
+-- Demand 1: any input gets an answer; a refusal is the first of the numbered table that applies, both ways, and nothing lent changes.
+use Prim.Native.Nat.{ℕ, _-_, _<_}
+use mathlib.Core.Path.{_≡_}
+use mathlib.Core.Logic.{_↔_}
+use mathlib.Core.List.{List, [], _∷_}
+use lib.ListN.{length}
+use Rattle.walk.specs.declared.Refusal.{Refusal}
+use Rattle.walk.specs.declared.Refusal.the-variants.{Accepted, FileRows, BadFile, WantRows, BadWant, TooManyReads, TurnPrice, HeadPlace, ShortRow, ShortRoom, BadEntry}
+use Rattle.walk.specs.declared.Answer.{Answer}
+use Rattle.walk.specs.declared.Rule.{Rule}
+use Rattle.walk.specs.Run.{Run}
+use Rattle.walk.specs.Price.{priceAnswer, priceRow}
+use Rattle.planner.specs.Plan.{Rows, Plans, roomSize}
+use Rattle.demands.specs.Table.{RunApplies, ListIsBad, FirstThatApplies, SomeApplies}
+
+-- A refusal's answer: every number but the place is 0.
+pub record OnlyPlace (answer : Answer) : Type 0 where
+  pub sum : answer .sum ≡ 0
+  pub finish : answer .finish ≡ 0
+  pub end : answer .end ≡ 0
+  pub detours : answer .detours ≡ 0
+
+-- The pricer: 1 to 7, then 10, then 8.
+abbrev pub priceOrder : List Refusal
+priceOrder = FileRows ∷ BadFile ∷ WantRows ∷ BadWant ∷ TooManyReads ∷ TurnPrice ∷ HeadPlace ∷ BadEntry ∷ ShortRow ∷ []
+
+pub data PriceApplies (r : Run) (froms tos row : List ℕ) : Refusal → ℕ → Type 0 where
+  run : {kind : Refusal} {place : ℕ} → RunApplies r kind place → PriceApplies r froms tos row kind place
+  list : {place : ℕ} → ListIsBad r froms tos place → PriceApplies r froms tos row BadEntry place
+  row : length row < length (r .numbers) → PriceApplies r froms tos row ShortRow 0
+
+-- Whatever is handed to the pricer, and whatever answer and row fit its contract:
+pub record PriceAnswers (r : Run) (froms tos row : List ℕ) (answer : Answer) (out : List ℕ) : Type 0 where
+  pub first : FirstThatApplies (PriceApplies r froms tos row) priceOrder (answer .refusal) (answer .place)
+  pub kept : (answer .refusal ≡ Accepted → ⊥) → OnlyPlace answer × (out ≡ row)
+
+abbrev pub Demand1Price : Type 0
+Demand1Price =
+    (r : Run) (froms tos row : List ℕ) (answer : Answer) (out : List ℕ)
+    → answer ≡ priceAnswer r froms tos row
+    → out ≡ priceRow r froms tos row
+    → PriceAnswers r froms tos row answer out
+
+-- Both ways: refused if and only if some condition of the order applies.
+abbrev pub Demand1PriceIff : Type 0
+Demand1PriceIff =
+    (r : Run) (froms tos row : List ℕ) (answer : Answer)
+    → answer ≡ priceAnswer r froms tos row
+    → (answer .refusal ≡ Accepted → ⊥) ↔ SomeApplies (PriceApplies r froms tos row) priceOrder
+
+-- The planner: 1 to 7, then 8, then 9, under either rule.
+abbrev pub planOrder : List Refusal
+planOrder = FileRows ∷ BadFile ∷ WantRows ∷ BadWant ∷ TooManyReads ∷ TurnPrice ∷ HeadPlace ∷ ShortRow ∷ ShortRoom ∷ []
+
+pub data PlanApplies (r : Run) (rows : Rows) : Refusal → ℕ → Type 0 where
+  run : {kind : Refusal} {place : ℕ} → RunApplies r kind place → PlanApplies r rows kind place
+  times : length (rows .times) < length (r .numbers) → PlanApplies r rows ShortRow 0
+  froms : length (rows .froms) < length (r .numbers) - 1 → PlanApplies r rows ShortRow 0
+  tos : length (rows .tos) < length (r .numbers) - 1 → PlanApplies r rows ShortRow 0
+  room : length (rows .room) < roomSize r → PlanApplies r rows ShortRoom 0
+
+pub record PlanAnswers (r : Run) (before : Rows) (answer : Answer) (after : Rows) : Type 0 where
+  pub first : FirstThatApplies (PlanApplies r before) planOrder (answer .refusal) (answer .place)
+  pub kept : (answer .refusal ≡ Accepted → ⊥) → OnlyPlace answer × (after ≡ before)
+
+abbrev pub Demand1Plan : Type 0
+Demand1Plan =
+    (r : Run) (rule : Rule) (before : Rows) (answer : Answer) (after : Rows) → Plans r rule before answer after → PlanAnswers r before answer after
+
+abbrev pub Demand1PlanIff : Type 0
+Demand1PlanIff =
+    (r : Run) (rule : Rule) (before : Rows) (answer : Answer) (after : Rows)
+    → Plans r rule before answer after
+    → (answer .refusal ≡ Accepted → ⊥) ↔ SomeApplies (PlanApplies r before) planOrder

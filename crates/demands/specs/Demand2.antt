@@ -1,0 +1,64 @@
+-- Demand 2: times and sum are the walk's; under the least rule no well-formed list has a smaller sum than the one in the rows, ties by
+-- the fixed rule; and two answers that fit are equal.
+use Prim.Native.Nat.{_≤_}
+use mathlib.Core.Path.{_≡_}
+use mathlib.Core.Logic.{_⊎_}
+use mathlib.Core.List.{List, []}
+use lib.ListN.{length, take}
+use Rattle.walk.specs.declared.Refusal.the-variants.{Accepted}
+use Rattle.walk.specs.declared.Answer.{Answer}
+use Rattle.walk.specs.declared.Rule.{Rule}
+use Rattle.walk.specs.declared.Rule.the-variants.{Sweep, Least}
+use Rattle.walk.specs.Run.{Run, stopsOf}
+use Rattle.walk.specs.Walk.{headAt, walked, timesOf, sumOf}
+use Rattle.walk.specs.Detours.{Detour, WellFormed, listOf, legsOf}
+use Rattle.plans.specs.Least.{ComesFirst, listSum}
+use Rattle.planner.specs.Plan.{Rows, Plans}
+
+-- The list that an accepted answer leaves in the rows: as many entries as the answer says.
+abbrev pub listIn : Answer → Rows → List Detour
+listIn answer after = listOf (take (answer .detours) (after .froms)) (take (answer .detours) (after .tos))
+
+-- The numbers are those of the walk of that list from the run's head at its price.
+pub record IsTheWalk (r : Run) (answer : Answer) (after : Rows) : Type 0 where
+  pub formed : WellFormed (stopsOf r) (listIn answer after)
+  pub times : take (length (r .numbers)) (after .times) ≡ timesOf (r .turn) (headAt (r .head)) (legsOf (stopsOf r) (listIn answer after)) (stopsOf r)
+  pub sum : answer .sum ≡ sumOf (r .turn) (headAt (r .head)) (legsOf (stopsOf r) (listIn answer after)) (stopsOf r)
+  pub finish : answer .finish ≡ (walked (r .turn) (headAt (r .head)) (legsOf (stopsOf r) (listIn answer after))) .clock
+  pub end : answer .end ≡ (walked (r .turn) (headAt (r .head)) (legsOf (stopsOf r) (listIn answer after))) .place
+
+-- Under the least rule no well-formed list is cheaper, and one of the same sum is the same list or comes later by the tie rule.
+pub record IsLeast (r : Run) (answer : Answer) (after : Rows) : Type 0 where
+  pub smallest : (other : List Detour) → WellFormed (stopsOf r) other → answer .sum ≤ listSum (r .turn) (r .head) (stopsOf r) other
+  pub first : (other : List Detour) → WellFormed (stopsOf r) other → listSum (r .turn) (r .head) (stopsOf r) other ≡ answer .sum
+      → (other ≡ listIn answer after) ⊎ ComesFirst (listIn answer after) other
+
+abbrev pub Demand2Walk : Type 0
+Demand2Walk =
+    (r : Run) (rule : Rule) (before : Rows) (answer : Answer) (after : Rows)
+    → Plans r rule before answer after
+    → answer .refusal ≡ Accepted
+    → IsTheWalk r answer after
+
+abbrev pub Demand2Least : Type 0
+Demand2Least =
+    (r : Run) (before : Rows) (answer : Answer) (after : Rows)
+    → Plans r Least before answer after
+    → answer .refusal ≡ Accepted
+    → IsLeast r answer after
+
+-- The sweep rule returns the empty list.
+abbrev pub Demand2Sweep : Type 0
+Demand2Sweep =
+    (r : Run) (before : Rows) (answer : Answer) (after : Rows)
+    → Plans r Sweep before answer after
+    → answer .refusal ≡ Accepted
+    → listIn answer after ≡ []
+
+-- The contract determines the answer and every row.
+abbrev pub Demand2One : Type 0
+Demand2One =
+    (r : Run) (rule : Rule) (before : Rows) (answer answer′ : Answer) (after after′ : Rows)
+    → Plans r rule before answer after
+    → Plans r rule before answer′ after′
+    → (answer ≡ answer′) × (after ≡ after′)

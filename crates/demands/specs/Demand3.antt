@@ -1,0 +1,48 @@
+-- Demand 3: no head movement whatever, with more wants, a higher turn price or a head further right, beats the sum that we report.
+use Prim.Native.Nat.{ℕ, _≤_}
+use mathlib.Core.Path.{_≡_}
+use mathlib.Core.Bool.{false}
+use mathlib.Core.List.{List}
+use Rattle.walk.specs.declared.Refusal.the-variants.{Accepted}
+use Rattle.walk.specs.declared.Answer.{Answer}
+use Rattle.walk.specs.declared.Leg.{Leg}
+use Rattle.walk.specs.declared.Rule.the-variants.{Least}
+use Rattle.walk.specs.Refusals.{isRefusal}
+use Rattle.walk.specs.Run.{Run, stopsOf}
+use Rattle.walk.specs.Judging.{judgeOf}
+use Rattle.walk.specs.Walk.{headAt, Moves, ServesAll, sumOf}
+use Rattle.plans.specs.Wants.{readsOf}
+use Rattle.planner.specs.Plan.{Rows, Plans}
+
+-- The first run asks for no less than the second: the same tape table, at least as many reads of every file, a turn price no lower, a
+-- head no further left.
+pub record AsksNoLess (first second : Run) : Type 0 where
+  pub starts : first .starts ≡ second .starts
+  pub lengths : first .lengths ≡ second .lengths
+  pub reads : (f : ℕ) → readsOf (stopsOf second) f ≤ readsOf (stopsOf first) f
+  pub turn : second .turn ≤ first .turn
+  pub head : second .head ≤ first .head
+
+-- Every movement of the first run's head that serves all its reads has a sum, over those reads, no smaller than the planner reports for the second.
+abbrev pub Demand3 : Type 0
+Demand3 =
+    (first second : Run) (before : Rows) (answer : Answer) (after : Rows)
+    → isRefusal (judgeOf first .refusal) ≡ false
+    → Plans second Least before answer after
+    → answer .refusal ≡ Accepted
+    → AsksNoLess first second
+    → (gs : List Leg)
+    → Moves (first .head) gs
+    → ServesAll gs (stopsOf first)
+    → answer .sum ≤ sumOf (first .turn) (headAt (first .head)) gs (stopsOf first)
+
+-- In particular, no movement at all beats the plan of a run.
+abbrev pub Demand3Same : Type 0
+Demand3Same =
+    (r : Run) (before : Rows) (answer : Answer) (after : Rows)
+    → Plans r Least before answer after
+    → answer .refusal ≡ Accepted
+    → (gs : List Leg)
+    → Moves (r .head) gs
+    → ServesAll gs (stopsOf r)
+    → answer .sum ≤ sumOf (r .turn) (headAt (r .head)) gs (stopsOf r)
