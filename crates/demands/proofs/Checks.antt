@@ -1,16 +1,18 @@
 -- A check and the condition of the refusal table that it looks for; and a row of checks, each of which decides its condition, finds the
 -- first that applies.
 use Prim.Native.Nat.{ℕ, zero, suc, _<_}
-use mathlib.Core.Path.{_≡_, refl, sym, _∙_}
+use mathlib.Core.Path.{_≡_, refl, sym, ap, _∙_}
 use mathlib.Core.Bool.{Bool, true, false, true≢false}
+use mathlib.Core.Logic.{_↔_, inl, inr, ⊎-elim}
 use mathlib.Core.List.{List, [], _∷_, _++_}
 use native.Mathlib.Omega.{arith}
 use Rattle.walk.specs.declared.Refusal.{Refusal}
+use Rattle.walk.specs.declared.Refusal.the-variants.{Accepted}
 use Rattle.walk.specs.declared.Verdict.{Verdict}
 use Rattle.walk.specs.Refusals.{isRefusal, accepted, refuseIf, refuseAt, firstOf, firstWhere}
 use Rattle.walk.proofs.Search.{first-zero}
 use Rattle.walk.proofs.Verdicts.{refuses}
-use Rattle.demands.specs.Table.{FirstBad, FirstThatApplies, none, here, later}
+use Rattle.demands.specs.Table.{FirstBad, FirstThatApplies, none, here, later, SomeApplies}
 use Rattle.demands.proofs.Tests.{Tells}
 
 -- A check refuses with its kind, at the place at which the condition applies; or it accepts, and the condition applies at no place.
@@ -102,3 +104,22 @@ none-refuses (v ∷ vs) e = go (refuses v) refl (none-refuses vs)
     go : (b : Bool) → refuses v ≡ b → (refuses (firstOf vs) ≡ false → firstOf vs ≡ accepted) → firstOf (v ∷ vs) ≡ accepted
     go true h rest = absurd (true≢false (sym h ∙ (rw h at e)))
     go false h rest = rw h (rest (rw h at e))
+
+-- Of the first that applies: it is a refusal if and only if some condition applies.
+abbrev pub AllRefuse : List Refusal → Type 0
+AllRefuse [] = Unit {0}
+AllRefuse (kind ∷ rest) = (isRefusal kind ≡ true) × AllRefuse rest
+
+module _ (applies : Refusal → ℕ → Type 0) where
+  some-applies : {order : List Refusal} {kind : Refusal} {place : ℕ} → FirstThatApplies applies order kind place → (kind ≡ Accepted → ⊥) → SomeApplies applies order
+  some-applies none n = absurd (n refl)
+  some-applies (here {place = p} h) n = inl (p, h)
+  some-applies (later skipped rest) n = inr (some-applies rest n)
+
+  then-refused : {order : List Refusal} {kind : Refusal} {place : ℕ} → FirstThatApplies applies order kind place → AllRefuse order → SomeApplies applies order → kind ≡ Accepted → ⊥
+  then-refused none all s e = s
+  then-refused (here h) all s e = true≢false (sym (all .0) ∙ ap isRefusal e)
+  then-refused (later skipped rest) all s e = ⊎-elim (λ h. skipped (h .0) (h .1)) (λ t. then-refused rest (all .1) t e) s
+
+  pub refused-iff : {order : List Refusal} {kind : Refusal} {place : ℕ} → FirstThatApplies applies order kind place → AllRefuse order → (kind ≡ Accepted → ⊥) ↔ SomeApplies applies order
+  refused-iff f all = (some-applies f, then-refused f all)

@@ -1,19 +1,19 @@
 -- Demand 1: the pricer's and the planner's answers are the first of the table that applies, both ways, and a refusal changes nothing.
 -- What each check decides is in Judged (1 to 7) and Listed (10).
 use Prim.Native.Nat.{ℕ, _-_, _≤_, _<_}
-use mathlib.Core.Path.{_≡_, refl, sym, ap, _∙_}
-use mathlib.Core.Bool.{Bool, true, false, _||_, true≢false}
-use mathlib.Core.Logic.{_↔_, _⊎_, inl, inr, ⊎-elim}
+use mathlib.Core.Path.{_≡_, refl, sym, ap}
+use mathlib.Core.Bool.{Bool, true, false, _||_}
+use mathlib.Core.Logic.{_⊎_, inl, inr, ⊎-elim}
 use mathlib.Core.List.{List, [], _∷_}
 use native.Mathlib.Omega.{arith}
 use lib.ListN.{length}
 use lib.Dec.{ltb}
 use Rattle.walk.specs.declared.Refusal.{Refusal}
-use Rattle.walk.specs.declared.Refusal.the-variants.{Accepted, BadEntry, ShortRow, ShortRoom}
+use Rattle.walk.specs.declared.Refusal.the-variants.{BadEntry, ShortRow, ShortRoom}
 use Rattle.walk.specs.declared.Verdict.{Verdict}
 use Rattle.walk.specs.declared.Answer.{Answer}
 use Rattle.walk.specs.declared.Rule.{Rule}
-use Rattle.walk.specs.Refusals.{isRefusal, numberOf, accepted, refuseIf}
+use Rattle.walk.specs.Refusals.{numberOf, accepted, refuseIf}
 use Rattle.walk.specs.Run.{Run, stopsOf}
 use Rattle.walk.specs.Judging.{judgeOf}
 use Rattle.walk.specs.Detours.{listVerdict}
@@ -21,31 +21,12 @@ use Rattle.walk.specs.Price.{refusalAnswer, pricedAnswer, priceVerdict, priceAn
 use Rattle.walk.proofs.Verdicts.{refuses}
 use Rattle.walk.proofs.Judged.{accepted-run}
 use Rattle.planner.specs.Plan.{Rows, Plans, roomSize, shortRows, planVerdict}
-use Rattle.demands.specs.Table.{RunApplies, ListIsBad, FirstThatApplies, none, here, later, SomeApplies}
+use Rattle.demands.specs.Table.{RunApplies, ListIsBad}
 use Rattle.demands.specs.Demand1.{OnlyPlace, PriceApplies, PlanApplies, priceOrder, planOrder, PriceAnswers, PlanAnswers, Demand1Price, Demand1Plan, Demand1PriceIff, Demand1PlanIff}
 use Rattle.demands.proofs.Tests.{tells-below, tells-either, tells-regrouped}
-use Rattle.demands.proofs.Checks.{decides-if, decides-reworded, Finds, finds-none, finds-first, none-refuses}
+use Rattle.demands.proofs.Checks.{refused-iff, decides-if, decides-reworded, Finds, finds-none, finds-first, none-refuses}
 use Rattle.demands.proofs.Judged.{run-finds}
 use Rattle.demands.proofs.Listed.{decides-list}
-
--- Of the first that applies: it is a refusal if and only if some condition applies.
-abbrev AllRefuse : List Refusal → Type 0
-AllRefuse [] = Unit {0}
-AllRefuse (kind ∷ rest) = (isRefusal kind ≡ true) × AllRefuse rest
-
-module _ (applies : Refusal → ℕ → Type 0) where
-  some-applies : {order : List Refusal} {kind : Refusal} {place : ℕ} → FirstThatApplies applies order kind place → (kind ≡ Accepted → ⊥) → SomeApplies applies order
-  some-applies none n = absurd (n refl)
-  some-applies (here {place = p} h) n = inl (p, h)
-  some-applies (later skipped rest) n = inr (some-applies rest n)
-
-  then-refused : {order : List Refusal} {kind : Refusal} {place : ℕ} → FirstThatApplies applies order kind place → AllRefuse order → SomeApplies applies order → kind ≡ Accepted → ⊥
-  then-refused none all s e = s
-  then-refused (here h) all s e = true≢false (sym (all .0) ∙ ap isRefusal e)
-  then-refused (later skipped rest) all s e = ⊎-elim (λ h. skipped (h .0) (h .1)) (λ t. then-refused rest (all .1) t e) s
-
-  pub refused-iff : {order : List Refusal} {kind : Refusal} {place : ℕ} → FirstThatApplies applies order kind place → AllRefuse order → (kind ≡ Accepted → ⊥) ↔ SomeApplies applies order
-  refused-iff f all = (some-applies f, then-refused f all)
 
 -- A refusal's answer.
 refusal-only-place : (v : Verdict) → OnlyPlace (refusalAnswer v)
@@ -147,11 +128,11 @@ module _ (r : Run) (rows : Rows) where
     plan-says : (b : Bool) → refuses (planVerdict r rows) ≡ b → PlanAnswers r rows answer after
     unfolding pricedAnswer
     plan-says true e =
-        let no = plans .refused e in
-        rw (no .says, no .kept) (record { first = plan-finds; kept = λ n. (refusal-only-place (planVerdict r rows), refl) })
+        let refusal = plans .refused e in
+        rw (refusal .says, refusal .kept) (record { first = plan-finds; kept = λ n. (refusal-only-place (planVerdict r rows), refl) })
     plan-says false e =
-        let yes = plans .planned e in
-        record { first = rw (yes .says) (rw (plan-accepted e) at plan-finds); kept = λ n. absurd (n (ap (λ a. a .refusal) (yes .says))) }
+        let plan = plans .planned e in
+        record { first = rw (plan .says) (rw (plan-accepted e) at plan-finds); kept = λ n. absurd (n (ap (λ a. a .refusal) (plan .says))) }
 
 pub demand1-plan : Demand1Plan
 demand1-plan r rule before answer after plans = plan-says r before rule answer after plans (refuses (planVerdict r before)) refl

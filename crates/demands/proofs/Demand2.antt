@@ -18,11 +18,11 @@ use Rattle.walk.specs.Price.{pricedAnswer, pricedTimes}
 use Rattle.walk.proofs.Verdicts.{refuses}
 use Rattle.walk.proofs.Judged.{accepted-run}
 use Rattle.walk.proofs.Filling.{stops-length}
-use Rattle.plans.specs.Least.{LeastFor}
+use Rattle.plans.specs.Least.{listSum, LeastFor}
 use Rattle.plans.proofs.LeastList.{least-unique}
 use Rattle.planner.specs.Plan.{Rows, ByRule, planVerdict, rowsWith}
 use Rattle.demands.specs.Demand2.{listIn, IsTheWalk, IsLeast, Demand2Walk, Demand2Least, Demand2Sweep, Demand2One}
-use Rattle.demands.proofs.Planned.{plan-in-rows, run-accepted, list-in-rows}
+use Rattle.demands.proofs.Planned.{plan-in-rows, run-accepted, list-in-rows, reported-sum}
 
 one-time-each : (price : ℕ) (h : Head) (gs : List Leg) (stops : List Stop) → length (timesOf price h gs stops) ≡ length stops
 unfolding timesOf
@@ -46,7 +46,7 @@ module _ (r : Run) (list : List Detour) (before : Rows) (answer : Answer) (after
       record {
         formed = rw in-rows formed;
         times = rw (in-rows, rows) (take-at (pricedTimes r list) (drop (length (r .numbers)) (before .times)) (length (r .numbers)) size);
-        sum = rw (in-rows, says);
+        sum = reported-sum r list answer says ∙ ap (listSum (r .turn) (r .head) (stopsOf r)) (sym in-rows);
         finish = rw (in-rows, says);
         end = rw (in-rows, says);
       }
@@ -83,9 +83,9 @@ demand2-one r rule before answer answer′ after after′ plans plans′ = go (r
   where
     go : (b : Bool) → refuses (planVerdict r before) ≡ b → (answer ≡ answer′) × (after ≡ after′)
     go true e =
-        let no = plans .refused e in
-        let no′ = plans′ .refused e in
-        (no .says ∙ sym (no′ .says), no .kept ∙ sym (no′ .kept))
+        let refusal = plans .refused e in
+        let refusal′ = plans′ .refused e in
+        (refusal .says ∙ sym (refusal′ .says), refusal .kept ∙ sym (refusal′ .kept))
     go false e =
         let plan = plans .planned e in
         let plan′ = plans′ .planned e in

@@ -1,25 +1,16 @@
 -- Demand 3: no movement beats the reported sum. The planner's list is least, so the law of plans on movements applies to the two runs.
 use mathlib.Core.Path.{_≡_, refl}
 use native.Mathlib.Nat.{le-refl}
-use mathlib.Core.List.{List}
-use Rattle.walk.specs.declared.Answer.{Answer}
 use Rattle.walk.specs.declared.Rule.the-variants.{Least}
 use Rattle.walk.specs.Run.{Run, stopsOf}
-use Rattle.walk.specs.Detours.{Detour}
-use Rattle.walk.specs.Price.{pricedAnswer}
 use Rattle.walk.proofs.Laws.{accepted-sound}
-use Rattle.plans.specs.Least.{listSum}
 use Rattle.plans.proofs.Unbeaten.{SameTable, same-table, covers-of-reads, no-movement-beats}
 use Rattle.demands.specs.Demand3.{Demand3, Demand3Same}
-use Rattle.demands.proofs.Planned.{plan-in-rows, run-accepted}
+use Rattle.demands.proofs.Planned.{plan-in-rows, run-accepted, reported-sum}
 
 -- Runs over one tape table have their files at the same places.
 one-table : (first second : Run) → first .starts ≡ second .starts → first .lengths ≡ second .lengths → SameTable (stopsOf first) (stopsOf second)
 one-table first second s l = rw (s, l) (same-table (second .starts) (second .lengths) (first .numbers) (first .counts) (second .numbers) (second .counts))
-
-reported-sum : (r : Run) (list : List Detour) (answer : Answer) → answer ≡ pricedAnswer r list → answer .sum ≡ listSum (r .turn) (r .head) (stopsOf r) list
-unfolding pricedAnswer
-reported-sum r list answer says = rw says
 
 pub demand3 : Demand3
 demand3 first second before answer after accepted plans accepts asks gs moves serves =

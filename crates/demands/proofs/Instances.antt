@@ -1,5 +1,5 @@
--- The hypotheses of the demands can be met: some answer and rows fit the planner's contract for every input, and the sheet of document 01
--- gives an accepted run, refusals, and for demand 3 two runs with a movement that is the walk of no detour list.
+-- The hypotheses of the demands can be met: the sheet of document 01 gives an accepted run, a refusal, and for demand 3 two runs with a
+-- movement that is the walk of no detour list.
 use Prim.Native.Nat.{ℕ, _≤_}
 use mathlib.Core.Path.{_≡_, refl, sym, ap, _∙_}
 use mathlib.Core.Bool.{Bool, true, false, cond, true≢false}
@@ -10,16 +10,14 @@ use lib.Dec.{eqb}
 use Rattle.walk.specs.declared.Refusal.the-variants.{Accepted, BadEntry, ShortRoom}
 use Rattle.walk.specs.declared.Answer.{Answer}
 use Rattle.walk.specs.declared.Leg.{Leg}
-use Rattle.walk.specs.declared.Rule.{Rule}
 use Rattle.walk.specs.declared.Rule.the-variants.{Sweep, Least}
 use Rattle.walk.specs.Refusals.{isRefusal, firstWhere}
 use Rattle.walk.specs.Run.{Run, runOf, stopsFrom, stopsOf, rightEnd}
 use Rattle.walk.specs.Judging.{judgeOf}
 use Rattle.walk.specs.Walk.{headAt, Moves, served, ServesAll, timeOf, sumOf}
 use Rattle.walk.specs.Detours.{Detour, wanted, startOf, endOf, anyBelow, firstBadEntry, listVerdict, listOf, legOf, lastSweep, legsOf}
-use Rattle.walk.specs.Price.{refusalAnswer, pricedAnswer, priceVerdict, priceAnswer}
+use Rattle.walk.specs.Price.{refusalAnswer, pricedAnswer, priceVerdict, priceAnswer, priceRow}
 use Rattle.walk.proofs.Verdicts.{refuses}
-use Rattle.walk.proofs.Laws.{accepted-sound}
 use Rattle.plans.specs.Wants.{readsOf}
 use Rattle.plans.proofs.Plan.{listed}
 use Rattle.plans.proofs.Sums.{W}
@@ -27,54 +25,40 @@ use Rattle.plans.proofs.Scan.{lowest, scan}
 use Rattle.plans.proofs.Columns.{filledTo, filled}
 use Rattle.plans.proofs.Value.{candidate, next, value, choice}
 use Rattle.plans.proofs.Best.{built, nextPlan, best}
-use Rattle.plans.proofs.LeastList.{leastList, least-list}
-use Rattle.planner.specs.Plan.{Rows, rowsOf, rowsWith, ByRule, Plans, planVerdict}
-use Rattle.demands.specs.Demand2.{IsLeast}
+use Rattle.plans.proofs.LeastList.{leastList}
+use Rattle.planner.specs.Plan.{Rows, rowsOf, Plans, planVerdict}
+use Rattle.demands.specs.Demand2.{listIn, IsTheWalk, IsLeast}
 use Rattle.demands.specs.Demand3.{AsksNoLess}
 use Rattle.demands.specs.Cases.{sheetRun, fourFiles}
-use Rattle.demands.proofs.Planned.{verdict-accepts-run}
-use Rattle.demands.proofs.Demand1.{demand1-plan}
-use Rattle.demands.proofs.Demand2.{demand2-least}
-use Rattle.demands.proofs.Demand3.{demand3}
-
--- For every input: the answer and the rows by the list of the rule.
-unfoldable pub ruleList : Rule → Run → List Detour
-ruleList Sweep r = []
-ruleList Least r = leastList (r .turn) (stopsOf r)
-
-by-rule-list : (rule : Rule) (r : Run) → refuses (judgeOf r) ≡ false → ByRule rule r (ruleList rule r)
-unfolding ruleList
-by-rule-list Sweep r e = refl
-by-rule-list Least r e = least-list (r .turn) (r .head) (stopsOf r) (accepted-sound r e)
-
-unfoldable pub planAnswer : Run → Rule → Rows → Answer
-planAnswer r rule before = cond (refuses (planVerdict r before)) (refusalAnswer (planVerdict r before)) (pricedAnswer r (ruleList rule r))
-
-unfoldable pub planRows : Run → Rule → Rows → Rows
-planRows r rule before = cond (refuses (planVerdict r before)) before (rowsWith r (ruleList rule r) before)
-
-pub plans-for-every-input : (r : Run) (rule : Rule) (before : Rows) → Plans r rule before (planAnswer r rule before) (planRows r rule before)
-unfolding planAnswer planRows
-plans-for-every-input r rule before =
-    record {
-      refused = λ e. record { says = rw e; kept = rw e };
-      planned = λ e. record { list = ruleList rule r; by-rule = by-rule-list rule r (verdict-accepts-run r before e); says = rw e; rows = rw e };
-    }
+use Rattle.demands.proofs.Demand1.{demand1-price, demand1-plan}
+use Rattle.demands.proofs.Demand2.{demand2-walk, demand2-least, demand2-sweep}
+use Rattle.demands.proofs.Demand3.{demand3, demand3-same}
+use Rattle.demands.proofs.Fits.{ruleList, planAnswer, planRows, plans-for-every-input}
 
 -- The sheet's run with rows and room that just suffice: the planner accepts, and reports 367.
 abbrev pub sheetRows : ℕ → Rows
 sheetRows words = rowsOf (7 ∷ 7 ∷ []) (7 ∷ 7 ∷ []) (7 ∷ 7 ∷ 7 ∷ []) (replicate words 7)
 
-pub sheet-accepted : planAnswer sheetRun Least (sheetRows 54) .refusal ≡ Accepted
+abbrev pub sheetAnswer : ℕ → Answer
+sheetAnswer words = planAnswer sheetRun Least (sheetRows words)
+
+abbrev pub sheetAfter : ℕ → Rows
+sheetAfter words = planRows sheetRun Least (sheetRows words)
+
+pub sheet-accepted : sheetAnswer 54 .refusal ≡ Accepted
 unfolding planAnswer planVerdict judgeOf firstWhere stopsFrom rightEnd pricedAnswer
 sheet-accepted = refl
 
-pub sheet-reports : planAnswer sheetRun Least (sheetRows 54) .sum ≡ 367
+sweep-accepted : planAnswer sheetRun Sweep (sheetRows 54) .refusal ≡ Accepted
+unfolding planAnswer planVerdict judgeOf firstWhere stopsFrom rightEnd pricedAnswer
+sweep-accepted = refl
+
+pub sheet-reports : sheetAnswer 54 .sum ≡ 367
 unfolding planAnswer ruleList planVerdict judgeOf firstWhere stopsFrom rightEnd pricedAnswer startOf endOf lastSweep legsOf timeOf sumOf leastList listed W lowest scan filledTo filled candidate next value choice built nextPlan best
 sheet-reports = refl
 
 -- One word less, and it refuses by 9; the pricer refuses (3,4)(2,4) at entry 2.
-pub short-room-refused : planAnswer sheetRun Least (sheetRows 53) .refusal ≡ ShortRoom
+pub short-room-refused : sheetAnswer 53 .refusal ≡ ShortRoom
 unfolding planAnswer planVerdict judgeOf firstWhere stopsFrom rightEnd
 short-room-refused = refl
 
@@ -86,7 +70,7 @@ crossing-list-refused = refl
 abbrev pub moreAsked : Run
 moreAsked = runOf (0 ∷ 10 ∷ 20 ∷ []) (10 ∷ 4 ∷ 30 ∷ []) (1 ∷ 2 ∷ 3 ∷ []) (1 ∷ 4 ∷ 1 ∷ []) 70 2
 
--- Legs that turn in gaps, inside a file and beyond the last one.
+-- Legs that turn in gaps, inside files and beyond the last one; only the last begins where a file does.
 abbrev pub wanderings : List Leg
 wanderings = record { left = 18; right = 55 } ∷ record { left = 5; right = 15 } ∷ record { left = 0; right = 33 } ∷ []
 
@@ -104,12 +88,12 @@ more-asks-no-less : AsksNoLess moreAsked sheetRun
 unfolding stopsFrom readsOf
 more-asks-no-less = record { starts = refl; lengths = refl; reads = λ f. no-fewer-reads (eqb 1 f) (eqb 2 f) (eqb 3 f); turn = omega arith; head = omega arith }
 
-wanderings-move : Moves (moreAsked .head) wanderings
-wanderings-move = omega arith
+wanderings-move : (head : ℕ) → 18 ≤ head → Moves head wanderings
+wanderings-move head far = omega arith
 
-wanderings-serve : ServesAll wanderings (stopsOf moreAsked)
+wanderings-serve : ServesAll wanderings (stopsOf moreAsked) × ServesAll wanderings (stopsOf sheetRun)
 unfolding ServesAll served stopsFrom
-wanderings-serve = (tt, (tt, (tt, tt)))
+wanderings-serve = ((tt, (tt, (tt, tt))), (tt, (tt, (tt, tt))))
 
 -- Their last leg stops short of the rightmost wanted end, where that of every detour list stops.
 lastRight : List Leg → ℕ
@@ -130,22 +114,40 @@ wanderings-no-list list e =
     omega arith
 
 -- So each demand speaks of something.
-sheet-plans : (words : ℕ) → Plans sheetRun Least (sheetRows words) (planAnswer sheetRun Least (sheetRows words)) (planRows sheetRun Least (sheetRows words))
+sheet-plans : (words : ℕ) → Plans sheetRun Least (sheetRows words) (sheetAnswer words) (sheetAfter words)
 sheet-plans words = plans-for-every-input sheetRun Least (sheetRows words)
 
-pub short-room-keeps-rows : planRows sheetRun Least (sheetRows 53) ≡ sheetRows 53
+pub short-room-keeps-rows : sheetAfter 53 ≡ sheetRows 53
 short-room-keeps-rows =
-    demand1-plan sheetRun Least (sheetRows 53) (planAnswer sheetRun Least (sheetRows 53)) (planRows sheetRun Least (sheetRows 53)) (sheet-plans 53) .kept
-    (λ e. not-accepted (sym short-room-refused ∙ e)) .1
-  where
-    not-accepted : ShortRoom ≡ Accepted → ⊥
-    not-accepted e = true≢false (ap isRefusal e)
+    demand1-plan sheetRun Least (sheetRows 53) (sheetAnswer 53) (sheetAfter 53) (sheet-plans 53) .kept
+    (λ e. true≢false (ap isRefusal (sym short-room-refused ∙ e))) .1
 
-pub sheet-is-least : IsLeast sheetRun (planAnswer sheetRun Least (sheetRows 54)) (planRows sheetRun Least (sheetRows 54))
-sheet-is-least = demand2-least sheetRun (sheetRows 54) (planAnswer sheetRun Least (sheetRows 54)) (planRows sheetRun Least (sheetRows 54)) (sheet-plans 54) sheet-accepted
+pub crossing-list-keeps-row : priceRow fourFiles (3 ∷ 2 ∷ []) (4 ∷ 4 ∷ []) (0 ∷ 0 ∷ 0 ∷ 0 ∷ []) ≡ 0 ∷ 0 ∷ 0 ∷ 0 ∷ []
+crossing-list-keeps-row =
+    demand1-price fourFiles (3 ∷ 2 ∷ []) (4 ∷ 4 ∷ []) (0 ∷ 0 ∷ 0 ∷ 0 ∷ []) (refusalAnswer (record { refusal = BadEntry; place = 2 }))
+    (priceRow fourFiles (3 ∷ 2 ∷ []) (4 ∷ 4 ∷ []) (0 ∷ 0 ∷ 0 ∷ 0 ∷ []))
+    (sym crossing-list-refused) refl .kept
+    (λ e. true≢false (ap isRefusal e)) .1
+
+pub sheet-is-the-walk : IsTheWalk sheetRun (sheetAnswer 54) (sheetAfter 54)
+sheet-is-the-walk = demand2-walk sheetRun Least (sheetRows 54) (sheetAnswer 54) (sheetAfter 54) (sheet-plans 54) sheet-accepted
+
+pub sheet-swept : listIn (planAnswer sheetRun Sweep (sheetRows 54)) (planRows sheetRun Sweep (sheetRows 54)) ≡ []
+sheet-swept =
+    demand2-sweep sheetRun (sheetRows 54) (planAnswer sheetRun Sweep (sheetRows 54)) (planRows sheetRun Sweep (sheetRows 54))
+    (plans-for-every-input sheetRun Sweep (sheetRows 54)) sweep-accepted
+
+pub sheet-is-least : IsLeast sheetRun (sheetAnswer 54) (sheetAfter 54)
+sheet-is-least = demand2-least sheetRun (sheetRows 54) (sheetAnswer 54) (sheetAfter 54) (sheet-plans 54) sheet-accepted
 
 pub wanderings-beat-nothing : 367 ≤ sumOf (moreAsked .turn) (headAt (moreAsked .head)) wanderings (stopsOf moreAsked)
 wanderings-beat-nothing =
     rw
     sheet-reports at
-    (demand3 moreAsked sheetRun (sheetRows 54) (planAnswer sheetRun Least (sheetRows 54)) (planRows sheetRun Least (sheetRows 54)) more-accepted (sheet-plans 54) sheet-accepted more-asks-no-less wanderings wanderings-move wanderings-serve)
+    (demand3 moreAsked sheetRun (sheetRows 54) (sheetAnswer 54) (sheetAfter 54) more-accepted (sheet-plans 54) sheet-accepted more-asks-no-less wanderings (wanderings-move 70 (omega arith)) (wanderings-serve .0))
+
+pub wanderings-beat-nothing-there : 367 ≤ sumOf (sheetRun .turn) (headAt (sheetRun .head)) wanderings (stopsOf sheetRun)
+wanderings-beat-nothing-there =
+    rw
+    sheet-reports at
+    (demand3-same sheetRun (sheetRows 54) (sheetAnswer 54) (sheetAfter 54) (sheet-plans 54) sheet-accepted wanderings (wanderings-move 60 (omega arith)) (wanderings-serve .1))

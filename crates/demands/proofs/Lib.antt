@@ -1,6 +1,7 @@
 -- The proofs of the demands: tests against conditions, then each demand, the table of cases, and instances that meet the hypotheses.
 pub mod Tests
 pub mod Checks
+pub mod Conditions
 pub mod Judged
 pub mod Listed
 pub mod Demand1
@@ -8,4 +9,5 @@ pub mod Planned
 pub mod Demand2
 pub mod Demand3
 pub mod Cases
+pub mod Fits
 pub mod Instances

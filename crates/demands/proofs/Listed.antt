@@ -19,6 +19,7 @@ use Rattle.demands.specs.Table.{IsWanted, BadByItself, BadAgainst, Entry
 use Rattle.demands.proofs.Tests.{Tells, tells-below, tells-at-most, tells-not, tells-either, tells-reworded, tells-regrouped, tells-some}
 use Rattle.demands.proofs.Checks.{Decides, refused, decides-at, decides-alone, decides-reworded}
 
+-- A number that stands in the row is listed.
 listed-at : (numbers : List ℕ) (i f : ℕ) → i < length numbers → getD numbers i 0 ≡ f → listed numbers f ≡ true
 unfolding listed
 listed-at [] i f l e = absurd (omega arith)
@@ -30,15 +31,15 @@ against : (earlierFrom earlierTo from to : ℕ) → Tells (badAfter (record { fr
 against earlierFrom earlierTo from to =
     tells-either (leb earlierFrom from) (not (ltb to earlierFrom || ltb earlierTo to)) (tells-at-most earlierFrom from)
     (tells-reworded
-    (λ n. (apart (λ l. n (inl l)), omega-le (λ l. n (inr l))))
+    (λ n. (not-left (λ l. n (inl l)), not-right (λ l. n (inr l))))
     (λ h. ⊎-elim (λ l. omega arith) (λ l. omega arith))
     (tells-not (ltb to earlierFrom || ltb earlierTo to) (tells-either (ltb to earlierFrom) (ltb earlierTo to) (tells-below to earlierFrom) (tells-below earlierTo to))))
   where
-    apart : (to < earlierFrom → ⊥) → earlierFrom ≤ to
-    apart n = omega arith
+    not-left : (to < earlierFrom → ⊥) → earlierFrom ≤ to
+    not-left n = omega arith
 
-    omega-le : (earlierTo < to → ⊥) → to ≤ earlierTo
-    omega-le n = omega arith
+    not-right : (earlierTo < to → ⊥) → to ≤ earlierTo
+    not-right n = omega arith
 
 module _ (r : Run) where
   is-wanted : (f : ℕ) → Tells (listed (r .numbers) f) (IsWanted r f)

@@ -9,11 +9,12 @@ use Rattle.walk.specs.declared.Refusal.the-variants.{Accepted, ShortRow, ShortR
 use Rattle.walk.specs.declared.Answer.{Answer}
 use Rattle.walk.specs.declared.Rule.{Rule}
 use Rattle.walk.specs.Refusals.{isRefusal, refuseIf}
-use Rattle.walk.specs.Run.{Run}
+use Rattle.walk.specs.Run.{Run, stopsOf}
 use Rattle.walk.specs.Judging.{judgeOf}
 use Rattle.walk.specs.Detours.{Detour, listOf}
 use Rattle.walk.specs.Price.{pricedAnswer}
 use Rattle.walk.proofs.Verdicts.{refuses, all-accept}
+use Rattle.plans.specs.Least.{listSum}
 use Rattle.planner.specs.Plan.{Rows, Plans, Planned, planVerdict, roomSize, shortRows, rowsWith}
 use Rattle.demands.specs.Demand2.{listIn}
 
@@ -33,6 +34,10 @@ list-in-rows r list before answer after says rows =
     (take-at (map (λ d. d .from) list) (drop (length list) (before .froms)) (length list) (length-map list (λ d. d .from)))
     (take-at (map (λ d. d .to) list) (drop (length list) (before .tos)) (length list) (length-map list (λ d. d .to)))
     ∙ list-of-rows list)
+
+pub reported-sum : (r : Run) (list : List Detour) (answer : Answer) → answer ≡ pricedAnswer r list → answer .sum ≡ listSum (r .turn) (r .head) (stopsOf r) list
+unfolding pricedAnswer
+reported-sum r list answer says = rw says
 
 -- The planner accepts only a run that the judging accepts.
 pub verdict-accepts-run : (r : Run) (rows : Rows) → refuses (planVerdict r rows) ≡ false → refuses (judgeOf r) ≡ false

@@ -33,8 +33,8 @@ AllHold (c ∷ cs) = Holds c × AllHold cs
 abbrev case : Run → List Detour → ℕ → List ℕ → Bool → Case
 case run list sum times least = record { run = run; list = list; sum = sum; times = times; least = least }
 
-abbrev to : ℕ → ℕ → Detour
-to from end = record { from = from; to = end }
+abbrev detour : ℕ → ℕ → Detour
+detour from to = record { from = from; to = to }
 
 -- The tapes: two files of length 10 from 0, the sheet's, and four files of length 2 from 0.
 abbrev pub twoFiles : List ℕ → List ℕ → ℕ → Run
@@ -54,18 +54,18 @@ cases =
     case (sheet [] []) [] 0 [] true
     ∷ case (runOf (5 ∷ []) (3 ∷ []) (1 ∷ []) (3 ∷ []) 8 2) [] 24 (8 ∷ []) true
     ∷ case (twoFiles (1 ∷ 2 ∷ []) (1 ∷ 1 ∷ []) 0) [] 70 (30 ∷ 40 ∷ []) true
-    ∷ case (twoFiles (1 ∷ 2 ∷ []) (1 ∷ 1 ∷ []) 0) (to 2 2 ∷ []) 70 (50 ∷ 20 ∷ []) false
+    ∷ case (twoFiles (1 ∷ 2 ∷ []) (1 ∷ 1 ∷ []) 0) (detour 2 2 ∷ []) 70 (50 ∷ 20 ∷ []) false
     ∷ case (twoFiles (1 ∷ 2 ∷ []) (1 ∷ 2 ∷ []) 0) [] 110 (30 ∷ 40 ∷ []) false
-    ∷ case (twoFiles (1 ∷ 2 ∷ []) (1 ∷ 2 ∷ []) 0) (to 2 2 ∷ []) 90 (50 ∷ 20 ∷ []) true
+    ∷ case (twoFiles (1 ∷ 2 ∷ []) (1 ∷ 2 ∷ []) 0) (detour 2 2 ∷ []) 90 (50 ∷ 20 ∷ []) true
     ∷ case (twoFiles (1 ∷ 2 ∷ []) (1 ∷ 1 ∷ []) 1) [] 72 (31 ∷ 41 ∷ []) true
-    ∷ case (twoFiles (1 ∷ 2 ∷ []) (1 ∷ 1 ∷ []) 1) (to 2 2 ∷ []) 74 (53 ∷ 21 ∷ []) false
+    ∷ case (twoFiles (1 ∷ 2 ∷ []) (1 ∷ 1 ∷ []) 1) (detour 2 2 ∷ []) 74 (53 ∷ 21 ∷ []) false
     ∷ case (twoFiles (2 ∷ []) (1 ∷ []) 0) [] 20 (20 ∷ []) true
     ∷ case sheetRun [] 407 (71 ∷ 75 ∷ 111 ∷ []) false
-    ∷ case sheetRun (to 2 2 ∷ []) 367 (81 ∷ 55 ∷ 121 ∷ []) true
-    ∷ case sheetRun (to 2 3 ∷ []) 409 (153 ∷ 55 ∷ 91 ∷ []) false
-    ∷ case sheetRun (to 3 3 ∷ []) 615 (133 ∷ 137 ∷ 71 ∷ []) false
-    ∷ case sheetRun (to 3 3 ∷ to 2 2 ∷ []) 565 (143 ∷ 117 ∷ 71 ∷ []) false
-    ∷ case fourFiles (to 3 3 ∷ to 2 4 ∷ []) 72 (31 ∷ 15 ∷ 7 ∷ 19 ∷ []) false
+    ∷ case sheetRun (detour 2 2 ∷ []) 367 (81 ∷ 55 ∷ 121 ∷ []) true
+    ∷ case sheetRun (detour 2 3 ∷ []) 409 (153 ∷ 55 ∷ 91 ∷ []) false
+    ∷ case sheetRun (detour 3 3 ∷ []) 615 (133 ∷ 137 ∷ 71 ∷ []) false
+    ∷ case sheetRun (detour 3 3 ∷ detour 2 2 ∷ []) 565 (143 ∷ 117 ∷ 71 ∷ []) false
+    ∷ case fourFiles (detour 3 3 ∷ detour 2 4 ∷ []) 72 (31 ∷ 15 ∷ 7 ∷ 19 ∷ []) false
     ∷ case fourFiles [] 56 (11 ∷ 13 ∷ 15 ∷ 17 ∷ []) true
     ∷ []
 

@@ -1,0 +1,331 @@
+-- From line to line: where a line ends, what stands behind its key, and what its reader has found.
+use Prim.Native.Nat.{ℕ, zero, suc, _+_, _-_, _≤_, _<_, min}
+use mathlib.Core.Path.{_≡_, refl, ap, sym, _∙_, subst}
+use mathlib.Core.Bool.{Bool, true, false, not, cond, _&&_, _||_, and-false}
+use mathlib.Core.List.{List, [], _∷_, _++_}
+use native.Mathlib.Omega.{arith}
+use native.Mathlib.Numerals.{add-one}
+use lib.ListN.{length, take, drop, length-drop, length-take}
+use lib.Seq.{take-all, drop-drop, length-take-le, drop-nil, take-nil}
+use lib.Dec.{leb, eqb}
+use borrow.Author.Tests.{le-leb, lt-leb, not-true}
+use Rattle.walk.specs.declared.Rule.{Rule}
+use Rattle.sheets.specs.declared.text.Found.{Found}
+use Rattle.sheets.specs.declared.text.Number.{Number}
+use Rattle.sheets.specs.declared.lines.Keyed.{Keyed}
+use Rattle.sheets.specs.declared.lines.NumberLine.{NumberLine}
+use Rattle.sheets.specs.declared.lines.Pair.{Pair}
+use Rattle.sheets.specs.declared.lines.PairLine.{PairLine}
+use Rattle.sheets.specs.declared.lines.PairLines.{PairLines}
+use Rattle.walk.specs.Refusals.{firstWhere}
+use Rattle.walk.proofs.Search.{first-none, first-more, first-here, first-done}
+use Rattle.sheets.specs.Text.{lineFeed, comma, isEmpty, has, before, behind, startsWith, isText, isNumber, isName, valueOf}
+use Rattle.sheets.specs.Lines.{lineOf, afterLines, lineAfter, tapeKey, turnKey, ruleKey, leastText, sweepText, valueText, isTapeLine, isNumberLine, numberIn, isCountLine, emptyTurn, isTurnLine, turnIn, isRuleLine, ruleIn, isPair, isPairLine, firstIn, secondIn}
+use Rattle.sheets.specs.Sheet.{firstBadPair}
+use Rattle.sheets.specs.Parts.{FirstAt, FoundIn, NumberIs, NumberFound, ValueAt, ValueFound, Passed, NamePart, NameLineFound, NumberLineFound, PairIs, PairFound, PairAt, PairLineFound, PairsPassed, PairBad, PairLinesFound}
+use Rattle.sheets.proofs.Bytes.{not-empty, short-text, begun-long, behind-nowhere}
+
+-- The end of a part is a part of the end.
+drop-take : (n m : ℕ) (xs : List ℕ) → drop n (take m xs) ≡ take (m - n) (drop n xs)
+drop-take n m [] = rw (take-nil m, drop-nil n, take-nil (m - n))
+drop-take zero m (x ∷ xs) = rw (native.Mathlib.Nat.sub-zero m)
+drop-take (suc n) zero (x ∷ xs) = let e : 0 - suc n ≡ 0 = omega arith in rw e
+drop-take (suc n) (suc m) (x ∷ xs) = let e : suc m - suc n ≡ m - n = omega arith in rw e (drop-take n m xs)
+
+empty-text : (text : List ℕ) → length text ≡ 0 → isEmpty text ≡ true
+empty-text [] e = refl
+empty-text (b ∷ text) e = absurd (omega arith)
+
+-- Looking for the LF from a position on.
+module _ (key sheet : List ℕ) (at : ℕ) (here : at ≤ length sheet) (r : Found) (found : FoundIn lineFeed (take (length sheet - at) (drop at sheet)) r) where
+  rest-all : take (length sheet - at) (drop at sheet) ≡ drop at sheet
+  rest-all = take-all (length sheet - at) (drop at sheet) (rw (length-drop at sheet) (omega arith))
+
+  pub line-missing : r ≡ Found.Nowhere → 0 < length key → startsWith key (lineOf (drop at sheet)) ≡ false
+  unfolding lineOf
+  line-missing e l =
+      let none : has lineFeed (drop at sheet) ≡ false = rw rest-all at (subst (λ f. FoundIn lineFeed (take (length sheet - at) (drop at sheet)) f) e found) in
+      rw none (sym (short-text key [] l))
+
+  module _ (i : ℕ) (e : r ≡ Found.At i) where
+    line-ends : FirstAt lineFeed (drop at sheet) i
+    line-ends = subst (λ t. FirstAt lineFeed t i) rest-all (subst (λ f. FoundIn lineFeed (take (length sheet - at) (drop at sheet)) f) e found)
+
+    line-is : lineOf (drop at sheet) ≡ take i (drop at sheet)
+    unfolding lineOf
+    line-is = rw (line-ends .stands) (line-ends .front)
+
+    pub line-within : at + i < length sheet
+    line-within = omega (arith, rw (length-drop at sheet) at (line-ends .within))
+
+    part-is : take (at + i - at) (drop at sheet) ≡ lineOf (drop at sheet)
+    part-is = let s : at + i - at ≡ i = omega arith in rw (s, line-is)
+
+    module _ (t : Bool) (begins : t ≡ startsWith key (take (at + i - at) (drop at sheet))) where
+      begun-is : startsWith key (lineOf (drop at sheet)) ≡ t
+      begun-is = sym (rw part-is at begins)
+
+      pub line-unkeyed : t ≡ false → startsWith key (lineOf (drop at sheet)) ≡ false
+      line-unkeyed f = begun-is ∙ f
+
+      pub line-keyed : t ≡ true → ValueAt key sheet at (at + length key) (at + i)
+      line-keyed f =
+          let within = line-within in
+          let long : length key ≤ length (lineOf (drop at sheet)) = begun-long key (lineOf (drop at sheet)) (begun-is ∙ f) in
+          let size : length (take i (drop at sheet)) ≡ i = length-take-le i (drop at sheet) (rw (length-drop at sheet) (omega arith)) in
+          let shift : at + i - (at + length key) ≡ i - length key = omega arith in
+          let next : at + i + 1 ≡ at + (i + 1) = omega arith in
+          record {
+            begun = begun-is ∙ f;
+            start = refl;
+            ordered = omega (arith, ap length line-is);
+            within = within;
+            text = rw (shift, line-is, drop-take (length key) i (drop at sheet), drop-drop (length key) at sheet);
+            rest = rw (next, line-ends .back, drop-drop (i + 1) at sheet);
+          }
+
+-- What a reader of one line has found, from what stands behind the key.
+module _ (key sheet : List ℕ) (at : ℕ) (r : Keyed) (found : ValueFound key sheet at r) where
+  pub unkeyed : r ≡ Keyed.Bad → startsWith key (lineOf (drop at sheet)) ≡ false
+  unkeyed e = subst (λ k. ValueFound key sheet at k) e found
+
+  module _ (from end : ℕ) (e : r ≡ Keyed.Text from end) where
+    pub value-at : ValueAt key sheet at from end
+    value-at = subst (λ k. ValueFound key sheet at k) e found
+
+    line-passed : (test : List ℕ → Bool) → test (lineOf (drop at sheet)) ≡ true → Passed test sheet at (end + 1)
+    line-passed test good = let v = value-at in record { good = good; within = omega arith; rest = v .rest }
+
+    value-length : length (valueText key (lineOf (drop at sheet))) ≡ end - from
+    value-length =
+        let v = value-at in
+        ap length (sym (v .text)) ∙ length-take-le (end - from) (drop from sheet) (rw (length-drop from sheet) (omega arith))
+
+    some-text : (from ≡ end → ⊥) → isEmpty (valueText key (lineOf (drop at sheet))) ≡ false
+    some-text n = let v = value-at in not-empty (valueText key (lineOf (drop at sheet))) (omega (arith, value-length))
+
+    no-text : from ≡ end → isEmpty (valueText key (lineOf (drop at sheet))) ≡ true
+    no-text d = let v = value-at in empty-text (valueText key (lineOf (drop at sheet))) (omega (arith, value-length))
+
+    -- A number behind the key.
+    module _ (q : Number) (reads : NumberFound (take (end - from) (drop from sheet)) q) where
+      no-number : q ≡ Number.Bad → isNumber (valueText key (lineOf (drop at sheet))) ≡ false
+      no-number f = rw (value-at .text) at (subst (λ k. NumberFound (take (end - from) (drop from sheet)) k) f reads)
+
+      number-is : (n : ℕ) → q ≡ Number.Value n → NumberIs (valueText key (lineOf (drop at sheet))) n
+      number-is n f = subst (λ t. NumberIs t n) (value-at .text) (subst (λ k. NumberFound (take (end - from) (drop from sheet)) k) f reads)
+
+      pub number-line-bad : q ≡ Number.Bad → isNumberLine key (lineOf (drop at sheet)) ≡ false
+      unfolding isNumberLine
+      number-line-bad f = rw (no-number f, and-false)
+
+      pub number-line-good : (n : ℕ) → q ≡ Number.Value n → Passed (isNumberLine key) sheet at (end + 1) × (n ≡ numberIn key (lineOf (drop at sheet)))
+      unfolding isNumberLine
+      number-line-good n f = (line-passed (isNumberLine key) (rw (value-at .begun, number-is n f .good)), number-is n f .value)
+
+    -- Two numbers behind the key.
+    module _ (q : Pair) (reads : PairFound (take (end - from) (drop from sheet)) q) where
+      pub pair-line-bad : q ≡ Pair.Bad → isPairLine key (lineOf (drop at sheet)) ≡ false
+      unfolding isPairLine
+      pair-line-bad f =
+          let e : isPair (valueText key (lineOf (drop at sheet))) ≡ false = rw (value-at .text) at (subst (λ k. PairFound (take (end - from) (drop from sheet)) k) f reads) in
+          rw (e, and-false)
+
+      pub pair-line-good : (a b : ℕ) → q ≡ Pair.Both a b → PairAt key sheet at a b (end + 1)
+      unfolding isPairLine
+      pair-line-good a b f =
+          let p : PairIs (valueText key (lineOf (drop at sheet))) a b = subst (λ t. PairIs t a b) (value-at .text) (subst (λ k. PairFound (take (end - from) (drop from sheet)) k) f reads) in
+          record { passed = line-passed (isPairLine key) (rw (value-at .begun) (p .good)); left = p .left; right = p .right }
+
+-- `turn=` with a number, or with nothing.
+module _ (sheet : List ℕ) (at : ℕ) (r : Keyed) (found : ValueFound turnKey sheet at r) (from end : ℕ) (e : r ≡ Keyed.Text from end) where
+  pub turn-line-empty : from ≡ end → Passed isTurnLine sheet at (end + 1) × (emptyTurn ≡ turnIn (lineOf (drop at sheet)))
+  unfolding isTurnLine turnIn
+  turn-line-empty d =
+      let none = no-text turnKey sheet at r found from end e d in
+      (line-passed turnKey sheet at r found from end e isTurnLine (rw (value-at turnKey sheet at r found from end e .begun, none)), rw none)
+
+  module _ (some : from ≡ end → ⊥) (q : Number) (reads : NumberFound (take (end - from) (drop from sheet)) q) where
+    pub turn-line-bad : q ≡ Number.Bad → isTurnLine (lineOf (drop at sheet)) ≡ false
+    unfolding isTurnLine
+    turn-line-bad f =
+        rw (no-number turnKey sheet at r found from end e q reads f, some-text turnKey sheet at r found from end e some, and-false)
+
+    pub turn-line-good : (n : ℕ) → q ≡ Number.Value n → Passed isTurnLine sheet at (end + 1) × (n ≡ turnIn (lineOf (drop at sheet)))
+    unfolding isTurnLine turnIn
+    turn-line-good n f =
+        let is = number-is turnKey sheet at r found from end e q reads n f in
+        let text = some-text turnKey sheet at r found from end e some in (
+          line-passed turnKey sheet at r found from end e isTurnLine (rw (value-at turnKey sheet at r found from end e .begun, text, is .good)),
+          rw text (is .value),
+        )
+
+-- `rule=` with one of the two rules: s and l say whether it is the sweep or the least rule.
+module _ (sheet : List ℕ) (at : ℕ) (r : Keyed) (found : ValueFound ruleKey sheet at r) (from end : ℕ) (e : r ≡ Keyed.Text from end)
+    (s : Bool) (sweeps : s ≡ isText sweepText (take (end - from) (drop from sheet))) where
+  rule-begun : startsWith ruleKey (lineOf (drop at sheet)) ≡ true
+  rule-begun = value-at ruleKey sheet at r found from end e .begun
+
+  sweep-is : isText sweepText (valueText ruleKey (lineOf (drop at sheet))) ≡ s
+  sweep-is = ap (isText sweepText) (sym (value-at ruleKey sheet at r found from end e .text)) ∙ sym sweeps
+
+  pub rule-line-sweep : s ≡ true → Passed isRuleLine sheet at (end + 1) × (Rule.Sweep ≡ ruleIn (lineOf (drop at sheet)))
+  unfolding isRuleLine ruleIn
+  rule-line-sweep f =
+      (line-passed ruleKey sheet at r found from end e isRuleLine (rw (sweep-is ∙ f, rule-begun)), rw (sweep-is ∙ f))
+
+  module _ (l : Bool) (leasts : l ≡ isText leastText (take (end - from) (drop from sheet))) where
+    least-is : isText leastText (valueText ruleKey (lineOf (drop at sheet))) ≡ l
+    least-is = ap (isText leastText) (sym (value-at ruleKey sheet at r found from end e .text)) ∙ sym leasts
+
+    pub rule-line-least : s ≡ false → l ≡ true → Passed isRuleLine sheet at (end + 1) × (Rule.Least ≡ ruleIn (lineOf (drop at sheet)))
+    unfolding isRuleLine ruleIn
+    rule-line-least f g =
+        (line-passed ruleKey sheet at r found from end e isRuleLine (rw (sweep-is ∙ f, least-is ∙ g, rule-begun)), rw (sweep-is ∙ f))
+
+    pub rule-line-bad : s ≡ false → l ≡ false → isRuleLine (lineOf (drop at sheet)) ≡ false
+    unfolding isRuleLine
+    rule-line-bad f g = rw (sweep-is ∙ f, least-is ∙ g, and-false)
+
+-- A line without its key is not as described.
+pub unkeyed-number : (key line : List ℕ) → startsWith key line ≡ false → isNumberLine key line ≡ false
+unfolding isNumberLine
+unkeyed-number key line e = rw e
+
+pub unkeyed-turn : (line : List ℕ) → startsWith turnKey line ≡ false → isTurnLine line ≡ false
+unfolding isTurnLine
+unkeyed-turn line e = rw e
+
+pub unkeyed-rule : (line : List ℕ) → startsWith ruleKey line ≡ false → isRuleLine line ≡ false
+unfolding isRuleLine
+unkeyed-rule line e = rw e
+
+pub unkeyed-pair : (key line : List ℕ) → startsWith key line ≡ false → isPairLine key line ≡ false
+unfolding isPairLine
+unkeyed-pair key line e = rw e
+
+-- A number of lines to follow.
+module _ (key : List ℕ) (most : ℕ) (sheet : List ℕ) (at : ℕ) (r : NumberLine) (found : NumberLineFound (isNumberLine key) (numberIn key) sheet at r) where
+  pub count-line-bad : r ≡ NumberLine.Bad → isCountLine key most (lineOf (drop at sheet)) ≡ false
+  unfolding isCountLine
+  count-line-bad e = rw (subst (λ k. NumberLineFound (isNumberLine key) (numberIn key) sheet at k) e found)
+
+  module _ (n next : ℕ) (e : r ≡ NumberLine.Value n next) where
+    counted : Passed (isNumberLine key) sheet at next × (n ≡ numberIn key (lineOf (drop at sheet)))
+    counted = subst (λ k. NumberLineFound (isNumberLine key) (numberIn key) sheet at k) e found
+
+    pub count-line-good : n ≤ most → Passed (isCountLine key most) sheet at next × (n ≡ numberIn key (lineOf (drop at sheet)))
+    unfolding isCountLine
+    count-line-good l =
+        let p = counted in
+        (record { good = rw (p .0 .good, ← p .1, le-leb n most l); within = p .0 .within; rest = p .0 .rest }, p .1)
+
+    pub count-line-over : most < n → isCountLine key most (lineOf (drop at sheet)) ≡ false
+    unfolding isCountLine
+    count-line-over l = let p = counted in rw (← p .1, lt-leb n most l, and-false)
+
+-- The first line and its name.
+module _ (sheet : List ℕ) (r : Keyed) (found : ValueFound tapeKey sheet 0 r) where
+  pub tape-line-unkeyed : r ≡ Keyed.Bad → isTapeLine (lineOf sheet) ≡ false
+  unfolding isTapeLine
+  tape-line-unkeyed e = rw (unkeyed tapeKey sheet 0 r found e)
+
+  module _ (from end : ℕ) (e : r ≡ Keyed.Text from end) (t : Bool) (named : t ≡ isName (take (end - from) (drop from sheet))) where
+    name-is : isName (valueText tapeKey (lineOf sheet)) ≡ t
+    name-is = ap isName (sym (value-at tapeKey sheet 0 r found from end e .text)) ∙ sym named
+
+    pub tape-line-bad : t ≡ false → isTapeLine (lineOf sheet) ≡ false
+    unfolding isTapeLine
+    tape-line-bad f = rw (name-is, f, and-false)
+
+    pub tape-line-good : t ≡ true → Passed isTapeLine sheet 0 (end + 1) × NamePart sheet end
+    unfolding isTapeLine
+    tape-line-good f =
+        let v = value-at tapeKey sheet 0 r found from end e in
+        let five : from ≡ length tapeKey = v .start ∙ omega arith in (
+          record { good = rw (name-is ∙ f, v .begun); within = omega arith; rest = v .rest },
+          record { ordered = omega arith; within = omega arith; name = subst (λ n. take (end - n) (drop n sheet) ≡ valueText tapeKey (lineOf sheet)) five (v .text) },
+        )
+
+-- A pair of numbers in a text, from its first comma.
+module _ (text : List ℕ) (r : Found) (found : FoundIn comma text r) where
+  pub no-comma : r ≡ Found.Nowhere → isPair text ≡ false
+  unfolding isPair isNumber
+  no-comma e = rw (behind-nowhere comma text (subst (λ f. FoundIn comma text f) e found), and-false)
+
+  module _ (i : ℕ) (e : r ≡ Found.At i) where
+    pub comma-at : FirstAt comma text i
+    comma-at = subst (λ f. FoundIn comma text f) e found
+
+    module _ (q : Number) (reads : NumberFound (take i text) q) where
+      pub left-bad : q ≡ Number.Bad → isPair text ≡ false
+      unfolding isPair
+      left-bad f = rw (comma-at .front, subst (λ k. NumberFound (take i text) k) f reads)
+
+      module _ (p : Number) (reads′ : NumberFound (take (length text - (i + 1)) (drop (i + 1) text)) p) where
+        right-all : take (length text - (i + 1)) (drop (i + 1) text) ≡ behind comma text
+        right-all = take-all (length text - (i + 1)) (drop (i + 1) text) (rw (length-drop (i + 1) text) (omega arith)) ∙ sym (comma-at .back)
+
+        pub right-bad : p ≡ Number.Bad → isPair text ≡ false
+        unfolding isPair
+        right-bad f = rw (← right-all, subst (λ k. NumberFound (take (length text - (i + 1)) (drop (i + 1) text)) k) f reads′, and-false)
+
+        pub pair-is : (a b : ℕ) → q ≡ Number.Value a → p ≡ Number.Value b → PairIs text a b
+        unfolding isPair
+        pair-is a b f g =
+            let left : NumberIs (take i text) a = subst (λ k. NumberFound (take i text) k) f reads in
+            let right : NumberIs (behind comma text) b = subst (λ t. NumberIs t b) right-all (subst (λ k. NumberFound (take (length text - (i + 1)) (drop (i + 1) text)) k) g reads′) in
+            record {
+              good = rw (comma-at .front, left .good, right .good);
+              left = rw (comma-at .front) (left .value);
+              right = right .value;
+            }
+
+-- Going through lines of pairs: none before the one at an index is bad, and what is left stands at a position.
+pub record PairsSeen (key sheet : List ℕ) (at count next i : ℕ) : Type 0 where
+  pub few : i ≤ count
+  pub within : next ≤ length sheet
+  pub none : firstBadPair key i (drop at sheet) ≡ 0
+  pub rest : drop next sheet ≡ afterLines i (drop at sheet)
+
+pub pairs-none : (key sheet : List ℕ) (at count : ℕ) → at ≤ length sheet → PairsSeen key sheet at count at 0
+unfolding firstBadPair afterLines firstWhere
+pairs-none key sheet at count l = record { few = omega arith; within = l; none = refl; rest = refl }
+
+module _ (key sheet : List ℕ) (at count next i : ℕ) (p : PairsSeen key sheet at count next i) (l : i < count) (r : PairLine) (found : PairLineFound key sheet next r) where
+  line-same : lineOf (drop next sheet) ≡ lineAfter i (drop at sheet)
+  line-same = ap lineOf (p .rest)
+
+  pub pair-bad-here : r ≡ PairLine.Bad → PairBad key sheet at count (i + 1)
+  unfolding firstBadPair
+  pair-bad-here e =
+      let bad : isPairLine key (lineAfter i (drop at sheet)) ≡ false = rw (← line-same) (subst (λ k. PairLineFound key sheet next k) e found) in
+      record {
+        first = first-here (λ j. not (isPairLine key (lineAfter j (drop at sheet)))) i count (p .none) (rw bad) l;
+        some = omega arith;
+        most = omega arith;
+      }
+
+  pub pair-seen : (a b after : ℕ) → r ≡ PairLine.Both a b after → PairsSeen key sheet at count after (i + 1)
+  unfolding firstBadPair afterLines
+  pair-seen a b after e =
+      let q : PairAt key sheet next a b after = subst (λ k. PairLineFound key sheet next k) e found in
+      let good : isPairLine key (lineAfter i (drop at sheet)) ≡ true = rw (← line-same) (q .passed .good) in
+      record {
+        few = omega arith;
+        within = q .passed .within;
+        none = first-more (λ j. not (isPairLine key (lineAfter j (drop at sheet)))) i (p .none) (rw good);
+        rest = q .passed .rest ∙ rw (p .rest, add-one);
+      }
+
+pub pairs-passed : (key sheet : List ℕ) (at count next i : ℕ) → PairsSeen key sheet at count next i → count ≤ i → PairsPassed key sheet at count next
+pairs-passed key sheet at count next i p l =
+    let e : i ≡ count = omega arith in
+    record { none = rw e at (p .none); within = p .within; rest = rw e at (p .rest) }
+
+module _ (key sheet : List ℕ) (at count : ℕ) (r : PairLines) (found : PairLinesFound key sheet at count r) where
+  pub pairs-ended : (next : ℕ) → r ≡ PairLines.End next → PairsPassed key sheet at count next
+  pairs-ended next e = subst (λ k. PairLinesFound key sheet at count k) e found
+
+  pub pairs-failed : (line : ℕ) → r ≡ PairLines.Bad line → PairBad key sheet at count line
+  pairs-failed line e = subst (λ k. PairLinesFound key sheet at count k) e found

@@ -1,0 +1,51 @@
+-- `sheets::reader::lay_out` meets its contract: 12, then the first five lines, then those below.
+-- Assumes nothing.
+use Rattle.sheets.proofs.Order.{sheet-long, top-found, top-refuses, below-refuses, laid-out, top-read, top-failed, below-read, below-failed}
+use borrow.Author.Needs.{needs}
+use Rattle.sheets.proofs.reader.lay_out.Statement.{statement}
+use Rattle.sheets.proofs.reader.lay_out.Tie as tie
+
+returns : tie.Need-returns
+returns c = sheet-long _ (c .if1 .taken)
+
+read-top-requires : tie.Need-read-top-requires
+read-top-requires c κs = search needs
+
+enum-known-line : tie.Need-enum-known-line
+enum-known-line c = search needs
+
+enum-known-top : tie.Need-enum-known-top
+enum-known-top c = search needs
+
+read-below-requires : tie.Need-read-below-requires
+read-below-requires c κs = top-found _ _ (top-read _ _ (c .before .before .before .read-top .ensures) _ (c .before .top .given .1))
+
+enum-known-line-2 : tie.Need-enum-known-line-2
+enum-known-line-2 c = search needs
+
+enum-known-wants : tie.Need-enum-known-wants
+enum-known-wants c = search needs
+
+returns-2 : tie.Need-returns-2
+returns-2 c = top-refuses _ (c .before .before .before .before .if1 .left) _ (top-failed _ _ (c .before .before .before .read-top .ensures) _ (c .before .line .given .1))
+
+returns-3 : tie.Need-returns-3
+returns-3 c = below-refuses _ (c .before .before .before .before .before .before .before .before .if1 .left) _ (top-read _ _ (c .before .before .before .before .before .before .before .read-top .ensures) _ (c .before .before .before .before .before .top .given .1)) _ (below-failed _ _ (c .before .before .before .read-below .ensures) _ (c .before .line2 .given .1))
+
+returns-4 : tie.Need-returns-4
+returns-4 c = laid-out _ (c .before .before .before .before .before .before .before .before .if1 .left) _ (top-read _ _ (c .before .before .before .before .before .before .before .read-top .ensures) _ (c .before .before .before .before .before .top .given .1)) _ _ (below-read _ _ (c .before .before .before .read-below .ensures) _ _ (c .before .wants .given .1))
+
+pub lay-out-spec : {M : Type 1} → statement M
+lay-out-spec =
+    tie.close
+    (tie.spec
+    returns
+    read-top-requires
+    enum-known-line
+    enum-known-top
+    read-below-requires
+    enum-known-line-2
+    enum-known-wants
+    returns-2
+    returns-3
+    returns-4)

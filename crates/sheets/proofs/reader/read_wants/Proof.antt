@@ -1,0 +1,85 @@
+-- `sheets::reader::read_wants` meets its contract: the `wants` line, the lines of wants, and nothing behind them.
+-- Assumes nothing.
+use native.Mathlib.Omega.{arith}
+use Rattle.sheets.specs.Lines.{wantKey}
+use Rattle.sheets.proofs.Passing.{pairs-ended, pairs-failed}
+use Rattle.sheets.proofs.Order.{wants-bad, wants-within, wants-few, want-bad, text-behind, below-good}
+use borrow.Author.Needs.{needs}
+use Rattle.sheets.proofs.reader.read_wants.Statement.{statement}
+use Rattle.sheets.proofs.reader.read_wants.Tie as tie
+
+slice-aggregate-count-line : tie.Need-slice-aggregate-count-line
+slice-aggregate-count-line c = search needs
+
+count-line-requires : tie.Need-count-line-requires
+count-line-requires c κs = (c .before .before .pre .within, omega arith)
+
+enum-known-wants : tie.Need-enum-known-wants
+enum-known-wants c = search needs
+
+enum-told : tie.Need-enum-told
+enum-told c = search needs
+
+add-t14 : tie.Need-add-t14
+add-t14 c = search needs
+
+returns : tie.Need-returns
+returns c = wants-bad _ _ _ (c .before .before .before .before .before .pre) _ (c .before .before .count-line .ensures) (c .enum-told .given .1)
+
+slice-aggregate-pair-lines : tie.Need-slice-aggregate-pair-lines
+slice-aggregate-pair-lines c = search needs
+
+pair-lines-requires : tie.Need-pair-lines-requires
+pair-lines-requires c κs = (wants-within _ _ _ (c .before .before .before .before .before .before .before .pre) _ (c .before .before .before .before .count-line .ensures) _ _ (c .before .before .wants .given .1), omega arith)
+
+enum-known-line : tie.Need-enum-known-line
+enum-known-line c = search needs
+
+add-t19 : tie.Need-add-t19
+add-t19 c = search needs
+
+add-t20 : tie.Need-add-t20
+add-t20 c =
+    let few = wants-few _ _ _ (c .before .before .before .before .before .before .before .before .before .before .before .pre) _ (c .before .before .before .before .before .before .before .before .count-line .ensures) _ _ (c .before .before .before .before .before .before .wants .given .1) in
+    let bad = pairs-failed wantKey _ _ _ _ (c .before .before .before .pair-lines .ensures) _ (c .before .line .given .1) in
+    omega (arith, c .before .before .before .before .before .before .before .before .before .before .before .pre .few, bad .most)
+
+enum-known-end : tie.Need-enum-known-end
+enum-known-end c = search needs
+
+add-t24 : tie.Need-add-t24
+add-t24 c = let few = wants-few _ _ _ (c .before .before .before .before .before .before .before .before .before .before .before .before .pre) _ (c .before .before .before .before .before .before .before .before .before .count-line .ensures) _ _ (c .before .before .before .before .before .before .before .wants .given .1) in omega (arith, c .before .before .before .before .before .before .before .before .before .before .before .before .pre .few)
+
+add-t25 : tie.Need-add-t25
+add-t25 c = let few = wants-few _ _ _ (c .before .before .before .before .before .before .before .before .before .before .before .before .pre) _ (c .before .before .before .before .before .before .before .before .before .count-line .ensures) _ _ (c .before .before .before .before .before .before .before .wants .given .1) in omega (arith, c .before .before .before .before .before .before .before .before .before .before .before .before .pre .few)
+
+returns-2 : tie.Need-returns-2
+returns-2 c = want-bad _ _ _ (c .before .before .before .before .before .before .before .before .before .before .before .pre) _ (c .before .before .before .before .before .before .before .before .count-line .ensures) _ _ (c .before .before .before .before .before .before .wants .given .1) _ (pairs-failed wantKey _ _ _ _ (c .before .before .before .pair-lines .ensures) _ (c .before .line .given .1))
+
+returns-3 : tie.Need-returns-3
+returns-3 c = text-behind _ _ _ (c .before .before .before .before .before .before .before .before .before .before .before .before .pre) _ (c .before .before .before .before .before .before .before .before .before .count-line .ensures) _ _ (c .before .before .before .before .before .before .before .wants .given .1) _ (pairs-ended wantKey _ _ _ _ (c .before .before .before .before .pair-lines .ensures) _ (c .before .before .end .given .1)) (c .if1 .taken)
+
+returns-4 : tie.Need-returns-4
+returns-4 c = below-good _ _ _ (c .before .before .before .before .before .before .before .before .before .before .before .before .pre) _ (c .before .before .before .before .before .before .before .before .before .count-line .ensures) _ _ (c .before .before .before .before .before .before .before .wants .given .1) _ (pairs-ended wantKey _ _ _ _ (c .before .before .before .before .pair-lines .ensures) _ (c .before .before .end .given .1)) (c .if1 .left)
+
+pub read-wants-spec : {M : Type 1} → statement M
+read-wants-spec =
+    tie.close
+    (tie.spec
+    slice-aggregate-count-line
+    count-line-requires
+    enum-known-wants
+    enum-told
+    add-t14
+    returns
+    slice-aggregate-pair-lines
+    pair-lines-requires
+    enum-known-line
+    add-t19
+    add-t20
+    enum-known-end
+    add-t24
+    add-t25
+    returns-2
+    returns-3
+    returns-4)

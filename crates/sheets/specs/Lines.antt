@@ -1,0 +1,109 @@
+-- The lines of a sheet, and what each line must be. A line is the text before its LF.
+use Prim.Native.Nat.{ℕ, suc, zero}
+use mathlib.Core.Bool.{Bool, true, false, cond, _&&_, _||_}
+use mathlib.Core.List.{List, [], _∷_, _++_}
+use lib.ListN.{length, drop}
+use lib.Dec.{leb}
+use Rattle.walk.specs.declared.Rule.{Rule}
+use Rattle.walk.specs.declared.Rule.the-variants.{Sweep, Least}
+use Rattle.sheets.specs.Text.{lineFeed, comma, isEmpty, has, before, behind, startsWith, isText, isNumber, isName, valueOf}
+
+-- The first line of a text. Where no LF ends it there is none, and the empty line that stands for it is as described nowhere:
+-- so a line that is missing and a last line without LF are refused alike.
+unfoldable pub lineOf : List ℕ → List ℕ
+lineOf text = cond (has lineFeed text) (before lineFeed text) []
+
+-- What follows so many lines of a text, and the line that stands there.
+unfoldable pub afterLines : ℕ → List ℕ → List ℕ
+afterLines zero text = text
+afterLines (suc n) text = behind lineFeed (afterLines n text)
+
+abbrev pub lineAfter : ℕ → List ℕ → List ℕ
+lineAfter n text = lineOf (afterLines n text)
+
+-- The keys, `tape=` to `want=`, and the names of the two rules.
+abbrev pub tapeKey : List ℕ
+tapeKey = 116 ∷ 97 ∷ 112 ∷ 101 ∷ 61 ∷ []
+
+abbrev pub headKey : List ℕ
+headKey = 104 ∷ 101 ∷ 97 ∷ 100 ∷ 61 ∷ []
+
+abbrev pub turnKey : List ℕ
+turnKey = 116 ∷ 117 ∷ 114 ∷ 110 ∷ 61 ∷ []
+
+abbrev pub ruleKey : List ℕ
+ruleKey = 114 ∷ 117 ∷ 108 ∷ 101 ∷ 61 ∷ []
+
+abbrev pub filesKey : List ℕ
+filesKey = 102 ∷ 105 ∷ 108 ∷ 101 ∷ 115 ∷ 61 ∷ []
+
+abbrev pub fileKey : List ℕ
+fileKey = 102 ∷ 105 ∷ 108 ∷ 101 ∷ 61 ∷ []
+
+abbrev pub wantsKey : List ℕ
+wantsKey = 119 ∷ 97 ∷ 110 ∷ 116 ∷ 115 ∷ 61 ∷ []
+
+abbrev pub wantKey : List ℕ
+wantKey = 119 ∷ 97 ∷ 110 ∷ 116 ∷ 61 ∷ []
+
+abbrev pub leastText : List ℕ
+leastText = 108 ∷ 101 ∷ 97 ∷ 115 ∷ 116 ∷ []
+
+abbrev pub sweepText : List ℕ
+sweepText = 115 ∷ 119 ∷ 101 ∷ 101 ∷ 112 ∷ []
+
+abbrev pub ruleText : Rule → List ℕ
+ruleText Sweep = sweepText
+ruleText Least = leastText
+
+-- What stands behind a key.
+abbrev pub valueText : List ℕ → List ℕ → List ℕ
+valueText key line = drop (length key) line
+
+-- `tape=` and a tape name.
+unfoldable pub isTapeLine : List ℕ → Bool
+isTapeLine line = startsWith tapeKey line && isName (valueText tapeKey line)
+
+-- A key and a number.
+unfoldable pub isNumberLine : List ℕ → List ℕ → Bool
+isNumberLine key line = startsWith key line && isNumber (valueText key line)
+
+abbrev pub numberIn : List ℕ → List ℕ → ℕ
+numberIn key line = valueOf (valueText key line)
+
+-- A key and a number of lines to follow, which is limited.
+unfoldable pub isCountLine : List ℕ → ℕ → List ℕ → Bool
+isCountLine key most line = isNumberLine key line && leb (numberIn key line) most
+
+-- `turn=` with nothing after it means this price.
+abbrev pub emptyTurn : ℕ
+emptyTurn = 0
+
+-- `turn=` and a number, or nothing after it.
+unfoldable pub isTurnLine : List ℕ → Bool
+isTurnLine line = startsWith turnKey line && (isEmpty (valueText turnKey line) || isNumber (valueText turnKey line))
+
+unfoldable pub turnIn : List ℕ → ℕ
+turnIn line = cond (isEmpty (valueText turnKey line)) emptyTurn (numberIn turnKey line)
+
+-- `rule=least` or `rule=sweep`.
+unfoldable pub isRuleLine : List ℕ → Bool
+isRuleLine line =
+    startsWith ruleKey line && (isText sweepText (valueText ruleKey line) || isText leastText (valueText ruleKey line))
+
+unfoldable pub ruleIn : List ℕ → Rule
+ruleIn line = cond (isText sweepText (valueText ruleKey line)) Sweep Least
+
+-- Two numbers with a comma between them.
+unfoldable pub isPair : List ℕ → Bool
+isPair text = isNumber (before comma text) && isNumber (behind comma text)
+
+-- A key and a pair of numbers.
+unfoldable pub isPairLine : List ℕ → List ℕ → Bool
+isPairLine key line = startsWith key line && isPair (valueText key line)
+
+abbrev pub firstIn : List ℕ → List ℕ → ℕ
+firstIn key line = valueOf (before comma (valueText key line))
+
+abbrev pub secondIn : List ℕ → List ℕ → ℕ
+secondIn key line = valueOf (behind comma (valueText key line))

@@ -1,0 +1,225 @@
+-- What the functions that read parts of a sheet find, by cases of their answers. No public contract cites this file.
+use Prim.Native.Nat.{ℕ, suc, zero, _+_, _-_, _≤_, _<_}
+use mathlib.Core.Path.{_≡_}
+use mathlib.Core.Bool.{Bool, true, false, _&&_}
+use mathlib.Core.List.{List, [], _∷_, _++_}
+use lib.ListN.{length, take, drop}
+use Rattle.walk.specs.declared.Verdict.{Verdict}
+use Rattle.walk.specs.Refusals.{isRefusal, accepted}
+use Rattle.walk.specs.Run.{mostWants}
+use Rattle.sheets.specs.declared.text.Found.{Found}
+use Rattle.sheets.specs.declared.text.Number.{Number}
+use Rattle.sheets.specs.declared.lines.Keyed.{Keyed}
+use Rattle.sheets.specs.declared.lines.NameLine.{NameLine}
+use Rattle.sheets.specs.declared.lines.NumberLine.{NumberLine}
+use Rattle.sheets.specs.declared.lines.RuleLine.{RuleLine}
+use Rattle.sheets.specs.declared.lines.Pair.{Pair}
+use Rattle.sheets.specs.declared.lines.PairLine.{PairLine}
+use Rattle.sheets.specs.declared.lines.PairLines.{PairLines}
+use Rattle.sheets.specs.declared.reader.Top.{Top}
+use Rattle.sheets.specs.declared.reader.TopRead.{TopRead}
+use Rattle.sheets.specs.declared.reader.BelowRead.{BelowRead}
+use Rattle.sheets.specs.declared.reader.Laid.{Laid}
+use Rattle.sheets.specs.Text.{lineFeed, comma, has, before, behind, startsWith, isNumber, valueOf}
+use Rattle.sheets.specs.Lines.{lineOf, afterLines, lineAfter, tapeKey, fileKey, wantKey, valueText, isTapeLine, isRuleLine, ruleIn, isPair, isPairLine, firstIn, secondIn}
+use Rattle.sheets.specs.Sheet.{longestSheet, mostSheetFiles, headOf, turnOf, ruleOf, filesOf, fileText, wantsText, wantsOf, wantText, firstBadPair, firstBadTop, firstBadBelow, eachOf}
+use Rattle.sheets.specs.Reading.{sheetVerdict}
+
+-- A byte stands in a text, first at an index.
+pub record FirstAt (c : ℕ) (text : List ℕ) (i : ℕ) : Type 0 where
+  pub within : i < length text
+  pub stands : has c text ≡ true
+  pub front : before c text ≡ take i text
+  pub back : behind c text ≡ drop (i + 1) text
+
+abbrev pub FoundIn : ℕ → List ℕ → Found → Type 0
+FoundIn c text (Found.At i) = FirstAt c text i
+FoundIn c text Found.Nowhere = has c text ≡ false
+
+-- A text that is a number, and which.
+pub record NumberIs (text : List ℕ) (n : ℕ) : Type 0 where
+  pub good : isNumber text ≡ true
+  pub value : n ≡ valueOf text
+
+abbrev pub NumberFound : List ℕ → Number → Type 0
+NumberFound text (Number.Value n) = NumberIs text n
+NumberFound text Number.Bad = isNumber text ≡ false
+
+-- A line that begins with a key: where its value starts and its LF stands.
+pub record ValueAt (key sheet : List ℕ) (at from end : ℕ) : Type 0 where
+  pub begun : startsWith key (lineOf (drop at sheet)) ≡ true
+  pub start : from ≡ at + length key
+  pub ordered : from ≤ end
+  pub within : end < length sheet
+  pub text : take (end - from) (drop from sheet) ≡ valueText key (lineOf (drop at sheet))
+  pub rest : drop (end + 1) sheet ≡ behind lineFeed (drop at sheet)
+
+abbrev pub ValueFound : List ℕ → List ℕ → ℕ → Keyed → Type 0
+ValueFound key sheet at (Keyed.Text from end) = ValueAt key sheet at from end
+ValueFound key sheet at Keyed.Bad = startsWith key (lineOf (drop at sheet)) ≡ false
+
+-- A line that passed its test, and where the next one starts.
+pub record Passed (test : List ℕ → Bool) (sheet : List ℕ) (at next : ℕ) : Type 0 where
+  pub good : test (lineOf (drop at sheet)) ≡ true
+  pub within : next ≤ length sheet
+  pub rest : drop next sheet ≡ behind lineFeed (drop at sheet)
+
+-- The name's part of a sheet, from behind the key to its LF.
+pub record NamePart (sheet : List ℕ) (end : ℕ) : Type 0 where
+  pub ordered : length tapeKey ≤ end
+  pub within : end ≤ length sheet
+  pub name : take (end - length tapeKey) (drop (length tapeKey) sheet) ≡ valueText tapeKey (lineOf sheet)
+
+abbrev pub NameLineFound : List ℕ → NameLine → Type 0
+NameLineFound sheet (NameLine.Name end next) = Passed isTapeLine sheet 0 next × NamePart sheet end
+NameLineFound sheet NameLine.Bad = isTapeLine (lineOf sheet) ≡ false
+
+abbrev pub NumberLineFound : (List ℕ → Bool) → (List ℕ → ℕ) → List ℕ → ℕ → NumberLine → Type 0
+NumberLineFound test value sheet at (NumberLine.Value n next) = Passed test sheet at next × (n ≡ value (lineOf (drop at sheet)))
+NumberLineFound test value sheet at NumberLine.Bad = test (lineOf (drop at sheet)) ≡ false
+
+abbrev pub RuleLineFound : List ℕ → ℕ → RuleLine → Type 0
+RuleLineFound sheet at (RuleLine.Value r next) = Passed isRuleLine sheet at next × (r ≡ ruleIn (lineOf (drop at sheet)))
+RuleLineFound sheet at RuleLine.Bad = isRuleLine (lineOf (drop at sheet)) ≡ false
+
+-- A text that is a pair of numbers, and which.
+pub record PairIs (text : List ℕ) (first second : ℕ) : Type 0 where
+  pub good : isPair text ≡ true
+  pub left : first ≡ valueOf (before comma text)
+  pub right : second ≡ valueOf (behind comma text)
+
+abbrev pub PairFound : List ℕ → Pair → Type 0
+PairFound text (Pair.Both first second) = PairIs text first second
+PairFound text Pair.Bad = isPair text ≡ false
+
+pub record PairAt (key sheet : List ℕ) (at first second next : ℕ) : Type 0 where
+  pub passed : Passed (isPairLine key) sheet at next
+  pub left : first ≡ firstIn key (lineOf (drop at sheet))
+  pub right : second ≡ secondIn key (lineOf (drop at sheet))
+
+abbrev pub PairLineFound : List ℕ → List ℕ → ℕ → PairLine → Type 0
+PairLineFound key sheet at (PairLine.Both first second next) = PairAt key sheet at first second next
+PairLineFound key sheet at PairLine.Bad = isPairLine key (lineOf (drop at sheet)) ≡ false
+
+-- So many lines of pairs: none is bad, and what follows them; or which is the first bad one.
+pub record PairsPassed (key sheet : List ℕ) (at count next : ℕ) : Type 0 where
+  pub none : firstBadPair key count (drop at sheet) ≡ 0
+  pub within : next ≤ length sheet
+  pub rest : drop next sheet ≡ afterLines count (drop at sheet)
+
+pub record PairBad (key sheet : List ℕ) (at count line : ℕ) : Type 0 where
+  pub first : firstBadPair key count (drop at sheet) ≡ line
+  pub some : 0 < line
+  pub most : line ≤ count
+
+abbrev pub PairLinesFound : List ℕ → List ℕ → ℕ → ℕ → PairLines → Type 0
+PairLinesFound key sheet at count (PairLines.End next) = PairsPassed key sheet at count next
+PairLinesFound key sheet at count (PairLines.Bad line) = PairBad key sheet at count line
+
+-- The first five lines: their values, and what follows them.
+pub record TopIs (sheet : List ℕ) (top : Top) : Type 0 where
+  pub none : firstBadTop sheet ≡ 0
+  pub name : NamePart sheet (top .end)
+  pub head : top .head ≡ headOf sheet
+  pub turn : top .turn ≡ turnOf sheet
+  pub rule : top .rule ≡ ruleOf sheet
+  pub files : top .files ≡ filesOf sheet
+  pub few : top .files ≤ mostSheetFiles
+  pub within : top .next ≤ length sheet
+  pub rest : drop (top .next) sheet ≡ fileText sheet
+
+pub record TopBad (sheet : List ℕ) (line : ℕ) : Type 0 where
+  pub first : firstBadTop sheet ≡ line
+  pub some : 0 < line
+
+abbrev pub TopFound : List ℕ → TopRead → Type 0
+TopFound sheet (TopRead.Good top) = TopIs sheet top
+TopFound sheet (TopRead.Bad line) = TopBad sheet line
+
+-- Where the file lines and the `wants` line start, once what stands above is as described.
+pub record FilesAt (sheet : List ℕ) (at files : ℕ) : Type 0 where
+  pub count : files ≡ filesOf sheet
+  pub few : files ≤ mostSheetFiles
+  pub within : at ≤ length sheet
+  pub rest : drop at sheet ≡ fileText sheet
+
+pub record WantsAt (sheet : List ℕ) (at files : ℕ) : Type 0 where
+  pub count : files ≡ filesOf sheet
+  pub few : files ≤ mostSheetFiles
+  pub within : at ≤ length sheet
+  pub rest : drop at sheet ≡ wantsText sheet
+  pub none : firstBadPair fileKey (filesOf sheet) (fileText sheet) ≡ 0
+
+-- The lines below the first five: the number of wants, and where the want lines start.
+pub record BelowIs (sheet : List ℕ) (wants at : ℕ) : Type 0 where
+  pub none : firstBadBelow sheet ≡ 0
+  pub filed : firstBadPair fileKey (filesOf sheet) (fileText sheet) ≡ 0
+  pub wanted : firstBadPair wantKey (wantsOf sheet) (wantText sheet) ≡ 0
+  pub count : wants ≡ wantsOf sheet
+  pub within : at ≤ length sheet
+  pub rest : drop at sheet ≡ wantText sheet
+
+pub record BelowBad (sheet : List ℕ) (line : ℕ) : Type 0 where
+  pub first : firstBadBelow sheet ≡ line
+  pub some : 0 < line
+
+abbrev pub BelowFound : List ℕ → BelowRead → Type 0
+BelowFound sheet (BelowRead.Good wants at) = BelowIs sheet wants at
+BelowFound sheet (BelowRead.Bad line) = BelowBad sheet line
+
+-- A sheet that 12 and 11 accept, with its parts; or its refusal.
+pub record LaidOut (sheet : List ℕ) (top : Top) (wants at : ℕ) : Type 0 where
+  pub accepts : sheetVerdict sheet ≡ accepted
+  pub upper : TopIs sheet top
+  pub below : BelowIs sheet wants at
+
+pub record LaidRefused (sheet : List ℕ) (v : Verdict) : Type 0 where
+  pub verdict : v ≡ sheetVerdict sheet
+  pub refuses : isRefusal (v .refusal) ≡ true
+
+abbrev pub LaidFound : List ℕ → Laid → Type 0
+LaidFound sheet (Laid.Out top wants at) = LaidOut sheet top wants at
+LaidFound sheet (Laid.Refused v) = LaidRefused sheet v
+
+-- Lines of pairs that are all as described, and rows with room for them.
+pub record PairsReady (key sheet : List ℕ) (at count : ℕ) (firsts seconds : List ℕ) : Type 0 where
+  pub keyed : 0 < length key
+  pub within : at ≤ length sheet
+  pub none : firstBadPair key count (drop at sheet) ≡ 0
+  pub room : count ≤ length firsts
+  pub space : count ≤ length seconds
+
+-- The rows with the pairs in their first entries.
+abbrev pub leftRow : List ℕ → List ℕ → ℕ → List ℕ → List ℕ
+leftRow key text count row = eachOf (λ i. firstIn key (lineAfter i text)) count ++ drop count row
+
+abbrev pub rightRow : List ℕ → List ℕ → ℕ → List ℕ → List ℕ
+rightRow key text count row = eachOf (λ i. secondIn key (lineAfter i text)) count ++ drop count row
+
+-- A text put on a page behind what stands before a position, in at most so many bytes.
+pub record Wrote (page : List ℕ) (at : ℕ) (text : List ℕ) (most : ℕ) (page′ : List ℕ) (next : ℕ) : Type 0 where
+  pub after : next ≡ at + length text
+  pub bytes : take next page′ ≡ take at page ++ text
+  pub within : next ≤ at + most
+
+-- What fits on a page: a name and rows within the sheet's limits.
+pub record SheetFits (page name starts lengths numbers counts : List ℕ) : Type 0 where
+  pub room : longestSheet ≤ length page
+  pub short : length name ≤ 16
+  pub files : length starts ≤ mostSheetFiles
+  pub table : length starts ≡ length lengths
+  pub wants : length numbers ≤ mostWants
+  pub pairs : length numbers ≡ length counts
+
+-- No plan sheet is longer than this: 156 bytes for the first lines, 49 for each detour and each time.
+abbrev pub planMost : ℕ
+planMost = 6428
+
+-- What fits on a plan's page: a name, a list and times within the run's limits.
+pub record PlanFits (page name froms tos numbers times : List ℕ) : Type 0 where
+  pub room : planMost ≤ length page
+  pub short : length name ≤ 16
+  pub few : length froms ≤ mostWants
+  pub even : length froms ≡ length tos
+  pub wants : length numbers ≤ mostWants
+  pub timed : length numbers ≡ length times

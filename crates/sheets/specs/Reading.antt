@@ -1,0 +1,56 @@
+-- What the sheet reader answers, for every input of bytes, and the rows that it leaves.
+use Prim.Native.Nat.{ℕ}
+use mathlib.Core.Path.{_≡_}
+use mathlib.Core.Bool.{Bool, cond, _||_}
+use mathlib.Core.List.{List, [], _∷_, _++_}
+use lib.ListN.{length, drop}
+use lib.Dec.{ltb}
+use Rattle.walk.specs.declared.Refusal.the-variants.{Accepted, BadLine, LongSheet, ShortRow}
+use Rattle.walk.specs.declared.Verdict.{Verdict}
+use Rattle.walk.specs.Refusals.{isRefusal, refuseIf, refuseAt, firstOf}
+use Rattle.walk.specs.declared.Rule.the-variants.{Least}
+use Rattle.sheets.specs.declared.Reading.{Reading}
+use Rattle.sheets.specs.Sheet.{longestSheet, headOf, turnOf, ruleOf, filesOf, wantsOf, firstBadLine, runIn, nameIn}
+
+-- 12, then 11 with its line.
+unfoldable pub sheetVerdict : List ℕ → Verdict
+sheetVerdict sheet =
+    firstOf (refuseIf (ltb longestSheet (length sheet)) LongSheet ∷ refuseAt (firstBadLine sheet) BadLine ∷ [])
+
+-- Whether one of two rows is shorter than so many entries.
+abbrev pub shortRows : ℕ → List ℕ → List ℕ → Bool
+shortRows count firsts seconds = ltb (length firsts) count || ltb (length seconds) count
+
+-- Then 8: a row shorter than the files or wants read.
+unfoldable pub readVerdict : List ℕ → List ℕ → List ℕ → List ℕ → List ℕ → Verdict
+readVerdict sheet starts lengths numbers counts =
+    firstOf
+    (sheetVerdict sheet
+    ∷ refuseIf (shortRows (filesOf sheet) starts lengths || shortRows (wantsOf sheet) numbers counts) ShortRow
+    ∷ [])
+
+-- A refusal's answer: kind and place, every other number 0 and the rule least.
+abbrev pub refusedReading : Verdict → Reading
+refusedReading v =
+    record { refusal = v .refusal; place = v .place; head = 0; turn = 0; rule = Least; files = 0; wants = 0 }
+
+unfoldable pub readAnswer : Verdict → List ℕ → Reading
+readAnswer v sheet =
+    cond (isRefusal (v .refusal)) (refusedReading v)
+    (record {
+      refusal = Accepted;
+      place = 0;
+      head = headOf sheet;
+      turn = turnOf sheet;
+      rule = ruleOf sheet;
+      files = filesOf sheet;
+      wants = wantsOf sheet;
+    })
+
+-- A row afterwards: the values read, then the later entries as they were; on a refusal the whole row as it was.
+unfoldable pub readRow : Verdict → List ℕ → List ℕ → List ℕ
+readRow v values row = cond (isRefusal (v .refusal)) row (values ++ drop (length values) row)
+
+-- The name: an empty part where 12 or 11 applies.
+unfoldable pub readName : List ℕ → List ℕ
+readName sheet = cond (isRefusal ((sheetVerdict sheet) .refusal)) [] (nameIn sheet)

@@ -1,0 +1,108 @@
+-- A run sheet: which lines must stand where, the first that is not as described, and the run, the rule and the name that it holds.
+use Prim.Native.Nat.{ℕ, suc, zero, _+_}
+use mathlib.Core.Bool.{Bool, true, false, not}
+use mathlib.Core.List.{List, [], _∷_, _++_}
+use Rattle.walk.specs.Refusals.{firstWhere}
+use Rattle.walk.specs.Run.{Run, mostWants}
+use Rattle.walk.specs.declared.Rule.{Rule}
+use Rattle.sheets.specs.Text.{isEmpty}
+use Rattle.sheets.specs.Lines.{lineOf, afterLines, lineAfter, tapeKey, headKey, filesKey, fileKey, wantsKey, wantKey, valueText, isTapeLine, isNumberLine, numberIn, isCountLine, isTurnLine, turnIn, isRuleLine, ruleIn, isPairLine, firstIn, secondIn}
+
+-- The limits of a sheet. `wants` is limited as the run is.
+abbrev pub longestSheet : ℕ
+longestSheet = 16384
+
+abbrev pub mostSheetFiles : ℕ
+mostSheetFiles = 256
+
+-- The numbers of the first lines.
+unfoldable pub headOf : List ℕ → ℕ
+headOf sheet = numberIn headKey (lineAfter 1 sheet)
+
+unfoldable pub turnOf : List ℕ → ℕ
+turnOf sheet = turnIn (lineAfter 2 sheet)
+
+unfoldable pub ruleOf : List ℕ → Rule
+ruleOf sheet = ruleIn (lineAfter 3 sheet)
+
+unfoldable pub filesOf : List ℕ → ℕ
+filesOf sheet = numberIn filesKey (lineAfter 4 sheet)
+
+-- The text from the first `file` line on, from the `wants` line on, from the first `want` line on, and behind the last of these.
+unfoldable pub fileText : List ℕ → List ℕ
+fileText sheet = afterLines 5 sheet
+
+unfoldable pub wantsText : List ℕ → List ℕ
+wantsText sheet = afterLines (filesOf sheet) (fileText sheet)
+
+unfoldable pub wantsOf : List ℕ → ℕ
+wantsOf sheet = numberIn wantsKey (lineOf (wantsText sheet))
+
+unfoldable pub wantText : List ℕ → List ℕ
+wantText sheet = afterLines 1 (wantsText sheet)
+
+unfoldable pub endText : List ℕ → List ℕ
+endText sheet = afterLines (wantsOf sheet) (wantText sheet)
+
+-- The number of a line that is not as described, 0 where it is; and of the first such line of many, behind so many lines.
+abbrev pub unless : Bool → ℕ → ℕ
+unless true line = 0
+unless false line = line
+
+abbrev pub shifted : ℕ → ℕ → ℕ
+shifted lines zero = 0
+shifted lines (suc i) = lines + suc i
+
+unfoldable pub firstBadPair : List ℕ → ℕ → List ℕ → ℕ
+firstBadPair key count text = firstWhere (λ i. not (isPairLine key (lineAfter i text))) count
+
+-- The first number of a row that is not 0.
+abbrev pub firstSome : List ℕ → ℕ
+firstSome [] = 0
+firstSome (zero ∷ lines) = firstSome lines
+firstSome (suc line ∷ lines) = suc line
+
+-- The first of the first five lines that is not as described, and the first of the others; 0 where all are.
+unfoldable pub firstBadTop : List ℕ → ℕ
+firstBadTop sheet =
+    firstSome
+    (unless (isTapeLine (lineAfter 0 sheet)) 1
+    ∷ unless (isNumberLine headKey (lineAfter 1 sheet)) 2
+    ∷ unless (isTurnLine (lineAfter 2 sheet)) 3
+    ∷ unless (isRuleLine (lineAfter 3 sheet)) 4
+    ∷ unless (isCountLine filesKey mostSheetFiles (lineAfter 4 sheet)) 5
+    ∷ [])
+
+unfoldable pub firstBadBelow : List ℕ → ℕ
+firstBadBelow sheet =
+    firstSome
+    (shifted 5 (firstBadPair fileKey (filesOf sheet) (fileText sheet))
+    ∷ unless (isCountLine wantsKey mostWants (lineOf (wantsText sheet))) (filesOf sheet + 6)
+    ∷ shifted (filesOf sheet + 6) (firstBadPair wantKey (wantsOf sheet) (wantText sheet))
+    ∷ unless (isEmpty (endText sheet)) (filesOf sheet + wantsOf sheet + 7)
+    ∷ [])
+
+-- The first line of a sheet that is not as described; 0 where all are.
+unfoldable pub firstBadLine : List ℕ → ℕ
+firstBadLine sheet = firstSome (firstBadTop sheet ∷ firstBadBelow sheet ∷ [])
+
+-- What a number of lines hold, one value for each.
+unfoldable pub eachOf : (ℕ → ℕ) → ℕ → List ℕ
+eachOf value zero = []
+eachOf value (suc n) = eachOf value n ++ (value n ∷ [])
+
+-- The run that a sheet holds: `file` is start and length, `want` is file number and count.
+unfoldable pub runIn : List ℕ → Run
+runIn sheet =
+    record {
+      starts = eachOf (λ i. firstIn fileKey (lineAfter i (fileText sheet))) (filesOf sheet);
+      lengths = eachOf (λ i. secondIn fileKey (lineAfter i (fileText sheet))) (filesOf sheet);
+      numbers = eachOf (λ i. firstIn wantKey (lineAfter i (wantText sheet))) (wantsOf sheet);
+      counts = eachOf (λ i. secondIn wantKey (lineAfter i (wantText sheet))) (wantsOf sheet);
+      head = headOf sheet;
+      turn = turnOf sheet;
+    }
+
+-- The tape name that a sheet holds.
+unfoldable pub nameIn : List ℕ → List ℕ
+nameIn sheet = valueText tapeKey (lineAfter 0 sheet)

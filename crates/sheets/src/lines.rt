@@ -1,0 +1,222 @@
+// Readers of single lines. Each takes the position at which the line starts, and answers its value and where the next line starts.
+ghost use mathlib.Core.Path.{_≡_};
+ghost use Prim.Native.Nat.{_≤_, _<_};
+ghost use lib.ListN.{length};
+ghost use Rattle.sheets.specs.Lines.{isNumberLine, numberIn, isCountLine, isTurnLine, turnIn};
+ghost use Rattle.sheets.specs.Parts.{ValueFound, NameLineFound, NumberLineFound, RuleLineFound, PairFound, PairLineFound, PairLinesFound};
+use crate::EMPTY_TURN;
+use crate::text::Found;
+use crate::text::Number;
+use crate::text::find;
+use crate::text::is_name;
+use crate::text::read_number;
+use crate::text::same;
+use crate::text::starts;
+use walk::Rule;
+
+// What stands behind a line's key: from and end are positions in the sheet, and the LF stands at end.
+pub(crate) enum Keyed {
+    Text { from: usize, end: usize },
+    Bad,
+}
+
+pub(crate) enum NameLine {
+    Name { end: usize, next: usize },
+    Bad,
+}
+
+pub(crate) enum NumberLine {
+    Value { number: u64, next: usize },
+    Bad,
+}
+
+pub(crate) enum RuleLine {
+    Value { rule: Rule, next: usize },
+    Bad,
+}
+
+pub(crate) enum Pair {
+    Both { first: u64, second: u64 },
+    Bad,
+}
+
+pub(crate) enum PairLine {
+    Both {
+        first: u64,
+        second: u64,
+        next: usize,
+    },
+    Bad,
+}
+
+// Where the lines after so many pairs start, or the first of them that is not as described, counted from 1.
+pub(crate) enum PairLines {
+    End(usize),
+    Bad(u64),
+}
+
+fn find_value(sheet: &[u8], at: usize, key: &[u8]) -> Keyed
+    requires { ⌜ at ≤ length (now sheet) ⌝ }
+    requires { ⌜ 0 < length (now key) ⌝ }
+    ensures { λ r. ⌜ ValueFound (now (key .entry)) (now (sheet .entry)) at r ⌝ }
+{
+    let Found::At(length) = find(&sheet[at..], 10) else {
+        return Keyed::Bad;
+    };
+    let end = at + length;
+    if starts(&sheet[at..end], key) {
+        Keyed::Text {
+            from: at + key.len(),
+            end,
+        }
+    } else {
+        Keyed::Bad
+    }
+}
+
+pub(crate) fn tape_line(sheet: &[u8]) -> NameLine
+    ensures { λ r. ⌜ NameLineFound (now (sheet .entry)) r ⌝ }
+{
+    let Keyed::Text { from, end } = find_value(sheet, 0, b"tape=") else {
+        return NameLine::Bad;
+    };
+    if is_name(&sheet[from..end]) {
+        NameLine::Name { end, next: end + 1 }
+    } else {
+        NameLine::Bad
+    }
+}
+
+pub(crate) fn number_line(sheet: &[u8], at: usize, key: &[u8]) -> NumberLine
+    requires { ⌜ at ≤ length (now sheet) ⌝ }
+    requires { ⌜ 0 < length (now key) ⌝ }
+    ensures { λ r. ⌜ NumberLineFound (isNumberLine (now (key .entry))) (numberIn (now (key .entry))) (now (sheet .entry)) at r ⌝ }
+{
+    let Keyed::Text { from, end } = find_value(sheet, at, key) else {
+        return NumberLine::Bad;
+    };
+    let Number::Value(number) = read_number(&sheet[from..end]) else {
+        return NumberLine::Bad;
+    };
+    NumberLine::Value {
+        number,
+        next: end + 1,
+    }
+}
+
+// A number of lines to follow, at most so many.
+pub(crate) fn count_line(sheet: &[u8], at: usize, key: &[u8], most: u64) -> NumberLine
+    requires { ⌜ at ≤ length (now sheet) ⌝ }
+    requires { ⌜ 0 < length (now key) ⌝ }
+    ensures { λ r. ⌜ NumberLineFound (isCountLine (now (key .entry)) most) (numberIn (now (key .entry))) (now (sheet .entry)) at r ⌝ }
+{
+    let NumberLine::Value { number, next } = number_line(sheet, at, key) else {
+        return NumberLine::Bad;
+    };
+    if number <= most {
+        NumberLine::Value { number, next }
+    } else {
+        NumberLine::Bad
+    }
+}
+
+pub(crate) fn turn_line(sheet: &[u8], at: usize) -> NumberLine
+    requires { ⌜ at ≤ length (now sheet) ⌝ }
+    ensures { λ r. ⌜ NumberLineFound isTurnLine turnIn (now (sheet .entry)) at r ⌝ }
+{
+    let Keyed::Text { from, end } = find_value(sheet, at, b"turn=") else {
+        return NumberLine::Bad;
+    };
+    if from == end {
+        return NumberLine::Value {
+            number: EMPTY_TURN,
+            next: end + 1,
+        };
+    }
+    let Number::Value(number) = read_number(&sheet[from..end]) else {
+        return NumberLine::Bad;
+    };
+    NumberLine::Value {
+        number,
+        next: end + 1,
+    }
+}
+
+pub(crate) fn rule_line(sheet: &[u8], at: usize) -> RuleLine
+    requires { ⌜ at ≤ length (now sheet) ⌝ }
+    ensures { λ r. ⌜ RuleLineFound (now (sheet .entry)) at r ⌝ }
+{
+    let Keyed::Text { from, end } = find_value(sheet, at, b"rule=") else {
+        return RuleLine::Bad;
+    };
+    if same(&sheet[from..end], b"sweep") {
+        return RuleLine::Value {
+            rule: Rule::Sweep,
+            next: end + 1,
+        };
+    }
+    if same(&sheet[from..end], b"least") {
+        return RuleLine::Value {
+            rule: Rule::Least,
+            next: end + 1,
+        };
+    }
+    RuleLine::Bad
+}
+
+// Two numbers with a comma between them.
+fn read_pair(text: &[u8]) -> Pair
+    ensures { λ r. ⌜ PairFound (now (text .entry)) r ⌝ }
+{
+    let Found::At(length) = find(text, 44) else {
+        return Pair::Bad;
+    };
+    let Number::Value(first) = read_number(&text[..length]) else {
+        return Pair::Bad;
+    };
+    let from = length + 1;
+    let Number::Value(second) = read_number(&text[from..]) else {
+        return Pair::Bad;
+    };
+    Pair::Both { first, second }
+}
+
+pub(crate) fn pair_line(sheet: &[u8], at: usize, key: &[u8]) -> PairLine
+    requires { ⌜ at ≤ length (now sheet) ⌝ }
+    requires { ⌜ 0 < length (now key) ⌝ }
+    ensures { λ r. ⌜ PairLineFound (now (key .entry)) (now (sheet .entry)) at r ⌝ }
+{
+    let Keyed::Text { from, end } = find_value(sheet, at, key) else {
+        return PairLine::Bad;
+    };
+    let Pair::Both { first, second } = read_pair(&sheet[from..end]) else {
+        return PairLine::Bad;
+    };
+    PairLine::Both {
+        first,
+        second,
+        next: end + 1,
+    }
+}
+
+pub(crate) fn pair_lines(sheet: &[u8], at: usize, key: &[u8], count: u64) -> PairLines
+    requires { ⌜ at ≤ length (now sheet) ⌝ }
+    requires { ⌜ 0 < length (now key) ⌝ }
+    ensures { λ r. ⌜ PairLinesFound (now (key .entry)) (now (sheet .entry)) at count r ⌝ }
+{
+    let mut next = at;
+    let mut i: u64 = 0;
+    while i < count {
+        let PairLine::Both {
+            first: _,
+            second: _,
+            next: after,
+        } = pair_line(sheet, next, key)
+        else {
+            return PairLines::Bad(i + 1);
+        };
+        next = after;
+        i += 1;
+    }
+    PairLines::End(next)
+}

@@ -1,0 +1,215 @@
+/* A caller in the manner of a recall daemon: rows and room are set aside once, then each line of standard input is a
+ * request and gets one line of answer.
+ *
+ *   plan HEAD TURN RULE files N START LENGTH ... wants N FILE COUNT ...
+ *   price HEAD TURN files N START LENGTH ... wants N FILE COUNT ... detours N START END ...
+ *
+ * RULE is least or sweep. An answer is
+ *
+ *   sum=367 finish=121 end=50 detours=2,2 times=1:81,2:55,3:121
+ *   refused=7 place=0 head above 2^40, or left of the rightmost wanted file's end
+ *   unreadable: word 4: a number was expected, not 'x'
+ *
+ * Against an installed library:  cc host/daemon.c $(pkg-config --cflags --libs violstream) -o daemon
+ * Against the build itself:      cc -I include host/daemon.c target/staticlib/libboundary.a -o daemon
+ * ./daemon < host/requests.txt, or ./daemon --example for one request that is built in. */
+#define _POSIX_C_SOURCE 200809L
+#include <errno.h>
+#include <inttypes.h>
+#include <stdbool.h>
+#include <stdio.h>
+#include <stdlib.h>
+#include <string.h>
+#include <violstream.h>
+
+static const char example[] = "plan 60 1 least files 3 0 10 10 4 20 30 wants 3 1 1 2 3 3 1";
+
+/* One place more than the limits, so that a request over a limit can be lent as it is, and refused by the library. */
+enum { FILES = VIOLSTREAM_MAX_FILES + 1, WANTS = VIOLSTREAM_MAX_WANTS + 1 };
+
+/* Two rows of the same length. */
+struct pairs {
+    size_t length;
+    uint64_t first[FILES], second[FILES];
+};
+
+static struct {
+    struct pairs files, wants, detours;
+    uint64_t times[WANTS], sums[VIOLSTREAM_SUMS];
+    uint64_t *room;
+} rows;
+
+/* ---- Reading a request ---- */
+
+struct request {
+    bool plan;
+    uint64_t head, turn, rule;
+};
+
+struct words {
+    char *rest;                             /* where strtok_r goes on */
+    unsigned number;                        /* of the last word, from 1 */
+    bool good;                              /* until a word is not what was expected, which is then said */
+};
+
+static void say_unreadable(struct words *words, const char *expected, const char *word)
+{
+    if (words->good)
+        printf("unreadable: word %u: %s was expected, not '%.40s'\n", words->number, expected, word);
+    words->good = false;
+}
+
+static const char *next_word(struct words *words)
+{
+    const char *word = strtok_r(NULL, " \t\r\n", &words->rest);
+    words->number++;
+    return word == NULL ? "" : word;
+}
+
+static uint64_t next_number(struct words *words)
+{
+    const char *word = next_word(words);
+    char *end;
+    errno = 0;
+    uint64_t value = strtoull(word, &end, 10);
+    if (*word < '0' || *word > '9' || *end != '\0' || errno != 0)
+        say_unreadable(words, "a number", word);
+    return value;
+}
+
+static void expect_word(struct words *words, const char *expected)
+{
+    const char *word = next_word(words);
+    if (strcmp(word, expected) != 0)
+        say_unreadable(words, expected, word);
+}
+
+/* A key, the number of pairs, and the pairs. Pairs past what the rows hold are read and left out. */
+static void read_pairs(struct words *words, const char *key, size_t most, struct pairs *pairs)
+{
+    expect_word(words, key);
+    uint64_t number = next_number(words);
+    pairs->length = 0;
+    for (uint64_t i = 0; words->good && i < number; i++) {
+        uint64_t first = next_number(words), second = next_number(words);
+        if (i < most) {
+            pairs->first[i] = first;
+            pairs->second[i] = second;
+            pairs->length++;
+        }
+    }
+}
+
+static uint64_t next_rule(struct words *words)
+{
+    const char *word = next_word(words);
+    if (strcmp(word, "least") == 0)
+        return VIOLSTREAM_LEAST;
+    if (strcmp(word, "sweep") != 0)
+        say_unreadable(words, "least or sweep", word);
+    return VIOLSTREAM_SWEEP;
+}
+
+/* Takes the request into the rows; false, with the reason printed, if it cannot be read. */
+static bool read_request(char *line, struct request *request)
+{
+    struct words words = {.number = 1, .good = true};
+    const char *key = strtok_r(line, " \t\r\n", &words.rest);
+    request->plan = key != NULL && strcmp(key, "plan") == 0;
+    if (!request->plan && (key == NULL || strcmp(key, "price") != 0))
+        say_unreadable(&words, "plan or price", key == NULL ? "" : key);
+    if (!words.good)
+        return false;
+    request->head = next_number(&words);
+    request->turn = next_number(&words);
+    if (request->plan)
+        request->rule = next_rule(&words);
+    read_pairs(&words, "files", FILES, &rows.files);
+    read_pairs(&words, "wants", WANTS, &rows.wants);
+    if (!request->plan)
+        read_pairs(&words, "detours", WANTS, &rows.detours);
+    expect_word(&words, "");
+    return words.good;
+}
+
+/* ---- Answering it ---- */
+
+static uint64_t plan(const struct request *request)
+{
+    const struct pairs *f = &rows.files, *w = &rows.wants;
+    return violstream_plan(f->first, f->length, f->second, f->length, w->first, w->length, w->second, w->length,
+                           request->head, request->turn, request->rule, rows.detours.first, WANTS,
+                           rows.detours.second, WANTS, rows.times, WANTS, rows.sums, VIOLSTREAM_SUMS,
+                           rows.room, VIOLSTREAM_ROOM_MOST);
+}
+
+static uint64_t price(const struct request *request)
+{
+    const struct pairs *f = &rows.files, *w = &rows.wants, *d = &rows.detours;
+    return violstream_price(f->first, f->length, f->second, f->length, w->first, w->length, w->second, w->length,
+                            request->head, request->turn, d->first, d->length, d->second, d->length,
+                            rows.times, WANTS, rows.sums, VIOLSTREAM_SUMS);
+}
+
+static void print_accepted(void)
+{
+    printf("sum=%" PRIu64 " finish=%" PRIu64 " end=%" PRIu64 " detours=", rows.sums[VIOLSTREAM_SUM],
+           rows.sums[VIOLSTREAM_FINISH], rows.sums[VIOLSTREAM_END]);
+    for (size_t i = 0; i < rows.sums[VIOLSTREAM_DETOURS]; i++)
+        printf("%s%" PRIu64 ",%" PRIu64, i == 0 ? "" : ";", rows.detours.first[i], rows.detours.second[i]);
+    printf(" times=");
+    for (size_t i = 0; i < rows.wants.length; i++)
+        printf("%s%" PRIu64 ":%" PRIu64, i == 0 ? "" : ",", rows.wants.first[i], rows.times[i]);
+    printf("\n");
+}
+
+static void answer(char *line)
+{
+    struct request request = {0};
+    if (!read_request(line, &request))
+        return;
+    uint64_t result = request.plan ? plan(&request) : price(&request);
+    if (result == 0)
+        print_accepted();
+    else
+        printf("refused=%d place=%" PRIu64 " %s\n", (int)violstream_number(result), violstream_place(result),
+               violstream_reason(result));
+}
+
+static int answer_all(void)
+{
+    char *line = NULL;
+    size_t size = 0;
+    while (getline(&line, &size, stdin) >= 0) {
+        answer(line);
+        fflush(stdout);
+    }
+    free(line);
+    return ferror(stdin) || ferror(stdout) ? 1 : 0;
+}
+
+static int answer_example(void)
+{
+    char line[sizeof example];
+    memcpy(line, example, sizeof example);
+    printf("%s\n", example);
+    answer(line);
+    return ferror(stdout) ? 1 : 0;
+}
+
+int main(int argc, char **argv)
+{
+    bool asked_for_example = argc == 2 && strcmp(argv[1], "--example") == 0;
+    if (argc > 1 && !asked_for_example) {
+        fprintf(stderr, "usage: daemon < requests\n       daemon --example\n");
+        return 2;
+    }
+    rows.room = calloc(VIOLSTREAM_ROOM_MOST, sizeof *rows.room);
+    if (rows.room == NULL) {
+        fprintf(stderr, "daemon: no memory for a room of %zu words\n", VIOLSTREAM_ROOM_MOST);
+        return 1;
+    }
+    int status = asked_for_example ? answer_example() : answer_all();
+    free(rows.room);
+    return status;
+}

@@ -1,0 +1,232 @@
+/*
+ * violstream.h - plan and price the recall of files from tape
+ *
+ * Two calls. violstream_price says what a list of detours costs; violstream_plan finds the best list. Both work on
+ * 64-bit numbers and on rows that the caller lends. They allocate nothing and keep nothing between calls, so several
+ * threads can call at once, each with rows of its own. Link with libviolstream.a (x86-64, beside the C library alone).
+ *
+ * THE RUN
+ *
+ *   Positions on the tape are whole numbers from 0 to 2^40. One unit of tape takes one unit of time, in both
+ *   directions.
+ *   Files are numbered from 1 in tape order; file f is entry f - 1 of `starts` and `lengths`. Gaps are allowed.
+ *   A want is a file number and how many reads of that file are waiting; wants stand in rising file number.
+ *   The head starts at `head`, at or right of the end of the rightmost wanted file, set to move left, at clock 0.
+ *   Each turn of the head, the first among them, costs `turn`. A file is read by the first rightward run that
+ *   starts at or left of its start and ends at or right of its end; its time is the clock when the head reaches
+ *   its end in that run. All reads of a file share that time. The sum of a run is the total, over wants, of reads
+ *   times time.
+ *
+ * DETOURS
+ *
+ *   A detour (a, b) names two wanted files by file number, a <= b: on first reaching the start of a, the head
+ *   goes right to the end of b and comes back. A list of detours is well formed when every a lies right of the
+ *   leftmost wanted file, the starts strictly fall from entry to entry (the order in which they are done), and of
+ *   two detours with a < a' either b < a' or b' < b. After the list comes the last sweep: left to the start of
+ *   the leftmost wanted file, then right to the end of the rightmost one, where the run finishes. Without wants
+ *   there is no sweep, only the empty list is well formed, and the head stays where it is.
+ *   Of two lists with the same sum, look at the rightmost file at which they differ in whether a detour ends
+ *   there or in where that detour starts: the list with no detour ending there comes first, else the one whose
+ *   detour starts further right. So there is one best list.
+ *
+ * ROWS
+ *
+ *   A row is a pointer to 64-bit words and, right after it, its length in words. The caller owns every row
+ *   before, during and after a call. A row of length 0 may have a null pointer. Rows may be longer than needed.
+ *
+ *   Accepted (result 0): the rows for the answer hold it in their first entries. Later entries are unchanged.
+ *   Refused (any other result): no word of any row has changed.
+ *   Rows that are lent to be read never change.
+ *
+ *   Outside the promise, as for any C function: a length greater than the memory behind the pointer, a pointer
+ *   that is not aligned for uint64_t, a null pointer with a length other than 0, rows that overlap, and a row
+ *   that another thread changes during the call. Everything else, whatever the numbers, gets an answer.
+ *
+ * A PROGRAM
+ *
+ * ---- example.c ----
+ *     #include <inttypes.h>
+ *     #include <stdio.h>
+ *     #include <violstream.h>
+ *
+ *     int main(void)
+ *     {
+ *         const uint64_t starts[] = {0, 10, 20}, lengths[] = {10, 4, 30}; // three files
+ *         const uint64_t numbers[] = {1, 2, 3}, counts[] = {1, 3, 1};     // all wanted, file 2 three times
+ *         static uint64_t room[VIOLSTREAM_ROOM_WORDS(3, 5)];              // 3 wants, 5 reads
+ *         uint64_t from[2], to[2], times[3], sums[VIOLSTREAM_SUMS];
+ *
+ *         uint64_t result = violstream_plan(starts, 3, lengths, 3, numbers, 3, counts, 3, 60, 1, VIOLSTREAM_LEAST,
+ *                                           from, 2, to, 2, times, 3, sums, VIOLSTREAM_SUMS,
+ *                                           room, VIOLSTREAM_ROOM_WORDS(3, 5));
+ *         if (result != 0) {
+ *             fprintf(stderr, "refused: %s (place %" PRIu64 ")\n",
+ *                     violstream_reason(result), violstream_place(result));
+ *             return 1;
+ *         }
+ *         printf("sum %" PRIu64 "\n", sums[VIOLSTREAM_SUM]);
+ *         for (uint64_t i = 0; i < sums[VIOLSTREAM_DETOURS]; i++)
+ *             printf("detour %" PRIu64 ",%" PRIu64 "\n", from[i], to[i]);
+ *         for (int i = 0; i < 3; i++)
+ *             printf("file %" PRIu64 " at %" PRIu64 "\n", numbers[i], times[i]);
+ *         return 0;
+ *     }
+ * ---- end of example.c ----
+ *
+ * It prints
+ *
+ * ---- output ----
+ *     sum 367
+ *     detour 2,2
+ *     file 1 at 81
+ *     file 2 at 55
+ *     file 3 at 121
+ * ---- end of output ----
+ */
+#ifndef VIOLSTREAM_H
+#define VIOLSTREAM_H
+
+#include <stddef.h>
+#include <stdint.h>
+
+#define VIOLSTREAM_VERSION "0.1.0"
+
+/* Limits. Each is itself still accepted. */
+#define VIOLSTREAM_MAX_FILES 4096
+#define VIOLSTREAM_MAX_WANTS 64
+#define VIOLSTREAM_MAX_READS 1024                       /* of all wants together */
+#define VIOLSTREAM_MAX_POSITION (UINT64_C(1) << 40)     /* of the head and of every file's end */
+#define VIOLSTREAM_MAX_TURN (UINT64_C(1) << 32)
+
+/*
+ * The words of room that violstream_plan needs for that many wants and that many reads of all wants together.
+ * A constant when its arguments are; it takes `wants` twice. For a run at the limits it is 4,198,400 words (33,587,200
+ * bytes); VIOLSTREAM_ROOM_MOST words do for every run that is accepted.
+ */
+#define VIOLSTREAM_ROOM_WORDS(wants, reads) ((size_t)(wants) * (size_t)(wants) * ((size_t)(reads) + 1))
+#define VIOLSTREAM_ROOM_MOST VIOLSTREAM_ROOM_WORDS(VIOLSTREAM_MAX_WANTS, VIOLSTREAM_MAX_READS)
+
+#ifdef __cplusplus
+extern "C" {
+#endif
+
+/* What to plan by: values of `rule`. */
+enum violstream_rule {
+    VIOLSTREAM_SWEEP = 0, /* always the empty list: one sweep from left to right */
+    VIOLSTREAM_LEAST = 1  /* the well-formed list of smallest sum, the first of those with that sum */
+};
+
+/* Places in the row `sums`. Every sum of an accepted run is below 2^58. */
+enum violstream_sums {
+    VIOLSTREAM_SUM = 0,     /* the total, over wants, of reads times time */
+    VIOLSTREAM_FINISH = 1,  /* the clock at the end of the last sweep; 0 without wants */
+    VIOLSTREAM_END = 2,     /* where the head is then; `head` without wants */
+    VIOLSTREAM_DETOURS = 3, /* the number of detours in the list */
+    VIOLSTREAM_SUMS = 4     /* the words that `sums` must have */
+};
+
+/*
+ * Why a call is refused. The checks are made in the order in which they stand here, and the first that applies is the
+ * answer. Files, wants and entries of a list count from 1. Numbers are judged as whole numbers: no sum wraps.
+ */
+enum violstream_refusal {
+    VIOLSTREAM_ACCEPTED = 0,
+    VIOLSTREAM_FILE_ROWS = 1,      /* over 4,096 files, or starts and lengths of unequal number; place 0 */
+    VIOLSTREAM_BAD_FILE = 2,       /* length 0, start before the previous end, or end above 2^40; place: the file */
+    VIOLSTREAM_WANT_ROWS = 3,      /* over 64 wants, or numbers and counts of unequal number; place 0 */
+    VIOLSTREAM_BAD_WANT = 4,       /* file not in the table or not ascending, or count 0; place: the want */
+    VIOLSTREAM_TOO_MANY_READS = 5, /* over 1,024 reads; place 0 */
+    VIOLSTREAM_TURN_PRICE = 6,     /* turn price above 2^32; place 0 */
+    VIOLSTREAM_HEAD_PLACE = 7,     /* head above 2^40, or left of the rightmost wanted file's end; place 0 */
+    VIOLSTREAM_BAD_RULE = 14,      /* violstream_plan: rule neither 0 nor 1; place 0 */
+    VIOLSTREAM_BAD_ENTRY = 10,     /* violstream_price: list not well formed; place: the first entry that breaks a rule
+                                      by itself or against an earlier one, 0 if starts and ends differ in number */
+    VIOLSTREAM_SHORT_ROW = 8,      /* times shorter than the wants, or sums below 4 words; violstream_plan: also a row
+                                      for starts or ends of detours shorter than the wants less one; place 0 */
+    VIOLSTREAM_SHORT_ROOM = 9      /* violstream_plan, either rule: room below VIOLSTREAM_ROOM_WORDS; place 0 */
+};
+
+/* The refusal's number in a result; VIOLSTREAM_ACCEPTED for 0. */
+static inline enum violstream_refusal violstream_number(uint64_t result)
+{
+    return (enum violstream_refusal)(result % 256);
+}
+
+/* The file, want or entry that a refusal names, counted from 1; 0 if it names none. */
+static inline uint64_t violstream_place(uint64_t result)
+{
+    return result / 256;
+}
+
+/* A refusal in words, for a log. */
+static inline const char *violstream_reason(uint64_t result)
+{
+    switch (violstream_number(result)) {
+    case VIOLSTREAM_ACCEPTED: return "accepted";
+    case VIOLSTREAM_FILE_ROWS: return "over 4,096 files, or starts and lengths of unequal number";
+    case VIOLSTREAM_BAD_FILE: return "file of length 0, before the previous end, or ending above 2^40";
+    case VIOLSTREAM_WANT_ROWS: return "over 64 wants, or numbers and counts of unequal number";
+    case VIOLSTREAM_BAD_WANT: return "want of a file not in the table or not ascending, or with count 0";
+    case VIOLSTREAM_TOO_MANY_READS: return "over 1,024 reads";
+    case VIOLSTREAM_TURN_PRICE: return "turn price above 2^32";
+    case VIOLSTREAM_HEAD_PLACE: return "head above 2^40, or left of the rightmost wanted file's end";
+    case VIOLSTREAM_BAD_RULE: return "rule number neither 0 nor 1";
+    case VIOLSTREAM_BAD_ENTRY: return "list of detours not well formed";
+    case VIOLSTREAM_SHORT_ROW: return "row for the answer too short";
+    case VIOLSTREAM_SHORT_ROOM: return "working room too small";
+    }
+    return "no refusal of this library";
+}
+
+/*
+ * What a list of detours costs.
+ *
+ *   starts, lengths              the tape: each file's start and length, lent to be read
+ *   numbers, counts              the wants: each wanted file's number and its reads, lent to be read
+ *   head, turn                   where the head starts, in units of tape; what a turn costs, in units of time
+ *   detour_starts, detour_ends   the list: each detour's start file and end file, lent to be read
+ *   times                        for the answer, at least one word for each want
+ *   sums                         for the answer, at least 4 words
+ *
+ * Gives 0, or the refusal's number plus 256 times its place. On 0, times[i] is the time of want i + 1 and sums holds
+ * sum, finish, end and the number of detours.
+ */
+uint64_t violstream_price(const uint64_t *starts, size_t starts_len,
+                          const uint64_t *lengths, size_t lengths_len,
+                          const uint64_t *numbers, size_t numbers_len,
+                          const uint64_t *counts, size_t counts_len,
+                          uint64_t head, uint64_t turn,
+                          const uint64_t *detour_starts, size_t detour_starts_len,
+                          const uint64_t *detour_ends, size_t detour_ends_len,
+                          uint64_t *times, size_t times_len,
+                          uint64_t *sums, size_t sums_len);
+
+/*
+ * The best list of detours by a rule, and what it costs.
+ *
+ *   starts, lengths, numbers, counts, head, turn   the run, as above
+ *   rule                         VIOLSTREAM_SWEEP or VIOLSTREAM_LEAST
+ *   detour_starts, detour_ends   for the answer, each at least one word for each want but one
+ *   times, sums                  for the answer, as above
+ *   room                         working room, at least VIOLSTREAM_ROOM_WORDS(wants, reads) words, of any content
+ *
+ * Gives 0, or the refusal's number plus 256 times its place. On 0, the first sums[VIOLSTREAM_DETOURS] words of
+ * detour_starts and detour_ends hold the list in the order done, times and sums are as violstream_price gives them for
+ * that list, and the first VIOLSTREAM_ROOM_WORDS(wants, reads) words of room are 0 under either rule.
+ */
+uint64_t violstream_plan(const uint64_t *starts, size_t starts_len,
+                         const uint64_t *lengths, size_t lengths_len,
+                         const uint64_t *numbers, size_t numbers_len,
+                         const uint64_t *counts, size_t counts_len,
+                         uint64_t head, uint64_t turn, uint64_t rule,
+                         uint64_t *detour_starts, size_t detour_starts_len,
+                         uint64_t *detour_ends, size_t detour_ends_len,
+                         uint64_t *times, size_t times_len,
+                         uint64_t *sums, size_t sums_len,
+                         uint64_t *room, size_t room_len);
+
+#ifdef __cplusplus
+}
+#endif
+
+#endif
