@@ -31,7 +31,7 @@
 enum { LIMIT_FILES = 4096, LIMIT_WANTS = 64, LIMIT_READS = 1024 };
 
 enum { MOST_SEARCHED = 10 };      /* wants up to which every list is tried */
-enum { DEFAULT_CALLS = 200000, COVERING_CALLS = 100000 };
+enum { DEFAULT_CALLS = 250000, COVERING_CALLS = 100000 };
 
 /* The header says the same. */
 _Static_assert(VIOLSTREAM_MAX_FILES == LIMIT_FILES && VIOLSTREAM_MAX_WANTS == LIMIT_WANTS

@@ -42,7 +42,7 @@ const POSITION: u64 = 1 << 40;
 const TURN: u64 = 1 << 32;
 
 const SEARCHED: usize = 10; // wants up to which every list is tried
-const DEFAULT_CALLS: u64 = 150_000;
+const DEFAULT_CALLS: u64 = 220_000;
 const COVERING_CALLS: u64 = 100_000;
 
 // ---- Random numbers (xoshiro256**), one stream for each call ----

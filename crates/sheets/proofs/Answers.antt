@@ -4,6 +4,7 @@ use mathlib.Core.Path.{_≡_, refl, ap, sym, _∙_, subst}
 use mathlib.Core.Bool.{Bool, true, false, not, cond, _||_, or-true, or-false}
 use mathlib.Core.List.{List, [], _∷_, _++_}
 use native.Mathlib.Omega.{arith}
+use native.Mathlib.Nat.{zero-add}
 use lib.ListN.{length, take, drop}
 use lib.Dec.{ltb}
 use borrow.Author.Tests.{lt-ltb, le-ltb, not-true, not-false, ltb-false}
@@ -15,7 +16,7 @@ use Rattle.sheets.specs.declared.Reading.{Reading}
 use Rattle.sheets.specs.declared.reader.Top.{Top}
 use Rattle.sheets.specs.Lines.{fileKey, wantKey, lineAfter, firstIn, secondIn, tapeKey, valueText, lineOf, afterLines}
 use Rattle.sheets.specs.Sheet.{headOf, turnOf, ruleOf, filesOf, wantsOf, fileText, wantText, firstBadBelow, firstBadPair, eachOf, runIn, nameIn, shifted, firstSome}
-use Rattle.sheets.specs.Reading.{sheetVerdict, readVerdict, refusedReading, readAnswer, readRow, readName, shortRows}
+use Rattle.sheets.specs.Reading.{sheetVerdict, readVerdict, refusedReading, readAnswer, readRow, readName, readFrom, placeOn, shortRows}
 use Rattle.sheets.specs.Parts.{TopIs, BelowIs, LaidOut, LaidRefused, PairsReady, leftRow, rightRow, NamePart}
 use Rattle.sheets.proofs.Rows.{length-each}
 
@@ -125,3 +126,12 @@ module _ (sheet : List ℕ) (top : Top) (wants at : ℕ) (p : LaidOut sheet top 
 pub no-name : (sheet : List ℕ) (v : Verdict) → LaidRefused sheet v → [] ≡ readName sheet
 unfolding readName
 no-name sheet v p = rw (← p .verdict, p .refuses)
+
+-- Where the name's part starts.
+pub name-from : (sheet : List ℕ) (top : Top) (wants at : ℕ) → LaidOut sheet top wants at → (place : ℕ × ℕ) → placeOn 5 place ≡ placeOn (readFrom sheet) place
+unfolding readFrom
+name-from sheet top wants at p place = rw (p .accepts)
+
+pub no-name-from : (sheet : List ℕ) (v : Verdict) → LaidRefused sheet v → (place : ℕ × ℕ) → place ≡ placeOn (readFrom sheet) place
+unfolding readFrom
+no-name-from sheet v p place = rw (← p .verdict, p .refuses, zero-add)

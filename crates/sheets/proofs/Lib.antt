@@ -10,3 +10,4 @@ pub mod Plans
 pub mod Decimals
 pub mod Reread
 pub mod RoundTrip
+pub mod Worked

@@ -1,5 +1,5 @@
 -- What the sheet reader answers, for every input of bytes, and the rows that it leaves.
-use Prim.Native.Nat.{ℕ}
+use Prim.Native.Nat.{ℕ, _+_}
 use mathlib.Core.Path.{_≡_}
 use mathlib.Core.Bool.{Bool, cond, _||_}
 use mathlib.Core.List.{List, [], _∷_, _++_}
@@ -10,6 +10,7 @@ use Rattle.walk.specs.declared.Verdict.{Verdict}
 use Rattle.walk.specs.Refusals.{isRefusal, refuseIf, refuseAt, firstOf}
 use Rattle.walk.specs.declared.Rule.the-variants.{Least}
 use Rattle.sheets.specs.declared.Reading.{Reading}
+use Rattle.sheets.specs.Lines.{tapeKey}
 use Rattle.sheets.specs.Sheet.{longestSheet, headOf, turnOf, ruleOf, filesOf, wantsOf, firstBadLine, runIn, nameIn}
 
 -- 12, then 11 with its line.
@@ -54,3 +55,11 @@ readRow v values row = cond (isRefusal (v .refusal)) row (values ++ drop (length
 -- The name: an empty part where 12 or 11 applies.
 unfoldable pub readName : List ℕ → List ℕ
 readName sheet = cond (isRefusal ((sheetVerdict sheet) .refusal)) [] (nameIn sheet)
+
+-- Where the name's part starts in the sheet: behind the key, or at the front where it is empty.
+unfoldable pub readFrom : List ℕ → ℕ
+readFrom sheet = cond (isRefusal ((sheetVerdict sheet) .refusal)) 0 (length tapeKey)
+
+-- A part of a slice lies in the same memory, so many bytes on.
+abbrev pub placeOn : ℕ → ℕ × ℕ → ℕ × ℕ
+placeOn from place = (place .0, from + place .1)

@@ -3,7 +3,7 @@ ghost use mathlib.Core.Path.{_≡_};
 ghost use mathlib.Core.Bool.{not};
 ghost use lib.ListN.{drop};
 ghost use Rattle.sheets.specs.Sheet.{runIn};
-ghost use Rattle.sheets.specs.Reading.{shortRows, readVerdict, refusedReading, readAnswer, readRow, readName};
+ghost use Rattle.sheets.specs.Reading.{shortRows, readVerdict, refusedReading, readAnswer, readRow, readName, readFrom, placeOn};
 ghost use Rattle.sheets.specs.Parts.{TopFound, FilesAt, WantsAt, BelowFound, LaidFound, PairsReady, leftRow, rightRow};
 use crate::LONGEST_SHEET;
 use crate::MOST_SHEET_FILES;
@@ -253,6 +253,7 @@ pub fn read_sheet(
 // The part of the sheet that holds the tape name; an empty part where 12 or 11 applies.
 pub fn tape_name(sheet: &[u8]) -> &[u8]
     ensures { λ r. ⌜ now r ≡ readName (now (sheet .entry)) ⌝ }
+    ensures { λ r. ⌜ r .ptr ≡ placeOn (readFrom (now (sheet .entry))) (sheet .entry .ptr) ⌝ }
 {
     match lay_out(sheet) {
         Laid::Refused(_) => &sheet[..0],

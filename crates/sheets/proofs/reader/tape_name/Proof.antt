@@ -1,6 +1,6 @@
+use Rattle.sheets.proofs.Answers.{name-read, no-name, name-from, no-name-from}
 use native.Mathlib.Omega.{arith}
 use Rattle.sheets.proofs.Order.{laid-read, laid-failed}
-use Rattle.sheets.proofs.Answers.{name-read, no-name}
 use borrow.Author.Needs.{needs}
 use Rattle.sheets.proofs.reader.tape_name.Statement.{statement}
 use Rattle.sheets.proofs.reader.tape_name.Tie as tie
@@ -30,10 +30,14 @@ part-result-end : tie.Need-part-result-end
 part-result-end c = laid-read _ _ (c .before .before .before .lay-out .ensures) _ _ _ (c .before .top .given .1) .upper .name .within
 
 returns : tie.Need-returns
-returns c = no-name _ _ (laid-failed _ _ (c .before .before .before .lay-out .ensures) _ (c .before .enum-told .given .1))
+returns c =
+    let p = laid-failed _ _ (c .before .before .before .lay-out .ensures) _ (c .before .enum-told .given .1) in
+    (no-name _ _ p, no-name-from _ _ p _)
 
 returns-2 : tie.Need-returns-2
-returns-2 c = name-read _ _ _ _ (laid-read _ _ (c .before .before .before .before .lay-out .ensures) _ _ _ (c .before .before .top .given .1))
+returns-2 c =
+    let p = laid-read _ _ (c .before .before .before .before .lay-out .ensures) _ _ _ (c .before .before .top .given .1) in
+    (name-read _ _ _ _ p, name-from _ _ _ _ p _)
 
 pub tape-name-spec : {M : Type 1} → statement M
 tape-name-spec =
