@@ -27,12 +27,15 @@ use Rattle.plans.proofs.Value.{candidate, next, value, choice}
 use Rattle.plans.proofs.Best.{built, nextPlan, best}
 use Rattle.plans.proofs.LeastList.{leastList}
 use Rattle.planner.specs.Plan.{Rows, rowsOf, Plans, planVerdict}
+use Rattle.sheets.specs.Text.{allOf, isName}
+use Rattle.demands.specs.Sheets.{GivesBack}
 use Rattle.demands.specs.Demand2.{listIn, IsTheWalk, IsLeast}
 use Rattle.demands.specs.Demand3.{AsksNoLess}
 use Rattle.demands.specs.Cases.{sheetRun, fourFiles}
 use Rattle.demands.proofs.Demand1.{demand1-price, demand1-plan}
 use Rattle.demands.proofs.Demand2.{demand2-walk, demand2-least, demand2-sweep}
 use Rattle.demands.proofs.Demand3.{demand3, demand3-same}
+use Rattle.demands.proofs.Sheets.{demand2-round-trip}
 use Rattle.demands.proofs.Fits.{ruleList, planAnswer, planRows, plans-for-every-input}
 
 -- The sheet's run with rows and room that just suffice: the planner accepts, and reports 367.
@@ -151,3 +154,17 @@ wanderings-beat-nothing-there =
     rw
     sheet-reports at
     (demand3-same sheetRun (sheetRows 54) (sheetAnswer 54) (sheetAfter 54) (sheet-plans 54) sheet-accepted wanderings (wanderings-move 60 (omega arith)) (wanderings-serve .1))
+
+-- The sheet's run is written, and read back into rows that are just long enough.
+sheet-judged : refuses (judgeOf sheetRun) ≡ false
+unfolding judgeOf firstWhere stopsFrom rightEnd
+sheet-judged = refl
+
+sheet-named : isName (86 ∷ 88 ∷ 48 ∷ 48 ∷ 52 ∷ 49 ∷ []) ≡ true
+unfolding isName allOf
+sheet-named = refl
+
+pub sheet-reads-back : GivesBack (86 ∷ 88 ∷ 48 ∷ 48 ∷ 52 ∷ 49 ∷ []) Least sheetRun (7 ∷ 7 ∷ 7 ∷ []) (7 ∷ 7 ∷ 7 ∷ []) (7 ∷ 7 ∷ 7 ∷ []) (7 ∷ 7 ∷ 7 ∷ [])
+sheet-reads-back =
+    demand2-round-trip (86 ∷ 88 ∷ 48 ∷ 48 ∷ 52 ∷ 49 ∷ []) Least sheetRun sheet-judged (omega arith) sheet-named (7 ∷ 7 ∷ 7 ∷ []) (7 ∷ 7 ∷ 7 ∷ []) (7 ∷ 7 ∷ 7 ∷ []) (7 ∷ 7 ∷ 7 ∷ [])
+    (omega arith) (omega arith) (omega arith) (omega arith)

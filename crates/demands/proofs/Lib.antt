@@ -9,5 +9,6 @@ pub mod Planned
 pub mod Demand2
 pub mod Demand3
 pub mod Cases
+pub mod Sheets
 pub mod Fits
 pub mod Instances

@@ -1,0 +1,263 @@
+-- The sheets' share of the demands: the reader's and the writers' verdicts are the first of the table that applies and a refusal changes
+-- nothing (demand 1); what the run sheet writer writes reads back (demand 2).
+use Prim.Native.Nat.{ℕ, zero, suc, _≤_, _<_}
+use mathlib.Core.Path.{_≡_, refl, sym, ap, _∙_}
+use mathlib.Core.Bool.{Bool, true, false, not, _||_, true≢false}
+use mathlib.Core.Logic.{_⊎_, inl, inr, ⊎-elim}
+use mathlib.Core.List.{List, [], _∷_, _++_}
+use native.Mathlib.Omega.{arith}
+use lib.ListN.{length, drop}
+use lib.Dec.{ltb}
+use borrow.Author.Tests.{le-ltb}
+use Rattle.walk.specs.declared.Refusal.{Refusal}
+use Rattle.walk.specs.declared.Refusal.the-variants.{BadEntry, BadName, BadLine, LongSheet, ShortRow}
+use Rattle.walk.specs.declared.Rule.{Rule}
+use Rattle.walk.specs.declared.Verdict.{Verdict}
+use Rattle.walk.specs.Refusals.{numberOf, accepted, refuseIf, refuseAt, firstOf}
+use Rattle.walk.specs.Run.{Run, stopsOf, rightEnd}
+use Rattle.walk.specs.Judging.{tableChecks, wantsChecks, headChecks, judgeOf}
+use Rattle.walk.specs.Detours.{listVerdict}
+use Rattle.walk.proofs.Verdicts.{refuses}
+use Rattle.walk.proofs.Judged.{accepted-run}
+use Rattle.sheets.specs.Text.{isName}
+use Rattle.sheets.specs.Sheet.{longestSheet, mostSheetFiles, firstBadLine, filesOf, wantsOf, headOf, turnOf, ruleOf, runIn}
+use Rattle.sheets.specs.Reading.{sheetVerdict, shortRows, readVerdict, readAnswer, readRow, readName}
+use Rattle.sheets.specs.Writing.{sheetText, rowVerdict, writeVerdict, writtenAnswer, writtenRow}
+use Rattle.sheets.specs.PlanSheet.{planText, planVerdict}
+use Rattle.sheets.proofs.Rows.{length-each}
+use Rattle.sheets.proofs.RoundTrip.{ReadsBack, round-trip}
+use Rattle.demands.specs.Table.{RunApplies, ListIsBad}
+use Rattle.demands.specs.Sheets.{readOrder, ReadApplies, ReadKept, ReadAnswers, writeOrder, planSheetOrder, WriteApplies, PlanSheetApplies, WriteAnswers, GivesBack, Demand1Read, Demand1Write, Demand1PlanSheet, Demand2RoundTrip}
+use Rattle.demands.proofs.Tests.{Tells, tells-below, tells-either}
+use Rattle.demands.proofs.Checks.{Decides, refused, passed, decides-if, decides-reworded, Finds, finds-none, finds-first, first-of-joined, none-refuses}
+use Rattle.demands.proofs.Judged.{run-finds}
+use Rattle.demands.proofs.Listed.{decides-list}
+
+-- A test that fails.
+tells-false : (b : Bool) → Tells (not b) (b ≡ false)
+tells-false true = record { when-true = λ e. sym e; when-false = λ e h. true≢false h }
+tells-false false = record { when-true = λ e. refl; when-false = λ e h. true≢false e }
+
+-- The reader.
+module _ (sheet starts lengths numbers counts : List ℕ) where
+  abbrev Applies : Refusal → ℕ → Type 0
+  Applies = ReadApplies sheet starts lengths numbers counts
+
+  too-long : (p : ℕ) → Applies LongSheet p → (p ≡ 0) × (longestSheet < length sheet)
+  too-long p (ReadApplies.long h) = (refl, h)
+
+  no-line : firstBadLine sheet ≡ 0 → (p : ℕ) → Applies BadLine p → ⊥
+  no-line e p (ReadApplies.line f) = omega arith
+
+  decides-line : Decides BadLine (Applies BadLine) (refuseAt (firstBadLine sheet) BadLine)
+  decides-line = go (firstBadLine sheet) refl
+    where
+      go : (n : ℕ) → firstBadLine sheet ≡ n → Decides BadLine (Applies BadLine) (refuseAt (firstBadLine sheet) BadLine)
+      go zero e = passed (rw e) (no-line e)
+      go (suc n) e = refused (suc n) (rw e) (ReadApplies.line e)
+
+  abbrev IsShort : Type 0
+  IsShort = ((length starts < filesOf sheet) ⊎ (length lengths < filesOf sheet)) ⊎ ((length numbers < wantsOf sheet) ⊎ (length counts < wantsOf sheet))
+
+  short-row : (p : ℕ) → (p ≡ 0) × IsShort → Applies ShortRow p
+  short-row p h = rw (h .0) (⊎-elim (⊎-elim ReadApplies.starts ReadApplies.lengths) (⊎-elim ReadApplies.numbers ReadApplies.counts) (h .1))
+
+  row-short : (p : ℕ) → Applies ShortRow p → (p ≡ 0) × IsShort
+  row-short p (ReadApplies.starts h) = (refl, inl (inl h))
+  row-short p (ReadApplies.lengths h) = (refl, inl (inr h))
+  row-short p (ReadApplies.numbers h) = (refl, inr (inl h))
+  row-short p (ReadApplies.counts h) = (refl, inr (inr h))
+
+  tells-short : (n : ℕ) (firsts seconds : List ℕ) → Tells (shortRows n firsts seconds) ((length firsts < n) ⊎ (length seconds < n))
+  tells-short n firsts seconds =
+      tells-either (ltb (length firsts) n) (ltb (length seconds) n) (tells-below (length firsts) n) (tells-below (length seconds) n)
+
+  read-finds : Finds Applies readOrder (readVerdict sheet starts lengths numbers counts)
+  unfolding readVerdict sheetVerdict
+  read-finds =
+      let long = refuseIf (ltb longestSheet (length sheet)) LongSheet in
+      let line = refuseAt (firstBadLine sheet) BadLine in
+      let short = refuseIf (shortRows (filesOf sheet) starts lengths || shortRows (wantsOf sheet) numbers counts) ShortRow in
+      rw
+      (first-of-joined (long ∷ line ∷ []) (short ∷ []))
+      (finds-first Applies (line ∷ short ∷ []) refl
+      (decides-reworded (λ p h. rw (h .0) (ReadApplies.long (h .1))) too-long (decides-if _ LongSheet (tells-below longestSheet (length sheet))))
+      (λ a. finds-first Applies (short ∷ []) refl decides-line
+      (λ b. finds-first Applies [] refl
+      (decides-reworded short-row row-short
+      (decides-if _ ShortRow
+      (tells-either (shortRows (filesOf sheet) starts lengths) (shortRows (wantsOf sheet) numbers counts)
+      (tells-short (filesOf sheet) starts lengths)
+      (tells-short (wantsOf sheet) numbers counts))))
+      (λ c. finds-none Applies))))
+
+  read-accepted : refuses (readVerdict sheet starts lengths numbers counts) ≡ false → readVerdict sheet starts lengths numbers counts ≡ accepted
+  unfolding readVerdict
+  read-accepted e =
+      none-refuses (sheetVerdict sheet ∷ refuseIf (shortRows (filesOf sheet) starts lengths || shortRows (wantsOf sheet) numbers counts) ShortRow ∷ []) e
+
+  read-says : (b : Bool) → refuses (readVerdict sheet starts lengths numbers counts) ≡ b
+      → ReadAnswers sheet starts lengths numbers counts (readAnswer (readVerdict sheet starts lengths numbers counts) sheet)
+  unfolding readAnswer readRow
+  read-says true e =
+      rw e
+      (record {
+        first = read-finds;
+        kept = λ n. record { head = refl; turn = refl; rule = refl; files = refl; wants = refl; keptStarts = rw e; keptLengths = rw e; keptNumbers = rw e; keptCounts = rw e };
+      })
+  read-says false e = rw e (record { first = rw (read-accepted e) at read-finds; kept = λ n. absurd (n refl) })
+
+pub demand1-read : Demand1Read
+demand1-read sheet starts lengths numbers counts answer says =
+    rw says (read-says sheet starts lengths numbers counts (refuses (readVerdict sheet starts lengths numbers counts)) refl)
+
+-- A writer, whatever its verdict: a refusal has no bytes and keeps the row.
+module _ (applies : Refusal → ℕ → Type 0) (order : List Refusal) (vs : List Verdict) (text row : List ℕ) (finds : Finds applies order (firstOf vs)) where
+  pub writer-says : (b : Bool) → refuses (firstOf vs) ≡ b → WriteAnswers applies order row (writtenAnswer (firstOf vs) text) (writtenRow (firstOf vs) text row)
+  unfolding writtenAnswer writtenRow
+  writer-says true e = rw e (record { first = finds; kept = λ n. (refl, refl) })
+  writer-says false e = rw e (record { first = rw (none-refuses vs e) at finds; kept = λ n. absurd (n refl) })
+
+-- The run sheet writer.
+module _ (name : List ℕ) (rule : Rule) (r : Run) (row : List ℕ) where
+  write-of-run : (k : Refusal) (p : ℕ) → numberOf k ≤ 7 → WriteApplies name rule r row k p → RunApplies r k p
+  write-of-run k p l (WriteApplies.run h) = h
+  write-of-run k p l (WriteApplies.files h) = absurd (omega arith)
+  write-of-run k p l (WriteApplies.name h) = absurd (omega arith)
+  write-of-run k p l (WriteApplies.row h) = absurd (omega arith)
+
+  bad-name : (p : ℕ) → WriteApplies name rule r row BadName p → (p ≡ 0) × ((mostSheetFiles < length (r .starts)) ⊎ (isName name ≡ false))
+  bad-name p (WriteApplies.run h) = absurd h
+  bad-name p (WriteApplies.files h) = (refl, inl h)
+  bad-name p (WriteApplies.name h) = (refl, inr h)
+
+  write-row : (p : ℕ) → WriteApplies name rule r row ShortRow p → (p ≡ 0) × (length row < length (sheetText name rule r))
+  write-row p (WriteApplies.run h) = absurd h
+  write-row p (WriteApplies.row h) = (refl, h)
+
+  write-finds : Finds (WriteApplies name rule r row) writeOrder (writeVerdict name rule r row)
+  unfolding writeVerdict rowVerdict
+  write-finds =
+      let named = refuseIf (ltb mostSheetFiles (length (r .starts)) || not (isName name)) BadName in
+      let short = refuseIf (ltb (length row) (length (sheetText name rule r))) ShortRow in
+      run-finds r (WriteApplies name rule r row) (λ k p. WriteApplies.run) write-of-run (BadName ∷ ShortRow ∷ []) (named ∷ short ∷ [])
+      (λ a. finds-first (WriteApplies name rule r row) (short ∷ []) refl
+      (decides-reworded (λ p h. rw (h .0) (⊎-elim WriteApplies.files WriteApplies.name (h .1))) bad-name
+      (decides-if _ BadName
+      (tells-either (ltb mostSheetFiles (length (r .starts))) (not (isName name)) (tells-below mostSheetFiles (length (r .starts))) (tells-false (isName name)))))
+      (λ b. finds-first (WriteApplies name rule r row) [] refl
+      (decides-reworded (λ p h. rw (h .0) (WriteApplies.row (h .1))) write-row (decides-if _ ShortRow (tells-below (length row) (length (sheetText name rule r)))))
+      (λ c. finds-none (WriteApplies name rule r row))))
+
+  pub write-says : WriteAnswers (WriteApplies name rule r row) writeOrder row
+      (writtenAnswer (writeVerdict name rule r row) (sheetText name rule r)) (writtenRow (writeVerdict name rule r row) (sheetText name rule r) row)
+  unfolding writeVerdict
+  write-says =
+      writer-says (WriteApplies name rule r row) writeOrder
+      (judgeOf r ∷ refuseIf (ltb mostSheetFiles (length (r .starts)) || not (isName name)) BadName ∷ rowVerdict (sheetText name rule r) row ∷ [])
+      (sheetText name rule r) row write-finds (refuses (writeVerdict name rule r row)) refl
+
+pub demand1-write : Demand1Write
+demand1-write name rule r row answer out says fills = rw (says, fills) (write-says name rule r row)
+
+-- The plan sheet writer.
+module _ (name : List ℕ) (r : Run) (froms tos row : List ℕ) where
+  abbrev PlanSheet : Refusal → ℕ → Type 0
+  PlanSheet = PlanSheetApplies name r froms tos row
+
+  sheet-of-run : (k : Refusal) (p : ℕ) → numberOf k ≤ 7 → PlanSheet k p → RunApplies r k p
+  sheet-of-run k p l (PlanSheetApplies.run h) = h
+  sheet-of-run k p l (PlanSheetApplies.name h) = absurd (omega arith)
+  sheet-of-run k p l (PlanSheetApplies.list h) = absurd (omega arith)
+  sheet-of-run k p l (PlanSheetApplies.row h) = absurd (omega arith)
+
+  sheet-name : (p : ℕ) → PlanSheet BadName p → (p ≡ 0) × (isName name ≡ false)
+  sheet-name p (PlanSheetApplies.run h) = absurd h
+  sheet-name p (PlanSheetApplies.name h) = (refl, h)
+
+  sheet-list : (p : ℕ) → PlanSheet BadEntry p → ListIsBad r froms tos p
+  sheet-list p (PlanSheetApplies.run h) = absurd h
+  sheet-list p (PlanSheetApplies.list h) = h
+
+  sheet-row : (p : ℕ) → PlanSheet ShortRow p → (p ≡ 0) × (length row < length (planText name r froms tos))
+  sheet-row p (PlanSheetApplies.run h) = absurd h
+  sheet-row p (PlanSheetApplies.row h) = (refl, h)
+
+  sheet-finds : Finds PlanSheet planSheetOrder (planVerdict name r froms tos row)
+  unfolding planVerdict rowVerdict
+  sheet-finds =
+      let named = refuseIf (not (isName name)) BadName in
+      let list = listVerdict (stopsOf r) froms tos in
+      let short = refuseIf (ltb (length row) (length (planText name r froms tos))) ShortRow in
+      run-finds r PlanSheet (λ k p. PlanSheetApplies.run) sheet-of-run (BadName ∷ BadEntry ∷ ShortRow ∷ []) (named ∷ list ∷ short ∷ [])
+      (λ a. finds-first PlanSheet (list ∷ short ∷ []) refl
+      (decides-reworded (λ p h. rw (h .0) (PlanSheetApplies.name (h .1))) sheet-name (decides-if _ BadName (tells-false (isName name))))
+      (λ b. finds-first PlanSheet (short ∷ []) refl
+      (decides-reworded (λ p. PlanSheetApplies.list) sheet-list (decides-list r froms tos (sym (accepted-run r a .wants .equal))))
+      (λ c. finds-first PlanSheet [] refl
+      (decides-reworded (λ p h. rw (h .0) (PlanSheetApplies.row (h .1))) sheet-row (decides-if _ ShortRow (tells-below (length row) (length (planText name r froms tos)))))
+      (λ d. finds-none PlanSheet))))
+
+  pub sheet-says : WriteAnswers PlanSheet planSheetOrder row
+      (writtenAnswer (planVerdict name r froms tos row) (planText name r froms tos)) (writtenRow (planVerdict name r froms tos row) (planText name r froms tos) row)
+  unfolding planVerdict
+  sheet-says =
+      writer-says PlanSheet planSheetOrder
+      (judgeOf r ∷ refuseIf (not (isName name)) BadName ∷ listVerdict (stopsOf r) froms tos ∷ rowVerdict (planText name r froms tos) row ∷ [])
+      (planText name r froms tos) row sheet-finds (refuses (planVerdict name r froms tos row)) refl
+
+pub demand1-plan-sheet : Demand1PlanSheet
+demand1-plan-sheet name r froms tos row answer out says fills = rw (says, fills) (sheet-says name r froms tos row)
+
+-- An accepted run's verdict is acceptance, place 0 included.
+judged-accepted : (r : Run) → refuses (judgeOf r) ≡ false → judgeOf r ≡ accepted
+unfolding judgeOf
+judged-accepted r e =
+    none-refuses (firstOf (tableChecks (r .starts) (r .lengths)) ∷ firstOf (wantsChecks (length (r .starts)) (r .numbers) (r .counts)) ∷ firstOf (headChecks (r .turn) (r .head) (rightEnd (stopsOf r))) ∷ []) e
+
+-- The counts of a sheet are the lengths of its rows.
+files-in : (sheet : List ℕ) → filesOf sheet ≡ length (runIn sheet .starts)
+unfolding runIn
+files-in sheet = sym (length-each _ (filesOf sheet))
+
+wants-in : (sheet : List ℕ) → wantsOf sheet ≡ length (runIn sheet .numbers)
+unfolding runIn
+wants-in sheet = sym (length-each _ (wantsOf sheet))
+
+head-in : (sheet : List ℕ) → headOf sheet ≡ runIn sheet .head
+unfolding runIn
+head-in sheet = refl
+
+turn-in : (sheet : List ℕ) → turnOf sheet ≡ runIn sheet .turn
+unfolding runIn
+turn-in sheet = refl
+
+-- A sheet that is as described is read wherever the four rows are long enough.
+reads-sheet : (sheet starts lengths numbers counts : List ℕ) → sheetVerdict sheet ≡ accepted
+    → filesOf sheet ≤ length starts → filesOf sheet ≤ length lengths → wantsOf sheet ≤ length numbers → wantsOf sheet ≤ length counts
+    → readVerdict sheet starts lengths numbers counts ≡ accepted
+unfolding readVerdict
+reads-sheet sheet starts lengths numbers counts e a b c d =
+    rw (e, le-ltb (length starts) (filesOf sheet) a, le-ltb (length lengths) (filesOf sheet) b, le-ltb (length numbers) (wantsOf sheet) c, le-ltb (length counts) (wantsOf sheet) d)
+
+pub demand2-round-trip : Demand2RoundTrip
+unfolding readAnswer readRow
+demand2-round-trip name rule r e few named starts lengths numbers counts a b c d =
+    let sheet = sheetText name rule r in
+    let back = round-trip name rule r (judged-accepted r e) few named in
+    let good = accepted-run r e in
+    let files : filesOf sheet ≡ length (r .starts) = files-in sheet ∙ ap (λ run. length (run .starts)) (back .same-run) in
+    let wants : wantsOf sheet ≡ length (r .numbers) = wants-in sheet ∙ ap (λ run. length (run .numbers)) (back .same-run) in
+    let even : length (r .starts) ≡ length (r .lengths) = good .files .table .equal in
+    let pairs : length (r .numbers) ≡ length (r .counts) = good .wants .equal in
+    let reads = reads-sheet sheet starts lengths numbers counts (back .accepts) (rw files a) (rw (files, even) b) (rw wants c) (rw (wants, pairs) d) in
+    let head : headOf sheet ≡ r .head = head-in sheet ∙ ap (λ run. run .head) (back .same-run) in
+    let turn : turnOf sheet ≡ r .turn = turn-in sheet ∙ ap (λ run. run .turn) (back .same-run) in
+    record {
+      answer = rw (reads, head, turn, back .same-rule, files, wants);
+      startsAre = rw (reads, back .same-run);
+      lengthsAre = rw (reads, back .same-run);
+      numbersAre = rw (reads, back .same-run);
+      countsAre = rw (reads, back .same-run);
+      nameIs = back .same-name;
+    }

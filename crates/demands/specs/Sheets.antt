@@ -1,0 +1,117 @@
+-- The sheets' share of the demands: the reader and the two writers refuse by the table, first that applies, and change nothing then
+-- (demand 1); and what the run sheet writer writes reads back (demand 2).
+use Prim.Native.Nat.{ℕ, suc, _≤_, _<_}
+use mathlib.Core.Path.{_≡_}
+use mathlib.Core.Bool.{true, false}
+use mathlib.Core.List.{List, [], _∷_, _++_}
+use lib.ListN.{length, drop}
+use Rattle.walk.specs.declared.Refusal.{Refusal}
+use Rattle.walk.specs.declared.Refusal.the-variants.{Accepted, FileRows, BadFile, WantRows, BadWant, TooManyReads, TurnPrice, HeadPlace, ShortRow, BadEntry, BadLine, LongSheet, BadName}
+use Rattle.walk.specs.declared.Rule.{Rule}
+use Rattle.walk.specs.declared.Rule.the-variants.{Least}
+use Rattle.walk.specs.Refusals.{isRefusal}
+use Rattle.walk.specs.Run.{Run}
+use Rattle.walk.specs.Judging.{judgeOf}
+use Rattle.sheets.specs.declared.Reading.{Reading}
+use Rattle.sheets.specs.declared.Written.{Written}
+use Rattle.sheets.specs.Text.{isName}
+use Rattle.sheets.specs.Sheet.{longestSheet, mostSheetFiles, firstBadLine, filesOf, wantsOf, runIn}
+use Rattle.sheets.specs.Reading.{readVerdict, readAnswer, readRow, readName}
+use Rattle.sheets.specs.Writing.{sheetText, writeVerdict, writtenAnswer, writtenRow}
+use Rattle.sheets.specs.PlanSheet.{planText, planVerdict}
+use Rattle.demands.specs.Table.{RunApplies, ListIsBad, FirstThatApplies}
+
+-- The reader: 12, then 11 with the first line that is not as described, then 8.
+abbrev pub readOrder : List Refusal
+readOrder = LongSheet ∷ BadLine ∷ ShortRow ∷ []
+
+pub data ReadApplies (sheet starts lengths numbers counts : List ℕ) : Refusal → ℕ → Type 0 where
+  long : longestSheet < length sheet → ReadApplies sheet starts lengths numbers counts LongSheet 0
+  line : {n : ℕ} → firstBadLine sheet ≡ suc n → ReadApplies sheet starts lengths numbers counts BadLine (suc n)
+  starts : length starts < filesOf sheet → ReadApplies sheet starts lengths numbers counts ShortRow 0
+  lengths : length lengths < filesOf sheet → ReadApplies sheet starts lengths numbers counts ShortRow 0
+  numbers : length numbers < wantsOf sheet → ReadApplies sheet starts lengths numbers counts ShortRow 0
+  counts : length counts < wantsOf sheet → ReadApplies sheet starts lengths numbers counts ShortRow 0
+
+-- A refusal of the reader: every other number 0, the rule least, and the four rows as they were.
+pub record ReadKept (sheet starts lengths numbers counts : List ℕ) (answer : Reading) : Type 0 where
+  pub head : answer .head ≡ 0
+  pub turn : answer .turn ≡ 0
+  pub rule : answer .rule ≡ Least
+  pub files : answer .files ≡ 0
+  pub wants : answer .wants ≡ 0
+  pub keptStarts : readRow (readVerdict sheet starts lengths numbers counts) (runIn sheet .starts) starts ≡ starts
+  pub keptLengths : readRow (readVerdict sheet starts lengths numbers counts) (runIn sheet .lengths) lengths ≡ lengths
+  pub keptNumbers : readRow (readVerdict sheet starts lengths numbers counts) (runIn sheet .numbers) numbers ≡ numbers
+  pub keptCounts : readRow (readVerdict sheet starts lengths numbers counts) (runIn sheet .counts) counts ≡ counts
+
+pub record ReadAnswers (sheet starts lengths numbers counts : List ℕ) (answer : Reading) : Type 0 where
+  pub first : FirstThatApplies (ReadApplies sheet starts lengths numbers counts) readOrder (answer .refusal) (answer .place)
+  pub kept : (answer .refusal ≡ Accepted → ⊥) → ReadKept sheet starts lengths numbers counts answer
+
+abbrev pub Demand1Read : Type 0
+Demand1Read =
+    (sheet starts lengths numbers counts : List ℕ) (answer : Reading)
+    → answer ≡ readAnswer (readVerdict sheet starts lengths numbers counts) sheet
+    → ReadAnswers sheet starts lengths numbers counts answer
+
+-- The run sheet writer: 1 to 7, then 13, then 8. The plan sheet writer: 1 to 7, then 13, then 10, then 8.
+abbrev pub writeOrder : List Refusal
+writeOrder = FileRows ∷ BadFile ∷ WantRows ∷ BadWant ∷ TooManyReads ∷ TurnPrice ∷ HeadPlace ∷ BadName ∷ ShortRow ∷ []
+
+abbrev pub planSheetOrder : List Refusal
+planSheetOrder = FileRows ∷ BadFile ∷ WantRows ∷ BadWant ∷ TooManyReads ∷ TurnPrice ∷ HeadPlace ∷ BadName ∷ BadEntry ∷ ShortRow ∷ []
+
+pub data WriteApplies (name : List ℕ) (rule : Rule) (r : Run) (row : List ℕ) : Refusal → ℕ → Type 0 where
+  run : {kind : Refusal} {place : ℕ} → RunApplies r kind place → WriteApplies name rule r row kind place
+  files : mostSheetFiles < length (r .starts) → WriteApplies name rule r row BadName 0
+  name : isName name ≡ false → WriteApplies name rule r row BadName 0
+  row : length row < length (sheetText name rule r) → WriteApplies name rule r row ShortRow 0
+
+pub data PlanSheetApplies (name : List ℕ) (r : Run) (froms tos row : List ℕ) : Refusal → ℕ → Type 0 where
+  run : {kind : Refusal} {place : ℕ} → RunApplies r kind place → PlanSheetApplies name r froms tos row kind place
+  name : isName name ≡ false → PlanSheetApplies name r froms tos row BadName 0
+  list : {place : ℕ} → ListIsBad r froms tos place → PlanSheetApplies name r froms tos row BadEntry place
+  row : length row < length (planText name r froms tos) → PlanSheetApplies name r froms tos row ShortRow 0
+
+-- A writer's refusal: no bytes, and the row as it was.
+pub record WriteAnswers (applies : Refusal → ℕ → Type 0) (order : List Refusal) (row : List ℕ) (answer : Written) (out : List ℕ) : Type 0 where
+  pub first : FirstThatApplies applies order (answer .refusal) (answer .place)
+  pub kept : (answer .refusal ≡ Accepted → ⊥) → (answer .bytes ≡ 0) × (out ≡ row)
+
+abbrev pub Demand1Write : Type 0
+Demand1Write =
+    (name : List ℕ) (rule : Rule) (r : Run) (row : List ℕ) (answer : Written) (out : List ℕ)
+    → answer ≡ writtenAnswer (writeVerdict name rule r row) (sheetText name rule r)
+    → out ≡ writtenRow (writeVerdict name rule r row) (sheetText name rule r) row
+    → WriteAnswers (WriteApplies name rule r row) writeOrder row answer out
+
+abbrev pub Demand1PlanSheet : Type 0
+Demand1PlanSheet =
+    (name : List ℕ) (r : Run) (froms tos row : List ℕ) (answer : Written) (out : List ℕ)
+    → answer ≡ writtenAnswer (planVerdict name r froms tos row) (planText name r froms tos)
+    → out ≡ writtenRow (planVerdict name r froms tos row) (planText name r froms tos) row
+    → WriteAnswers (PlanSheetApplies name r froms tos row) planSheetOrder row answer out
+
+-- What the reader gives for the sheet that the writer writes, in rows that are long enough: that run, that rule and that name.
+pub record GivesBack (name : List ℕ) (rule : Rule) (r : Run) (starts lengths numbers counts : List ℕ) : Type 0 where
+  pub answer : readAnswer (readVerdict (sheetText name rule r) starts lengths numbers counts) (sheetText name rule r)
+      ≡ record { refusal = Accepted; place = 0; head = r .head; turn = r .turn; rule = rule; files = length (r .starts); wants = length (r .numbers) }
+  pub startsAre : readRow (readVerdict (sheetText name rule r) starts lengths numbers counts) (runIn (sheetText name rule r) .starts) starts ≡ r .starts ++ drop (length (r .starts)) starts
+  pub lengthsAre : readRow (readVerdict (sheetText name rule r) starts lengths numbers counts) (runIn (sheetText name rule r) .lengths) lengths ≡ r .lengths ++ drop (length (r .lengths)) lengths
+  pub numbersAre : readRow (readVerdict (sheetText name rule r) starts lengths numbers counts) (runIn (sheetText name rule r) .numbers) numbers ≡ r .numbers ++ drop (length (r .numbers)) numbers
+  pub countsAre : readRow (readVerdict (sheetText name rule r) starts lengths numbers counts) (runIn (sheetText name rule r) .counts) counts ≡ r .counts ++ drop (length (r .counts)) counts
+  pub nameIs : readName (sheetText name rule r) ≡ name
+
+abbrev pub Demand2RoundTrip : Type 0
+Demand2RoundTrip =
+    (name : List ℕ) (rule : Rule) (r : Run)
+    → isRefusal (judgeOf r .refusal) ≡ false
+    → length (r .starts) ≤ mostSheetFiles
+    → isName name ≡ true
+    → (starts lengths numbers counts : List ℕ)
+    → length (r .starts) ≤ length starts
+    → length (r .lengths) ≤ length lengths
+    → length (r .numbers) ≤ length numbers
+    → length (r .counts) ≤ length counts
+    → GivesBack name rule r starts lengths numbers counts
