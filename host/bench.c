@@ -168,21 +168,40 @@ static void time_all(const struct request *q, double best[ENGINES])
     }
 }
 
+static void print_size(const struct request *q, const char *where)
+{
+    double best[ENGINES];
+    time_all(q, best);
+    printf("%6zu %6" PRIu64 "  %-9s | %8.3f  %8.3f  %8.3f     %8.3f  %8.3f | %14.2f  %14.2f  %20.2f\n", q->stops.k, q->stops.reads,
+           where, best[BOUNDARY], best[PLAIN], best[PAPER], best[PAPER_ROWS], best[CLEARING], best[BOUNDARY] / best[PLAIN],
+           best[BOUNDARY] / best[PAPER], best[BOUNDARY] / best[PAPER_ROWS]);
+    fflush(stdout);
+}
+
+/* One read for each want, and all the others at one of them: the dearest shapes have it at one end. */
+static void crowd(struct request *q, size_t at)
+{
+    for (size_t i = 0; i < q->stops.k; i++)
+        q->stops.count[i] = 1;
+    q->stops.count[at] += q->stops.reads - q->stops.k;
+}
+
 static void print_sizes(struct request *q)
 {
     static const size_t wants[] = {8, 16, 32, 64};
     static const uint64_t reads[] = {64, 256, 1024};
-    printf(" wants  reads | boundary     plain     paper  paper, rows  clearing | boundary/plain  boundary/paper  boundary/paper, rows\n");
+    printf(" wants  reads  most at   | boundary     plain     paper  paper, rows  clearing | boundary/plain  boundary/paper  boundary/paper, rows\n");
     for (size_t i = 0; i < sizeof wants / sizeof *wants; i++)
         for (size_t j = 0; j < sizeof reads / sizeof *reads; j++) {
-            double best[ENGINES];
             make_request(q, wants[i], reads[j], 2 * wants[i]);
-            time_all(q, best);
-            printf("%6zu %6" PRIu64 " | %8.3f  %8.3f  %8.3f     %8.3f  %8.3f | %14.2f  %14.2f  %20.2f\n", wants[i], reads[j],
-                   best[BOUNDARY], best[PLAIN], best[PAPER], best[PAPER_ROWS], best[CLEARING], best[BOUNDARY] / best[PLAIN],
-                   best[BOUNDARY] / best[PAPER], best[BOUNDARY] / best[PAPER_ROWS]);
-            fflush(stdout);
+            print_size(q, "no file");
         }
+    crowd(q, 0);
+    print_size(q, "leftmost");
+    crowd(q, q->stops.k / 2);
+    print_size(q, "middle");
+    crowd(q, q->stops.k - 1);
+    print_size(q, "rightmost");
 }
 
 /* ---- The pricer ---- */

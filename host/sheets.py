@@ -1,7 +1,8 @@
 #!/usr/bin/env python3
 """Runs the recall program on whole and damaged sheets and compares every byte it prints with an answer worked out here.
 
-usage: host/sheets.py [PROGRAM]      (default target/bin/recall)
+usage: host/sheets.py [PROGRAM]           (default target/bin/recall)
+       host/sheets.py --time [PROGRAM]    how long one call takes on a full sheet, and on none
 
 The reader, the judging, the walk and the search over all well-formed lists below share nothing with the program.
 """
@@ -9,9 +10,11 @@ import os
 import re
 import subprocess
 import sys
+import time
 
 HERE = os.path.dirname(os.path.dirname(os.path.abspath(__file__)))
-PROGRAM = sys.argv[1] if len(sys.argv) > 1 else os.path.join(HERE, "target/bin/recall")
+WORDS = [word for word in sys.argv[1:] if word != "--time"]
+PROGRAM = WORDS[0] if WORDS else os.path.join(HERE, "target/bin/recall")
 NUMBER = rb"(0|[1-9][0-9]*)"
 
 
@@ -192,5 +195,28 @@ def main():
     print(f"sheets.py: {tried} sheets answered as they must be, every refusal of the program among them")
 
 
+def full_sheet():
+    """256 files, 10 wants with 50 reads: the most files of a sheet, and wants that fill the program's 5,120 words of room."""
+    files = b"".join(b"file=%d,%d\n" % (4 * 10**9 * i, 3 * 10**9 + i) for i in range(256))
+    wants = b"".join(b"want=%d,5\n" % (25 * i + 7) for i in range(10))
+    return b"tape=ABCDEFGHIJKLMNOP\nhead=1099511627776\nturn=1000000\nrule=least\nfiles=256\n" + files + b"wants=10\n" + wants
+
+
+def timed(sheet, calls=300):
+    taken = []
+    for _ in range(calls):
+        began = time.perf_counter()
+        out = subprocess.run([PROGRAM], input=sheet, capture_output=True).stdout
+        taken.append(1000 * (time.perf_counter() - began))
+        if out.startswith(b"refused") != (sheet == b""):
+            sys.exit(f"sheets.py: the program printed {out!r}")
+    taken.sort()
+    return f"best {taken[0]:.2f} ms, median {taken[calls // 2]:.2f} ms of {calls} calls"
+
+
 if __name__ == "__main__":
-    main()
+    if "--time" in sys.argv:
+        print(f"full sheet ({len(full_sheet())} bytes): {timed(full_sheet())}")
+        print(f"empty sheet, refused at once: {timed(b'')}")
+    else:
+        main()
