@@ -168,13 +168,19 @@ static void time_all(const struct request *q, double best[ENGINES])
     }
 }
 
+/* The planner's time against that of a table program that clears its room too. */
+static double same_job(const double best[ENGINES], enum engine e)
+{
+    return best[BOUNDARY] / (best[e] + best[CLEARING]);
+}
+
 static void print_size(const struct request *q, const char *where)
 {
     double best[ENGINES];
     time_all(q, best);
-    printf("%6zu %6" PRIu64 "  %-9s | %8.3f  %8.3f  %8.3f     %8.3f  %8.3f | %14.2f  %14.2f  %20.2f\n", q->stops.k, q->stops.reads,
-           where, best[BOUNDARY], best[PLAIN], best[PAPER], best[PAPER_ROWS], best[CLEARING], best[BOUNDARY] / best[PLAIN],
-           best[BOUNDARY] / best[PAPER], best[BOUNDARY] / best[PAPER_ROWS]);
+    printf("%6zu %6" PRIu64 "  %-9s | %8.3f  %8.3f  %8.3f     %8.3f  %8.3f | %10.2f | %5.2f  %5.2f  %11.2f\n", q->stops.k,
+           q->stops.reads, where, best[BOUNDARY], best[PLAIN], best[PAPER], best[PAPER_ROWS], best[CLEARING],
+           best[BOUNDARY] / best[PLAIN], same_job(best, PLAIN), same_job(best, PAPER), same_job(best, PAPER_ROWS));
     fflush(stdout);
 }
 
@@ -190,7 +196,8 @@ static void print_sizes(struct request *q)
 {
     static const size_t wants[] = {8, 16, 32, 64};
     static const uint64_t reads[] = {64, 256, 1024};
-    printf(" wants  reads  most at   | boundary     plain     paper  paper, rows  clearing | boundary/plain  boundary/paper  boundary/paper, rows\n");
+    printf("                         |                                                    | boundary / | boundary / with clearing\n"
+           " wants  reads  most at   | boundary     plain     paper  paper, rows  clearing |      plain | plain  paper  paper, rows\n");
     for (size_t i = 0; i < sizeof wants / sizeof *wants; i++)
         for (size_t j = 0; j < sizeof reads / sizeof *reads; j++) {
             make_request(q, wants[i], reads[j], 2 * wants[i]);
@@ -342,7 +349,8 @@ int main(int argc, char **argv)
     printf("Milliseconds, the best of %s, one core, C compiled with %s.\n"
            "One buffer serves all: before every timed call, outside the clock, it is filled with a pattern other than zero.\n"
            "No buffer is cleared first. boundary: violstream_plan, which judges, plans, prices and clears its room at the end.\n"
-           "plain: table and list. paper: document 000's cells one by one. paper, rows: the same with n_skip innermost.\n\n",
+           "plain: table and list. paper: document 000's cells one by one. paper, rows: the same with n_skip innermost.\n"
+           "None of these clears its table. clearing: that alone. with clearing: a program's time and that of clearing together.\n\n",
            quick ? "one" : "at least 5", FLAGS);
     print_sizes(&request);
     printf("\n");

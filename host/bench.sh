@@ -3,10 +3,12 @@
 #
 #   host/bench.sh [--quick] [ARCHIVE]
 #
-# CC (default gcc) and CFLAGS (default -O3) may be set in the environment; the table names them.
+# CC (default gcc, or a cross compiler: see machine.sh) and CFLAGS (default -O3) may be set in the environment; the table
+# names them.
 set -eu
 
 here=$(cd "$(dirname "$0")/.." && pwd)
+. "$here/host/machine.sh"
 archive=$here/target/staticlib/libboundary.a
 quick=
 for word in "$@"; do
@@ -17,9 +19,13 @@ for word in "$@"; do
     esac
 done
 
-cc=${CC:-gcc}
+cc=${CC:-$cc}
 flags=${CFLAGS:--O3}
-command -v "$cc" > /dev/null || { printf 'bench.sh: no C compiler %s (Debian: apt-get install gcc)\n' "$cc" >&2; exit 1; }
+packages=gcc
+[ "$emulated" = no ] || packages='gcc-x86-64-linux-gnu libc6-dev-amd64-cross qemu-user'
+for tool in "$cc" $emulator; do
+    command -v "$tool" > /dev/null || { printf 'bench.sh: no %s (Debian: apt-get install %s)\n' "$tool" "$packages" >&2; exit 1; }
+done
 [ -f "$archive" ] || { printf "bench.sh: no archive at %s; 'rt staticlib boundary' makes it\n" "$archive" >&2; exit 1; }
 
 out=$(mktemp -d)
@@ -27,4 +33,5 @@ trap 'rm -rf "$out"' EXIT
 # shellcheck disable=SC2086  # flags are words
 "$cc" -std=c11 $flags -DFLAGS="\"$cc $flags\"" -I "$here/include" \
     "$here/host/bench.c" "$here/host/plain.c" "$here/host/paper.c" "$archive" -o "$out/bench"
-"$out/bench" $quick
+[ "$emulated" = no ] || printf 'EMULATED: this machine is %s, the library is for x86-64; the times below say nothing about it.\n' "$machine"
+${emulator:+"$emulator" -L "$cross"} "$out/bench" $quick

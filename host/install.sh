@@ -56,7 +56,7 @@ includedir=\${prefix}/include
 libdir=\${prefix}/lib
 
 Name: violstream
-Description: Plans the recall of files from tape, and proves its answers
+Description: Plans the recall of files from tape, and proves its answers (x86-64 Linux)
 Version: $version
 Cflags: -I\${includedir}
 Libs: -L\${libdir} -lviolstream

@@ -4,6 +4,8 @@
 usage: host/sheets.py [PROGRAM]           (default target/bin/recall)
        host/sheets.py --time [PROGRAM]    how long one call takes on a full sheet, and on none
 
+The program is for x86-64; on another processor it is started as machine.sh says.
+
 The reader, the judging, the walk and the search over all well-formed lists below share nothing with the program.
 """
 import os
@@ -15,7 +17,16 @@ import time
 HERE = os.path.dirname(os.path.dirname(os.path.abspath(__file__)))
 WORDS = [word for word in sys.argv[1:] if word != "--time"]
 PROGRAM = WORDS[0] if WORDS else os.path.join(HERE, "target/bin/recall")
+MACHINE = os.path.join(HERE, "host/machine.sh")
 NUMBER = rb"(0|[1-9][0-9]*)"
+
+
+def command():
+    """The words that start the program: on x86-64 its name alone."""
+    found = subprocess.run(["sh", "-c", '. "$0" && starter', MACHINE], stdout=subprocess.PIPE, text=True)
+    if found.returncode != 0:
+        sys.exit("sheets.py: the program cannot be started on this machine, as said above")
+    return found.stdout.splitlines() + [PROGRAM]
 
 
 class Refused(Exception):
@@ -176,10 +187,10 @@ def sheets():
 
 
 def main():
-    seen, tried = set(), 0
+    seen, tried, start = set(), 0, command()
     for sheet in sheets():
         must = answer(sheet)
-        out = subprocess.run([PROGRAM], input=sheet, capture_output=True).stdout
+        out = subprocess.run(start, input=sheet, capture_output=True).stdout
         tried += 1
         if must is None:
             if not out.startswith(b"tape="):
@@ -203,10 +214,10 @@ def full_sheet():
 
 
 def timed(sheet, calls=300):
-    taken = []
+    taken, start = [], command()
     for _ in range(calls):
         began = time.perf_counter()
-        out = subprocess.run([PROGRAM], input=sheet, capture_output=True).stdout
+        out = subprocess.run(start, input=sheet, capture_output=True).stdout
         taken.append(1000 * (time.perf_counter() - began))
         if out.startswith(b"refused") != (sheet == b""):
             sys.exit(f"sheets.py: the program printed {out!r}")
@@ -216,6 +227,8 @@ def timed(sheet, calls=300):
 
 if __name__ == "__main__":
     if "--time" in sys.argv:
+        if len(command()) > 1:
+            print("EMULATED: the times below say nothing of the program on x86-64.")
         print(f"full sheet ({len(full_sheet())} bytes): {timed(full_sheet())}")
         print(f"empty sheet, refused at once: {timed(b'')}")
     else:
