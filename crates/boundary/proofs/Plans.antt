@@ -111,12 +111,12 @@ module _ (r : Run) (rule : ℕ) (rows : Rows) (sums : List ℕ) (v : Verdict) (f
           let h : refuses (planVerdict r rows) ≡ true = ⊎-elim (λ g. g) (λ g. absurd (some (accepted-code g))) (true-or-false (refuses (planVerdict r rows))) in
           rw (plans .refused h .kept) (refused-call r rule rows sums (planVerdict r rows) code same h (refused-code h))
 
-      pub plan-filled : code ≡ 0 → (out : List ℕ) → out ≡ sumsWith a sums → PlanCalled r rule rows sums 0 after out
+      pub plan-filled : code ≡ 0 → (out : List ℕ) → out ≡ sumsWith a sums → PlanCalled r rule rows sums code after out
       plan-filled none out is =
           let h : refuses (planVerdict r rows) ≡ false
           = ⊎-elim (λ g. code-accepts (planVerdict r rows) (sym (refused-code g) ∙ none)) (λ g. g) (true-or-false (refuses (planVerdict r rows)))
           in
           record {
             refused = λ g. absurd (true≢false (sym (rw same at g) ∙ h));
-            planned = λ g. record { says = refl; answer = a; planned = plans .planned h; sumsAre = is };
+            planned = λ g. record { says = none; answer = a; planned = plans .planned h; sumsAre = is };
           }

@@ -101,12 +101,12 @@ pub extern "C" fn violstream_price(
         detour_ends,
         times,
     );
-    let found = code(a);
-    if found != 0 {
-        return found;
+    let price = code(a);
+    if price != 0 {
+        return price;
     }
     fill_sums(a, sums);
-    0
+    price
 }
 
 // Rule 0 is sweep; 1, and nothing else that comes here, is least.
@@ -156,10 +156,10 @@ pub extern "C" fn violstream_plan(
         times,
         room,
     );
-    let found = code(a);
-    if found != 0 {
-        return found;
+    let plan = code(a);
+    if plan != 0 {
+        return plan;
     }
     fill_sums(a, sums);
-    0
+    plan
 }

@@ -18,10 +18,16 @@ use Rattle.walk.proofs.Search.{or-false-both}
 use Rattle.walk.proofs.Verdicts.{refuses, first-refuses, first-passes}
 use Rattle.walk.specs.declared.Rule.{Rule}
 use Rattle.planner.specs.Plan.{Rows, Plans, Planned, planVerdict, shortRows, roomSize}
-use Rattle.planner.specs.Table.{LongRows, tableSize}
+use Rattle.planner.specs.Table.{LongRows, tableSize, rowsVerdict}
 
 one-more : (k n : ℕ) → k - 1 ≤ n → k ≤ n + 1
 one-more k n h = omega arith
+
+-- Where the two checks of the rows refuse nothing, neither holds.
+both-pass : (b c : Bool) → refuses (firstOf (refuseIf b ShortRow ∷ refuseIf c ShortRoom ∷ [])) ≡ false → (b ≡ false) × (c ≡ false)
+both-pass true c e = absurd (true≢false e)
+both-pass false true e = absurd (true≢false e)
+both-pass false false e = (refl, refl)
 
 module _ (r : Run) (rule : Rule) (rows : Rows) where
   refused-so : (v : Verdict) → v ≡ planVerdict r rows → refuses v ≡ true → (a : Answer) → a ≡ refusalAnswer v → Plans r rule rows a rows
@@ -33,9 +39,6 @@ module _ (r : Run) (rule : Rule) (rows : Rows) where
 
   after-run : List Verdict
   after-run = refuseIf (shortRows (length (r .numbers)) rows) ShortRow ∷ refuseIf (ltb (length (rows .room)) (roomSize r)) ShortRoom ∷ []
-
-  after-rows : List Verdict
-  after-rows = refuseIf (ltb (length (rows .room)) (roomSize r)) ShortRoom ∷ []
 
   module _ (v : Verdict) (f : Bool) (v-is : v ≡ judgeOf r) (f-is : f ≡ isRefusal (v .refusal)) where
     run-says : (b : Bool) → f ≡ b → refuses (judgeOf r) ≡ b
@@ -52,20 +55,21 @@ module _ (r : Run) (rule : Rule) (rows : Rows) where
     unfolding planVerdict after-run
     passes-run e = first-passes (judgeOf r) after-run (run-says false e)
 
-    module _ (g : Bool) (g-is : g ≡ shortRows (length (r .numbers)) rows) (passed : f ≡ false) where
-      pub rows-refused : g ≡ true → (a : Answer) → a ≡ refusalAnswer (record { refusal = ShortRow; place = 0 }) → Plans r rule rows a rows
-      unfolding after-run
-      rows-refused e a s =
-          let short : shortRows (length (r .numbers)) rows ≡ true = sym g-is ∙ e in
-          refused-so (record { refusal = ShortRow; place = 0 }) (sym (passes-run passed ∙ rw short)) refl a s
+    module _ (reads : ℕ) (reads-is : reads ≡ total (r .counts)) (u : Verdict) (u-is : u ≡ rowsVerdict (length (r .numbers)) reads (length (rows .froms)) (length (rows .tos)) (length (rows .times)) (length (rows .room))) (g : Bool) (g-is : g ≡ isRefusal (u .refusal)) (passed : f ≡ false) where
+      rows-decide : u ≡ planVerdict r rows
+      unfolding after-run rowsVerdict
+      rows-decide = rw (u-is, reads-is) (sym (passes-run passed))
 
-      passes-rows : g ≡ false → planVerdict r rows ≡ firstOf after-rows
-      unfolding after-run after-rows
-      passes-rows e = let long : shortRows (length (r .numbers)) rows ≡ false = sym g-is ∙ e in passes-run passed ∙ rw long
+      pub rows-refused : g ≡ true → (a : Answer) → a ≡ refusalAnswer u → Plans r rule rows a rows
+      rows-refused e a s = refused-so u rows-decide (sym g-is ∙ e) a s
+
+      rows-pass : g ≡ false → (shortRows (length (r .numbers)) rows ≡ false) × (ltb (length (rows .room)) (tableSize (length (r .numbers)) reads) ≡ false)
+      unfolding rowsVerdict
+      rows-pass e = both-pass _ _ (rw (← u-is, ← g-is) e)
 
       pub rows-long : g ≡ false → LongRows (length (r .numbers)) (length (rows .froms)) (length (rows .tos)) (length (rows .times))
       rows-long e =
-          let all = or-false-both _ _ (sym g-is ∙ e) in
+          let all = or-false-both _ _ (rows-pass e .0) in
           let two = or-false-both _ _ (all .0) in
           let starts : length (r .numbers) - 1 ≤ length (rows .froms) = ltb-false (length (rows .froms)) (length (r .numbers) - 1) (two .1) in
           let ends : length (r .numbers) - 1 ≤ length (rows .tos) = ltb-false (length (rows .tos)) (length (r .numbers) - 1) (all .1) in
@@ -75,15 +79,10 @@ module _ (r : Run) (rule : Rule) (rows : Rows) where
             for-times = ltb-false (length (rows .times)) (length (r .numbers)) (two .0);
           }
 
-      pub room-refused : g ≡ false → (reads : ℕ) → reads ≡ total (r .counts) → length (rows .room) < tableSize (length (r .numbers)) reads → (a : Answer) → a ≡ refusalAnswer (record { refusal = ShortRoom; place = 0 }) → Plans r rule rows a rows
-      unfolding after-rows
-      room-refused e reads t l a s =
-          let short : length (rows .room) < roomSize r = rw t at l in
-          refused-so (record { refusal = ShortRoom; place = 0 }) (sym (passes-rows e ∙ rw (lt-ltb (length (rows .room)) (roomSize r) short))) refl a s
+      pub room-big : g ≡ false → tableSize (length (r .numbers)) reads ≤ length (rows .room)
+      room-big e = ltb-false (length (rows .room)) (tableSize (length (r .numbers)) reads) (rows-pass e .1)
 
-      pub run-planned : g ≡ false → (reads : ℕ) → reads ≡ total (r .counts) → tableSize (length (r .numbers)) reads ≤ length (rows .room) → (a : Answer) (after : Rows) → Planned r rule rows a after → Plans r rule rows a after
-      unfolding after-rows
-      run-planned e reads t h a after p =
-          let l : roomSize r ≤ length (rows .room) = rw t at h in
-          let accepts : refuses (planVerdict r rows) ≡ false = rw (passes-rows e, le-ltb (length (rows .room)) (roomSize r) l) in
+      pub run-planned : g ≡ false → (a : Answer) (after : Rows) → Planned r rule rows a after → Plans r rule rows a after
+      run-planned e a after p =
+          let accepts : refuses (planVerdict r rows) ≡ false = rw (← rows-decide, ← g-is) e in
           record { refused = λ q. absurd (true≢false (sym q ∙ accepts)); planned = λ q. p }

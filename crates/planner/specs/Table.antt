@@ -1,11 +1,14 @@
 -- The table and the caller's rows, for the contracts of private functions. No public contract cites this file.
 use Prim.Native.Nat.{ℕ, suc, _+_, _-_, _*_, _≤_, _<_, _^_}
 use mathlib.Core.Path.{_≡_}
-use mathlib.Core.Bool.{false}
+use mathlib.Core.Bool.{false, _||_}
 use mathlib.Core.Logic.{_⊎_}
-use mathlib.Core.List.{List, []}
+use mathlib.Core.List.{List, [], _∷_}
 use lib.ListN.{length, getD, take, drop}
-use Rattle.walk.specs.Refusals.{isRefusal}
+use lib.Dec.{ltb}
+use Rattle.walk.specs.declared.Refusal.the-variants.{ShortRow, ShortRoom}
+use Rattle.walk.specs.declared.Verdict.{Verdict}
+use Rattle.walk.specs.Refusals.{isRefusal, refuseIf, firstOf}
 use Rattle.walk.specs.Run.{Stop, runOf, stopsFrom, total, endAt, lastPlace, highestTurn, mostReads}
 use Rattle.walk.specs.Judging.{judgeOf}
 use Rattle.walk.specs.Rows.{InTable}
@@ -200,3 +203,11 @@ pub record LongRows (wants froms tos times : ℕ) : Type 0 where
   pub for-starts : wants ≤ froms + 1
   pub for-ends : wants ≤ tos + 1
   pub for-times : wants ≤ times
+
+-- 8, then 9, by the rows' lengths.
+unfoldable pub rowsVerdict : ℕ → ℕ → ℕ → ℕ → ℕ → ℕ → Verdict
+rowsVerdict wants reads froms tos times room =
+    firstOf
+    (refuseIf (ltb times wants || ltb froms (wants - 1) || ltb tos (wants - 1)) ShortRow
+    ∷ refuseIf (ltb room (tableSize wants reads)) ShortRoom
+    ∷ [])

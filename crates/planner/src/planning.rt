@@ -5,11 +5,11 @@ ghost use Prim.Native.Nat.{ℕ, _+_, _-_, _≤_, _<_};
 ghost use lib.ListN.{length};
 ghost use lib.Dec.{ltb};
 ghost use Rattle.walk.specs.Refusals.{isRefusal};
-ghost use Rattle.walk.specs.Run.{runOf, stopsFrom, total};
+ghost use Rattle.walk.specs.Run.{runOf, stopsFrom, total, mostReads};
 ghost use Rattle.walk.specs.Judging.{judgeOf};
 ghost use Rattle.plans.proofs.LeastList.{leastList};
 ghost use Rattle.planner.specs.Plan.{Plans, Planned, rowsOf};
-ghost use Rattle.planner.specs.Table.{Judged, ListWritten, Beyond, tableSize, ruleList, LongRows};
+ghost use Rattle.planner.specs.Table.{Judged, ListWritten, Beyond, tableSize, ruleList, LongRows, rowsVerdict};
 use crate::filling::clear;
 use crate::filling::fill;
 use crate::reading::read_off;
@@ -33,6 +33,48 @@ fn short_rows(wants: usize, froms: usize, tos: usize, times: usize) -> bool
         return true;
     }
     tos < wants - 1
+}
+
+// The words of the table.
+fn table_words(wants: usize, reads: usize) -> usize
+    requires { ⌜ wants ≤ 64 ⌝ }
+    requires { ⌜ reads ≤ mostReads ⌝ }
+    ensures { λ r. ⌜ r ≡ tableSize wants reads ⌝ }
+{
+    wants * wants * (reads + 1)
+}
+
+// 8, then 9.
+fn judge_rows(
+    wants: usize,
+    reads: usize,
+    froms: usize,
+    tos: usize,
+    times: usize,
+    room: usize,
+) -> Verdict
+    requires { ⌜ wants ≤ 64 ⌝ }
+    requires { ⌜ reads ≤ mostReads ⌝ }
+    ensures { λ r. ⌜ r ≡ rowsVerdict wants reads froms tos times room ⌝ }
+{
+    let rows_short = short_rows(wants, froms, tos, times);
+    let room_short = room < table_words(wants, reads);
+    if rows_short {
+        return Verdict {
+            refusal: Refusal::ShortRow,
+            place: 0,
+        };
+    }
+    if room_short {
+        return Verdict {
+            refusal: Refusal::ShortRoom,
+            place: 0,
+        };
+    }
+    Verdict {
+        refusal: Refusal::Accepted,
+        place: 0,
+    }
 }
 
 // The least list into the first entries of two rows, by way of the table.
@@ -175,19 +217,17 @@ pub fn plan(
     if walk::refused(run) {
         return walk::refuse(run);
     }
-    let k = numbers.len();
-    if short_rows(k, froms.len(), tos.len(), times.len()) {
-        return walk::refuse(Verdict {
-            refusal: Refusal::ShortRow,
-            place: 0,
-        });
-    }
     let reads = reads_before(counts, counts.len()) as usize;
-    if room.len() < k * k * (reads + 1) {
-        return walk::refuse(Verdict {
-            refusal: Refusal::ShortRoom,
-            place: 0,
-        });
+    let rows = judge_rows(
+        numbers.len(),
+        reads,
+        froms.len(),
+        tos.len(),
+        times.len(),
+        room.len(),
+    );
+    if walk::refused(rows) {
+        return walk::refuse(rows);
     }
     planned(
         starts,

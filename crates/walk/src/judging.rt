@@ -18,6 +18,14 @@ use crate::Refusal;
 use crate::Verdict;
 use crate::refused;
 
+// How much tape lies right of a place on it.
+fn tape_right_of(place: u64) -> u64
+    requires { ⌜ place ≤ lastPlace ⌝ }
+    ensures { λ r. ⌜ r ≡ lastPlace - place ⌝ }
+{
+    LAST_PLACE - place
+}
+
 // A file against the end of the one before it. The end is compared by a difference, so that it cannot wrap.
 fn bad_file(start: u64, length: u64, before: u64) -> bool
     ensures { λ r. ⌜ r ≡ (eqb length 0 || ltb start before || ltb lastPlace (start + length)) ⌝ }
@@ -31,7 +39,7 @@ fn bad_file(start: u64, length: u64, before: u64) -> bool
     if LAST_PLACE < start {
         return true;
     }
-    LAST_PLACE - start < length
+    tape_right_of(start) < length
 }
 
 // The first bad file, counted from 1; 0 where there is none.
@@ -110,8 +118,7 @@ pub(crate) fn file_start(starts: &[u64], file: u64) -> u64
     requires { ⌜ InTable (now starts) file ⌝ }
     ensures { λ r. ⌜ r ≡ getD (now (starts .entry)) (file - 1) 0 ⌝ }
 {
-    let at = (file - 1) as usize;
-    starts[at]
+    starts[(file - 1) as usize]
 }
 
 pub(crate) fn file_end(starts: &[u64], lengths: &[u64], file: u64) -> u64
@@ -212,13 +219,13 @@ fn judge_head(turn: u64, head: u64, rightmost: u64) -> Verdict
     }
     if LAST_PLACE < head {
         return Verdict {
-            refusal: Refusal::HeadPlace,
+            refusal: Refusal::HeadPlace, // off the tape
             place: 0,
         };
     }
     if head < rightmost {
         return Verdict {
-            refusal: Refusal::HeadPlace,
+            refusal: Refusal::HeadPlace, // left of a wanted file's end
             place: 0,
         };
     }

@@ -66,7 +66,7 @@ returns-3 c =
     let is = d .before .code .ensures ∙ price-code (run s) (s .args .detour-starts .now) (s .args .detour-ends .now) (s .args .times .now) _ (p .price .ensures .0) in
     let none = sym is ∙ d .if2 .left in
     record {
-      says = sym none ∙ sym (ap codeOf (call-is-price (run s) (s .args .detour-starts .now) (s .args .detour-ends .now) (s .args .times .now) (s .args .sums .now) (e .if1 .left)));
+      says = is ∙ sym (ap codeOf (call-is-price (run s) (s .args .detour-starts .now) (s .args .detour-ends .now) (s .args .times .now) (s .args .sums .now) (e .if1 .left)));
       timesAre = call-times (run s) (s .args .detour-starts .now) (s .args .detour-ends .now) (s .args .times .now) (s .args .sums .now) _ (e .if1 .left) (p .price .ensures .1);
       sumsAre =
           call-sums-filled (run s) (s .args .detour-starts .now) (s .args .detour-ends .now) (s .args .times .now) (s .args .sums .now) _ _ (e .if1 .left)
