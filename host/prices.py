@@ -1,0 +1,96 @@
+#!/usr/bin/env python3
+"""Works out what the program price_cases must print, from document 01's sentences, and compares it with the file that the
+gate holds the program to, crates/price_cases/stdout.
+
+usage: host/prices.py            compares
+       host/prices.py --print    prints the text instead
+
+The judging and the walk are those of host/sheets.py; they share nothing with the crates.
+"""
+import os
+import sys
+
+sys.dont_write_bytecode = True
+import sheets
+
+LAST, HIGHEST = 2**40, 2**32
+FOUR = [(0, 2), (2, 2), (4, 2), (6, 2)]
+EACH = [(1, 1), (2, 1), (3, 1), (4, 1)]
+
+
+def judge_list(asked, froms, tos):
+    """10: place 0 where the rows differ in number, else the first entry that breaks a rule."""
+    if len(froms) != len(tos):
+        raise sheets.Refused(10)
+    wanted = [number for number, _ in asked]
+    for i, (a, b) in enumerate(zip(froms, tos)):
+        alone = a in wanted and b in wanted and a <= b and a > wanted[0]
+        if not alone or any(c <= a or not (b < c or d < b) for c, d in zip(froms[:i], tos[:i])):
+            raise sheets.Refused(10, i + 1)
+
+
+def line(label, table, asked, head, turn, froms=(), tos=()):
+    try:
+        if len(asked) > 64:
+            raise sheets.Refused(3)
+        sheets.judge(head, turn, table, asked)
+        judge_list(asked, froms, tos)
+    except sheets.Refused as refusal:
+        return label + ": " + refusal.args[0].decode().replace("\n", " ").strip()
+    times, clock, place = sheets.walk(head, turn, table, asked, list(zip(froms, tos)))
+    total = sum(count * times[number] for number, count in asked)
+    rest = "".join(" %d" % times[number] for number, _ in asked)
+    return f"{label}: sum={total} finish={clock} end={place} detours={len(froms)} times={rest}"
+
+
+def small_runs():
+    yield line("no wants", [(5, 3)], [], 60, 1)
+    yield line("no wants, one entry", [(5, 3)], [], 60, 1, [2], [2])
+    yield line("one file", [(5, 3)], [(1, 3)], 8, 2)
+    two = [(0, 10), (10, 10)]
+    yield line("only file 2", two, [(2, 1)], 20, 0)
+    for label, more, turn in (("two files", 1, 0), ("two reads of file 2", 2, 0), ("turn price 1", 1, 1)):
+        for entry in ([], [2]):
+            yield line(label, two, [(1, 1), (2, more)], 20, turn, entry, entry)
+
+
+def sheet_runs():
+    for froms, tos in (([], []), ([2], [2]), ([2], [3]), ([3], [3]), ([3, 2], [3, 2])):
+        yield line("sheet", [(0, 10), (10, 4), (20, 30)], [(1, 1), (2, 3), (3, 1)], 60, 1, froms, tos)
+    for label, head, froms, tos in (("four files", 8, [3, 2], [3, 4]), ("four files", 8, [], []), ("equal ends", 8, [3, 2], [4, 4]),
+                                    ("crossing", 8, [3, 2], [4, 3]), ("unequal rows", 8, [3, 2], [3]), ("head one left", 7, [], [])):
+        yield line(label, FOUR, EACH, head, 1, froms, tos)
+
+
+def limits():
+    part = LAST // 64
+    table = [(i * part, part) for i in range(64)]
+
+    def tape(label, last, head, turn, froms=(), tos=()):
+        return line(label, table, [(i + 1, 16 if i < 63 else last) for i in range(64)], head, turn, froms, tos)
+
+    single = list(range(64, 1, -1))
+    yield tape("longest list", 16, LAST, HIGHEST, single, single)
+    yield tape("deepest list", 16, LAST, HIGHEST, list(range(33, 1, -1)), list(range(33, 65)))
+    yield tape("one place past the tape", 16, LAST + 1, 0)
+    yield tape("head one left of the last end", 16, LAST - 1, 0)
+    yield tape("turn price one too high", 16, LAST, HIGHEST + 1)
+    yield tape("1,025 reads", 17, LAST, 0)
+    yield line("65 wants", [(0, 1)], [(1, 1)] * 65, 1, 0)
+
+
+def main():
+    must = "".join(text + "\n" for runs in (small_runs(), sheet_runs(), limits()) for text in runs)
+    if "--print" in sys.argv[1:]:
+        sys.stdout.write(must)
+        return
+    path = os.path.join(sheets.HERE, "crates/price_cases/stdout")
+    with open(path, encoding="ascii") as handle:
+        held = handle.read()
+    if held != must:
+        sys.exit("prices.py: crates/price_cases/stdout is not what document 01 gives; 'host/prices.py --print' shows that")
+    print(f"prices.py: the {must.count(chr(10))} lines that price_cases must print are as worked out here")
+
+
+if __name__ == "__main__":
+    main()
