@@ -1,26 +1,26 @@
 -- Codes and verdicts: an answer's code is that of its verdict, and the calls' own checks come down to those of the crates below.
-use Prim.Native.Nat.{ℕ, zero, suc, _+_, _*_, _≤_, _<_}
+use Prim.Native.Nat.{ℕ, _+_, _*_, _≤_, _<_}
 use mathlib.Core.Path.{_≡_, refl, ap, sym, _∙_}
-use mathlib.Core.Bool.{Bool, true, false, not, cond, _||_, true≢false}
+use mathlib.Core.Bool.{Bool, true, false, true≢false}
 use mathlib.Core.Logic.{⊎-elim}
-use mathlib.Core.List.{List, [], _∷_, _++_}
+use mathlib.Core.List.{List, [], _∷_}
 use native.Mathlib.Omega.{arith}
 use lib.ListN.{length, drop, set}
-use lib.Dec.{ltb, eqb}
-use borrow.Author.Tests.{lt-ltb, le-ltb, eq-eqb, ne-eqb, eqb-false}
+use lib.Dec.{ltb}
+use borrow.Author.Tests.{lt-ltb, le-ltb, eq-eqb}
 use Rattle.walk.specs.declared.Refusal.{Refusal}
 use Rattle.walk.specs.declared.Refusal.the-variants.{Accepted, FileRows, BadFile, WantRows, BadWant, TooManyReads, TurnPrice, HeadPlace, ShortRow, ShortRoom, BadEntry, BadLine, LongSheet, BadName, BadRule}
 use Rattle.walk.specs.declared.Verdict.{Verdict}
 use Rattle.walk.specs.declared.Answer.{Answer}
-use Rattle.walk.specs.Refusals.{numberOf, isRefusal, refuseIf, firstOf, accepted}
+use Rattle.walk.specs.Refusals.{numberOf, refuseIf, firstOf, accepted}
 use Rattle.walk.specs.Run.{Run, stopsOf}
 use Rattle.walk.specs.Judging.{judgeOf}
 use Rattle.walk.specs.Detours.{listOf, listVerdict}
-use Rattle.walk.specs.Price.{refusalAnswer, pricedAnswer, pricedTimes, priceVerdict, priceAnswer, priceRow}
+use Rattle.walk.specs.Price.{refusalAnswer, pricedAnswer, priceVerdict, priceAnswer, priceRow}
 use Rattle.walk.proofs.Search.{true-or-false}
-use Rattle.walk.proofs.Verdicts.{refuses, first-passes}
+use Rattle.walk.proofs.Verdicts.{refuses}
 use Rattle.walk.proofs.Places.{placeMost, price-near}
-use Rattle.boundary.specs.Boundary.{codeOf, sumsWith, shortSums, priceCall, priceTimes, priceSums}
+use Rattle.boundary.specs.Boundary.{codeOf, sumsWith, priceCall, priceTimes, priceSums}
 
 -- No number is over 14.
 pub number-small : (kind : Refusal) → numberOf kind ≤ 14

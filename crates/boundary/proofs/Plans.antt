@@ -1,26 +1,27 @@
 -- The planner's call: 14 after 7, 8 for the row of sums too, and else the planner's own answer.
 use Prim.Native.Nat.{ℕ, zero, suc, _+_, _*_, _≤_, _<_}
-use mathlib.Core.Path.{_≡_, refl, ap, sym, _∙_}
-use mathlib.Core.Bool.{Bool, true, false, not, cond, _||_, true≢false, or-true, or-false}
+use mathlib.Core.Path.{_≡_, refl, sym, ap, _∙_}
+use mathlib.Core.Bool.{Bool, true, false, true≢false, or-true, or-false}
 use mathlib.Core.Logic.{⊎-elim}
-use mathlib.Core.List.{List, [], _∷_, _++_}
+use mathlib.Core.List.{List, [], _∷_}
 use native.Mathlib.Omega.{arith}
 use lib.ListN.{length}
-use lib.Dec.{ltb, eqb}
-use borrow.Author.Tests.{lt-ltb, le-ltb, eq-eqb, ne-eqb}
+use lib.Dec.{ltb}
+use borrow.Author.Tests.{lt-ltb, le-ltb, ne-eqb}
 use Rattle.walk.specs.declared.Refusal.the-variants.{ShortRow, ShortRoom, BadRule}
 use Rattle.walk.specs.declared.Verdict.{Verdict}
 use Rattle.walk.specs.declared.Answer.{Answer}
-use Rattle.walk.specs.Refusals.{numberOf, isRefusal, refuseIf, firstOf}
+use Rattle.walk.specs.Refusals.{numberOf, isRefusal, refuseIf}
 use Rattle.walk.specs.Run.{Run}
 use Rattle.walk.specs.Judging.{judgeOf}
 use Rattle.walk.specs.Price.{refusalAnswer, pricedAnswer}
 use Rattle.walk.proofs.Search.{true-or-false}
-use Rattle.walk.proofs.Verdicts.{refuses, first-passes}
+use Rattle.walk.proofs.Verdicts.{refuses, test-says}
 use Rattle.walk.proofs.Places.{placeMost, judge-near, first-near, if-near}
-use Rattle.planner.specs.Plan.{Rows, Plans, Planned, Refused, planVerdict, shortRows, roomSize}
+use Rattle.planner.proofs.Determined.{planned-once}
+use Rattle.planner.specs.Plan.{Rows, Plans, planVerdict, shortRows, roomSize}
 use Rattle.boundary.proofs.Calls.{code-accepts}
-use Rattle.boundary.specs.Boundary.{codeOf, sumsWith, shortSums, badRule, ruleNumbered, planCall, CallRefused, CallPlanned, PlanCalled}
+use Rattle.boundary.specs.Boundary.{codeOf, sumsWith, badRule, ruleNumbered, planCall, PlanCalled}
 
 -- The checks of the call, one by one.
 module _ (r : Run) (rule : ℕ) (rows : Rows) (sums : List ℕ) where
@@ -61,16 +62,13 @@ rule-good (suc zero) l = refl
 rule-good (suc (suc n)) l = absurd (omega arith)
 
 module _ (r : Run) (rule : ℕ) (rows : Rows) (sums : List ℕ) (v : Verdict) (f : Bool) (v-is : v ≡ judgeOf r) (f-is : f ≡ isRefusal (v .refusal)) where
-  run-says : (b : Bool) → f ≡ b → refuses (judgeOf r) ≡ b
-  run-says b e = rw (← v-is, ← f-is, e)
-
   run-first : refuses (judgeOf r) ≡ true → planCall r rule rows sums ≡ judgeOf r
   unfolding planCall
   run-first h = rw h
 
   pub run-refused : f ≡ true → (a : Answer) → a ≡ refusalAnswer v → (code : ℕ) → code ≡ numberOf (a .refusal) + 256 * a .place → PlanCalled r rule rows sums code rows sums
   run-refused e a a-is code code-is =
-      refused-call r rule rows sums v code (run-first (run-says true e) ∙ sym v-is) (sym f-is ∙ e) (rw a-is at code-is)
+      refused-call r rule rows sums v code (run-first (test-says v-is f-is e) ∙ sym v-is) (sym f-is ∙ e) (rw a-is at code-is)
 
   pub run-placed : (a : Answer) → a ≡ refusalAnswer v → a .place ≤ placeMost
   run-placed a a-is = rw (a-is, v-is) (judge-near r)
@@ -79,16 +77,16 @@ module _ (r : Run) (rule : ℕ) (rows : Rows) (sums : List ℕ) (v : Verdict) (f
   rule-refused e l = refused-call r rule rows sums (record { refusal = BadRule; place = 0 }) 14 (by-rule l) refl refl
     where
       by-rule : 1 < rule → planCall r rule rows sums ≡ record { refusal = BadRule; place = 0 }
-      by-rule l = rule-first r rule rows sums (run-says false e) (rule-over rule l)
+      by-rule l = rule-first r rule rows sums (test-says v-is f-is e) (rule-over rule l)
 
   pub sums-refused : f ≡ false → rule ≤ 1 → length sums < 4 → PlanCalled r rule rows sums 8 rows sums
   sums-refused e l h =
-      refused-call r rule rows sums (record { refusal = ShortRow; place = 0 }) 8 (sums-first r rule rows sums (run-says false e) (rule-good rule l) (lt-ltb (length sums) 4 h)) refl refl
+      refused-call r rule rows sums (record { refusal = ShortRow; place = 0 }) 8 (sums-first r rule rows sums (test-says v-is f-is e) (rule-good rule l) (lt-ltb (length sums) 4 h)) refl refl
 
   -- Past these the call is judged as the planner judges.
   module _ (e : f ≡ false) (l : rule ≤ 1) (long : 4 ≤ length sums) (a : Answer) (after : Rows) (plans : Plans r (ruleNumbered rule) rows a after) where
     same : planCall r rule rows sums ≡ planVerdict r rows
-    same = call-is-plan r rule rows sums (run-says false e) (rule-good rule l) (le-ltb (length sums) 4 long)
+    same = call-is-plan r rule rows sums (test-says v-is f-is e) (rule-good rule l) (le-ltb (length sums) 4 long)
 
     pub plan-placed : a .place ≤ placeMost
     unfolding pricedAnswer
@@ -120,3 +118,19 @@ module _ (r : Run) (rule : ℕ) (rows : Rows) (sums : List ℕ) (v : Verdict) (f
             refused = λ g. absurd (true≢false (sym (rw same at g) ∙ h));
             planned = λ g. record { says = none; answer = a; planned = plans .planned h; sumsAre = is };
           }
+
+-- Two results of a call that fit its contract are equal, rows and sums too.
+module _ (r : Run) (rule : ℕ) (before : Rows) (sums : List ℕ) (code code′ : ℕ) (after after′ : Rows) (out out′ : List ℕ) where
+  pub call-determined : PlanCalled r rule before sums code after out → PlanCalled r rule before sums code′ after′ out′ → (code ≡ code′) × ((after ≡ after′) × (out ≡ out′))
+  call-determined p q = go (refuses (planCall r rule before sums)) refl
+    where
+      go : (b : Bool) → refuses (planCall r rule before sums) ≡ b → (code ≡ code′) × ((after ≡ after′) × (out ≡ out′))
+      go true e =
+          let c = p .refused e in
+          let d = q .refused e in
+          (c .says ∙ sym (d .says), (c .kept ∙ sym (d .kept), c .keptSums ∙ sym (d .keptSums)))
+      go false e =
+          let c = p .planned e in
+          let d = q .planned e in
+          let same = planned-once r (ruleNumbered rule) before (c .answer) (d .answer) after after′ (c .planned) (d .planned) in
+          (c .says ∙ sym (d .says), (same .1, c .sumsAre ∙ ap (λ a. sumsWith a sums) (same .0) ∙ sym (d .sumsAre)))

@@ -1,7 +1,6 @@
 -- Demand 2: the planner's numbers are the walk's, its list is the least under the least rule and empty under the sweep rule, and its contract fits one answer.
 use Prim.Native.Nat.{ℕ}
 use mathlib.Core.Path.{_≡_, refl, sym, ap, _∙_}
-use mathlib.Core.Bool.{Bool, true, false}
 use mathlib.Core.List.{List, [], _∷_}
 use lib.ListN.{length, drop}
 use lib.Seq.{take-at}
@@ -15,12 +14,11 @@ use Rattle.walk.specs.Run.{Run, Stop, stopsOf}
 use Rattle.walk.specs.Walk.{timesOf}
 use Rattle.walk.specs.Detours.{Detour, WellFormed, firstBadEntry}
 use Rattle.walk.specs.Price.{pricedAnswer, pricedTimes}
-use Rattle.walk.proofs.Verdicts.{refuses}
 use Rattle.walk.proofs.Judged.{accepted-run}
 use Rattle.walk.proofs.Filling.{stops-length}
 use Rattle.plans.specs.Least.{listSum, LeastFor}
-use Rattle.plans.proofs.LeastList.{least-unique}
-use Rattle.planner.specs.Plan.{Rows, ByRule, planVerdict, rowsWith}
+use Rattle.planner.specs.Plan.{Rows, ByRule, rowsWith}
+use Rattle.planner.proofs.Determined.{plan-determined}
 use Rattle.demands.specs.Demand2.{listIn, IsTheWalk, IsLeast, Demand2Walk, Demand2Least, Demand2Sweep, Demand2One}
 use Rattle.demands.proofs.Planned.{plan-in-rows, run-accepted, list-in-rows, reported-sum}
 
@@ -44,6 +42,7 @@ module _ (r : Run) (list : List Detour) (before : Rows) (answer : Answer) (after
   walk-of-list formed same =
       let size = one-time-each _ _ _ (stopsOf r) ∙ stops-length (r .starts) (r .lengths) (r .numbers) (r .counts) same in
       record {
+        number = rw (in-rows, says);
         formed = rw in-rows formed;
         times = rw (in-rows, rows) (take-at (pricedTimes r list) (drop (length (r .numbers)) (before .times)) (length (r .numbers)) size);
         sum = reported-sum r list answer says ∙ ap (listSum (r .turn) (r .head) (stopsOf r)) (sym in-rows);
@@ -73,21 +72,5 @@ demand2-sweep r before answer after plans accepts =
     let plan = plan-in-rows r Sweep before answer after plans accepts in
     list-in-rows r (plan .list) before answer after (plan .says) (plan .rows) ∙ plan .by-rule
 
--- A rule asks for one list.
-by-rule-unique : (rule : Rule) (r : Run) (l l′ : List Detour) → ByRule rule r l → ByRule rule r l′ → l ≡ l′
-by-rule-unique Sweep r l l′ e e′ = e ∙ sym e′
-by-rule-unique Least r l l′ least least′ = least-unique (r .turn) (r .head) (stopsOf r) l l′ least least′
-
 pub demand2-one : Demand2One
-demand2-one r rule before answer answer′ after after′ plans plans′ = go (refuses (planVerdict r before)) refl
-  where
-    go : (b : Bool) → refuses (planVerdict r before) ≡ b → (answer ≡ answer′) × (after ≡ after′)
-    go true e =
-        let refusal = plans .refused e in
-        let refusal′ = plans′ .refused e in
-        (refusal .says ∙ sym (refusal′ .says), refusal .kept ∙ sym (refusal′ .kept))
-    go false e =
-        let plan = plans .planned e in
-        let plan′ = plans′ .planned e in
-        let same = by-rule-unique rule r (plan .list) (plan′ .list) (plan .by-rule) (plan′ .by-rule) in
-        (plan .says ∙ ap (pricedAnswer r) same ∙ sym (plan′ .says), plan .rows ∙ ap (λ l. rowsWith r l before) same ∙ sym (plan′ .rows))
+demand2-one r rule before answer answer′ after after′ plans plans′ = plan-determined r rule before answer answer′ after after′ plans plans′

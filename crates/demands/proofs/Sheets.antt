@@ -4,9 +4,9 @@ use Prim.Native.Nat.{ℕ, zero, suc, _≤_, _<_}
 use mathlib.Core.Path.{_≡_, refl, sym, ap, _∙_}
 use mathlib.Core.Bool.{Bool, true, false, not, _||_, true≢false}
 use mathlib.Core.Logic.{_⊎_, inl, inr, ⊎-elim}
-use mathlib.Core.List.{List, [], _∷_, _++_}
+use mathlib.Core.List.{List, [], _∷_}
 use native.Mathlib.Omega.{arith}
-use lib.ListN.{length, drop}
+use lib.ListN.{length}
 use lib.Dec.{ltb}
 use borrow.Author.Tests.{le-ltb}
 use Rattle.walk.specs.declared.Refusal.{Refusal}
@@ -20,14 +20,14 @@ use Rattle.walk.specs.Detours.{listVerdict}
 use Rattle.walk.proofs.Verdicts.{refuses}
 use Rattle.walk.proofs.Judged.{accepted-run}
 use Rattle.sheets.specs.Text.{isName}
-use Rattle.sheets.specs.Sheet.{longestSheet, mostSheetFiles, firstBadLine, filesOf, wantsOf, headOf, turnOf, ruleOf, runIn}
-use Rattle.sheets.specs.Reading.{sheetVerdict, shortRows, readVerdict, readAnswer, readRow, readName}
+use Rattle.sheets.specs.Sheet.{longestSheet, mostSheetFiles, firstBadLine, filesOf, wantsOf, headOf, turnOf, runIn}
+use Rattle.sheets.specs.Reading.{sheetVerdict, shortRows, readVerdict, readAnswer, readRow}
 use Rattle.sheets.specs.Writing.{sheetText, rowVerdict, writeVerdict, writtenAnswer, writtenRow}
 use Rattle.sheets.specs.PlanSheet.{planText, planVerdict}
 use Rattle.sheets.proofs.Rows.{length-each}
-use Rattle.sheets.proofs.RoundTrip.{ReadsBack, round-trip}
+use Rattle.sheets.proofs.RoundTrip.{round-trip}
 use Rattle.demands.specs.Table.{RunApplies, ListIsBad}
-use Rattle.demands.specs.Sheets.{readOrder, ReadApplies, ReadKept, ReadAnswers, writeOrder, planSheetOrder, WriteApplies, PlanSheetApplies, WriteAnswers, GivesBack, Demand1Read, Demand1Write, Demand1PlanSheet, Demand2RoundTrip}
+use Rattle.demands.specs.Sheets.{readOrder, ReadApplies, ReadAnswers, writeOrder, planSheetOrder, WriteApplies, PlanSheetApplies, WriteAnswers, Demand1Read, Demand1Write, Demand1PlanSheet, Demand2RoundTrip}
 use Rattle.demands.proofs.Tests.{Tells, tells-below, tells-either}
 use Rattle.demands.proofs.Checks.{Decides, refused, passed, decides-if, decides-reworded, Finds, finds-none, finds-first, first-of-joined, none-refuses}
 use Rattle.demands.proofs.Judged.{run-finds}

@@ -21,6 +21,7 @@ listIn answer after = listOf (take (answer .detours) (after .froms)) (take (answ
 
 -- The numbers are those of the walk of that list from the run's head at its price.
 pub record IsTheWalk (r : Run) (answer : Answer) (after : Rows) : Type 0 where
+  pub number : length (listIn answer after) ≡ answer .detours
   pub formed : WellFormed (stopsOf r) (listIn answer after)
   pub times : take (length (r .numbers)) (after .times) ≡ timesOf (r .turn) (headAt (r .head)) (legsOf (stopsOf r) (listIn answer after)) (stopsOf r)
   pub sum : answer .sum ≡ sumOf (r .turn) (headAt (r .head)) (legsOf (stopsOf r) (listIn answer after)) (stopsOf r)

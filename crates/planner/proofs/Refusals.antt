@@ -1,12 +1,12 @@
 -- The planner's refusals in the order of the checks, as the code makes them: the run, then the rows, then the room.
-use Prim.Native.Nat.{ℕ, _+_, _-_, _≤_, _<_}
+use Prim.Native.Nat.{ℕ, _+_, _-_, _≤_}
 use mathlib.Core.Path.{_≡_, refl, sym, _∙_}
 use mathlib.Core.Bool.{Bool, true, false, true≢false}
 use mathlib.Core.List.{List, [], _∷_}
 use native.Mathlib.Omega.{arith}
 use lib.ListN.{length}
 use lib.Dec.{ltb}
-use borrow.Author.Tests.{ltb-false, le-ltb, lt-ltb}
+use borrow.Author.Tests.{ltb-false}
 use Rattle.walk.specs.declared.Refusal.the-variants.{ShortRow, ShortRoom}
 use Rattle.walk.specs.declared.Verdict.{Verdict}
 use Rattle.walk.specs.declared.Answer.{Answer}
@@ -15,7 +15,7 @@ use Rattle.walk.specs.Run.{Run, total}
 use Rattle.walk.specs.Judging.{judgeOf}
 use Rattle.walk.specs.Price.{refusalAnswer}
 use Rattle.walk.proofs.Search.{or-false-both}
-use Rattle.walk.proofs.Verdicts.{refuses, first-refuses, first-passes}
+use Rattle.walk.proofs.Verdicts.{refuses, first-refuses, first-passes, test-says}
 use Rattle.walk.specs.declared.Rule.{Rule}
 use Rattle.planner.specs.Plan.{Rows, Plans, Planned, planVerdict, shortRows, roomSize}
 use Rattle.planner.specs.Table.{LongRows, tableSize, rowsVerdict}
@@ -41,19 +41,16 @@ module _ (r : Run) (rule : Rule) (rows : Rows) where
   after-run = refuseIf (shortRows (length (r .numbers)) rows) ShortRow ∷ refuseIf (ltb (length (rows .room)) (roomSize r)) ShortRoom ∷ []
 
   module _ (v : Verdict) (f : Bool) (v-is : v ≡ judgeOf r) (f-is : f ≡ isRefusal (v .refusal)) where
-    run-says : (b : Bool) → f ≡ b → refuses (judgeOf r) ≡ b
-    run-says b e = rw (← v-is, ← f-is, e)
-
     pub run-refused : f ≡ true → (a : Answer) → a ≡ refusalAnswer v → Plans r rule rows a rows
     unfolding planVerdict after-run
-    run-refused e a s = refused-so v (v-is ∙ first-refuses (judgeOf r) after-run (run-says true e)) (sym f-is ∙ e) a s
+    run-refused e a s = refused-so v (v-is ∙ first-refuses (judgeOf r) after-run (test-says v-is f-is e)) (sym f-is ∙ e) a s
 
     pub run-accepted : f ≡ false → isRefusal (judgeOf r .refusal) ≡ false
-    run-accepted e = run-says false e
+    run-accepted e = test-says v-is f-is e
 
     passes-run : f ≡ false → planVerdict r rows ≡ firstOf after-run
     unfolding planVerdict after-run
-    passes-run e = first-passes (judgeOf r) after-run (run-says false e)
+    passes-run e = first-passes (judgeOf r) after-run (test-says v-is f-is e)
 
     module _ (reads : ℕ) (reads-is : reads ≡ total (r .counts)) (u : Verdict) (u-is : u ≡ rowsVerdict (length (r .numbers)) reads (length (rows .froms)) (length (rows .tos)) (length (rows .times)) (length (rows .room))) (g : Bool) (g-is : g ≡ isRefusal (u .refusal)) (passed : f ≡ false) where
       rows-decide : u ≡ planVerdict r rows

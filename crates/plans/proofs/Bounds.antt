@@ -5,7 +5,7 @@ use native.Mathlib.Decide.{decLe}
 use native.Mathlib.Nat.{mul-le-mul, mul-le-mul-left, le-refl}
 use mathlib.Core.Path.{_≡_}
 use mathlib.Core.Logic.{by-cases}
-use Rattle.plans.proofs.Sums.{W, W-suc, W-rises, win, win-step, W-win, win-within, win-most}
+use Rattle.plans.proofs.Sums.{W, W-suc, W-rises, win, win-step, win-within, win-most}
 use Rattle.plans.proofs.Cost.{early, wait}
 use Rattle.plans.proofs.Value.{value, candidate, value-none, value-least-skip}
 
@@ -30,14 +30,6 @@ module _ (L R C : ℕ → ℕ) (U : ℕ) where
       (value-win B a b (s + C (suc b)) (λ i k. l i (omega arith)))
       (win-step C a b h))
       (λ n. omega (arith, value-none L R C U a (suc b) s (omega arith)))
-
-  -- The plan that skips every stop bounds the value.
-  pub value-bound : (B a b s : ℕ) → ((i : ℕ) → i ≤ b → L i ≤ B) → value L R C U a b s ≤ 2 * B * (W C (suc b) - W C (suc a))
-  value-bound B a b s l =
-      by-cases
-      (decLe a b)
-      (λ h. let e : W C (suc b) - W C (suc a) ≡ win C a b = omega (arith, W-win C a b h) in rw e (value-win B a b s l))
-      (λ n. omega (arith, value-none L R C U a b s (omega arith)))
 
   wait-bound : (B N c b s : ℕ) → R b ≤ B → W C c + s ≤ N → wait L R C U c b s ≤ 2 * (U + B) * N
   wait-bound B N c b s r n = mul-le-mul (omega arith) n

@@ -1,5 +1,5 @@
 -- The list of the table's plan is the least list of a run, and a run has one least list.
-use Prim.Native.Nat.{ℕ, suc, _+_, _≤_, _<_}
+use Prim.Native.Nat.{ℕ, suc, _≤_, _<_}
 use native.Mathlib.Omega.{arith}
 use native.Mathlib.Decide.{decLt}
 use mathlib.Core.Path.{_≡_, refl, ap, sym, _∙_}
@@ -16,11 +16,10 @@ use Rattle.walk.proofs.Sound.{Sound}
 use Rattle.plans.specs.Least.{startFor, Sooner, ComesFirst, listSum, LeastFor}
 use Rattle.plans.proofs.Plan.{Plan, Over, listed, startIn}
 use Rattle.plans.proofs.Rising.{Rises, index-order}
-use Rattle.plans.proofs.Value.{value}
 use Rattle.plans.proofs.Best.{best, best-over}
 use Rattle.plans.proofs.Ties.{PlanFirst, NotBefore, start-bounds}
-use Rattle.plans.proofs.Identity.{runSum, floorSum}
-use Rattle.plans.proofs.LeastPlan.{best-sum, best-sum-least, best-sum-first}
+use Rattle.plans.proofs.Identity.{runSum}
+use Rattle.plans.proofs.LeastPlan.{best-sum-least, best-sum-first}
 use Rattle.plans.proofs.Walks.{fileAt, leftAt, rightAt, countAt, sound-spaced, walk-sum}
 use Rattle.plans.proofs.Lists.{wanted-at, wanted-index, none-wanted, PlanOf, parse, numbers-rise, listed-formed, numbered, numbered-some, table-at-stop, table-off-stops}
 
@@ -126,14 +125,6 @@ module _ (m n : ℕ) (stops : List Stop) (ok : Sound stops m) (size : length sto
       first = chosen-first;
     }
 
-    -- Its sum, by the table.
-    pub least-sum : listSum price m stops (leastList price stops) ≡ floorSum (leftAt stops) (rightAt stops) (countAt stops) price n m + value (leftAt stops) (rightAt stops) (countAt stops) price 0 n 0
-    least-sum =
-        rw
-        (least-list-some price n stops size)
-        (sum-of-plan (bestPlan price stops n) best-over-run
-        ∙ best-sum (leftAt stops) (rightAt stops) (countAt stops) price n m (sound-spaced stops m n ok size) reached)
-
 least-none : (price m : ℕ) → LeastFor price m [] []
 unfolding firstBadEntry firstWhere sumOf
 least-none price m = record {
@@ -145,9 +136,6 @@ least-none price m = record {
 pub least-list : (price m : ℕ) (stops : List Stop) → Sound stops m → LeastFor price m stops (leastList price stops)
 least-list price m [] ok = rw (least-list-none price) (least-none price m)
 least-list price m (s ∷ ss) ok = rw (least-list-some price (length ss) (s ∷ ss) refl) (chosen-least m (length ss) (s ∷ ss) ok refl price)
-
-pub unbeaten-list : (price m : ℕ) (stops : List Stop) → Sound stops m → (list : List Detour) → WellFormed stops list → listSum price m stops (leastList price stops) ≤ listSum price m stops list
-unbeaten-list price m stops ok list v = least-list price m stops ok .smallest list v
 
 -- No start is sooner than itself, and of two lists at most one comes first.
 sooner-itself : (c c′ : ℕ) → c ≡ c′ → Sooner c c′ → ⊥

@@ -1,12 +1,11 @@
 -- What any movement obeys: the floor and pair laws for the times at which a movement reads two stops.
 use Prim.Native.Nat.{ℕ, _+_, _-_, _*_, _≤_}
-use mathlib.Core.Path.{_≡_, refl, ap, subst}
-use mathlib.Core.Bool.{true, false, _||_, and-eq-true-iff}
+use mathlib.Core.Path.{_≡_, subst}
+use mathlib.Core.Bool.{true, false, _||_}
 use mathlib.Core.Logic.{_⊎_, inl, inr, ⊎-elim}
 use mathlib.Core.List.{List, [], _∷_}
 use native.Mathlib.Omega.{arith}
-use lib.Dec.{T, leb}
-use borrow.Author.Tests.{leb-true}
+use lib.Dec.{T}
 use Rattle.walk.specs.declared.Head.{Head}
 use Rattle.walk.specs.declared.Way.{Way}
 use Rattle.walk.specs.declared.Way.the-variants.{Leftward, Rightward}
@@ -14,7 +13,7 @@ use Rattle.walk.specs.Run.{Stop}
 use Rattle.walk.specs.declared.Leg.{Leg}
 use Rattle.walk.proofs.Search.{true-or-false}
 use Rattle.walk.proofs.Steps.{faced-place, lagOf, lag-after-leg, time-in-leg, read-inside}
-use Rattle.walk.specs.Walk.{headAt, otherWay, faced, ready, runRight, setOff, afterLeg, Moves, reads, served, timeOf}
+use Rattle.walk.specs.Walk.{headAt, faced, ready, runRight, setOff, afterLeg, Moves, reads, served, timeOf}
 
 faced-later : (w : Way) (h : Head) (U : ℕ) → h .clock ≤ faced w h U .clock
 faced-later Leftward h U = omega arith

@@ -1,23 +1,22 @@
 -- What the reader answers and leaves in the rows, for each verdict.
-use Prim.Native.Nat.{ℕ, zero, suc, _+_, _-_, _≤_, _<_}
-use mathlib.Core.Path.{_≡_, refl, ap, sym, _∙_, subst}
-use mathlib.Core.Bool.{Bool, true, false, not, cond, _||_, or-true, or-false}
-use mathlib.Core.List.{List, [], _∷_, _++_}
+use Prim.Native.Nat.{ℕ, _+_, _-_, _≤_}
+use mathlib.Core.Path.{_≡_, sym, _∙_, subst}
+use mathlib.Core.Bool.{Bool, true, false, not}
+use mathlib.Core.List.{List, [], _++_}
 use native.Mathlib.Omega.{arith}
 use native.Mathlib.Nat.{zero-add}
 use lib.ListN.{length, take, drop}
 use lib.Dec.{ltb}
-use borrow.Author.Tests.{lt-ltb, le-ltb, not-true, not-false, ltb-false}
+use borrow.Author.Tests.{not-true, not-false, ltb-false}
 use Rattle.walk.specs.declared.Refusal.the-variants.{Accepted, ShortRow}
 use Rattle.walk.specs.declared.Verdict.{Verdict}
-use Rattle.walk.specs.Refusals.{isRefusal, refuseIf, firstOf, accepted}
+use Rattle.walk.specs.Refusals.{isRefusal, accepted}
 use Rattle.walk.proofs.Search.{or-false-both}
-use Rattle.sheets.specs.declared.Reading.{Reading}
 use Rattle.sheets.specs.declared.reader.Top.{Top}
-use Rattle.sheets.specs.Lines.{fileKey, wantKey, lineAfter, firstIn, secondIn, tapeKey, valueText, lineOf, afterLines}
-use Rattle.sheets.specs.Sheet.{headOf, turnOf, ruleOf, filesOf, wantsOf, fileText, wantText, firstBadBelow, firstBadPair, eachOf, runIn, nameIn, shifted, firstSome}
-use Rattle.sheets.specs.Reading.{sheetVerdict, readVerdict, refusedReading, readAnswer, readRow, readName, readFrom, placeOn, shortRows}
-use Rattle.sheets.specs.Parts.{TopIs, BelowIs, LaidOut, LaidRefused, PairsReady, leftRow, rightRow, NamePart}
+use Rattle.sheets.specs.Lines.{fileKey, wantKey, lineAfter, firstIn, secondIn, afterLines}
+use Rattle.sheets.specs.Sheet.{filesOf, wantsOf, fileText, wantText, eachOf, runIn, nameIn}
+use Rattle.sheets.specs.Reading.{readVerdict, refusedReading, readAnswer, readRow, readName, readFrom, placeOn, shortRows}
+use Rattle.sheets.specs.Parts.{LaidOut, LaidRefused, PairsReady, leftRow, rightRow}
 use Rattle.sheets.proofs.Rows.{length-each}
 
 -- A refusal: the answer is the refusal's, and every row stays.

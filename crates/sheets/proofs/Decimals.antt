@@ -1,14 +1,14 @@
 -- A number's own text is a number, and its value is the number.
 use Prim.Native.Nat.{ℕ, zero, suc, _+_, _-_, _*_, _/_, _%_, _^_, _≤_, _<_}
-use mathlib.Core.Path.{_≡_, refl, ap, sym, _∙_, subst}
-use mathlib.Core.Bool.{Bool, true, false, not, cond, _&&_, _||_}
+use mathlib.Core.Path.{_≡_, refl, ap, sym, _∙_}
+use mathlib.Core.Bool.{Bool, true, false, not, _&&_, _||_}
 use mathlib.Core.List.{List, [], _∷_, _++_}
 use native.Mathlib.Omega.{arith}
 use native.Mathlib.Decide.{decLt}
 use lib.ListN.{length, getD}
-use lib.Dec.{ltb, leb, eqb}
+use lib.Dec.{eqb}
 use borrow.Author.Tests.{lt-ltb, le-ltb, le-leb, ne-eqb}
-use Rattle.sheets.specs.Text.{isEmpty, has, allOf, isDigit, valueFrom, valueOf, leadingZero, isNumber, decimalIn, decimal}
+use Rattle.sheets.specs.Text.{has, allOf, isDigit, valueFrom, valueOf, leadingZero, isNumber, decimalIn, decimal}
 use Rattle.sheets.proofs.Bytes.{and-true-both, not-empty}
 
 pub all-append : (kind : ℕ → Bool) (a b : List ℕ) → allOf kind (a ++ b) ≡ (allOf kind a && allOf kind b)

@@ -1,14 +1,13 @@
 -- From line to line: where a line ends, what stands behind its key, and what its reader has found.
-use Prim.Native.Nat.{ℕ, zero, suc, _+_, _-_, _≤_, _<_, min}
+use Prim.Native.Nat.{ℕ, zero, suc, _+_, _-_, _≤_, _<_}
 use mathlib.Core.Path.{_≡_, refl, ap, sym, _∙_, subst}
-use mathlib.Core.Bool.{Bool, true, false, not, cond, _&&_, _||_, and-false}
-use mathlib.Core.List.{List, [], _∷_, _++_}
+use mathlib.Core.Bool.{Bool, true, false, not, and-false}
+use mathlib.Core.List.{List, [], _∷_}
 use native.Mathlib.Omega.{arith}
 use native.Mathlib.Numerals.{add-one}
-use lib.ListN.{length, take, drop, length-drop, length-take}
+use lib.ListN.{length, take, drop, length-drop}
 use lib.Seq.{take-all, drop-drop, length-take-le, drop-nil, take-nil}
-use lib.Dec.{leb, eqb}
-use borrow.Author.Tests.{le-leb, lt-leb, not-true}
+use borrow.Author.Tests.{le-leb, lt-leb}
 use Rattle.walk.specs.declared.Rule.{Rule}
 use Rattle.sheets.specs.declared.text.Found.{Found}
 use Rattle.sheets.specs.declared.text.Number.{Number}
@@ -18,11 +17,11 @@ use Rattle.sheets.specs.declared.lines.Pair.{Pair}
 use Rattle.sheets.specs.declared.lines.PairLine.{PairLine}
 use Rattle.sheets.specs.declared.lines.PairLines.{PairLines}
 use Rattle.walk.specs.Refusals.{firstWhere}
-use Rattle.walk.proofs.Search.{first-none, first-more, first-here, first-done}
-use Rattle.sheets.specs.Text.{lineFeed, comma, isEmpty, has, before, behind, startsWith, isText, isNumber, isName, valueOf}
-use Rattle.sheets.specs.Lines.{lineOf, afterLines, lineAfter, tapeKey, turnKey, ruleKey, leastText, sweepText, valueText, isTapeLine, isNumberLine, numberIn, isCountLine, emptyTurn, isTurnLine, turnIn, isRuleLine, ruleIn, isPair, isPairLine, firstIn, secondIn}
+use Rattle.walk.proofs.Search.{first-more, first-here}
+use Rattle.sheets.specs.Text.{lineFeed, comma, isEmpty, has, before, behind, startsWith, isText, isNumber, isName}
+use Rattle.sheets.specs.Lines.{lineOf, afterLines, lineAfter, tapeKey, turnKey, ruleKey, leastText, sweepText, valueText, isTapeLine, isNumberLine, numberIn, isCountLine, emptyTurn, isTurnLine, turnIn, isRuleLine, ruleIn, isPair, isPairLine}
 use Rattle.sheets.specs.Sheet.{firstBadPair}
-use Rattle.sheets.specs.Parts.{FirstAt, FoundIn, NumberIs, NumberFound, ValueAt, ValueFound, Passed, NamePart, NameLineFound, NumberLineFound, PairIs, PairFound, PairAt, PairLineFound, PairsPassed, PairBad, PairLinesFound}
+use Rattle.sheets.specs.Parts.{FirstAt, FoundIn, NumberIs, NumberFound, ValueAt, ValueFound, Passed, NamePart, NumberLineFound, PairIs, PairFound, PairAt, PairLineFound, PairsPassed, PairBad, PairLinesFound}
 use Rattle.sheets.proofs.Bytes.{not-empty, short-text, begun-long, behind-nowhere}
 
 -- The end of a part is a part of the end.

@@ -1,13 +1,12 @@
 -- What the plan sheet writer answers, step by step: the run, the name, the list as the pricer judges it, the row.
-use Prim.Native.Nat.{ℕ, zero, suc, _+_, _-_, _≤_, _<_}
-use mathlib.Core.Path.{_≡_, refl, ap, sym, _∙_, subst}
-use mathlib.Core.Bool.{Bool, true, false, not, cond}
+use Prim.Native.Nat.{ℕ, suc, _+_, _-_, _≤_}
+use mathlib.Core.Path.{_≡_, refl, ap, sym, _∙_}
+use mathlib.Core.Bool.{Bool, true, false}
 use mathlib.Core.Logic.{⊎-elim, _⊎_}
 use mathlib.Core.List.{List, [], _∷_, _++_}
 use native.Mathlib.Omega.{arith}
-use lib.ListN.{length, take, drop, length-append}
+use lib.ListN.{length, take, drop}
 use lib.Seq.{take-at}
-use lib.Dec.{ltb}
 use borrow.Author.Tests.{le-ltb}
 use Rattle.walk.specs.declared.Refusal.the-variants.{BadName}
 use Rattle.walk.specs.declared.Verdict.{Verdict}
@@ -15,15 +14,16 @@ use Rattle.walk.specs.declared.Answer.{Answer}
 use Rattle.walk.specs.declared.Head.{Head}
 use Rattle.walk.specs.declared.Leg.{Leg}
 use Rattle.walk.specs.Refusals.{isRefusal, firstOf, accepted}
-use Rattle.walk.specs.Run.{Run, Stop, stopsOf, total, mostWants, mostReads}
+use Rattle.walk.specs.Run.{Run, Stop, stopsOf, total, mostWants}
 use Rattle.walk.specs.Judging.{judgeOf}
 use Rattle.walk.specs.Walk.{timesOf}
-use Rattle.walk.specs.Detours.{Detour, listOf, listVerdict}
+use Rattle.walk.specs.Detours.{listOf, listVerdict}
 use Rattle.walk.specs.Price.{refusalAnswer, pricedAnswer, pricedTimes, priceVerdict, priceAnswer, priceRow}
 use Rattle.walk.proofs.Search.{true-or-false}
 use Rattle.walk.proofs.Judged.{GoodRun, accepted-run}
 use Rattle.walk.proofs.Walks.{GoodList, accepted-list, list-fits}
 use Rattle.walk.proofs.Filling.{stops-length}
+use Rattle.walk.proofs.Verdicts.{test-says}
 use Rattle.sheets.specs.Text.{isName}
 use Rattle.sheets.specs.Writing.{rowVerdict}
 use Rattle.sheets.specs.PlanSheet.{planLines, planText, planVerdict}
@@ -37,21 +37,18 @@ times-length price h gs (s ∷ stops) = ap suc (times-length price h gs stops)
 
 -- v is the run's verdict, f whether it refuses, t whether the name is one.
 module _ (name : List ℕ) (run : Run) (froms tos row : List ℕ) (v : Verdict) (f : Bool) (v-is : v ≡ judgeOf run) (f-is : f ≡ isRefusal (v .refusal)) where
-  run-says : (b : Bool) → f ≡ b → isRefusal ((judgeOf run) .refusal) ≡ b
-  run-says b e = rw (← v-is, ← f-is, e)
-
   pub plan-run-refused : f ≡ true → planVerdict name run froms tos row ≡ v
   unfolding planVerdict
-  plan-run-refused e = rw (run-says true e, v-is)
+  plan-run-refused e = rw (test-says v-is f-is e, v-is)
 
   module _ (good : f ≡ false) where
     pub good-run : GoodRun run
-    good-run = accepted-run run (run-says false good)
+    good-run = accepted-run run (test-says v-is f-is good)
 
     module _ (t : Bool) (t-is : t ≡ isName name) where
       pub plan-name-refused : t ≡ false → planVerdict name run froms tos row ≡ record { refusal = BadName; place = 0 }
       unfolding planVerdict
-      plan-name-refused e = rw (run-says false good, ← t-is, e)
+      plan-name-refused e = rw (test-says v-is f-is good, ← t-is, e)
 
       -- a is what the pricer answered with a row for times that is long enough, g whether that refuses.
       module _ (named : t ≡ true) (times : List ℕ) (room : mostWants ≤ length times) (a : Answer) (a-is : a ≡ priceAnswer run froms tos times)
@@ -61,7 +58,7 @@ module _ (name : List ℕ) (run : Run) (froms tos row : List ℕ) (v : Verdict) 
 
         price-verdict : priceVerdict run froms tos times ≡ firstOf (list ∷ accepted ∷ [])
         unfolding priceVerdict list
-        price-verdict = rw (run-says false good, le-ltb (length times) (length (run .numbers)) (omega (arith, good-run .wants .few)))
+        price-verdict = rw (test-says v-is f-is good, le-ltb (length times) (length (run .numbers)) (omega (arith, good-run .wants .few)))
 
         priced-refused : isRefusal (list .refusal) ≡ true → a ≡ refusalAnswer list
         unfolding priceAnswer
@@ -82,7 +79,7 @@ module _ (name : List ℕ) (run : Run) (froms tos row : List ℕ) (v : Verdict) 
         pub plan-list-refused : g ≡ true → planVerdict name run froms tos row ≡ record { refusal = a .refusal; place = a .place }
         unfolding planVerdict list
         plan-list-refused e =
-            rw (run-says false good, ← t-is, named, list-says ∙ e) (ap (λ x. record { refusal = x .refusal; place = x .place }) (sym (priced-refused (list-says ∙ e))))
+            rw (test-says v-is f-is good, ← t-is, named, list-says ∙ e) (ap (λ x. record { refusal = x .refusal; place = x .place }) (sym (priced-refused (list-says ∙ e))))
 
         module _ (fine : g ≡ false) where
           pub good-list : GoodList (run .numbers) froms tos
@@ -91,7 +88,7 @@ module _ (name : List ℕ) (run : Run) (froms tos row : List ℕ) (v : Verdict) 
 
           pub plan-last : planVerdict name run froms tos row ≡ rowVerdict (planText name run froms tos) row
           unfolding planVerdict list
-          plan-last = rw (run-says false good, ← t-is, named, list-says ∙ fine) (last-verdict (planText name run froms tos) row)
+          plan-last = rw (test-says v-is f-is good, ← t-is, named, list-says ∙ fine) (last-verdict (planText name run froms tos) row)
 
           -- The times that the pricer left in the row.
           module _ (times′ : List ℕ) (times-are : times′ ≡ priceRow run froms tos times) where

@@ -1,17 +1,15 @@
 -- Reading what was written, line by line.
 use Prim.Native.Nat.{ℕ, zero, suc, _+_, _-_, _^_, _≤_, _<_}
-use mathlib.Core.Path.{_≡_, refl, ap, sym, _∙_, subst}
-use mathlib.Core.Bool.{Bool, true, false, not, cond, _&&_, _||_}
+use mathlib.Core.Path.{_≡_, refl, ap, sym, _∙_}
+use mathlib.Core.Bool.{Bool, true, false, not}
 use mathlib.Core.List.{List, [], _∷_, _++_, append-assoc, append-nil}
 use native.Mathlib.Omega.{arith}
-use native.Mathlib.Numerals.{add-one}
-use lib.ListN.{length, getD, take, drop, length-append}
+use lib.ListN.{length, getD, take}
 use lib.Seq.{drop-append-seam, take-suc, take-length}
-use lib.Dec.{ltb, leb, eqb}
+use lib.Dec.{eqb}
 use borrow.Author.Tests.{eq-eqb, le-leb}
-use Rattle.walk.specs.Refusals.{firstWhere}
 use Rattle.walk.proofs.Search.{or-false-both, first-all}
-use Rattle.sheets.specs.Text.{lineFeed, comma, isDigit, has, before, behind, startsWith, isText, isNumber, valueOf, decimal}
+use Rattle.sheets.specs.Text.{lineFeed, comma, has, before, behind, startsWith, isText, valueOf, decimal}
 use Rattle.sheets.specs.Lines.{lineOf, afterLines, lineAfter, valueText, isNumberLine, numberIn, isCountLine, isPair, isPairLine, firstIn, secondIn}
 use Rattle.sheets.specs.Sheet.{firstBadPair, eachOf}
 use Rattle.sheets.specs.Writing.{line, pairText, pairLine, pairLines}

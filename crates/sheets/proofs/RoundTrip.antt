@@ -1,19 +1,18 @@
 -- Reading what the run sheet writer wrote for an accepted run within the sheet's limits gives that run, name and rule included;
 -- and that sheet is never too long.
 use Prim.Native.Nat.{ℕ, zero, suc, _+_, _-_, _*_, _^_, _≤_, _<_}
-use mathlib.Core.Path.{_≡_, refl, ap, sym, _∙_, subst}
-use mathlib.Core.Bool.{Bool, true, false, not, cond, _&&_, _||_}
+use mathlib.Core.Path.{_≡_, refl, ap, sym, _∙_}
+use mathlib.Core.Bool.{true, false, not, cond, _&&_, _||_}
 use mathlib.Core.List.{List, [], _∷_, _++_, append-assoc, append-nil}
 use native.Mathlib.Omega.{arith}
 use lib.ListN.{length, getD, length-append}
-use lib.Dec.{leb}
-use borrow.Author.Tests.{leb-true, le-ltb}
+use borrow.Author.Tests.{le-ltb}
 use Rattle.walk.specs.Refusals.{isRefusal, accepted}
-use Rattle.walk.specs.Run.{Run, total, mostWants, mostReads, lastPlace}
+use Rattle.walk.specs.Run.{Run, total, mostWants}
 use Rattle.walk.specs.Judging.{judgeOf, badFile}
 use Rattle.walk.proofs.Search.{first-zero}
 use Rattle.walk.proofs.Accepted.{GoodFile, good-file}
-use Rattle.walk.proofs.Judged.{GoodRun, accepted-run}
+use Rattle.walk.proofs.Judged.{accepted-run}
 use Rattle.walk.specs.declared.Rule.{Rule}
 use Rattle.walk.specs.declared.Rule.the-variants.{Sweep, Least}
 use Rattle.sheets.specs.Text.{lineFeed, has, behind, isName, isNameByte, between, allOf, isEmpty, startsWith, isNumber, decimal}
@@ -25,7 +24,7 @@ use Rattle.sheets.proofs.Bytes.{and-true-both, not-empty}
 use Rattle.sheets.proofs.Pages.{decimal-short}
 use Rattle.sheets.proofs.Decimals.{has-none, decimal-without, decimal-some, decimal-number, decimal-value}
 use Rattle.sheets.proofs.Sheets.{name-length}
-use Rattle.sheets.proofs.Reread.{line-first, line-behind, key-begins, key-value, text-same, number-back, value-back, count-back, pairs-behind, pairs-good, firsts-back, seconds-back}
+use Rattle.sheets.proofs.Reread.{line-first, line-behind, key-begins, key-value, number-back, value-back, count-back, pairs-behind, pairs-good, firsts-back, seconds-back}
 
 -- Every entry of a row is below 2 to the 64.
 abbrev pub SmallRow : List ℕ → Type 0

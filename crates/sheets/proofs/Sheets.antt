@@ -1,7 +1,7 @@
 -- What the run sheet writer answers and leaves in the row, step by step.
-use Prim.Native.Nat.{ℕ, zero, suc, _+_, _-_, _≤_, _<_}
-use mathlib.Core.Path.{_≡_, refl, ap, sym, _∙_, subst}
-use mathlib.Core.Bool.{Bool, true, false, not, cond, _&&_, _||_, or-true}
+use Prim.Native.Nat.{ℕ, _+_, _-_, _≤_, _<_}
+use mathlib.Core.Path.{_≡_, refl, ap, sym, _∙_}
+use mathlib.Core.Bool.{Bool, true, false, or-true}
 use mathlib.Core.List.{List, [], _∷_, _++_}
 use native.Mathlib.Omega.{arith}
 use lib.ListN.{length, take, drop, take-append-drop}
@@ -10,10 +10,11 @@ use borrow.Author.Tests.{lt-ltb, le-ltb, leb-true}
 use Rattle.walk.specs.declared.Refusal.the-variants.{Accepted, BadName, ShortRow}
 use Rattle.walk.specs.declared.Verdict.{Verdict}
 use Rattle.walk.specs.Refusals.{isRefusal, refuseIf, firstOf, accepted}
-use Rattle.walk.specs.Run.{Run, mostWants}
+use Rattle.walk.specs.Run.{Run}
 use Rattle.walk.specs.Judging.{judgeOf}
-use Rattle.walk.proofs.Judged.{GoodRun, accepted-run}
+use Rattle.walk.proofs.Judged.{accepted-run}
 use Rattle.walk.specs.declared.Rule.{Rule}
+use Rattle.walk.proofs.Verdicts.{test-says}
 use Rattle.sheets.specs.declared.Written.{Written}
 use Rattle.sheets.specs.Text.{isName, isNameByte, allOf, between}
 use Rattle.sheets.specs.Sheet.{longestSheet, mostSheetFiles}
@@ -82,30 +83,27 @@ name-length name e =
 
 -- The steps of the judging: v is the run's verdict, f whether it refuses, t whether the name is one.
 module _ (name : List ℕ) (rule : Rule) (run : Run) (row : List ℕ) (v : Verdict) (f : Bool) (v-is : v ≡ judgeOf run) (f-is : f ≡ isRefusal (v .refusal)) where
-  run-says : (b : Bool) → f ≡ b → isRefusal ((judgeOf run) .refusal) ≡ b
-  run-says b e = rw (← v-is, ← f-is, e)
-
   pub run-refuses : f ≡ true → isRefusal (v .refusal) ≡ true
   run-refuses e = sym f-is ∙ e
 
   pub run-refused : f ≡ true → writeVerdict name rule run row ≡ v
   unfolding writeVerdict
-  run-refused e = rw (run-says true e, v-is)
+  run-refused e = rw (test-says v-is f-is e, v-is)
 
   module _ (good : f ≡ false) where
     pub files-over : mostSheetFiles < length (run .starts) → writeVerdict name rule run row ≡ record { refusal = BadName; place = 0 }
     unfolding writeVerdict
-    files-over l = rw (run-says false good, lt-ltb mostSheetFiles (length (run .starts)) l)
+    files-over l = rw (test-says v-is f-is good, lt-ltb mostSheetFiles (length (run .starts)) l)
 
     module _ (t : Bool) (t-is : t ≡ isName name) where
       pub name-refused : t ≡ false → writeVerdict name rule run row ≡ record { refusal = BadName; place = 0 }
       unfolding writeVerdict
-      name-refused e = rw (run-says false good, ← t-is, e, or-true)
+      name-refused e = rw (test-says v-is f-is good, ← t-is, e, or-true)
 
       module _ (few : length (run .starts) ≤ mostSheetFiles) (named : t ≡ true) where
         pub sheet-fits : (page : List ℕ) → longestSheet ≤ length page → SheetFits page name (run .starts) (run .lengths) (run .numbers) (run .counts)
         sheet-fits page room =
-            let g = accepted-run run (run-says false good) in
+            let g = accepted-run run (test-says v-is f-is good) in
             record {
               room = room;
               short = name-length name (sym t-is ∙ named);
@@ -117,4 +115,4 @@ module _ (name : List ℕ) (rule : Rule) (run : Run) (row : List ℕ) (v : Verdi
 
         pub sheet-last : writeVerdict name rule run row ≡ rowVerdict (sheetText name rule run) row
         unfolding writeVerdict
-        sheet-last = rw (run-says false good, ← t-is, named, le-ltb mostSheetFiles (length (run .starts)) few) (last-verdict (sheetText name rule run) row)
+        sheet-last = rw (test-says v-is f-is good, ← t-is, named, le-ltb mostSheetFiles (length (run .starts)) few) (last-verdict (sheetText name rule run) row)

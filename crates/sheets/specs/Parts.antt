@@ -1,8 +1,8 @@
 -- What the functions that read parts of a sheet find, by cases of their answers. No public contract cites this file.
-use Prim.Native.Nat.{ℕ, suc, zero, _+_, _-_, _≤_, _<_}
+use Prim.Native.Nat.{ℕ, _+_, _-_, _≤_, _<_}
 use mathlib.Core.Path.{_≡_}
-use mathlib.Core.Bool.{Bool, true, false, _&&_}
-use mathlib.Core.List.{List, [], _∷_, _++_}
+use mathlib.Core.Bool.{Bool, true, false}
+use mathlib.Core.List.{List, _++_}
 use lib.ListN.{length, take, drop}
 use Rattle.walk.specs.declared.Verdict.{Verdict}
 use Rattle.walk.specs.Refusals.{isRefusal, accepted}

@@ -1,6 +1,6 @@
 -- The text of a plan sheet, what the plan sheet writer answers, for every input, and the row that it leaves (with Writing's `writtenAnswer` and `writtenRow`).
 use Prim.Native.Nat.{ℕ}
-use mathlib.Core.Bool.{Bool, not}
+use mathlib.Core.Bool.{not}
 use mathlib.Core.List.{List, [], _∷_, _++_}
 use Rattle.walk.specs.declared.Refusal.the-variants.{BadName}
 use Rattle.walk.specs.declared.Verdict.{Verdict}

@@ -1,6 +1,5 @@
 -- What the sheet reader answers, for every input of bytes, and the rows that it leaves.
 use Prim.Native.Nat.{ℕ, _+_}
-use mathlib.Core.Path.{_≡_}
 use mathlib.Core.Bool.{Bool, cond, _||_}
 use mathlib.Core.List.{List, [], _∷_, _++_}
 use lib.ListN.{length, drop}
@@ -11,7 +10,7 @@ use Rattle.walk.specs.Refusals.{isRefusal, refuseIf, refuseAt, firstOf}
 use Rattle.walk.specs.declared.Rule.the-variants.{Least}
 use Rattle.sheets.specs.declared.Reading.{Reading}
 use Rattle.sheets.specs.Lines.{tapeKey}
-use Rattle.sheets.specs.Sheet.{longestSheet, headOf, turnOf, ruleOf, filesOf, wantsOf, firstBadLine, runIn, nameIn}
+use Rattle.sheets.specs.Sheet.{longestSheet, headOf, turnOf, ruleOf, filesOf, wantsOf, firstBadLine, nameIn}
 
 -- 12, then 11 with its line.
 unfoldable pub sheetVerdict : List ℕ → Verdict

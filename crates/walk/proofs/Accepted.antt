@@ -1,8 +1,8 @@
 -- The loops that look for a bad file and a bad want, and what is known of a file or a want that is not bad.
-use Prim.Native.Nat.{ℕ, zero, suc, _+_, _-_, _≤_, _<_}
-use mathlib.Core.Path.{_≡_, refl, ap, sym, _∙_}
+use Prim.Native.Nat.{ℕ, _+_, _-_, _≤_, _<_}
+use mathlib.Core.Path.{_≡_, sym, _∙_}
 use mathlib.Core.Bool.{Bool, true, false, _||_}
-use mathlib.Core.List.{List, [], _∷_}
+use mathlib.Core.List.{List}
 use native.Mathlib.Omega.{arith}
 use native.Mathlib.Numerals.{add-one}
 use lib.ListN.{length, getD, drop, drop-of-length-le}
@@ -12,7 +12,7 @@ use borrow.Author.Tests.{eqb-false, ltb-false, leb-false, lt-ltb, le-ltb}
 use Rattle.walk.specs.Refusals.{firstWhere}
 use Rattle.walk.specs.Run.{endAt, lastPlace, mostReads, total}
 use Rattle.walk.specs.Judging.{badFile, badWant, endBefore, numberBefore}
-use Rattle.walk.proofs.Search.{first-none, first-more, first-here, or-false-both}
+use Rattle.walk.proofs.Search.{first-more, first-here, or-false-both}
 
 -- A test of `==` that fails against 0.
 not-zero : (n : ℕ) → eqb n 0 ≡ false → 0 < n

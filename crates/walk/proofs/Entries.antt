@@ -1,17 +1,17 @@
 -- A detour list read off its two rows: the entries, the rules, and the loops that look for a bad one.
 use Prim.Native.Nat.{ℕ, zero, suc, _+_, _-_, _≤_, _<_}
 use mathlib.Core.Path.{_≡_, refl, ap, sym, _∙_}
-use mathlib.Core.Bool.{Bool, true, false, not, _||_, cond, true≢false, or-true}
+use mathlib.Core.Bool.{Bool, true, false, not, _||_, true≢false, or-true}
 use mathlib.Core.List.{List, [], _∷_}
 use native.Mathlib.Omega.{arith}
 use native.Mathlib.Numerals.{add-one}
 use lib.ListN.{length, getD, drop, drop-of-length-le}
 use lib.Seq.{drop-cons}
-use lib.Dec.{ltb, leb, eqb}
-use borrow.Author.Tests.{eqb-true, eq-eqb, ne-eqb}
+use lib.Dec.{eqb}
+use borrow.Author.Tests.{eq-eqb, ne-eqb}
 use Rattle.walk.specs.Refusals.{firstWhere}
-use Rattle.walk.specs.Run.{Stop, stopOf, stopsFrom}
-use Rattle.walk.specs.Detours.{Detour, listOf, wanted, startOf, endOf, leftmost, badAlone, badAfter, badEntry, anyBelow, entryOf, firstBadEntry, listVerdict}
+use Rattle.walk.specs.Run.{stopsFrom}
+use Rattle.walk.specs.Detours.{listOf, wanted, leftmost, badAfter, badEntry, anyBelow, entryOf, firstBadEntry}
 use Rattle.walk.specs.Rows.{listed, rowEntry, rowAlone, rowClash, rowBad}
 use Rattle.walk.proofs.Search.{first-same, any-same, first-more, first-here, any-none, any-more, any-here, any-done}
 

@@ -1,7 +1,7 @@
 -- Filling the row of times and adding up the sum: what is done with what is left is the whole, and nothing wraps.
 use Prim.Native.Nat.{ℕ, zero, suc, _+_, _-_, _*_, _≤_, _<_, _^_}
-use mathlib.Core.Path.{_≡_, refl, ap, sym, _∙_}
-use mathlib.Core.Bool.{Bool, true, false, cond}
+use mathlib.Core.Path.{_≡_, refl, ap, _∙_}
+use mathlib.Core.Bool.{true, false}
 use mathlib.Core.Logic.{⊎-elim}
 use mathlib.Core.List.{List, [], _∷_, _++_, append-assoc, append-nil}
 use native.Mathlib.Omega.{arith}
@@ -12,10 +12,10 @@ use lib.Seq.{drop-cons, take-suc-set, drop-set-lt, drop-drop}
 use Rattle.walk.specs.declared.Head.{Head}
 use Rattle.walk.specs.declared.Leg.{Leg}
 use Rattle.walk.specs.Run.{Stop, stopOf, stopsFrom, total, mostReads, lastPlace, highestTurn}
-use Rattle.walk.specs.Walk.{headAt, runRight, setOff, afterLeg, Moves, walked, reads, timeOf, timesOf, sumOf}
+use Rattle.walk.specs.Walk.{headAt, setOff, afterLeg, Moves, walked, reads, timeOf, timesOf, sumOf}
 use Rattle.walk.specs.Rows.{legAt, Walkable}
 use Rattle.walk.proofs.Search.{true-or-false}
-use Rattle.walk.proofs.Accepted.{total-drop, total-end}
+use Rattle.walk.proofs.Accepted.{total-drop}
 use Rattle.walk.proofs.Steps.{set-off-clock, read-inside}
 use Rattle.walk.proofs.Legs.{legMost}
 

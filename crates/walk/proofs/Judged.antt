@@ -1,20 +1,19 @@
 -- What each part of the judging decides, and what an accepted run is.
-use Prim.Native.Nat.{ℕ, zero, suc, _≤_, _<_}
-use mathlib.Core.Path.{_≡_, refl, ap, sym, _∙_}
-use mathlib.Core.Bool.{Bool, true, false, not, cond, _||_}
+use Prim.Native.Nat.{ℕ, _≤_, _<_}
+use mathlib.Core.Path.{_≡_, refl, sym, _∙_}
+use mathlib.Core.Bool.{Bool, true, false, not, _||_}
 use mathlib.Core.List.{List, [], _∷_}
 use lib.ListN.{length, getD}
-use lib.Dec.{ltb, leb, eqb}
+use lib.Dec.{ltb, eqb}
 use borrow.Author.Tests.{eqb-true, ltb-false, not-false}
-use Rattle.walk.specs.declared.Refusal.{Refusal}
 use Rattle.walk.specs.declared.Refusal.the-variants.{FileRows, BadFile, WantRows, BadWant, TooManyReads, TurnPrice, HeadPlace}
 use Rattle.walk.specs.declared.Verdict.{Verdict}
 use Rattle.walk.specs.Refusals.{isRefusal, firstOf}
 use Rattle.walk.specs.Run.{Run, runOf, stopsOf, rightEnd, total, mostFiles, mostWants, mostReads, lastPlace, highestTurn}
-use Rattle.walk.specs.Judging.{badFile, badWant, tableChecks, wantsChecks, headChecks, judgeOf}
+use Rattle.walk.specs.Judging.{badWant, tableChecks, wantsChecks, headChecks, judgeOf}
 use Rattle.walk.specs.Rows.{SoundTable, InTable}
 use Rattle.walk.proofs.Search.{first-zero, or-false-both}
-use Rattle.walk.proofs.Verdicts.{refuses, first-refuses, first-passes, first-alone, AllAccept, all-accept, accepts-if, accepts-at}
+use Rattle.walk.proofs.Verdicts.{refuses, first-refuses, first-passes, first-alone, all-accept, accepts-if, accepts-at}
 use Rattle.walk.proofs.Accepted.{GoodWant, good-want}
 
 -- Two rows of one length, at most so many.

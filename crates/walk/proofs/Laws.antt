@@ -1,21 +1,19 @@
 -- Laws for the crates above: an accepted run's stops are sound, the walk of any list reads every wanted file, a file read by the
 -- first leg from its own start has 01's time, and for an accepted run and list every time and sum is far below what a word holds.
 use Prim.Native.Nat.{ℕ, zero, suc, _+_, _-_, _*_, _≤_, _<_, _^_}
-use mathlib.Core.Path.{_≡_, refl, ap, sym, _∙_}
-use mathlib.Core.Bool.{Bool, true, false, cond, _||_, _&&_, or-true}
+use mathlib.Core.Path.{_≡_, refl, sym}
+use mathlib.Core.Bool.{true, false, or-true}
 use mathlib.Core.List.{List, [], _∷_, _++_, map}
 use native.Mathlib.Omega.{arith}
 use native.Mathlib.Nat.{mul-le-mul-left}
 use native.Mathlib.Decide.{decLt}
 use mathlib.Core.Logic.{by-cases}
 use lib.ListN.{length, getD}
-use lib.Dec.{T, leb}
 use borrow.Author.Tests.{le-leb}
-use Rattle.walk.specs.declared.Head.{Head}
 use Rattle.walk.specs.declared.Leg.{Leg}
 use Rattle.walk.specs.Run.{Run, Stop, stopOf, stopsFrom, stopsOf, rightEnd, endAt, total}
 use Rattle.walk.specs.Judging.{judgeOf}
-use Rattle.walk.specs.Walk.{headAt, runRight, setOff, afterLeg, reads, served, ServesAll, walked, timeOf, sumOf}
+use Rattle.walk.specs.Walk.{headAt, reads, served, ServesAll, timeOf, sumOf}
 use Rattle.walk.specs.Detours.{Detour, listOf, listVerdict, legOf, lastSweep, legsOf}
 use Rattle.walk.specs.Price.{pricedAnswer}
 use Rattle.walk.specs.Rows.{InTable, rowLegs, Walkable}

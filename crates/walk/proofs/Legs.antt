@@ -1,17 +1,17 @@
 -- The legs of a list as the rows hold them, and a walk over them within the limits: no clock wraps, and each step is the machine's.
 use Prim.Native.Nat.{ℕ, zero, suc, _+_, _-_, _*_, _≤_, _<_, _^_}
 use mathlib.Core.Path.{_≡_, refl, ap, sym, _∙_}
-use mathlib.Core.Bool.{Bool, true, false, not, _||_, _&&_, cond}
-use mathlib.Core.List.{List, [], _∷_, _++_}
+use mathlib.Core.Bool.{Bool, true, false, _&&_}
+use mathlib.Core.List.{List, [], _∷_}
 use native.Mathlib.Omega.{arith}
 use native.Mathlib.Numerals.{add-one}
 use lib.ListN.{length, getD, drop, length-append, drop-of-length-le, List·getD-append}
-use lib.Seq.{drop-cons, getD-append-add, drop-length}
-use lib.Dec.{ltb, leb, eqb}
+use lib.Seq.{drop-cons, getD-append-add}
+use lib.Dec.{leb}
 use Rattle.walk.specs.declared.Head.{Head}
 use Rattle.walk.specs.declared.Leg.{Leg}
-use Rattle.walk.specs.Run.{Stop, endAt, mostWants, lastPlace, highestTurn}
-use Rattle.walk.specs.Walk.{headAt, runRight, setOff, afterLeg, Moves, walked, reads, timeOf}
+use Rattle.walk.specs.Run.{Stop, endAt, lastPlace}
+use Rattle.walk.specs.Walk.{headAt, runRight, setOff, afterLeg, Moves, walked, timeOf}
 use Rattle.walk.specs.Rows.{detourLegs, sweepLegs, rowLegs, legAt, Walkable}
 use Rattle.walk.proofs.Steps.{ready-place, set-off-clock, read-inside}
 

@@ -1,7 +1,7 @@
 -- The pricer's answer, as the code comes to it: the first refusal, or the walk's numbers.
 use Prim.Native.Nat.{ℕ, _≤_, _<_}
-use mathlib.Core.Path.{_≡_, refl, ap, sym, _∙_}
-use mathlib.Core.Bool.{Bool, true, false, cond}
+use mathlib.Core.Path.{_≡_, refl, sym, _∙_}
+use mathlib.Core.Bool.{Bool, true, false}
 use mathlib.Core.List.{List, [], _∷_, _++_}
 use lib.ListN.{length, drop}
 use lib.Dec.{ltb}
@@ -11,16 +11,16 @@ use Rattle.walk.specs.declared.Verdict.{Verdict}
 use Rattle.walk.specs.declared.Answer.{Answer}
 use Rattle.walk.specs.declared.Head.{Head}
 use Rattle.walk.specs.Refusals.{isRefusal, refuseIf, firstOf}
-use Rattle.walk.specs.Run.{Run, stopsOf, total, mostReads}
+use Rattle.walk.specs.Run.{Run, stopsOf}
 use Rattle.walk.specs.Judging.{judgeOf}
 use Rattle.walk.specs.Walk.{headAt, walked, timesOf, sumOf}
-use Rattle.walk.specs.Detours.{listOf, listVerdict, legsOf}
+use Rattle.walk.specs.Detours.{listVerdict}
 use Rattle.walk.specs.Price.{refusalAnswer, pricedAnswer, pricedTimes, priceVerdict, priceAnswer, priceRow}
-use Rattle.walk.specs.Rows.{rowLegs, RowsFit, Walkable}
-use Rattle.walk.proofs.Verdicts.{refuses, first-refuses, first-passes}
+use Rattle.walk.specs.Rows.{rowLegs}
+use Rattle.walk.proofs.Verdicts.{refuses, first-refuses, first-passes, test-says}
 use Rattle.walk.proofs.Judged.{GoodRun, accepted-run}
 use Rattle.walk.proofs.Entries.{length-list}
-use Rattle.walk.proofs.Walks.{GoodList, accepted-list, legs-in-rows, rows-fit, walkable, list-fits}
+use Rattle.walk.proofs.Walks.{GoodList, accepted-list, legs-in-rows}
 
 module _ (r : Run) (froms tos row : List ℕ) where
   -- What the contract says of an answer and of the row at exit.
@@ -38,19 +38,16 @@ module _ (r : Run) (froms tos row : List ℕ) where
   after-list = refuseIf (ltb (length row) (length (r .numbers))) ShortRow ∷ []
 
   module _ (v : Verdict) (f : Bool) (v-is : v ≡ judgeOf r) (f-is : f ≡ isRefusal (v .refusal)) where
-    run-says : (b : Bool) → f ≡ b → refuses (judgeOf r) ≡ b
-    run-says b e = rw (← v-is, ← f-is, e)
-
     pub run-refused : f ≡ true → (a : Answer) → a ≡ refusalAnswer v → Answers a row
     unfolding priceVerdict after-run
-    run-refused e a is = rw is (refused-so v (v-is ∙ first-refuses (judgeOf r) after-run (run-says true e)) (sym f-is ∙ e))
+    run-refused e a is = rw is (refused-so v (v-is ∙ first-refuses (judgeOf r) after-run (test-says v-is f-is e)) (sym f-is ∙ e))
 
     pub run-good : f ≡ false → GoodRun r
-    run-good e = accepted-run r (run-says false e)
+    run-good e = accepted-run r (test-says v-is f-is e)
 
     passes-run : f ≡ false → priceVerdict r froms tos row ≡ firstOf after-run
     unfolding priceVerdict after-run
-    passes-run e = first-passes (judgeOf r) after-run (run-says false e)
+    passes-run e = first-passes (judgeOf r) after-run (test-says v-is f-is e)
 
     module _ (w : Verdict) (g : Bool) (w-is : w ≡ listVerdict (stopsOf r) froms tos) (g-is : g ≡ isRefusal (w .refusal)) where
       list-says : (b : Bool) → g ≡ b → refuses (listVerdict (stopsOf r) froms tos) ≡ b

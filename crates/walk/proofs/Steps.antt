@@ -11,7 +11,7 @@ use Rattle.walk.specs.declared.Leg.{Leg}
 use Rattle.walk.specs.declared.Way.{Way}
 use Rattle.walk.specs.declared.Way.the-variants.{Leftward, Rightward}
 use Rattle.walk.specs.Run.{Stop}
-use Rattle.walk.specs.Walk.{headAt, otherWay, runRight, faced, ready, setOff, afterLeg, reads, timeOf}
+use Rattle.walk.specs.Walk.{otherWay, runRight, faced, ready, setOff, afterLeg, reads}
 
 -- To face left the head stays where it is, and pays at most one turn.
 pub faced-place : (w : Way) (h : Head) (price : ℕ) → faced w h price .place ≡ h .place

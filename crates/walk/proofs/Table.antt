@@ -1,16 +1,13 @@
 -- The table of an accepted run: its files do not overlap, so starts and ends rise with the number; and the stops read off it.
-use Prim.Native.Nat.{ℕ, zero, suc, _+_, _-_, _≤_, _<_}
-use mathlib.Core.Path.{_≡_, refl, ap, sym, _∙_}
-use mathlib.Core.Bool.{Bool, true, false, _||_, cond}
+use Prim.Native.Nat.{ℕ, zero, suc, _-_, _≤_, _<_}
+use mathlib.Core.Path.{_≡_, refl, sym}
 use mathlib.Core.List.{List, [], _∷_}
 use mathlib.Core.Logic.{⊎-elim}
 use native.Mathlib.Omega.{arith}
 use native.Mathlib.Nat.{eq-or-lt-of-le}
 use lib.ListN.{length, getD}
-use lib.Dec.{ltb, leb, eqb}
-use Rattle.walk.specs.Refusals.{firstWhere}
-use Rattle.walk.specs.Run.{Stop, stopOf, stopsFrom, endAt, lastPlace, rightEnd}
-use Rattle.walk.specs.Judging.{badFile, endBefore}
+use Rattle.walk.specs.Run.{stopsFrom, endAt, rightEnd}
+use Rattle.walk.specs.Judging.{badFile}
 use Rattle.walk.specs.Rows.{SoundTable, InTable}
 use Rattle.walk.proofs.Search.{first-zero}
 use Rattle.walk.proofs.Accepted.{GoodFile, good-file}

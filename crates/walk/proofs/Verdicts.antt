@@ -1,11 +1,11 @@
 -- A row of checks: what the first refusal is, step by step, and what acceptance says of each check.
-use Prim.Native.Nat.{ℕ, zero, suc, _<_}
-use mathlib.Core.Path.{_≡_, refl, ap, sym, _∙_}
-use mathlib.Core.Bool.{Bool, true, false, not, cond, true≢false}
+use Prim.Native.Nat.{ℕ, zero, suc}
+use mathlib.Core.Path.{_≡_, refl, sym, _∙_}
+use mathlib.Core.Bool.{Bool, true, false, not, true≢false}
 use mathlib.Core.List.{List, [], _∷_}
 use Rattle.walk.specs.declared.Refusal.{Refusal}
 use Rattle.walk.specs.declared.Verdict.{Verdict}
-use Rattle.walk.specs.Refusals.{isRefusal, refuseIf, refuseAt, firstOf, accepted}
+use Rattle.walk.specs.Refusals.{isRefusal, refuseIf, refuseAt, firstOf}
 
 -- A verdict is a refusal or not.
 abbrev pub refuses : Verdict → Bool
@@ -14,6 +14,10 @@ refuses v = isRefusal (v .refusal)
 pub refuse-at : (p : ℕ) (k : Refusal) → (p ≡ 0 → ⊥) → refuseAt p k ≡ record { refusal = k; place = p }
 refuse-at zero k some = absurd (some refl)
 refuse-at (suc p) k some = refl
+
+-- A test of a verdict says whether it refuses.
+pub test-says : {v w : Verdict} {f b : Bool} → v ≡ w → f ≡ refuses v → f ≡ b → refuses w ≡ b
+test-says v-is f-is e = rw (← v-is, ← f-is, e)
 
 -- The first check refuses, and that is the verdict; or it does not, and the others decide.
 pub first-refuses : (v : Verdict) (vs : List Verdict) → refuses v ≡ true → v ≡ firstOf (v ∷ vs)

@@ -1,29 +1,27 @@
 -- From an accepted run and an accepted list to a walk within the limits: the list is short, its legs are a movement, and the rows hold them.
 use Prim.Native.Nat.{ℕ, zero, suc, _+_, _-_, _≤_, _<_}
 use mathlib.Core.Path.{_≡_, refl, ap, sym, _∙_}
-use mathlib.Core.Bool.{Bool, true, false, not, cond, _||_, true≢false}
+use mathlib.Core.Bool.{true, false, not, true≢false}
 use mathlib.Core.Logic.{⊎-elim}
-use mathlib.Core.List.{List, [], _∷_, _++_, map}
+use mathlib.Core.List.{List, [], _∷_, map}
 use native.Mathlib.Omega.{arith}
 use native.Mathlib.Nat.{eq-or-lt-of-le, le-of-suc-le-suc}
 use native.Mathlib.Decide.{decLt}
 use lib.ListN.{length, getD}
-use lib.Dec.{ltb, leb, eqb}
+use lib.Dec.{eqb}
 use borrow.Author.Tests.{eqb-true, eq-eqb, ltb-false, leb-false, not-false}
 use Rattle.walk.specs.declared.Leg.{Leg}
 use Rattle.walk.specs.declared.Refusal.the-variants.{BadEntry}
-use Rattle.walk.specs.Refusals.{refuseIf, refuseAt, firstWhere}
-use Rattle.walk.specs.Run.{Run, Stop, stopsFrom, stopsOf, rightEnd, endAt, lastPlace, mostWants, highestTurn}
-use Rattle.walk.specs.Judging.{numberBefore, judgeOf}
+use Rattle.walk.specs.Refusals.{refuseIf, refuseAt}
+use Rattle.walk.specs.Run.{Run, stopsFrom, stopsOf, rightEnd, endAt, lastPlace, mostWants}
 use Rattle.walk.specs.Walk.{Moves}
 use Rattle.walk.specs.Detours.{Detour, listOf, startOf, endOf, badAfter, firstBadEntry, listVerdict, legOf, lastSweep, legsOf}
-use Rattle.walk.specs.Rows.{SoundTable, InTable, listed, rowEntry, rowAlone, rowBad, detourLegs, sweepLegs, rowLegs, legAt, RowsFit, Walkable}
+use Rattle.walk.specs.Rows.{InTable, listed, rowEntry, rowBad, detourLegs, sweepLegs, rowLegs, legAt, RowsFit, Walkable}
 use Rattle.walk.proofs.Search.{first-zero, any-zero, or-false-both, true-or-false}
 use Rattle.walk.proofs.Verdicts.{refuses, all-accept, accepts-if, accepts-at}
-use Rattle.walk.proofs.Accepted.{GoodWant}
-use Rattle.walk.proofs.Judged.{GoodWants, GoodRun, accepted-run}
-use Rattle.walk.proofs.Table.{table-file, named-file, start-to-end, right-end-last, right-end-row}
-use Rattle.walk.proofs.Entries.{first-bad-row, wanted-listed, listed-some}
+use Rattle.walk.proofs.Judged.{GoodWants, GoodRun}
+use Rattle.walk.proofs.Table.{named-file, start-to-end, right-end-last, right-end-row}
+use Rattle.walk.proofs.Entries.{first-bad-row, listed-some}
 use Rattle.walk.proofs.Legs.{leg-of-detour, leg-of-sweep, legs-most}
 
 -- An entry that is not bad.

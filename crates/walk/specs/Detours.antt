@@ -1,7 +1,7 @@
 -- Detour lists: pairs of file numbers, the rules that make one well formed, and the legs of its walk.
 use Prim.Native.Nat.{ℕ, suc, zero, _+_}
 use mathlib.Core.Path.{_≡_}
-use mathlib.Core.Bool.{Bool, true, false, cond, not, _||_}
+use mathlib.Core.Bool.{Bool, false, cond, not, _||_}
 use mathlib.Core.List.{List, [], _∷_, _++_, map}
 use lib.ListN.{length, getD}
 use lib.Dec.{leb, ltb, eqb}

@@ -1,6 +1,6 @@
 -- Judging a run: refusals 1 to 7 in the order of the table, each by its own condition. Sums here are whole numbers and never wrap.
-use Prim.Native.Nat.{ℕ, suc, zero, _+_}
-use mathlib.Core.Bool.{Bool, true, false, not, _||_}
+use Prim.Native.Nat.{ℕ, suc, zero}
+use mathlib.Core.Bool.{Bool, not, _||_}
 use mathlib.Core.List.{List, [], _∷_}
 use lib.ListN.{length, getD}
 use lib.Dec.{leb, ltb, eqb}

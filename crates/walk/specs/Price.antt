@@ -1,6 +1,6 @@
 -- What the pricer answers, for every input: the first refusal that applies, or the walk's sum, finish and end; and the row for times.
 use Prim.Native.Nat.{ℕ}
-use mathlib.Core.Bool.{Bool, cond}
+use mathlib.Core.Bool.{cond}
 use mathlib.Core.List.{List, [], _∷_, _++_}
 use lib.ListN.{length, drop}
 use lib.Dec.{ltb}
@@ -8,7 +8,7 @@ use Rattle.walk.specs.declared.Refusal.the-variants.{Accepted, ShortRow}
 use Rattle.walk.specs.declared.Verdict.{Verdict}
 use Rattle.walk.specs.declared.Answer.{Answer}
 use Rattle.walk.specs.Refusals.{isRefusal, refuseIf, firstOf}
-use Rattle.walk.specs.Run.{Run, Stop, stopsOf}
+use Rattle.walk.specs.Run.{Run, stopsOf}
 use Rattle.walk.specs.Judging.{judgeOf}
 use Rattle.walk.specs.Walk.{headAt, walked, timesOf, sumOf}
 use Rattle.walk.specs.Detours.{Detour, listOf, listVerdict, legsOf}

@@ -1,7 +1,7 @@
 -- The tape and the run, and the stops: the wanted files with their places and counts, left to right.
-use Prim.Native.Nat.{ℕ, suc, zero, _+_, _-_, pred}
+use Prim.Native.Nat.{ℕ, _+_, _-_}
 use mathlib.Core.List.{List, [], _∷_}
-use lib.ListN.{length, getD}
+use lib.ListN.{getD}
 
 -- What is handed in. File f (from 1) starts at entry f - 1 of `starts` and is that long in `lengths`; want i names a file and how often.
 pub record Run : Type 0 where

@@ -1,7 +1,7 @@
 -- The walk: the head as a small machine, legs, movements, and the time at which a movement reads a file.
 -- Nothing here knows of detours, plans or tables; demand 3 speaks of these movements.
 use Prim.Native.Nat.{ℕ, _+_, _-_, _*_, _≤_}
-use mathlib.Core.Bool.{Bool, true, false, cond, _&&_, _||_}
+use mathlib.Core.Bool.{Bool, false, cond, _&&_, _||_}
 use mathlib.Core.List.{List, [], _∷_}
 use lib.Dec.{leb, T}
 use Rattle.walk.specs.declared.Head.{Head}

@@ -27,10 +27,10 @@ fn tape_right_of(place: u64) -> u64
 }
 
 // A file against the end of the one before it. The end is compared by a difference, so that it cannot wrap.
-fn bad_file(start: u64, length: u64, before: u64) -> bool
-    ensures { λ r. ⌜ r ≡ (eqb length 0 || ltb start before || ltb lastPlace (start + length)) ⌝ }
+fn bad_file(start: u64, size: u64, before: u64) -> bool
+    ensures { λ r. ⌜ r ≡ (eqb size 0 || ltb start before || ltb lastPlace (start + size)) ⌝ }
 {
-    if length == 0 {
+    if size == 0 {
         return true;
     }
     if start < before {
@@ -39,7 +39,7 @@ fn bad_file(start: u64, length: u64, before: u64) -> bool
     if LAST_PLACE < start {
         return true;
     }
-    tape_right_of(start) < length
+    tape_right_of(start) < size
 }
 
 // The first bad file, counted from 1; 0 where there is none.

@@ -1,9 +1,7 @@
 -- `boundary::violstream_plan` meets its contract: 1 to 7, then 14, then 8 for the row of sums, and else the planner's own answer.
 -- Assumes nothing.
-use mathlib.Core.Path.{sym, _∙_}
 use Rattle.walk.specs.Run.{Run, runOf}
-use Rattle.planner.specs.Plan.{Rows, rowsOf, Plans}
-use Rattle.boundary.specs.Boundary.{ruleNumbered}
+use Rattle.planner.specs.Plan.{Rows, rowsOf}
 use Rattle.boundary.proofs.Plans.{run-refused, run-placed, rule-refused, sums-refused, plan-placed, plan-refused, plan-filled}
 use borrow.Author.Needs.{needs}
 use Rattle.boundary.proofs.violstream_plan.Statement.{statement}

@@ -42,7 +42,8 @@ shared-slice-read-froms : tie.Need-shared-slice-read-froms Inv-loop μ-loop
 shared-slice-read-froms c = let l = c .before .before .before in let z = l .before .before .before .before .before .before .before .before in l .loop .inv .left-in
 
 mul-froms-2 : tie.Need-mul-froms-2 Inv-loop μ-loop
-mul-froms-2 c = let l = c .before .before .before in let z = l .before .before .before .before .before .before .before .before in omega (arith, z .good, l .loop .inv .same-froms, from-room _ _ _ _ _ _ _ (z .pre .0) _ _ _ _ _ _ _ _ _ _ _ _ (l .loop .inv) (c .before .before .if1 .taken) (c .before .if2 .left))
+mul-froms-2 c =
+    let l = c .before .before .before in let z = l .before .before .before .before .before .before .before .before in omega (arith, z .good, l .loop .inv .same-froms, from-room _ _ _ _ _ _ _ (z .pre .0) _ _ _ _ _ _ _ _ _ _ _ _ (l .loop .inv) (c .before .before .if1 .taken) (c .before .if2 .left))
 
 slice-write-froms : tie.Need-slice-write-froms Inv-loop μ-loop
 slice-write-froms c = let l = c .before .before .before in let z = l .before .before .before .before .before .before .before .before in from-room _ _ _ _ _ _ _ (z .pre .0) _ _ _ _ _ _ _ _ _ _ _ _ (l .loop .inv) (c .before .before .if1 .taken) (c .before .if2 .left)
@@ -60,13 +61,17 @@ shared-slice-read-tos : tie.Need-shared-slice-read-tos Inv-loop μ-loop
 shared-slice-read-tos c = let l = c .before .before .before .before in let z = l .before .before .before .before .before .before .before .before in frame _ _ _ _ _ _ _ (z .pre .0) _ _ _ _ _ _ _ _ _ _ _ _ (l .loop .inv) (c .before .before .before .if1 .taken) (c .before .before .if2 .left) .end
 
 mul-tos-3 : tie.Need-mul-tos-3 Inv-loop μ-loop
-mul-tos-3 c = let l = c .before .before .before .before in let z = l .before .before .before .before .before .before .before .before in omega (arith, z .good, l .loop .inv .same-tos, to-room _ _ _ _ _ _ _ (z .pre .0) _ _ _ _ _ _ _ _ _ _ _ _ (l .loop .inv) (c .before .before .before .if1 .taken) (c .before .before .if2 .left))
+mul-tos-3 c =
+    let c4 = c .before .before .before .before in
+    let l = c4 in let z = l .before .before .before .before .before .before .before .before in omega (arith, z .good, l .loop .inv .same-tos, to-room _ _ _ _ _ _ _ (z .pre .0) _ _ _ _ _ _ _ _ _ _ _ _ (l .loop .inv) (c .before .before .before .if1 .taken) (c .before .before .if2 .left))
 
 slice-write-tos : tie.Need-slice-write-tos Inv-loop μ-loop
 slice-write-tos c = let l = c .before .before .before .before in let z = l .before .before .before .before .before .before .before .before in to-room _ _ _ _ _ _ _ (z .pre .0) _ _ _ _ _ _ _ _ _ _ _ _ (l .loop .inv) (c .before .before .before .if1 .taken) (c .before .before .if2 .left)
 
 add-n : tie.Need-add-n Inv-loop μ-loop
-add-n c = let l = c .before .before .before .before in let z = l .before .before .before .before .before .before .before .before in omega (arith, z .good, l .loop .inv .same-tos, to-room _ _ _ _ _ _ _ (z .pre .0) _ _ _ _ _ _ _ _ _ _ _ _ (l .loop .inv) (c .before .before .before .if1 .taken) (c .before .before .if2 .left))
+add-n c =
+    let c4 = c .before .before .before .before in
+    let l = c4 in let z = l .before .before .before .before .before .before .before .before in omega (arith, z .good, l .loop .inv .same-tos, to-room _ _ _ _ _ _ _ (z .pre .0) _ _ _ _ _ _ _ _ _ _ _ _ (l .loop .inv) (c .before .before .before .if1 .taken) (c .before .before .if2 .left))
 
 sub-b-2 : tie.Need-sub-b-2 Inv-loop μ-loop
 sub-b-2 c = let l = c .before .before .before .before in let z = l .before .before .before .before .before .before .before .before in omega (arith, frame _ _ _ _ _ _ _ (z .pre .0) _ _ _ _ _ _ _ _ _ _ _ _ (l .loop .inv) (c .before .before .before .if1 .taken) (c .before .before .if2 .left) .edge)
@@ -75,16 +80,23 @@ mul-s : tie.Need-mul-s Inv-loop μ-loop
 mul-s c = let l = c .before .before .before .before in let z = l .before .before .before .before .before .before .before .before in omega (arith, frame-depth _ _ _ _ _ _ _ (z .pre .0) _ _ _ _ _ _ _ _ _ _ _ _ (l .loop .inv) (c .before .before .before .if1 .taken) (c .before .before .if2 .left))
 
 array-read-s : tie.Need-array-read-s Inv-loop μ-loop
-array-read-s c = let l = c .before .before .before .before in let z = l .before .before .before .before .before .before .before .before in omega (arith, frame-depth _ _ _ _ _ _ _ (z .pre .0) _ _ _ _ _ _ _ _ _ _ _ _ (l .loop .inv) (c .before .before .before .if1 .taken) (c .before .before .if2 .left))
+array-read-s c =
+    let c4 = c .before .before .before .before in
+    let l = c4 in let z = l .before .before .before .before .before .before .before .before in omega (arith, frame-depth _ _ _ _ _ _ _ (z .pre .0) _ _ _ _ _ _ _ _ _ _ _ _ (l .loop .inv) (c .before .before .before .if1 .taken) (c .before .before .if2 .left))
 
 mul-a : tie.Need-mul-a Inv-loop μ-loop
 mul-a c = let l = c .before .before .before .before in let z = l .before .before .before .before .before .before .before .before in omega (arith, frame-depth _ _ _ _ _ _ _ (z .pre .0) _ _ _ _ _ _ _ _ _ _ _ _ (l .loop .inv) (c .before .before .before .if1 .taken) (c .before .before .if2 .left))
 
 array-read-a : tie.Need-array-read-a Inv-loop μ-loop
-array-read-a c = let l = c .before .before .before .before in let z = l .before .before .before .before .before .before .before .before in omega (arith, frame-depth _ _ _ _ _ _ _ (z .pre .0) _ _ _ _ _ _ _ _ _ _ _ _ (l .loop .inv) (c .before .before .before .if1 .taken) (c .before .before .if2 .left))
+array-read-a c =
+    let c4 = c .before .before .before .before in
+    let l = c4 in let z = l .before .before .before .before .before .before .before .before in omega (arith, frame-depth _ _ _ _ _ _ _ (z .pre .0) _ _ _ _ _ _ _ _ _ _ _ _ (l .loop .inv) (c .before .before .before .if1 .taken) (c .before .before .if2 .left))
 
 loop-less : tie.Need-loop-less Inv-loop μ-loop
-loop-less c = let l = c .before .before .before .before in let z = l .before .before .before .before .before .before .before .before in omega (arith, frame-depth _ _ _ _ _ _ _ (z .pre .0) _ _ _ _ _ _ _ _ _ _ _ _ (l .loop .inv) (c .before .before .before .if1 .taken) (c .before .before .if2 .left), frame _ _ _ _ _ _ _ (z .pre .0) _ _ _ _ _ _ _ _ _ _ _ _ (l .loop .inv) (c .before .before .before .if1 .taken) (c .before .before .if2 .left) .edge, l .loop .inv .left)
+loop-less c =
+    let c4 = c .before .before .before .before in
+    let l = c4 in let z = l .before .before .before .before .before .before .before .before in omega
+    (arith, frame-depth _ _ _ _ _ _ _ (z .pre .0) _ _ _ _ _ _ _ _ _ _ _ _ (l .loop .inv) (c .before .before .before .if1 .taken) (c .before .before .if2 .left), frame _ _ _ _ _ _ _ (z .pre .0) _ _ _ _ _ _ _ _ _ _ _ _ (l .loop .inv) (c .before .before .before .if1 .taken) (c .before .before .if2 .left) .edge, l .loop .inv .left)
 
 loop-again : tie.Need-loop-again Inv-loop μ-loop
 loop-again c = let l = c .before .before .before .before in let z = l .before .before .before .before .before .before .before .before in read-pop _ _ _ _ _ _ _ (z .pre .0) _ _ _ _ _ _ _ _ _ _ _ _ (l .loop .inv) (c .before .before .before .if1 .taken) (c .before .before .if2 .left)
@@ -111,7 +123,9 @@ loop-less-2 : tie.Need-loop-less-2 Inv-loop μ-loop
 loop-less-2 c = search needs
 
 loop-again-2 : tie.Need-loop-again-2 Inv-loop μ-loop
-loop-again-2 c = let l = c .before .before .before .before in let z = l .before .before .before .before .before .before .before .before in read-skip _ _ _ _ _ _ _ (z .pre .0) _ _ _ _ _ _ _ _ _ _ _ _ (l .loop .inv) (c .before .before .before .if1 .left) _ (c .before .before .choice-of .ensures) (c .before .if3 .taken)
+loop-again-2 c =
+    let c4 = c .before .before .before .before in
+    let l = c4 in let z = l .before .before .before .before .before .before .before .before in read-skip _ _ _ _ _ _ _ (z .pre .0) _ _ _ _ _ _ _ _ _ _ _ _ (l .loop .inv) (c .before .before .before .if1 .left) _ (c .before .before .choice-of .ensures) (c .before .if3 .taken)
 
 mul-edges : tie.Need-mul-edges Inv-loop μ-loop
 mul-edges c = let l = c .before .before .before in let z = l .before .before .before .before .before .before .before .before in omega (arith, stack-room _ _ _ _ _ _ _ (z .pre .0) _ _ _ _ _ _ _ _ _ _ _ _ (l .loop .inv) (c .before .before .if1 .left))
@@ -150,7 +164,9 @@ loop-less-3 : tie.Need-loop-less-3 Inv-loop μ-loop
 loop-less-3 c = search needs
 
 loop-again-3 : tie.Need-loop-again-3 Inv-loop μ-loop
-loop-again-3 c = let l = c .before .before .before .before in let z = l .before .before .before .before .before .before .before .before in read-push _ _ _ _ _ _ _ (z .pre .0) _ _ _ _ _ _ _ _ _ _ _ _ (l .loop .inv) (c .before .before .before .if1 .left) _ (c .before .before .choice-of .ensures) (c .before .if3 .left)
+loop-again-3 c =
+    let c4 = c .before .before .before .before in
+    let l = c4 in let z = l .before .before .before .before .before .before .before .before in read-push _ _ _ _ _ _ _ (z .pre .0) _ _ _ _ _ _ _ _ _ _ _ _ (l .loop .inv) (c .before .before .before .if1 .left) _ (c .before .before .choice-of .ensures) (c .before .if3 .left)
 
 pub read-off-spec : {M : Type 1} → statement M
 read-off-spec =

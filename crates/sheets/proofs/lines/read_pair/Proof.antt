@@ -58,10 +58,18 @@ enum-told-3 : tie.Need-enum-told-3
 enum-told-3 c = search needs
 
 returns-3 : tie.Need-returns-3
-returns-3 c = right-bad _ _ (c .before .before .before .before .before .before .before .before .before .before .before .before .find .ensures) _ (c .before .before .before .before .before .before .before .before .before .before .length .given .1) (c .before .before .before .before .before .before .before .read-number .result) (c .before .before .before .before .before .before .before .read-number .ensures) _ (c .before .before .read-number2 .ensures) (c .enum-told3 .given .1)
+returns-3 c =
+    let c4 = c .before .before .before .before in
+    let c8 = c4 .before .before .before .before in
+    let c12 = c8 .before .before .before .before in
+    right-bad _ _ (c12 .find .ensures) _ (c8 .before .before .length .given .1) (c4 .before .before .before .read-number .result) (c4 .before .before .before .read-number .ensures) _ (c .before .before .read-number2 .ensures) (c .enum-told3 .given .1)
 
 returns-4 : tie.Need-returns-4
-returns-4 c = pair-is _ _ (c .before .before .before .before .before .before .before .before .before .before .before .before .before .find .ensures) _ (c .before .before .before .before .before .before .before .before .before .before .before .length .given .1) _ (c .before .before .before .before .before .before .before .before .read-number .ensures) _ (c .before .before .before .read-number2 .ensures) _ _ (c .before .before .before .before .before .before .first .given .1) (c .before .second .given .1)
+returns-4 c =
+    let c4 = c .before .before .before .before in
+    let c8 = c4 .before .before .before .before in
+    let c12 = c8 .before .before .before .before in
+    pair-is _ _ (c12 .before .find .ensures) _ (c8 .before .before .before .length .given .1) _ (c8 .read-number .ensures) _ (c .before .before .before .read-number2 .ensures) _ _ (c4 .before .before .first .given .1) (c .before .second .given .1)
 
 pub read-pair-spec : {M : Type 1} → statement M
 read-pair-spec =

@@ -1,8 +1,8 @@
 use Rattle.sheets.proofs.Pages.{Putting, putting-none, putting-long, byte-put, text-put, later-kept}
 use borrow.Author.Needs.{needs}
-use Prim.Native.Nat.{_-_, _+_, _≤_}
+use Prim.Native.Nat.{_-_}
 use native.Mathlib.Omega.{arith}
-use lib.ListN.{length, length-set}
+use lib.ListN.{length}
 use Rattle.sheets.proofs.page.put.Statement.{statement}
 use Rattle.sheets.proofs.page.put.Tie as tie
 

@@ -32,8 +32,13 @@ same-length c = search needs
 
 returns : tie.Need-returns
 returns c =
-    let pair = wrote-both _ _ _ _ _ _ _ _ _ _ (wrote-both _ _ _ _ _ _ _ _ _ _ (c .before .before .before .before .before .before .before .before .before .before .before .before .before .before .before .before .put-number .ensures) (c .before .before .before .before .before .before .before .before .before .before .before .put2 .ensures .0)) (c .before .before .before .before .before .before .before .put-number2 .ensures) in
-    wrote-within _ _ _ _ _ _ _ (omega arith) (wrote-both _ _ _ _ _ _ _ _ _ _ (wrote-both _ _ _ _ _ _ _ _ _ _ (c .before .before .before .before .before .before .before .before .before .before .before .before .before .before .before .before .before .before .before .before .put .ensures .0) pair) (c .before .before .put3 .ensures .0))
+    let c4 = c .before .before .before .before in
+    let c8 = c4 .before .before .before .before in
+    let c12 = c8 .before .before .before .before in
+    let c16 = c12 .before .before .before .before in
+    let c20 = c16 .before .before .before .before in
+    let pair = wrote-both _ _ _ _ _ _ _ _ _ _ (wrote-both _ _ _ _ _ _ _ _ _ _ (c16 .put-number .ensures) (c8 .before .before .before .put2 .ensures .0)) (c4 .before .before .before .put-number2 .ensures) in
+    wrote-within _ _ _ _ _ _ _ (omega arith) (wrote-both _ _ _ _ _ _ _ _ _ _ (wrote-both _ _ _ _ _ _ _ _ _ _ (c20 .put .ensures .0) pair) (c .before .before .put3 .ensures .0))
 
 pub put-pair-line-spec : {M : Type 1} → statement M
 put-pair-line-spec =

@@ -3,7 +3,6 @@
 use borrow.Author.Needs.{needs}
 use Prim.Native.Nat.{_-_}
 use lib.ListN.{length}
-use mathlib.Core.Path.{_∙_}
 use Rattle.sheets.proofs.Pages.{PairsPut, pairs-put-none, pair-room, pair-put, pairs-put}
 use Rattle.sheets.proofs.page.put_pairs.Statement.{statement}
 use Rattle.sheets.proofs.page.put_pairs.Tie as tie
@@ -30,7 +29,10 @@ shared-slice-read-put-pair-line-2 : tie.Need-shared-slice-read-put-pair-line-2 I
 shared-slice-read-put-pair-line-2 c = search needs
 
 put-pair-line-requires : tie.Need-put-pair-line-requires Inv-loop μ-loop
-put-pair-line-requires c κs = pair-room _ _ _ _ _ (c .before .before .before .before .before .before .before .before .before .pre .0) (c .before .before .before .before .before .before .before .before .before .pre .1 .0) (c .before .before .before .before .before .before .before .before .before .pre .1 .1) _ _ _ (c .before .before .before .before .loop .inv) (search needs)
+put-pair-line-requires c κs =
+    let c4 = c .before .before .before .before in
+    let c8 = c4 .before .before .before .before in
+    pair-room _ _ _ _ _ (c8 .before .pre .0) (c8 .before .pre .1 .0) (c8 .before .pre .1 .1) _ _ _ (c4 .loop .inv) (search needs)
 
 add-i : tie.Need-add-i Inv-loop μ-loop
 add-i c = search needs
@@ -39,7 +41,11 @@ loop-less : tie.Need-loop-less Inv-loop μ-loop
 loop-less c = search needs
 
 loop-again : tie.Need-loop-again Inv-loop μ-loop
-loop-again c = pair-put _ _ _ _ _ (c .before .before .before .before .before .before .before .before .before .before .before .before .pre .0) (c .before .before .before .before .before .before .before .before .before .before .before .before .pre .1 .0) (c .before .before .before .before .before .before .before .before .before .before .before .before .pre .1 .1) _ _ _ (c .before .before .before .before .before .before .before .loop .inv) (search needs) _ _ (c .before .before .put-pair-line .kept .0) (c .before .before .put-pair-line .ensures)
+loop-again c =
+    let c4 = c .before .before .before .before in
+    let c8 = c4 .before .before .before .before in
+    let c12 = c8 .before .before .before .before in
+    pair-put _ _ _ _ _ (c12 .pre .0) (c12 .pre .1 .0) (c12 .pre .1 .1) _ _ _ (c4 .before .before .before .loop .inv) (search needs) _ _ (c .before .before .put-pair-line .kept .0) (c .before .before .put-pair-line .ensures)
 
 same-length : tie.Need-same-length Inv-loop μ-loop
 same-length c = c .before .loop .inv .long

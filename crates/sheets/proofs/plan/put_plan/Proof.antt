@@ -28,8 +28,13 @@ same-length c = search needs
 returns : tie.Need-returns
 unfolding planLines
 returns c =
-    let two = wrote-both _ _ _ _ _ _ _ _ _ _ (c .before .before .before .before .before .before .before .before .before .before .before .before .put-plan-top .ensures) (c .before .before .before .before .before .before .before .put-pairs .ensures) in
-    wrote-within _ _ _ _ _ _ _ (omega (arith, c .before .before .before .before .before .before .before .before .before .before .before .before .before .before .before .before .before .before .before .before .pre .few, c .before .before .before .before .before .before .before .before .before .before .before .before .before .before .before .before .before .before .before .before .pre .wants)) (wrote-both _ _ _ _ _ _ _ _ _ _ two (c .before .before .put-pairs2 .ensures))
+    let c4 = c .before .before .before .before in
+    let c8 = c4 .before .before .before .before in
+    let c12 = c8 .before .before .before .before in
+    let c16 = c12 .before .before .before .before in
+    let c20 = c16 .before .before .before .before in
+    let two = wrote-both _ _ _ _ _ _ _ _ _ _ (c12 .put-plan-top .ensures) (c4 .before .before .before .put-pairs .ensures) in
+    wrote-within _ _ _ _ _ _ _ (omega (arith, c20 .pre .few, c20 .pre .wants)) (wrote-both _ _ _ _ _ _ _ _ _ _ two (c .before .before .put-pairs2 .ensures))
 
 pub put-plan-spec : {M : Type 1} → statement M
 put-plan-spec =

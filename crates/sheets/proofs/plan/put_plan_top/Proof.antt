@@ -49,11 +49,19 @@ same-length c = search needs
 returns : tie.Need-returns
 unfolding planTop
 returns c =
-    let two = wrote-both _ _ _ _ _ _ _ _ _ _ (c .before .before .before .before .before .before .before .before .before .before .before .before .before .before .before .before .before .before .before .before .before .before .before .before .before .before .before .put-line .ensures) (c .before .before .before .before .before .before .before .before .before .before .before .before .before .before .before .before .before .before .before .before .before .before .put-number-line .ensures) in
-    let three = wrote-both _ _ _ _ _ _ _ _ _ _ two (c .before .before .before .before .before .before .before .before .before .before .before .before .before .before .before .before .before .put-number-line2 .ensures) in
-    let four = wrote-both _ _ _ _ _ _ _ _ _ _ three (c .before .before .before .before .before .before .before .before .before .before .before .before .put-number-line3 .ensures) in
-    let five = wrote-both _ _ _ _ _ _ _ _ _ _ four (c .before .before .before .before .before .before .before .put-number-line4 .ensures) in
-    wrote-within _ _ _ _ _ _ _ (omega (arith, c .before .before .before .before .before .before .before .before .before .before .before .before .before .before .before .before .before .before .before .before .before .before .before .before .before .before .before .before .before .before .before .before .pre .0)) (wrote-both _ _ _ _ _ _ _ _ _ _ five (c .before .before .put-number-line5 .ensures))
+    let c4 = c .before .before .before .before in
+    let c8 = c4 .before .before .before .before in
+    let c12 = c8 .before .before .before .before in
+    let c16 = c12 .before .before .before .before in
+    let c20 = c16 .before .before .before .before in
+    let c24 = c20 .before .before .before .before in
+    let c28 = c24 .before .before .before .before in
+    let c32 = c28 .before .before .before .before in
+    let two = wrote-both _ _ _ _ _ _ _ _ _ _ (c24 .before .before .before .put-line .ensures) (c20 .before .before .put-number-line .ensures) in
+    let three = wrote-both _ _ _ _ _ _ _ _ _ _ two (c16 .before .put-number-line2 .ensures) in
+    let four = wrote-both _ _ _ _ _ _ _ _ _ _ three (c12 .put-number-line3 .ensures) in
+    let five = wrote-both _ _ _ _ _ _ _ _ _ _ four (c4 .before .before .before .put-number-line4 .ensures) in
+    wrote-within _ _ _ _ _ _ _ (omega (arith, c32 .pre .0)) (wrote-both _ _ _ _ _ _ _ _ _ _ five (c .before .before .put-number-line5 .ensures))
 
 pub put-plan-top-spec : {M : Type 1} → statement M
 put-plan-top-spec =

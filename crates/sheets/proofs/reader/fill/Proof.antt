@@ -1,7 +1,6 @@
 use borrow.Author.Needs.{needs}
 use Prim.Native.Nat.{_-_}
 use native.Mathlib.Omega.{arith}
-use lib.ListN.{length-set}
 use Rattle.sheets.proofs.Rows.{Filling, filling-none, left-long, right-long, filled, never-bad, pair-filled}
 use Rattle.sheets.proofs.reader.fill.Statement.{statement}
 use Rattle.sheets.proofs.reader.fill.Tie as tie

@@ -1,8 +1,7 @@
 -- `sheets::reader::read_sheet` meets its contract: 12 and 11, then 8, then the rows and the answer.
 -- Assumes nothing.
-use mathlib.Core.Path.{refl, sym, _∙_}
+use mathlib.Core.Path.{refl, _∙_}
 use borrow.Author.Tests.{not-true, not-false}
-use Rattle.sheets.specs.Lines.{fileKey, wantKey}
 use Rattle.sheets.proofs.Order.{laid-read, laid-failed}
 use Rattle.sheets.proofs.Answers.{refused-answer, refused-row, sheet-refused, files-short, files-room, wants-short, wants-room, all-room, files-ready, wants-ready, read-answer, starts-read, lengths-read, numbers-read, counts-read}
 use borrow.Author.Needs.{needs}
@@ -62,9 +61,13 @@ same-length-6 c = search needs
 
 returns-2 : tie.Need-returns-2
 returns-2 c =
-    let a = c .before .before .before .before .before .before .before .before .before .before .before .before .before .before .before .before .before .before .args in
-    let p = laid-read _ _ (c .before .before .before .before .before .before .before .before .before .before .before .before .lay-out .ensures) _ _ _ (c .before .before .before .before .before .before .before .before .before .before .top .given .1) in
-    let e = wants-short (a .sheet .now) (a .starts .now) (a .lengths .now) (a .numbers .now) (a .counts .now) _ _ _ p _ (c .before .before .before .before .before .before .room-for .ensures) (not-false _ (c .before .before .before .before .before .if1 .left)) _ (c .before .before .room-for2 .ensures) (not-true _ (c .before .if2 .taken)) in (
+    let c4 = c .before .before .before .before in
+    let c8 = c4 .before .before .before .before in
+    let c12 = c8 .before .before .before .before in
+    let c16 = c12 .before .before .before .before in
+    let a = c16 .before .before .args in
+    let p = laid-read _ _ (c12 .lay-out .ensures) _ _ _ (c8 .before .before .top .given .1) in
+    let e = wants-short (a .sheet .now) (a .starts .now) (a .lengths .now) (a .numbers .now) (a .counts .now) _ _ _ p _ (c4 .before .before .room-for .ensures) (not-false _ (c4 .before .if1 .left)) _ (c .before .before .room-for2 .ensures) (not-true _ (c .before .if2 .taken)) in (
       c .refused-reading3 .ensures ∙ refused-answer _ _ _ e refl,
       (refused-row (a .sheet .now) _ _ e refl _ _, (refused-row (a .sheet .now) _ _ e refl _ _, (refused-row (a .sheet .now) _ _ e refl _ _, refused-row (a .sheet .now) _ _ e refl _ _))),
     )
@@ -74,18 +77,30 @@ slice-aggregate-fill c = search needs
 
 fill-requires : tie.Need-fill-requires
 fill-requires c κs =
-    let a = c .before .before .before .before .before .before .before .before .before .before .before .before .before .before .before .before .before .before .before .before .args in
-    let p = laid-read _ _ (c .before .before .before .before .before .before .before .before .before .before .before .before .before .before .lay-out .ensures) _ _ _ (c .before .before .before .before .before .before .before .before .before .before .before .before .top .given .1) in
-    files-ready _ _ _ _ p _ _ (files-room (a .sheet .now) (a .starts .now) (a .lengths .now) (a .numbers .now) (a .counts .now) _ _ _ p _ (c .before .before .before .before .before .before .before .before .room-for .ensures) (not-false _ (c .before .before .before .before .before .before .before .if1 .left)))
+    let c4 = c .before .before .before .before in
+    let c8 = c4 .before .before .before .before in
+    let c12 = c8 .before .before .before .before in
+    let c16 = c12 .before .before .before .before in
+    let c20 = c16 .before .before .before .before in
+    let a = c20 .args in
+    let p = laid-read _ _ (c12 .before .before .lay-out .ensures) _ _ _ (c12 .top .given .1) in
+    files-ready _ _ _ _ p _ _ (files-room (a .sheet .now) (a .starts .now) (a .lengths .now) (a .numbers .now) (a .counts .now) _ _ _ p _ (c8 .room-for .ensures) (not-false _ (c4 .before .before .before .if1 .left)))
 
 slice-aggregate-fill-2 : tie.Need-slice-aggregate-fill-2
 slice-aggregate-fill-2 c = search needs
 
 fill-requires-2 : tie.Need-fill-requires-2
 fill-requires-2 c κs =
-    let a = c .before .before .before .before .before .before .before .before .before .before .before .before .before .before .before .before .before .before .before .before .before .before .before .before .before .before .before .before .args in
-    let p = laid-read _ _ (c .before .before .before .before .before .before .before .before .before .before .before .before .before .before .before .before .before .before .before .before .before .before .lay-out .ensures) _ _ _ (c .before .before .before .before .before .before .before .before .before .before .before .before .before .before .before .before .before .before .before .before .top .given .1) in
-    wants-ready _ _ _ _ p _ _ (wants-room (a .sheet .now) (a .starts .now) (a .lengths .now) (a .numbers .now) (a .counts .now) _ _ _ p _ (c .before .before .before .before .before .before .before .before .before .before .before .before .before .before .before .before .room-for .ensures) (not-false _ (c .before .before .before .before .before .before .before .before .before .before .before .before .before .before .before .if1 .left)) _ (c .before .before .before .before .before .before .before .before .before .before .before .before .room-for2 .ensures) (not-false _ (c .before .before .before .before .before .before .before .before .before .before .before .if2 .left)))
+    let c4 = c .before .before .before .before in
+    let c8 = c4 .before .before .before .before in
+    let c12 = c8 .before .before .before .before in
+    let c16 = c12 .before .before .before .before in
+    let c20 = c16 .before .before .before .before in
+    let c24 = c20 .before .before .before .before in
+    let c28 = c24 .before .before .before .before in
+    let a = c28 .args in
+    let p = laid-read _ _ (c20 .before .before .lay-out .ensures) _ _ _ (c20 .top .given .1) in
+    wants-ready _ _ _ _ p _ _ (wants-room (a .sheet .now) (a .starts .now) (a .lengths .now) (a .numbers .now) (a .counts .now) _ _ _ p _ (c16 .room-for .ensures) (not-false _ (c12 .before .before .before .if1 .left)) _ (c12 .room-for2 .ensures) (not-false _ (c8 .before .before .before .if2 .left)))
 
 returns-3 : tie.Need-returns-3
 returns-3 c =
@@ -110,15 +125,23 @@ same-length-10 c = search needs
 
 returns-4 : tie.Need-returns-4
 returns-4 c =
-    let a = c .before .before .before .before .before .before .before .before .before .before .before .before .before .before .before .before .before .before .before .before .before .before .before .before .before .before .before .before .before .before .before .before .before .args in
-    let p = laid-read _ _ (c .before .before .before .before .before .before .before .before .before .before .before .before .before .before .before .before .before .before .before .before .before .before .before .before .before .before .before .lay-out .ensures) _ _ _ (c .before .before .before .before .before .before .before .before .before .before .before .before .before .before .before .before .before .before .before .before .before .before .before .before .before .top .given .1) in
-    let e = all-room (a .sheet .now) (a .starts .now) (a .lengths .now) (a .numbers .now) (a .counts .now) _ _ _ p _ (c .before .before .before .before .before .before .before .before .before .before .before .before .before .before .before .before .before .before .before .before .before .room-for .ensures) (not-false _ (c .before .before .before .before .before .before .before .before .before .before .before .before .before .before .before .before .before .before .before .before .if1 .left)) _ (c .before .before .before .before .before .before .before .before .before .before .before .before .before .before .before .before .before .room-for2 .ensures) (not-false _ (c .before .before .before .before .before .before .before .before .before .before .before .before .before .before .before .before .if2 .left)) in (
+    let c4 = c .before .before .before .before in
+    let c8 = c4 .before .before .before .before in
+    let c12 = c8 .before .before .before .before in
+    let c16 = c12 .before .before .before .before in
+    let c20 = c16 .before .before .before .before in
+    let c24 = c20 .before .before .before .before in
+    let c28 = c24 .before .before .before .before in
+    let c32 = c28 .before .before .before .before in
+    let a = c32 .before .args in
+    let p = laid-read _ _ (c24 .before .before .before .lay-out .ensures) _ _ _ (c24 .before .top .given .1) in
+    let e = all-room (a .sheet .now) (a .starts .now) (a .lengths .now) (a .numbers .now) (a .counts .now) _ _ _ p _ (c20 .before .room-for .ensures) (not-false _ (c20 .if1 .left)) _ (c16 .before .room-for2 .ensures) (not-false _ (c16 .if2 .left)) in (
       read-answer _ _ _ _ p _ e,
       (
-        c .before .before .before .before .before .before .before .before .before .before .before .before .fill .ensures .0 ∙ starts-read _ _ _ _ p _ e _,
+        c12 .fill .ensures .0 ∙ starts-read _ _ _ _ p _ e _,
         (
-          c .before .before .before .before .before .before .before .before .before .before .before .before .fill .ensures .1 ∙ lengths-read _ _ _ _ p _ e _,
-          (c .before .before .before .before .fill2 .ensures .0 ∙ numbers-read _ _ _ _ p _ e _, c .before .before .before .before .fill2 .ensures .1 ∙ counts-read _ _ _ _ p _ e _),
+          c12 .fill .ensures .1 ∙ lengths-read _ _ _ _ p _ e _,
+          (c4 .fill2 .ensures .0 ∙ numbers-read _ _ _ _ p _ e _, c4 .fill2 .ensures .1 ∙ counts-read _ _ _ _ p _ e _),
         ),
       ),
     )

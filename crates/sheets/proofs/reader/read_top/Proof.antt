@@ -43,11 +43,17 @@ enum-told-3 : tie.Need-enum-told-3
 enum-told-3 c = search needs
 
 returns-3 : tie.Need-returns-3
-returns-3 c = turn-bad _ _ (c .before .before .before .before .before .before .before .before .before .before .before .tape-line .ensures) _ _ (c .before .before .before .before .before .before .before .before .before .end .given .1) _ (c .before .before .before .before .before .before .number-line .ensures) _ _ (c .before .before .before .before .head .given .1) _ (c .before .before .turn-line .ensures) (c .enum-told3 .given .1)
+returns-3 c =
+    let c4 = c .before .before .before .before in
+    let c8 = c4 .before .before .before .before in
+    turn-bad _ _ (c8 .before .before .before .tape-line .ensures) _ _ (c8 .before .end .given .1) _ (c4 .before .before .number-line .ensures) _ _ (c4 .head .given .1) _ (c .before .before .turn-line .ensures) (c .enum-told3 .given .1)
 
 rule-line-requires : tie.Need-rule-line-requires
 rule-line-requires c κs =
-    at-rule _ _ (c .before .before .before .before .before .before .before .before .before .before .before .before .tape-line .ensures) _ _ (c .before .before .before .before .before .before .before .before .before .before .end .given .1) _ (c .before .before .before .before .before .before .before .number-line .ensures) _ _ (c .before .before .before .before .before .head .given .1) _ (c .before .before .before .turn-line .ensures) _ _ (c .before .turn .given .1) .within
+    let c4 = c .before .before .before .before in
+    let c8 = c4 .before .before .before .before in
+    let c12 = c8 .before .before .before .before in
+    at-rule _ _ (c12 .tape-line .ensures) _ _ (c8 .before .before .end .given .1) _ (c4 .before .before .before .number-line .ensures) _ _ (c4 .before .head .given .1) _ (c .before .before .before .turn-line .ensures) _ _ (c .before .turn .given .1) .within
 
 enum-known-rule : tie.Need-enum-known-rule
 enum-known-rule c = search needs
@@ -57,18 +63,25 @@ enum-told-4 c = search needs
 
 returns-4 : tie.Need-returns-4
 returns-4 c =
-    rule-bad _ _ (c .before .before .before .before .before .before .before .before .before .before .before .before .before .before .before .tape-line .ensures) _ _ (c .before .before .before .before .before .before .before .before .before .before .before .before .before .end .given .1) _ (c .before .before .before .before .before .before .before .before .before .before .number-line .ensures) _ _ (c .before .before .before .before .before .before .before .before .head .given .1) _ (c .before .before .before .before .before .before .turn-line .ensures) _ _ (c .before .before .before .before .turn .given .1)
+    let c4 = c .before .before .before .before in
+    let c8 = c4 .before .before .before .before in
+    let c12 = c8 .before .before .before .before in
+    rule-bad _ _ (c12 .before .before .before .tape-line .ensures) _ _ (c12 .before .end .given .1) _ (c8 .before .before .number-line .ensures) _ _ (c8 .head .given .1) _ (c4 .before .before .turn-line .ensures) _ _ (c4 .turn .given .1)
     _ (c .before .before .rule-line .ensures) (c .enum-told4 .given .1)
 
 slice-aggregate-count-line : tie.Need-slice-aggregate-count-line
 slice-aggregate-count-line c = search needs
 
 count-line-requires : tie.Need-count-line-requires
-count-line-requires c κs = (
-  at-files _ _ (c .before .before .before .before .before .before .before .before .before .before .before .before .before .before .before .before .before .tape-line .ensures) _ _ (c .before .before .before .before .before .before .before .before .before .before .before .before .before .before .before .end .given .1) _ (c .before .before .before .before .before .before .before .before .before .before .before .before .number-line .ensures) _ _ (c .before .before .before .before .before .before .before .before .before .before .head .given .1) _ (c .before .before .before .before .before .before .before .before .turn-line .ensures) _ _ (c .before .before .before .before .before .before .turn .given .1)
-      _ (c .before .before .before .before .rule-line .ensures) _ _ (c .before .before .rule .given .1) .within,
-  omega arith,
-)
+count-line-requires c κs =
+    let c4 = c .before .before .before .before in
+    let c8 = c4 .before .before .before .before in
+    let c12 = c8 .before .before .before .before in
+    let c16 = c12 .before .before .before .before in (
+      at-files _ _ (c16 .before .tape-line .ensures) _ _ (c12 .before .before .before .end .given .1) _ (c12 .number-line .ensures) _ _ (c8 .before .before .head .given .1) _ (c8 .turn-line .ensures) _ _ (c4 .before .before .turn .given .1)
+          _ (c4 .rule-line .ensures) _ _ (c .before .before .rule .given .1) .within,
+      omega arith,
+    )
 
 enum-known-files : tie.Need-enum-known-files
 enum-known-files c = search needs
@@ -78,13 +91,23 @@ enum-told-5 c = search needs
 
 returns-5 : tie.Need-returns-5
 returns-5 c =
-    files-bad _ _ (c .before .before .before .before .before .before .before .before .before .before .before .before .before .before .before .before .before .before .before .before .tape-line .ensures) _ _ (c .before .before .before .before .before .before .before .before .before .before .before .before .before .before .before .before .before .before .end .given .1) _ (c .before .before .before .before .before .before .before .before .before .before .before .before .before .before .before .number-line .ensures) _ _ (c .before .before .before .before .before .before .before .before .before .before .before .before .before .head .given .1) _ (c .before .before .before .before .before .before .before .before .before .before .before .turn-line .ensures) _ _ (c .before .before .before .before .before .before .before .before .before .turn .given .1)
-    _ (c .before .before .before .before .before .before .before .rule-line .ensures) _ _ (c .before .before .before .before .before .rule .given .1) _ (c .before .before .count-line .ensures) (c .enum-told5 .given .1)
+    let c4 = c .before .before .before .before in
+    let c8 = c4 .before .before .before .before in
+    let c12 = c8 .before .before .before .before in
+    let c16 = c12 .before .before .before .before in
+    let c20 = c16 .before .before .before .before in
+    files-bad _ _ (c20 .tape-line .ensures) _ _ (c16 .before .before .end .given .1) _ (c12 .before .before .before .number-line .ensures) _ _ (c12 .before .head .given .1) _ (c8 .before .before .before .turn-line .ensures) _ _ (c8 .before .turn .given .1)
+    _ (c4 .before .before .before .rule-line .ensures) _ _ (c4 .before .rule .given .1) _ (c .before .before .count-line .ensures) (c .enum-told5 .given .1)
 
 returns-6 : tie.Need-returns-6
 returns-6 c =
-    top-good _ _ (c .before .before .before .before .before .before .before .before .before .before .before .before .before .before .before .before .before .before .before .before .before .tape-line .ensures) _ _ (c .before .before .before .before .before .before .before .before .before .before .before .before .before .before .before .before .before .before .before .end .given .1) _ (c .before .before .before .before .before .before .before .before .before .before .before .before .before .before .before .before .number-line .ensures) _ _ (c .before .before .before .before .before .before .before .before .before .before .before .before .before .before .head .given .1) _ (c .before .before .before .before .before .before .before .before .before .before .before .before .turn-line .ensures) _ _ (c .before .before .before .before .before .before .before .before .before .before .turn .given .1)
-    _ (c .before .before .before .before .before .before .before .before .rule-line .ensures) _ _ (c .before .before .before .before .before .before .rule .given .1) _ (c .before .before .before .count-line .ensures) _ _ (c .before .files .given .1)
+    let c4 = c .before .before .before .before in
+    let c8 = c4 .before .before .before .before in
+    let c12 = c8 .before .before .before .before in
+    let c16 = c12 .before .before .before .before in
+    let c20 = c16 .before .before .before .before in
+    top-good _ _ (c20 .before .tape-line .ensures) _ _ (c16 .before .before .before .end .given .1) _ (c16 .number-line .ensures) _ _ (c12 .before .before .head .given .1) _ (c12 .turn-line .ensures) _ _ (c8 .before .before .turn .given .1)
+    _ (c8 .rule-line .ensures) _ _ (c4 .before .before .rule .given .1) _ (c .before .before .before .count-line .ensures) _ _ (c .before .files .given .1)
 
 pub read-top-spec : {M : Type 1} → statement M
 read-top-spec =

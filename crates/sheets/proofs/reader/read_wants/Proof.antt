@@ -48,19 +48,38 @@ enum-known-end : tie.Need-enum-known-end
 enum-known-end c = search needs
 
 add-t24 : tie.Need-add-t24
-add-t24 c = let few = wants-few _ _ _ (c .before .before .before .before .before .before .before .before .before .before .before .before .pre) _ (c .before .before .before .before .before .before .before .before .before .count-line .ensures) _ _ (c .before .before .before .before .before .before .before .wants .given .1) in omega (arith, c .before .before .before .before .before .before .before .before .before .before .before .before .pre .few)
+add-t24 c =
+    let c4 = c .before .before .before .before in
+    let c8 = c4 .before .before .before .before in
+    let c12 = c8 .before .before .before .before in
+    let few = wants-few _ _ _ (c12 .pre) _ (c8 .before .count-line .ensures) _ _ (c4 .before .before .before .wants .given .1) in omega (arith, c12 .pre .few)
 
 add-t25 : tie.Need-add-t25
-add-t25 c = let few = wants-few _ _ _ (c .before .before .before .before .before .before .before .before .before .before .before .before .pre) _ (c .before .before .before .before .before .before .before .before .before .count-line .ensures) _ _ (c .before .before .before .before .before .before .before .wants .given .1) in omega (arith, c .before .before .before .before .before .before .before .before .before .before .before .before .pre .few)
+add-t25 c =
+    let c4 = c .before .before .before .before in
+    let c8 = c4 .before .before .before .before in
+    let c12 = c8 .before .before .before .before in
+    let few = wants-few _ _ _ (c12 .pre) _ (c8 .before .count-line .ensures) _ _ (c4 .before .before .before .wants .given .1) in omega (arith, c12 .pre .few)
 
 returns-2 : tie.Need-returns-2
-returns-2 c = want-bad _ _ _ (c .before .before .before .before .before .before .before .before .before .before .before .pre) _ (c .before .before .before .before .before .before .before .before .count-line .ensures) _ _ (c .before .before .before .before .before .before .wants .given .1) _ (pairs-failed wantKey _ _ _ _ (c .before .before .before .pair-lines .ensures) _ (c .before .line .given .1))
+returns-2 c =
+    let c4 = c .before .before .before .before in
+    let c8 = c4 .before .before .before .before in
+    want-bad _ _ _ (c8 .before .before .before .pre) _ (c8 .count-line .ensures) _ _ (c4 .before .before .wants .given .1) _ (pairs-failed wantKey _ _ _ _ (c .before .before .before .pair-lines .ensures) _ (c .before .line .given .1))
 
 returns-3 : tie.Need-returns-3
-returns-3 c = text-behind _ _ _ (c .before .before .before .before .before .before .before .before .before .before .before .before .pre) _ (c .before .before .before .before .before .before .before .before .before .count-line .ensures) _ _ (c .before .before .before .before .before .before .before .wants .given .1) _ (pairs-ended wantKey _ _ _ _ (c .before .before .before .before .pair-lines .ensures) _ (c .before .before .end .given .1)) (c .if1 .taken)
+returns-3 c =
+    let c4 = c .before .before .before .before in
+    let c8 = c4 .before .before .before .before in
+    let c12 = c8 .before .before .before .before in
+    text-behind _ _ _ (c12 .pre) _ (c8 .before .count-line .ensures) _ _ (c4 .before .before .before .wants .given .1) _ (pairs-ended wantKey _ _ _ _ (c4 .pair-lines .ensures) _ (c .before .before .end .given .1)) (c .if1 .taken)
 
 returns-4 : tie.Need-returns-4
-returns-4 c = below-good _ _ _ (c .before .before .before .before .before .before .before .before .before .before .before .before .pre) _ (c .before .before .before .before .before .before .before .before .before .count-line .ensures) _ _ (c .before .before .before .before .before .before .before .wants .given .1) _ (pairs-ended wantKey _ _ _ _ (c .before .before .before .before .pair-lines .ensures) _ (c .before .before .end .given .1)) (c .if1 .left)
+returns-4 c =
+    let c4 = c .before .before .before .before in
+    let c8 = c4 .before .before .before .before in
+    let c12 = c8 .before .before .before .before in
+    below-good _ _ _ (c12 .pre) _ (c8 .before .count-line .ensures) _ _ (c4 .before .before .before .wants .given .1) _ (pairs-ended wantKey _ _ _ _ (c4 .pair-lines .ensures) _ (c .before .before .end .given .1)) (c .if1 .left)
 
 pub read-wants-spec : {M : Type 1} → statement M
 read-wants-spec =

@@ -1,5 +1,4 @@
 use Rattle.sheets.proofs.Answers.{name-read, no-name, name-from, no-name-from}
-use native.Mathlib.Omega.{arith}
 use Rattle.sheets.proofs.Order.{laid-read, laid-failed}
 use borrow.Author.Needs.{needs}
 use Rattle.sheets.proofs.reader.tape_name.Statement.{statement}

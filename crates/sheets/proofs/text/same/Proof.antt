@@ -1,7 +1,6 @@
 -- `sheets::text::same` meets its contract: one length, and one beginning.
 -- Assumes nothing.
 use borrow.Author.Tests.{eq-eqb, ne-eqb}
-use mathlib.Core.Path.{sym, _∙_}
 use borrow.Author.Needs.{needs}
 use Rattle.sheets.proofs.text.same.Statement.{statement}
 use Rattle.sheets.proofs.text.same.Tie as tie

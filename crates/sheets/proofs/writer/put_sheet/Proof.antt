@@ -34,9 +34,15 @@ same-length c = search needs
 returns : tie.Need-returns
 unfolding sheetText
 returns c =
-    let two = wrote-both _ _ _ _ _ _ _ _ _ _ (c .before .before .before .before .before .before .before .before .before .before .before .before .before .before .before .before .before .put-top .ensures) (c .before .before .before .before .before .before .before .before .before .before .before .before .put-pairs .ensures) in
-    let three = wrote-both _ _ _ _ _ _ _ _ _ _ two (c .before .before .before .before .before .before .before .put-number-line .ensures) in
-    wrote-within _ _ _ _ _ _ _ (omega (arith, c .before .before .before .before .before .before .before .before .before .before .before .before .before .before .before .before .before .before .before .before .before .before .before .before .before .pre .files, c .before .before .before .before .before .before .before .before .before .before .before .before .before .before .before .before .before .before .before .before .before .before .before .before .before .pre .wants)) (wrote-both _ _ _ _ _ _ _ _ _ _ three (c .before .before .put-pairs2 .ensures))
+    let c4 = c .before .before .before .before in
+    let c8 = c4 .before .before .before .before in
+    let c12 = c8 .before .before .before .before in
+    let c16 = c12 .before .before .before .before in
+    let c20 = c16 .before .before .before .before in
+    let c24 = c20 .before .before .before .before in
+    let two = wrote-both _ _ _ _ _ _ _ _ _ _ (c16 .before .put-top .ensures) (c12 .put-pairs .ensures) in
+    let three = wrote-both _ _ _ _ _ _ _ _ _ _ two (c4 .before .before .before .put-number-line .ensures) in
+    wrote-within _ _ _ _ _ _ _ (omega (arith, c24 .before .pre .files, c24 .before .pre .wants)) (wrote-both _ _ _ _ _ _ _ _ _ _ three (c .before .before .put-pairs2 .ensures))
 
 pub put-sheet-spec : {M : Type 1} → statement M
 put-sheet-spec =

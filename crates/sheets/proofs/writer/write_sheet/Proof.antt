@@ -1,6 +1,6 @@
 -- `sheets::writer::write_sheet` meets its contract: 1 to 7, then 13, then 8, then the sheet.
 -- Assumes nothing.
-use mathlib.Core.Path.{refl, sym, _∙_}
+use mathlib.Core.Path.{refl, _∙_}
 use borrow.Author.Tests.{not-true, not-false}
 use Rattle.walk.specs.Run.{runOf}
 use Rattle.sheets.proofs.Sheets.{refused-writing-is, refused-row-is, run-refuses, run-refused, files-over, name-refused, sheet-fits, sheet-last, part-length, page-answer, page-row}
@@ -43,9 +43,12 @@ refused-writing-requires-3 c κs = search needs
 
 returns-3 : tie.Need-returns-3
 returns-3 c =
-    let a = c .before .before .before .before .before .before .before .before .before .before .before .before .before .args in
+    let c4 = c .before .before .before .before in
+    let c8 = c4 .before .before .before .before in
+    let c12 = c8 .before .before .before .before in
+    let a = c12 .before .args in
     let run = runOf (a .starts .now) (a .lengths .now) (a .numbers .now) (a .counts .now) (a .head) (a .turn) in
-    let e = name-refused (a .name .now) (a .rule) run (a .out .now) _ _ (c .before .before .before .before .before .before .judge .ensures) (c .before .before .before .before .before .refused .ensures) (c .before .before .before .before .if1 .left) _ (c .before .before .is-name .ensures) (not-true _ (c .before .if3 .taken)) in
+    let e = name-refused (a .name .now) (a .rule) run (a .out .now) _ _ (c4 .before .before .judge .ensures) (c4 .before .refused .ensures) (c4 .if1 .left) _ (c .before .before .is-name .ensures) (not-true _ (c .before .if3 .taken)) in
     (c .refused-writing3 .ensures ∙ refused-writing-is _ _ _ e refl, refused-row-is _ _ _ e refl _)
 
 slice-aggregate-put-sheet : tie.Need-slice-aggregate-put-sheet
@@ -53,9 +56,12 @@ slice-aggregate-put-sheet c = search needs
 
 put-sheet-requires : tie.Need-put-sheet-requires
 put-sheet-requires c κs =
-    let a = c .before .before .before .before .before .before .before .before .before .before .before .before .before .args in
+    let c4 = c .before .before .before .before in
+    let c8 = c4 .before .before .before .before in
+    let c12 = c8 .before .before .before .before in
+    let a = c12 .before .args in
     let run = runOf (a .starts .now) (a .lengths .now) (a .numbers .now) (a .counts .now) (a .head) (a .turn) in
-    sheet-fits (a .name .now) (a .rule) run (a .out .now) _ _ (c .before .before .before .before .before .before .judge .ensures) (c .before .before .before .before .before .refused .ensures) (c .before .before .before .before .if1 .left) _ (c .before .before .is-name .ensures) (c .before .before .before .if2 .left) (not-false _ (c .before .if3 .left)) _ (search needs)
+    sheet-fits (a .name .now) (a .rule) run (a .out .now) _ _ (c4 .before .before .judge .ensures) (c4 .before .refused .ensures) (c4 .if1 .left) _ (c .before .before .is-name .ensures) (c .before .before .before .if2 .left) (not-false _ (c .before .if3 .left)) _ (search needs)
 
 array-share-prefix-page : tie.Need-array-share-prefix-page
 array-share-prefix-page c = search needs
@@ -71,10 +77,15 @@ same-length c = search needs
 
 returns-4 : tie.Need-returns-4
 returns-4 c =
-    let a = c .before .before .before .before .before .before .before .before .before .before .before .before .before .before .before .before .before .before .before .before .args in
+    let c4 = c .before .before .before .before in
+    let c8 = c4 .before .before .before .before in
+    let c12 = c8 .before .before .before .before in
+    let c16 = c12 .before .before .before .before in
+    let c20 = c16 .before .before .before .before in
+    let a = c20 .args in
     let run = runOf (a .starts .now) (a .lengths .now) (a .numbers .now) (a .counts .now) (a .head) (a .turn) in
-    let e = sheet-last (a .name .now) (a .rule) run (a .out .now) _ _ (c .before .before .before .before .before .before .before .before .before .before .before .before .before .judge .ensures) (c .before .before .before .before .before .before .before .before .before .before .before .before .refused .ensures) (c .before .before .before .before .before .before .before .before .before .before .before .if1 .left) _ (c .before .before .before .before .before .before .before .before .before .is-name .ensures) (c .before .before .before .before .before .before .before .before .before .before .if2 .left) (not-false _ (c .before .before .before .before .before .before .before .before .if3 .left)) in
-    (page-answer _ _ _ _ _ (c .before .before .before .before .before .before .put-sheet .ensures) _ _ e _ (c .before .before .hand-out .ensures .0), page-row _ _ _ _ _ (c .before .before .before .before .before .before .put-sheet .ensures) _ _ e _ (c .before .before .hand-out .ensures .1))
+    let e = sheet-last (a .name .now) (a .rule) run (a .out .now) _ _ (c12 .before .judge .ensures) (c12 .refused .ensures) (c8 .before .before .before .if1 .left) _ (c8 .before .is-name .ensures) (c8 .before .before .if2 .left) (not-false _ (c8 .if3 .left)) in
+    (page-answer _ _ _ _ _ (c4 .before .before .put-sheet .ensures) _ _ e _ (c .before .before .hand-out .ensures .0), page-row _ _ _ _ _ (c4 .before .before .put-sheet .ensures) _ _ e _ (c .before .before .hand-out .ensures .1))
 
 pub write-sheet-spec : {M : Type 1} → statement M
 write-sheet-spec =

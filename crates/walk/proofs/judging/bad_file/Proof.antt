@@ -18,7 +18,7 @@ returns-2 c = simp (ne-eqb _ _ (c .before .if1 .left), lt-ltb _ _ (c .if2 .taken
 returns-3 : tie.Need-returns-3
 returns-3 c =
     let a = c .before .before .before .args in
-    simp (ne-eqb _ _ (c .before .before .if1 .left), le-ltb _ _ (c .before .if2 .left), lt-ltb lastPlace (a .start + a .length) (omega arith))
+    simp (ne-eqb _ _ (c .before .before .if1 .left), le-ltb _ _ (c .before .if2 .left), lt-ltb lastPlace (a .start + a .size) (omega arith))
 
 tape-right-of-requires : tie.Need-tape-right-of-requires
 tape-right-of-requires c κs = search needs
@@ -27,7 +27,7 @@ returns-4 : tie.Need-returns-4
 returns-4 c =
     let a = c .before .before .before .before .args in
     simp (ne-eqb _ _ (c .before .before .before .if1 .left), le-ltb _ _ (c .before .before .if2 .left), c .«tape-right-of» .ensures)
-    (ltb-same (lastPlace - a .start) (a .length) lastPlace (a .start + a .length) (omega arith) (omega arith))
+    (ltb-same (lastPlace - a .start) (a .size) lastPlace (a .start + a .size) (omega arith) (omega arith))
 
 pub bad-file-spec : {M : Type 1} → statement M
 bad-file-spec = tie.close (tie.spec returns returns-2 returns-3 tape-right-of-requires returns-4)

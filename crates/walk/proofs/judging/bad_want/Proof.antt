@@ -1,6 +1,5 @@
 -- `walk::judging::bad_want` meets its contract: each return is one of the reasons.
 -- Assumes nothing.
-use borrow.Author.Needs.{needs}
 use borrow.Author.Tests.{eq-eqb, ne-eqb, lt-ltb, le-ltb, le-leb, lt-leb}
 use Rattle.walk.proofs.judging.bad_want.Statement.{statement}
 use Rattle.walk.proofs.judging.bad_want.Tie as tie

@@ -1,6 +1,5 @@
 -- `walk::judging::right_end` meets its contract: the last want is the rightmost stop.
 -- Assumes nothing.
-use native.Mathlib.Omega.{arith}
 use mathlib.Core.Path.{_∙_}
 use Rattle.walk.proofs.Table.{right-end-empty, right-end-row}
 use borrow.Author.Needs.{needs}

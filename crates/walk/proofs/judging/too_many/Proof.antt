@@ -4,7 +4,6 @@ use borrow.Author.Needs.{needs}
 use Prim.Native.Nat.{_-_}
 use lib.ListN.{length}
 use native.Mathlib.Omega.{arith}
-use mathlib.Core.Path.{refl}
 use Rattle.walk.proofs.Accepted.{Counted, over-limit, counted-more, within-limit}
 use Rattle.walk.proofs.judging.too_many.Statement.{statement}
 use Rattle.walk.proofs.judging.too_many.Tie as tie

@@ -2,7 +2,6 @@
 -- Assumes nothing.
 use borrow.Author.Needs.{needs}
 use mathlib.Core.Path.{_≡_, sym}
-use native.Mathlib.Omega.{arith}
 use Rattle.walk.specs.Run.{Run, runOf, stopsOf}
 use Rattle.walk.specs.Detours.{listVerdict}
 use Rattle.walk.proofs.Judged.{GoodRun}

@@ -1,11 +1,10 @@
 -- `walk::pricing::time_of` meets its contract: no leg so far has read the file, and the legs that are left decide its time.
 -- Assumes nothing.
 use borrow.Author.Needs.{needs}
-use Prim.Native.Nat.{_-_, _<_, _≤_}
+use Prim.Native.Nat.{_-_}
 use mathlib.Core.Path.{_≡_}
 use mathlib.Core.Bool.{_&&_}
 use native.Mathlib.Omega.{arith}
-use lib.ListN.{length}
 use lib.Dec.{leb}
 use Rattle.walk.specs.Run.{stopOf}
 use Rattle.walk.specs.Rows.{rowLegs}

@@ -1,9 +1,8 @@
 -- `walk::pricing::walk_end` meets its contract: the legs that are left lead to the same end.
 -- Assumes nothing.
 use borrow.Author.Needs.{needs}
-use Prim.Native.Nat.{_-_, _<_}
+use Prim.Native.Nat.{_-_}
 use native.Mathlib.Omega.{arith}
-use lib.ListN.{length}
 use Rattle.walk.specs.Rows.{rowLegs}
 use Rattle.walk.proofs.Legs.{Ending, ending-start, ending-on, ended, next-leg, NextLeg}
 use Rattle.walk.proofs.pricing.walk_end.Statement.{statement}
