@@ -23,7 +23,7 @@ use Rattle.walk.proofs.Judged.{accepted-run}
 use Rattle.planner.specs.Plan.{Rows, Plans, roomSize, shortRows, planVerdict}
 use Rattle.demands.specs.Table.{RunApplies, ListIsBad}
 use Rattle.demands.specs.Demand1.{OnlyPlace, PriceApplies, PlanApplies, priceOrder, planOrder, PriceAnswers, PlanAnswers, Demand1Price, Demand1Plan, Demand1PriceIff, Demand1PlanIff}
-use Rattle.demands.proofs.Tests.{tells-below, tells-either, tells-regrouped}
+use Rattle.demands.proofs.Tests.{Tells, tells-below, tells-either, tells-regrouped}
 use Rattle.demands.proofs.Checks.{refused-iff, decides-if, decides-reworded, Finds, finds-none, finds-first, none-refuses}
 use Rattle.demands.proofs.Judged.{run-finds}
 use Rattle.demands.proofs.Listed.{decides-list}
@@ -34,16 +34,16 @@ refusal-only-place v = record { sum = refl; finish = refl; end = refl; detours =
 
 -- The pricer.
 module _ (r : Run) (froms tos row : List ℕ) where
-  price-of-run : (k : Refusal) (p : ℕ) → numberOf k ≤ 7 → PriceApplies r froms tos row k p → RunApplies r k p
+  pub price-of-run : (k : Refusal) (p : ℕ) → numberOf k ≤ 7 → PriceApplies r froms tos row k p → RunApplies r k p
   price-of-run k p l (PriceApplies.run h) = h
   price-of-run k p l (PriceApplies.list h) = absurd (omega arith)
   price-of-run k p l (PriceApplies.row h) = absurd (omega arith)
 
-  price-list : (p : ℕ) → PriceApplies r froms tos row BadEntry p → ListIsBad r froms tos p
+  pub price-list : (p : ℕ) → PriceApplies r froms tos row BadEntry p → ListIsBad r froms tos p
   price-list p (PriceApplies.run h) = absurd h
   price-list p (PriceApplies.list h) = h
 
-  price-row : (p : ℕ) → PriceApplies r froms tos row ShortRow p → (p ≡ 0) × (length row < length (r .numbers))
+  pub price-row : (p : ℕ) → PriceApplies r froms tos row ShortRow p → (p ≡ 0) × (length row < length (r .numbers))
   price-row p (PriceApplies.run h) = absurd h
   price-row p (PriceApplies.row h) = (refl, h)
 
@@ -76,45 +76,47 @@ price-refused-iff r froms tos row answer says =
 
 -- The planner.
 module _ (r : Run) (rows : Rows) where
-  plan-of-run : (k : Refusal) (p : ℕ) → numberOf k ≤ 7 → PlanApplies r rows k p → RunApplies r k p
+  pub plan-of-run : (k : Refusal) (p : ℕ) → numberOf k ≤ 7 → PlanApplies r rows k p → RunApplies r k p
   plan-of-run k p l (PlanApplies.run h) = h
   plan-of-run k p l (PlanApplies.times h) = absurd (omega arith)
   plan-of-run k p l (PlanApplies.froms h) = absurd (omega arith)
   plan-of-run k p l (PlanApplies.tos h) = absurd (omega arith)
   plan-of-run k p l (PlanApplies.room h) = absurd (omega arith)
 
-  abbrev IsShort : Type 0
+  abbrev pub IsShort : Type 0
   IsShort = (length (rows .times) < length (r .numbers)) ⊎ ((length (rows .froms) < length (r .numbers) - 1) ⊎ (length (rows .tos) < length (r .numbers) - 1))
 
-  short-row : (p : ℕ) → (p ≡ 0) × IsShort → PlanApplies r rows ShortRow p
+  pub short-row : (p : ℕ) → (p ≡ 0) × IsShort → PlanApplies r rows ShortRow p
   short-row p h = rw (h .0) (⊎-elim PlanApplies.times (⊎-elim PlanApplies.froms PlanApplies.tos) (h .1))
 
-  row-short : (p : ℕ) → PlanApplies r rows ShortRow p → (p ≡ 0) × IsShort
+  pub row-short : (p : ℕ) → PlanApplies r rows ShortRow p → (p ≡ 0) × IsShort
   row-short p (PlanApplies.run h) = absurd h
   row-short p (PlanApplies.times h) = (refl, inl h)
   row-short p (PlanApplies.froms h) = (refl, inr (inl h))
   row-short p (PlanApplies.tos h) = (refl, inr (inr h))
 
-  room-short : (p : ℕ) → PlanApplies r rows ShortRoom p → (p ≡ 0) × (length (rows .room) < roomSize r)
+  pub room-short : (p : ℕ) → PlanApplies r rows ShortRoom p → (p ≡ 0) × (length (rows .room) < roomSize r)
   room-short p (PlanApplies.run h) = absurd h
   room-short p (PlanApplies.room h) = (refl, h)
 
-  plan-finds : Finds (PlanApplies r rows) planOrder (planVerdict r rows)
-  unfolding planVerdict
-  plan-finds =
+  pub tells-short : Tells (shortRows (length (r .numbers)) rows) IsShort
+  tells-short =
       let k = length (r .numbers) in
       let times = ltb (length (rows .times)) k in
       let froms = ltb (length (rows .froms)) (k - 1) in
       let tos = ltb (length (rows .tos)) (k - 1) in
-      let room = refuseIf (ltb (length (rows .room)) (roomSize r)) ShortRoom in
-      run-finds r (PlanApplies r rows) (λ k p. PlanApplies.run) plan-of-run (ShortRow ∷ ShortRoom ∷ []) (refuseIf (shortRows k rows) ShortRow ∷ room ∷ [])
-      (λ a. finds-first (PlanApplies r rows) (room ∷ []) refl
-      (decides-reworded short-row row-short
-      (decides-if (shortRows k rows) ShortRow
-      (tells-regrouped
+      tells-regrouped
       (tells-either (times || froms) tos
       (tells-either times froms (tells-below (length (rows .times)) k) (tells-below (length (rows .froms)) (k - 1)))
-      (tells-below (length (rows .tos)) (k - 1))))))
+      (tells-below (length (rows .tos)) (k - 1)))
+
+  plan-finds : Finds (PlanApplies r rows) planOrder (planVerdict r rows)
+  unfolding planVerdict
+  plan-finds =
+      let short = shortRows (length (r .numbers)) rows in
+      let room = refuseIf (ltb (length (rows .room)) (roomSize r)) ShortRoom in
+      run-finds r (PlanApplies r rows) (λ k p. PlanApplies.run) plan-of-run (ShortRow ∷ ShortRoom ∷ []) (refuseIf short ShortRow ∷ room ∷ [])
+      (λ a. finds-first (PlanApplies r rows) (room ∷ []) refl (decides-reworded short-row row-short (decides-if short ShortRow tells-short))
       (λ b. finds-first (PlanApplies r rows) [] refl
       (decides-reworded (λ p h. rw (h .0) (PlanApplies.room (h .1))) room-short (decides-if _ ShortRoom (tells-below (length (rows .room)) (roomSize r))))
       (λ c. finds-none (PlanApplies r rows))))

@@ -5,6 +5,7 @@ pub mod Conditions
 pub mod Judged
 pub mod Listed
 pub mod Demand1
+pub mod Calls
 pub mod Planned
 pub mod Demand2
 pub mod Demand3

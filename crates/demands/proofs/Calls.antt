@@ -1,0 +1,163 @@
+-- Demand 1 at the C boundary: each call's code names the first of the table that applies, and a refusal changes no row.
+-- The conditions that pricer and planner share with their calls are reworded from Demand1.
+use Prim.Native.Nat.{ℕ, _≤_, _<_}
+use mathlib.Core.Path.{_≡_, refl, sym, ap}
+use mathlib.Core.Bool.{Bool, true, false, _||_}
+use mathlib.Core.Logic.{_⊎_, inl, inr, ⊎-elim}
+use mathlib.Core.List.{List, [], _∷_}
+use native.Mathlib.Omega.{arith}
+use lib.ListN.{length}
+use lib.Dec.{ltb, eqb}
+use Rattle.walk.specs.declared.Refusal.{Refusal}
+use Rattle.walk.specs.declared.Refusal.the-variants.{Accepted, BadEntry, ShortRow, ShortRoom, BadRule}
+use Rattle.walk.specs.Refusals.{numberOf, accepted, refuseIf, firstOf}
+use Rattle.walk.specs.Run.{Run, stopsOf}
+use Rattle.walk.specs.Judging.{judgeOf}
+use Rattle.walk.specs.Detours.{listVerdict}
+use Rattle.walk.specs.Price.{priceVerdict}
+use Rattle.walk.proofs.Verdicts.{refuses}
+use Rattle.walk.proofs.Judged.{accepted-run}
+use Rattle.planner.specs.Plan.{Rows, roomSize, shortRows}
+use Rattle.boundary.specs.Boundary.{shortSums, priceCall, priceTimes, priceSums, PriceCalled, badRule, planCall, PlanCalled}
+use Rattle.demands.specs.Table.{RunApplies, ListIsBad}
+use Rattle.demands.specs.Demand1.{PriceApplies, PlanApplies, priceOrder}
+use Rattle.demands.specs.Calls.{PriceCallApplies, PlanCallApplies, planCallOrder, PlanCallAnswers, Demand1PriceCall, Demand1PlanCall}
+use Rattle.demands.proofs.Tests.{tells-equal, tells-below, tells-not, tells-either}
+use Rattle.demands.proofs.Checks.{decides-if, decides-reworded, Finds, finds-none, finds-first, first-of-joined, none-refuses}
+use Rattle.demands.proofs.Judged.{run-finds}
+use Rattle.demands.proofs.Listed.{decides-list}
+use Rattle.demands.proofs.Demand1.{price-of-run, price-list, price-row, plan-of-run, IsShort, short-row, row-short, room-short, tells-short}
+
+-- Two checks for 8, one after the other, are one check.
+one-check : (a b : Bool) → firstOf (refuseIf a ShortRow ∷ refuseIf b ShortRow ∷ []) ≡ firstOf (refuseIf (a || b) ShortRow ∷ [])
+one-check true b = refl
+one-check false b = refl
+
+-- The pricer's call.
+module _ (r : Run) (froms tos times sums : List ℕ) where
+  abbrev AtPrice : Refusal → ℕ → Type 0
+  AtPrice = PriceCallApplies r froms tos times sums
+
+  price-call-run : (k : Refusal) (p : ℕ) → numberOf k ≤ 7 → AtPrice k p → RunApplies r k p
+  price-call-run k p l (PriceCallApplies.price h) = price-of-run r froms tos times k p l h
+  price-call-run k p l (PriceCallApplies.sums h) = absurd (omega arith)
+
+  price-call-list : (p : ℕ) → AtPrice BadEntry p → ListIsBad r froms tos p
+  price-call-list p (PriceCallApplies.price h) = price-list r froms tos times p h
+
+  abbrev EitherShort : Type 0
+  EitherShort = (length times < length (r .numbers)) ⊎ (length sums < 4)
+
+  short-price-call : (p : ℕ) → (p ≡ 0) × EitherShort → AtPrice ShortRow p
+  short-price-call p h = rw (h .0) (⊎-elim (λ s. PriceCallApplies.price (PriceApplies.row s)) PriceCallApplies.sums (h .1))
+
+  price-call-short : (p : ℕ) → AtPrice ShortRow p → (p ≡ 0) × EitherShort
+  price-call-short p (PriceCallApplies.price h) = let s = price-row r froms tos times p h in (s .0, inl (s .1))
+  price-call-short p (PriceCallApplies.sums h) = (refl, inr h)
+
+  price-call-finds : Finds AtPrice priceOrder (priceCall r froms tos times sums)
+  unfolding priceCall priceVerdict
+  price-call-finds =
+      let list = listVerdict (stopsOf r) froms tos in
+      let a = ltb (length times) (length (r .numbers)) in
+      let row = refuseIf a ShortRow in
+      let four = refuseIf (shortSums sums) ShortRow in
+      rw
+      (first-of-joined (judgeOf r ∷ list ∷ row ∷ []) (four ∷ []))
+      (run-finds r AtPrice (λ k p h. PriceCallApplies.price (PriceApplies.run h)) price-call-run (BadEntry ∷ ShortRow ∷ []) (list ∷ row ∷ four ∷ [])
+      (λ e. finds-first AtPrice (row ∷ four ∷ []) refl
+      (decides-reworded (λ p h. PriceCallApplies.price (PriceApplies.list h)) price-call-list (decides-list r froms tos (sym (accepted-run r e .wants .equal))))
+      (λ b. rw (one-check a (shortSums sums))
+      (finds-first AtPrice [] refl
+      (decides-reworded short-price-call price-call-short
+      (decides-if _ ShortRow (tells-either a (shortSums sums) (tells-below (length times) (length (r .numbers))) (tells-below (length sums) 4))))
+      (λ c. finds-none AtPrice)))))
+
+  price-call-accepted : refuses (priceCall r froms tos times sums) ≡ false → priceCall r froms tos times sums ≡ accepted
+  unfolding priceCall
+  price-call-accepted e = none-refuses (priceVerdict r froms tos times ∷ refuseIf (shortSums sums) ShortRow ∷ []) e
+
+  module _ (code : ℕ) (timesOut sumsOut : List ℕ) (called : PriceCalled r froms tos times sums code timesOut sumsOut) where
+    price-call-kept : (b : Bool) → refuses (priceCall r froms tos times sums) ≡ b → ((priceCall r froms tos times sums) .refusal ≡ Accepted → ⊥)
+        → (timesOut ≡ times) × (sumsOut ≡ sums)
+    unfolding priceTimes priceSums
+    price-call-kept true e n = (rw e at (called .timesAre), rw e at (called .sumsAre))
+    price-call-kept false e n = absurd (n (ap (λ v. v .refusal) (price-call-accepted e)))
+
+pub demand1-price-call : Demand1PriceCall
+demand1-price-call r froms tos times sums code timesOut sumsOut called =
+    let v = priceCall r froms tos times sums in
+    record {
+      kind = v .refusal;
+      place = v .place;
+      says = called .says;
+      first = price-call-finds r froms tos times sums;
+      kept = price-call-kept r froms tos times sums code timesOut sumsOut called (refuses v) refl;
+    }
+
+-- The planner's call.
+module _ (r : Run) (rule : ℕ) (rows : Rows) (sums : List ℕ) where
+  abbrev AtPlan : Refusal → ℕ → Type 0
+  AtPlan = PlanCallApplies r rule rows sums
+
+  plan-call-run : (k : Refusal) (p : ℕ) → numberOf k ≤ 7 → AtPlan k p → RunApplies r k p
+  plan-call-run k p l (PlanCallApplies.plan h) = plan-of-run r rows k p l h
+  plan-call-run k p l (PlanCallApplies.rule h g) = absurd (omega arith)
+  plan-call-run k p l (PlanCallApplies.sums h) = absurd (omega arith)
+
+  plan-call-rule : (p : ℕ) → AtPlan BadRule p → (p ≡ 0) × ((rule ≡ 0) ⊎ (rule ≡ 1) → ⊥)
+  plan-call-rule p (PlanCallApplies.plan (PlanApplies.run h)) = absurd h
+  plan-call-rule p (PlanCallApplies.rule h g) = (refl, ⊎-elim h g)
+
+  short-plan-call : (p : ℕ) → (p ≡ 0) × (IsShort r rows ⊎ (length sums < 4)) → AtPlan ShortRow p
+  short-plan-call p h = rw (h .0) (⊎-elim (λ s. PlanCallApplies.plan (short-row r rows 0 (refl, s))) PlanCallApplies.sums (h .1))
+
+  plan-call-short : (p : ℕ) → AtPlan ShortRow p → (p ≡ 0) × (IsShort r rows ⊎ (length sums < 4))
+  plan-call-short p (PlanCallApplies.plan h) = let s = row-short r rows p h in (s .0, inl (s .1))
+  plan-call-short p (PlanCallApplies.sums h) = (refl, inr h)
+
+  plan-call-room : (p : ℕ) → AtPlan ShortRoom p → (p ≡ 0) × (length (rows .room) < roomSize r)
+  plan-call-room p (PlanCallApplies.plan h) = room-short r rows p h
+
+  plan-call-finds : Finds AtPlan planCallOrder (planCall r rule rows sums)
+  unfolding planCall
+  plan-call-finds =
+      let rows-short = shortRows (length (r .numbers)) rows in
+      let short = refuseIf (rows-short || shortSums sums) ShortRow in
+      let room = refuseIf (ltb (length (rows .room)) (roomSize r)) ShortRoom in
+      run-finds r AtPlan (λ k p h. PlanCallApplies.plan (PlanApplies.run h)) plan-call-run (BadRule ∷ ShortRow ∷ ShortRoom ∷ []) (refuseIf (badRule rule) BadRule ∷ short ∷ room ∷ [])
+      (λ a. finds-first AtPlan (short ∷ room ∷ []) refl
+      (decides-reworded (λ p h. rw (h .0) (PlanCallApplies.rule (λ e. h .1 (inl e)) (λ e. h .1 (inr e)))) plan-call-rule
+      (decides-if (badRule rule) BadRule
+      (tells-not (eqb rule 0 || eqb rule 1) (tells-either (eqb rule 0) (eqb rule 1) (tells-equal rule 0) (tells-equal rule 1)))))
+      (λ b. finds-first AtPlan (room ∷ []) refl
+      (decides-reworded short-plan-call plan-call-short
+      (decides-if (rows-short || shortSums sums) ShortRow (tells-either rows-short (shortSums sums) (tells-short r rows) (tells-below (length sums) 4))))
+      (λ c. finds-first AtPlan [] refl
+      (decides-reworded (λ p h. rw (h .0) (PlanCallApplies.plan (PlanApplies.room (h .1)))) plan-call-room (decides-if _ ShortRoom (tells-below (length (rows .room)) (roomSize r))))
+      (λ d. finds-none AtPlan))))
+
+  plan-call-accepted : refuses (planCall r rule rows sums) ≡ false → planCall r rule rows sums ≡ accepted
+  unfolding planCall
+  plan-call-accepted e =
+      let short = shortRows (length (r .numbers)) rows || shortSums sums in
+      let room = ltb (length (rows .room)) (roomSize r) in
+      none-refuses (judgeOf r ∷ refuseIf (badRule rule) BadRule ∷ refuseIf short ShortRow ∷ refuseIf room ShortRoom ∷ []) e
+
+  module _ (code : ℕ) (after : Rows) (out : List ℕ) (called : PlanCalled r rule rows sums code after out) where
+    plan-call-says : (b : Bool) → refuses (planCall r rule rows sums) ≡ b → PlanCallAnswers r rule rows sums code after out
+    plan-call-says true e =
+        let v = planCall r rule rows sums in
+        let call = called .refused e in
+        record { kind = v .refusal; place = v .place; says = call .says; first = plan-call-finds; kept = λ n. (call .kept, call .keptSums) }
+    plan-call-says false e =
+        record {
+          kind = Accepted;
+          place = 0;
+          says = called .planned e .says;
+          first = rw (plan-call-accepted e) at plan-call-finds;
+          kept = λ n. absurd (n refl);
+        }
+
+pub demand1-plan-call : Demand1PlanCall
+demand1-plan-call r rule before sums code after out called = plan-call-says r rule before sums code after out called (refuses (planCall r rule before sums)) refl
