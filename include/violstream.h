@@ -3,7 +3,10 @@
  *
  * Two calls. violstream_price says what a list of detours costs; violstream_plan finds the best list. Both work on
  * 64-bit numbers and on rows that the caller lends. They allocate nothing and keep nothing between calls, so several
- * threads can call at once, each with rows of its own. Link with libviolstream.a (x86-64, beside the C library alone).
+ * threads can call at once, each with rows of its own. They take at most 3 KB of stack; a plan at the limits takes some
+ * tens of milliseconds. C99 or later, or C++. Link with libviolstream.a (x86-64, beside the C library alone):
+ *
+ *   cc example.c $(pkg-config --cflags --libs violstream)
  *
  * THE RUN
  *
@@ -101,7 +104,8 @@
 /*
  * The words of room that violstream_plan needs for that many wants and that many reads of all wants together.
  * A constant when its arguments are; it takes `wants` twice. For a run at the limits it is 4,198,400 words (33,587,200
- * bytes); VIOLSTREAM_ROOM_MOST words do for every run that is accepted.
+ * bytes); VIOLSTREAM_ROOM_MOST words do for every run that is accepted. With numbers past the limits it may wrap: check
+ * them first, or lend VIOLSTREAM_ROOM_MOST words.
  */
 #define VIOLSTREAM_ROOM_WORDS(wants, reads) ((size_t)(wants) * (size_t)(wants) * ((size_t)(reads) + 1))
 #define VIOLSTREAM_ROOM_MOST VIOLSTREAM_ROOM_WORDS(VIOLSTREAM_MAX_WANTS, VIOLSTREAM_MAX_READS)
@@ -142,7 +146,8 @@ enum violstream_refusal {
     VIOLSTREAM_BAD_ENTRY = 10,     /* violstream_price: list not well formed; place: the first entry that breaks a rule
                                       by itself or against an earlier one, 0 if starts and ends differ in number */
     VIOLSTREAM_SHORT_ROW = 8,      /* times shorter than the wants, or sums below 4 words; violstream_plan: also a row
-                                      for starts or ends of detours shorter than the wants less one; place 0 */
+                                      for starts or ends of detours shorter than the wants less one (0 for
+                                      none); place 0 */
     VIOLSTREAM_SHORT_ROOM = 9      /* violstream_plan, either rule: room below VIOLSTREAM_ROOM_WORDS; place 0 */
 };
 
