@@ -21,12 +21,16 @@ MACHINE = os.path.join(HERE, "host/machine.sh")
 NUMBER = rb"(0|[1-9][0-9]*)"
 
 
-def command():
-    """The words that start the program: on x86-64 its name alone."""
+def started(program):
+    """The words that start a program: on x86-64 its name alone."""
     found = subprocess.run(["sh", "-c", '. "$0" && starter', MACHINE], stdout=subprocess.PIPE, text=True)
     if found.returncode != 0:
-        sys.exit("sheets.py: the program cannot be started on this machine, as said above")
-    return found.stdout.splitlines() + [PROGRAM]
+        sys.exit(f"{sys.argv[0]}: the program cannot be started on this machine, as said above")
+    return found.stdout.splitlines() + [program]
+
+
+def command():
+    return started(PROGRAM)
 
 
 class Refused(Exception):

@@ -11,5 +11,6 @@ pub mod Demand2
 pub mod Demand3
 pub mod Cases
 pub mod Sheets
+pub mod Tapes
 pub mod Fits
 pub mod Instances

@@ -2,7 +2,7 @@
 -- nothing (demand 1); what the run sheet writer writes reads back (demand 2).
 use Prim.Native.Nat.{ℕ, zero, suc, _≤_, _<_}
 use mathlib.Core.Path.{_≡_, refl, sym, ap, _∙_}
-use mathlib.Core.Bool.{Bool, true, false, not, _||_, true≢false}
+use mathlib.Core.Bool.{Bool, true, false, not, _||_}
 use mathlib.Core.Logic.{_⊎_, inl, inr, ⊎-elim}
 use mathlib.Core.List.{List, [], _∷_}
 use native.Mathlib.Omega.{arith}
@@ -28,15 +28,10 @@ use Rattle.sheets.proofs.Rows.{length-each}
 use Rattle.sheets.proofs.RoundTrip.{round-trip}
 use Rattle.demands.specs.Table.{RunApplies, ListIsBad}
 use Rattle.demands.specs.Sheets.{readOrder, ReadApplies, ReadAnswers, writeOrder, planSheetOrder, WriteApplies, PlanSheetApplies, WriteAnswers, Demand1Read, Demand1Write, Demand1PlanSheet, Demand2RoundTrip}
-use Rattle.demands.proofs.Tests.{Tells, tells-below, tells-either}
+use Rattle.demands.proofs.Tests.{tells-false, Tells, tells-below, tells-either}
 use Rattle.demands.proofs.Checks.{Decides, refused, passed, decides-if, decides-reworded, Finds, finds-none, finds-first, first-of-joined, none-refuses}
 use Rattle.demands.proofs.Judged.{run-finds}
 use Rattle.demands.proofs.Listed.{decides-list}
-
--- A test that fails.
-tells-false : (b : Bool) → Tells (not b) (b ≡ false)
-tells-false true = record { when-true = λ e. sym e; when-false = λ e h. true≢false h }
-tells-false false = record { when-true = λ e. refl; when-false = λ e h. true≢false e }
 
 -- The reader.
 module _ (sheet starts lengths numbers counts : List ℕ) where

@@ -27,6 +27,15 @@ pub tells-not : (a : Bool) {P : Type 0} → Tells a P → Tells (not a) (P → �
 tells-not true t = record { when-true = λ e. absurd (true≢false (sym e)); when-false = λ e n. n (t .when-true refl) }
 tells-not false t = record { when-true = λ e. t .when-false refl; when-false = λ e. absurd (true≢false e) }
 
+-- A test by its own value.
+pub tells-true : (b : Bool) → Tells b (b ≡ true)
+tells-true true = record { when-true = λ e. refl; when-false = λ e h. true≢false e }
+tells-true false = record { when-true = λ e. e; when-false = λ e h. true≢false (sym h) }
+
+pub tells-false : (b : Bool) → Tells (not b) (b ≡ false)
+tells-false true = record { when-true = λ e. sym e; when-false = λ e h. true≢false h }
+tells-false false = record { when-true = λ e. refl; when-false = λ e h. true≢false e }
+
 pub tells-either : (a b : Bool) {P Q : Type 0} → Tells a P → Tells b Q → Tells (a || b) (P ⊎ Q)
 tells-either true b s t = record { when-true = λ e. inl (s .when-true refl); when-false = λ e. absurd (true≢false e) }
 tells-either false b s t =

@@ -6,7 +6,7 @@ use mathlib.Core.Logic.{_⊎_}
 use mathlib.Core.List.{List, [], _∷_}
 use lib.ListN.{length, getD}
 use Rattle.walk.specs.declared.Refusal.{Refusal}
-use Rattle.walk.specs.declared.Refusal.the-variants.{Accepted, FileRows, BadFile, WantRows, BadWant, TooManyReads, TurnPrice, HeadPlace, ShortRow, ShortRoom, BadEntry, BadLine, LongSheet, BadName, BadRule}
+use Rattle.walk.specs.declared.Refusal.the-variants.{Accepted, FileRows, BadFile, WantRows, BadWant, TooManyReads, TurnPrice, HeadPlace, ShortRow, ShortRoom, BadEntry, BadLine, LongSheet, BadName, BadRule, BadText, ManyExtents, Overlap, FarFile}
 use Rattle.walk.specs.Run.{Run, mostFiles, mostWants, mostReads, lastPlace, highestTurn, total}
 
 -- The place of the first of n entries, counted from 1, that is bad.
@@ -83,6 +83,10 @@ RunApplies r BadLine p = ⊥
 RunApplies r LongSheet p = ⊥
 RunApplies r BadName p = ⊥
 RunApplies r BadRule p = ⊥
+RunApplies r BadText p = ⊥
+RunApplies r ManyExtents p = ⊥
+RunApplies r Overlap p = ⊥
+RunApplies r FarFile p = ⊥
 
 -- The first of an order of checks that applies, with its place; `Accepted` and place 0 where none does.
 pub data FirstThatApplies (applies : Refusal → ℕ → Type 0) : List Refusal → Refusal → ℕ → Type 0 where

@@ -11,6 +11,10 @@ mod writer;
 pub use plan::write_plan;
 pub use reader::read_sheet;
 pub use reader::tape_name;
+pub use text::is_between;
+pub use text::is_name;
+pub use text::same;
+pub use text::starts;
 pub use writer::write_sheet;
 
 // The limits of a sheet. Both are inclusive.

@@ -29,7 +29,7 @@ pub(crate) fn find(text: &[u8], byte: u8) -> Found
 }
 
 // Whether a text begins with a key.
-pub(crate) fn starts(text: &[u8], key: &[u8]) -> bool
+pub fn starts(text: &[u8], key: &[u8]) -> bool
     ensures { λ r. ⌜ r ≡ startsWith (now (key .entry)) (now (text .entry)) ⌝ }
 {
     if text.len() < key.len() {
@@ -45,7 +45,7 @@ pub(crate) fn starts(text: &[u8], key: &[u8]) -> bool
     true
 }
 
-pub(crate) fn same(text: &[u8], wanted: &[u8]) -> bool
+pub fn same(text: &[u8], wanted: &[u8]) -> bool
     ensures { λ r. ⌜ r ≡ isText (now (wanted .entry)) (now (text .entry)) ⌝ }
 {
     if wanted.len() != text.len() {
@@ -67,7 +67,7 @@ fn well_begun(text: &[u8]) -> bool
     text[0] != 48
 }
 
-fn is_between(least: u8, most: u8, byte: u8) -> bool
+pub fn is_between(least: u8, most: u8, byte: u8) -> bool
     ensures { λ r. ⌜ r ≡ between least most byte ⌝ }
 {
     if byte < least {
@@ -110,7 +110,7 @@ fn is_name_byte(byte: u8) -> bool
 }
 
 // Whether a text is a tape name: 1 to 16 of A-Z and 0-9.
-pub(crate) fn is_name(text: &[u8]) -> bool
+pub fn is_name(text: &[u8]) -> bool
     ensures { λ r. ⌜ r ≡ isName (now (text .entry)) ⌝ }
 {
     if text.len() < 1 {

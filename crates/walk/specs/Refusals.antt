@@ -1,10 +1,10 @@
--- The refusal table of document 01: a number for each kind, a place for each verdict, and "the first that applies".
+-- The refusal table of document 01 and of the requests after it: a number for each kind, a place for each verdict, and "the first that applies".
 use Prim.Native.Nat.{ℕ, suc, zero}
 use mathlib.Core.Bool.{Bool, true, false, not, cond}
 use mathlib.Core.List.{List, [], _∷_}
 use lib.Dec.{eqb}
 use Rattle.walk.specs.declared.Refusal.{Refusal}
-use Rattle.walk.specs.declared.Refusal.the-variants.{Accepted, FileRows, BadFile, WantRows, BadWant, TooManyReads, TurnPrice, HeadPlace, ShortRow, ShortRoom, BadEntry, BadLine, LongSheet, BadName, BadRule}
+use Rattle.walk.specs.declared.Refusal.the-variants.{Accepted, FileRows, BadFile, WantRows, BadWant, TooManyReads, TurnPrice, HeadPlace, ShortRow, ShortRoom, BadEntry, BadLine, LongSheet, BadName, BadRule, BadText, ManyExtents, Overlap, FarFile}
 use Rattle.walk.specs.declared.Verdict.{Verdict}
 
 -- The number that the paper gives each kind; 0 where nothing is refused.
@@ -24,6 +24,10 @@ numberOf BadLine = 11
 numberOf LongSheet = 12
 numberOf BadName = 13
 numberOf BadRule = 14
+numberOf BadText = 20
+numberOf ManyExtents = 21
+numberOf Overlap = 22
+numberOf FarFile = 23
 
 abbrev pub isRefusal : Refusal → Bool
 isRefusal kind = not (eqb (numberOf kind) 0)

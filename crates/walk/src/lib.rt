@@ -26,7 +26,7 @@ pub const LAST_PLACE: u64 = 1_099_511_627_776;
 
 pub const HIGHEST_TURN: u64 = 4_294_967_296;
 
-// The kinds of document 01's refusal table, in the order of their numbers.
+// The kinds of document 01's refusal table, in the order of their numbers; then those of the requests that came after it.
 pub enum Refusal {
     Accepted,
     FileRows,
@@ -43,6 +43,10 @@ pub enum Refusal {
     LongSheet,
     BadName,
     BadRule,
+    BadText,
+    ManyExtents,
+    Overlap,
+    FarFile,
 }
 
 // Sweep always plans the empty list; Least the well-formed list of smallest sum, ties by the fixed rule.
@@ -105,6 +109,10 @@ pub fn number(kind: Refusal) -> u64
         Refusal::LongSheet => 12,
         Refusal::BadName => 13,
         Refusal::BadRule => 14,
+        Refusal::BadText => 20,
+        Refusal::ManyExtents => 21,
+        Refusal::Overlap => 22,
+        Refusal::FarFile => 23,
     }
 }
 

@@ -1,0 +1,49 @@
+-- Demand 1 for the tape tables of LTFS indexes: the refusals 13, 20, 21, 23, 22 and 8, the first that applies, with place 0; after a refusal every
+-- other number is 0 and the row holds what it held.
+use Prim.Native.Nat.{ℕ, _<_}
+use mathlib.Core.Path.{_≡_}
+use mathlib.Core.Bool.{true, false}
+use mathlib.Core.List.{List, [], _∷_}
+use lib.ListN.{length}
+use lib.Dec.{ltb}
+use Rattle.walk.specs.declared.Refusal.{Refusal}
+use Rattle.walk.specs.declared.Refusal.the-variants.{Accepted, ShortRow, BadName, BadText, ManyExtents, Overlap, FarFile}
+use Rattle.walk.specs.Run.{lastPlace}
+use Rattle.sheets.specs.Text.{isName}
+use Rattle.sheets.specs.Sheet.{mostSheetFiles}
+use Rattle.ltfs.specs.declared.Report.{Report}
+use Rattle.ltfs.specs.Tree.{isBalanced, treeOf}
+use Rattle.ltfs.specs.Index.{some, isGoodLabel, isGoodIndex, filesOf}
+use Rattle.ltfs.specs.Table.{inSeveral, endOfRange, someOverlap, rangesIn, tableIn, ltfsSheet, ltfsVerdict, ltfsReport, ltfsRow}
+use Rattle.demands.specs.Table.{FirstThatApplies}
+
+abbrev pub tapeOrder : List Refusal
+tapeOrder = BadName ∷ BadText ∷ ManyExtents ∷ FarFile ∷ Overlap ∷ ShortRow ∷ []
+
+pub data TapeApplies (name label index row : List ℕ) : Refusal → ℕ → Type 0 where
+  name : isName name ≡ false → TapeApplies name label index row BadName 0
+  labelText : isBalanced label ≡ false → TapeApplies name label index row BadText 0
+  indexText : isBalanced index ≡ false → TapeApplies name label index row BadText 0
+  labelValues : isGoodLabel (treeOf label) ≡ false → TapeApplies name label index row BadText 0
+  indexValues : isGoodIndex (treeOf index) ≡ false → TapeApplies name label index row BadText 0
+  several : some inSeveral (filesOf (treeOf index)) ≡ true → TapeApplies name label index row ManyExtents 0
+  many : mostSheetFiles < length (rangesIn label index) → TapeApplies name label index row FarFile 0
+  far : some (λ range. ltb lastPlace (endOfRange range)) (rangesIn label index) ≡ true → TapeApplies name label index row FarFile 0
+  overlap : someOverlap (tableIn label index) ≡ true → TapeApplies name label index row Overlap 0
+  row : length row < length (ltfsSheet name label index) → TapeApplies name label index row ShortRow 0
+
+pub record OnlyKind (answer : Report) : Type 0 where
+  pub bytes : answer .bytes ≡ 0
+  pub empty : answer .empty ≡ 0
+  pub other : answer .other ≡ 0
+
+pub record TapeAnswers (name label index row : List ℕ) (answer : Report) (out : List ℕ) : Type 0 where
+  pub first : FirstThatApplies (TapeApplies name label index row) tapeOrder (answer .refusal) (answer .place)
+  pub kept : (answer .refusal ≡ Accepted → ⊥) → OnlyKind answer × (out ≡ row)
+
+abbrev pub Demand1Tape : Type 0
+Demand1Tape =
+    (name label index row : List ℕ) (answer : Report) (out : List ℕ)
+    → answer ≡ ltfsReport (ltfsVerdict name label index row) name label index
+    → out ≡ ltfsRow (ltfsVerdict name label index row) name label index row
+    → TapeAnswers name label index row answer out

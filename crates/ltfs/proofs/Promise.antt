@@ -1,0 +1,97 @@
+-- What is promised of the sheet of a tape: no file is lost, and where nothing is refused the sheet reads back.
+use Prim.Native.Nat.{_+_}
+use mathlib.Core.Path.{_≡_, refl, ap, _∙_}
+use mathlib.Core.Bool.{Bool, true, false, cond, not, _&&_}
+use mathlib.Core.List.{List, [], _∷_}
+use native.Mathlib.Omega.{arith}
+use lib.ListN.{length, length-map}
+use lib.Dec.{eqb}
+use borrow.Author.Tests.{not-false}
+use Rattle.walk.specs.declared.Refusal.the-variants.{BadName, BadText, ManyExtents, Overlap, FarFile}
+use Rattle.walk.specs.declared.Rule.the-variants.{Least}
+use Rattle.walk.specs.Refusals.{refuseIf}
+use Rattle.walk.specs.Run.{Run}
+use Rattle.walk.specs.Judging.{judgeOf}
+use Rattle.walk.proofs.Verdicts.{all-accept, accepts-if}
+use Rattle.sheets.specs.Text.{isName}
+use Rattle.sheets.specs.Writing.{rowVerdict}
+use Rattle.sheets.proofs.RoundTrip.{round-trip}
+use Rattle.ltfs.specs.Tree.{Forest, treeOf}
+use Rattle.ltfs.specs.Index.{some, blockSizeOf, dataPartitionOf, partitionOf, filesOf}
+use Rattle.ltfs.specs.Table.{firstExtent, inSeveral, isEmptyFile, liesElsewhere, isAccepted, howMany, only, rangeOf, rangesOf, areFar, someOverlap, runOfTable, rangesIn, tableIn, areGoodTexts, ltfsSheet, ltfsVerdict, ltfsReport}
+use Rattle.ltfs.specs.Promises.{NoFileIsLost, AnswerCountsAll, SheetReadsBack}
+use Rattle.ltfs.proofs.Order.{oneIf, counted-cons, counted-none, length-kept}
+use Rattle.ltfs.proofs.Laid.{table-passes, table-few}
+
+-- Every file is accepted, empty or elsewhere, and only one of these.
+one-kind : (e p : Bool) → oneIf (not e && p) + oneIf e + oneIf (not e && not p) ≡ 1
+one-kind true p = refl
+one-kind false true = refl
+one-kind false false = refl
+
+only-length : (kind : List Forest → Bool) (file : List Forest) (files : List (List Forest)) → length (only kind (file ∷ files)) ≡ oneIf (kind file) + length (only kind files)
+unfolding only
+only-length kind file files = by-test (kind file)
+  where
+    by-test : (b : Bool) → length (cond b (file ∷ only kind files) (only kind files)) ≡ oneIf b + length (only kind files)
+    by-test true = omega arith
+    by-test false = omega arith
+
+pub no-file-is-lost : NoFileIsLost
+unfolding only
+no-file-is-lost partition [] = omega (arith, counted-none isEmptyFile, counted-none (liesElsewhere partition))
+no-file-is-lost partition (file ∷ files) =
+    omega (
+      arith,
+      no-file-is-lost partition files,
+      only-length (isAccepted partition) file files,
+      counted-cons isEmptyFile file files,
+      counted-cons (liesElsewhere partition) file files,
+      one-kind (isEmptyFile file) (eqb (partitionOf (firstExtent file)) partition),
+    )
+
+pub answer-counts-all : AnswerCountsAll
+unfolding ltfsReport tableIn rangesIn rangesOf
+answer-counts-all name label index row e =
+    let partition = dataPartitionOf (treeOf label) in
+    let files = filesOf (treeOf index) in
+    let kept = length-kept (rangesOf (blockSizeOf (treeOf label)) partition files) in
+    let ranges = length-map (only (isAccepted partition) files) (rangeOf (blockSizeOf (treeOf label))) in
+    let empty : (ltfsReport (ltfsVerdict name label index row) name label index) .empty ≡ howMany isEmptyFile files = rw e in
+    let other : (ltfsReport (ltfsVerdict name label index row) name label index) .other ≡ howMany (liesElsewhere partition) files = rw e in
+    omega (arith, no-file-is-lost partition files)
+
+-- What reading the sheet gives, for a run that is the table's.
+pub sheet-reads-back : SheetReadsBack
+unfolding ltfsVerdict ltfsSheet tableIn rangesIn runOfTable
+sheet-reads-back name label index row e =
+    let size = blockSizeOf (treeOf label) in
+    let partition = dataPartitionOf (treeOf label) in
+    let files = filesOf (treeOf index) in
+    let all =
+    all-accept
+    (refuseIf (not (isName name)) BadName
+    ∷ refuseIf (not (areGoodTexts label index)) BadText
+    ∷ refuseIf (some inSeveral (filesOf (treeOf index))) ManyExtents
+    ∷ refuseIf (areFar (rangesIn label index)) FarFile
+    ∷ refuseIf (someOverlap (tableIn label index)) Overlap
+    ∷ rowVerdict (ltfsSheet name label index) row
+    ∷ [])
+    e in
+    let named = not-false (isName name) (accepts-if (not (isName name)) BadName refl (all .0)) in
+    let far = accepts-if (areFar (rangesIn label index)) FarFile refl (all .1 .1 .1 .0) in
+    let apart = accepts-if (someOverlap (tableIn label index)) Overlap refl (all .1 .1 .1 .1 .0) in
+    let judged = table-passes size partition files far apart in
+    let back = round-trip name Least (runOfTable (tableIn label index)) judged (table-few size partition files far) named in
+    record {
+      reads = back .accepts;
+      name = back .same-name;
+      rule = back .same-rule;
+      starts = ap (λ (r : Run). r .starts) (back .same-run);
+      lengths = ap (λ (r : Run). r .lengths) (back .same-run);
+      numbers = ap (λ (r : Run). r .numbers) (back .same-run);
+      counts = ap (λ (r : Run). r .counts) (back .same-run);
+      head = ap (λ (r : Run). r .head) (back .same-run);
+      turn = ap (λ (r : Run). r .turn) (back .same-run);
+      judged = ap judgeOf (back .same-run) ∙ judged;
+    }

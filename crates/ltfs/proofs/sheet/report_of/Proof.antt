@@ -1,0 +1,21 @@
+-- `ltfs::sheet::report_of` meets its contract.
+-- Assumes nothing.
+use borrow.Author.Tests.{eq-eqb, ne-eqb}
+use Rattle.ltfs.specs.Parts.{reportOf}
+use borrow.Author.Needs.{needs}
+use Rattle.ltfs.proofs.sheet.report_of.Statement.{statement}
+use Rattle.ltfs.proofs.sheet.report_of.Tie as tie
+
+refused-requires : tie.Need-refused-requires
+refused-requires c κs = search needs
+
+returns : tie.Need-returns
+unfolding reportOf
+returns c = simp (eq-eqb _ _ (c .before .if1 .taken)) (c .refused .ensures)
+
+returns-2 : tie.Need-returns-2
+unfolding reportOf
+returns-2 c = simp (ne-eqb _ _ (c .if1 .left))
+
+pub report-of-spec : {M : Type 1} → statement M
+report-of-spec = tie.close (tie.spec refused-requires returns returns-2)

@@ -1,0 +1,32 @@
+-- `ltfs::tokens::text_step` meets its contract.
+-- Assumes nothing.
+use Rattle.ltfs.proofs.Pieces.{tokens-end, tokens-byte, tokens-markup}
+use Rattle.ltfs.specs.Parts.{tokensAt}
+use borrow.Author.Needs.{needs}
+use Rattle.ltfs.proofs.tokens.text_step.Statement.{statement}
+use Rattle.ltfs.proofs.tokens.text_step.Tie as tie
+
+returns : tie.Need-returns
+unfolding tokensAt
+returns c = tokens-end (c .before .before .args .text .now) (c .before .before .args .at) (search needs)
+
+shared-slice-read-byte : tie.Need-shared-slice-read-byte
+shared-slice-read-byte c = search needs
+
+markup-requires : tie.Need-markup-requires
+markup-requires c κs = search needs
+
+returns-2 : tie.Need-returns-2
+unfolding tokensAt
+returns-2 c = rw (tokens-markup (c .before .before .before .before .before .args .text .now) (c .before .before .before .before .before .args .at) (search needs) (c .before .if2 .taken)) (c .markup .ensures)
+
+add-t4 : tie.Need-add-t4
+add-t4 c = search needs
+
+returns-3 : tie.Need-returns-3
+unfolding tokensAt
+returns-3 c = record { first = tokens-byte (c .before .before .before .before .args .text .now) (c .before .before .before .before .args .at) (search needs) (c .if2 .left); within = search needs }
+
+pub text-step-spec : {M : Type 1} → statement M
+text-step-spec =
+    tie.close (tie.spec returns shared-slice-read-byte markup-requires returns-2 add-t4 returns-3)

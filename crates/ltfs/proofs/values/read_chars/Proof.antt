@@ -1,0 +1,122 @@
+-- `ltfs::values::read_chars` meets its contract: the bytes left make, with what is known, what all make.
+-- Assumes nothing.
+use lib.ListN.{length}
+use Rattle.ltfs.specs.Parts.{tokensAt}
+use Rattle.ltfs.proofs.Bare.{CharsLeft, chars-none, chars-byte, chars-start, chars-over, chars-finish}
+use Rattle.ltfs.proofs.Frames.{begins-fewer, frames-none, frames-broken}
+use borrow.Author.Needs.{needs}
+use native.Mathlib.Omega.{arith}
+use Rattle.ltfs.proofs.values.read_chars.Statement.{statement}
+use Rattle.ltfs.proofs.values.read_chars.Tie as tie
+
+abbrev Inv-loop : tie.InvT-loop
+Inv-loop text chars₀ here₀ chars here = CharsLeft text here₀ chars here
+
+abbrev μ-loop : tie.MeasureT-loop
+μ-loop text chars₀ here₀ chars here = length (tokensAt text here)
+
+loop-holds : tie.Need-loop-holds Inv-loop μ-loop
+loop-holds c =
+    let c1 = c .before in
+    chars-none _ _ (c1 .pre)
+
+next-token-requires : tie.Need-next-token-requires Inv-loop μ-loop
+next-token-requires c κs = c .loop .inv .around .within
+
+enum-told : tie.Need-enum-told Inv-loop μ-loop
+enum-told c = search needs
+
+returns : tie.Need-returns Inv-loop μ-loop
+returns c =
+    let c2 = c .before .before in
+    let c3 = c2 .before in
+    chars-over _ _ _ _ (c3 .loop .inv) (frames-none _ _ (rw (c .enum-told .given .1) at (c2 .next-token .ensures)))
+
+enum-told-2 : tie.Need-enum-told-2 Inv-loop μ-loop
+enum-told-2 c = search needs
+
+returns-2 : tie.Need-returns-2 Inv-loop μ-loop
+returns-2 c =
+    let c2 = c .before .before in
+    let c3 = c2 .before in
+    chars-over _ _ _ _ (c3 .loop .inv) (frames-broken _ _ (rw (c .enum-told2 .given .1) at (c2 .next-token .ensures)))
+
+enum-known-met : tie.Need-enum-known-met Inv-loop μ-loop
+enum-known-met c = search needs
+
+with-byte-requires : tie.Need-with-byte-requires Inv-loop μ-loop
+with-byte-requires c κs = search needs
+
+loop-less : tie.Need-loop-less Inv-loop μ-loop
+loop-less c =
+    let c2 = c .before .before in
+    let c4 = c2 .before .before in
+    let m = rw (c2 .met .given .1) at (c4 .next-token .ensures) in
+    begins-fewer _ _ _ _ m
+
+loop-again : tie.Need-loop-again Inv-loop μ-loop
+loop-again c =
+    let c2 = c .before .before in
+    let c4 = c2 .before .before in
+    let c5 = c4 .before in
+    let m = rw (c2 .met .given .1) at (c4 .next-token .ensures) in
+    chars-byte _ _ _ _ (c5 .loop .inv) _ _ _ m (c .with-byte .ensures)
+
+enum-known-met-2 : tie.Need-enum-known-met-2 Inv-loop μ-loop
+enum-known-met-2 c = search needs
+
+leave-requires : tie.Need-leave-requires Inv-loop μ-loop
+leave-requires c κs =
+    let c1 = c .before in
+    let c3 = c1 .before .before in
+    let m = rw (c1 .met2 .given .1) at (c3 .next-token .ensures) in
+    m .0 .within
+
+loop-less-2 : tie.Need-loop-less-2 Inv-loop μ-loop
+loop-less-2 c =
+    let c2 = c .before .before in
+    let c4 = c2 .before .before in
+    let m = rw (c2 .met2 .given .1) at (c4 .next-token .ensures) in
+    let l = begins-fewer _ _ _ _ (m .0) in let h = c .leave .ensures .fewer in omega arith
+
+loop-again-2 : tie.Need-loop-again-2 Inv-loop μ-loop
+loop-again-2 c =
+    let c2 = c .before .before in
+    let c4 = c2 .before .before in
+    let c5 = c4 .before in
+    let m = rw (c2 .met2 .given .1) at (c4 .next-token .ensures) in
+    chars-start _ _ _ _ (c5 .loop .inv) _ _ _ (m .0) (c .leave .ensures)
+
+enum-known-met-3 : tie.Need-enum-known-met-3 Inv-loop μ-loop
+enum-known-met-3 c = search needs
+
+returns-3 : tie.Need-returns-3 Inv-loop μ-loop
+returns-3 c =
+    let c1 = c .before in
+    let c3 = c1 .before .before in
+    let c4 = c3 .before in
+    let m = rw (c1 .met3 .given .1) at (c3 .next-token .ensures) in
+    chars-finish _ _ _ _ (c4 .loop .inv) _ _ (m .0)
+
+pub read-chars-spec : {M : Type 1} → statement M
+read-chars-spec =
+    tie.close
+    (tie.spec
+    Inv-loop
+    μ-loop
+    loop-holds
+    next-token-requires
+    enum-told
+    returns
+    enum-told-2
+    returns-2
+    enum-known-met
+    with-byte-requires
+    loop-less
+    loop-again
+    enum-known-met-2
+    leave-requires
+    loop-less-2
+    loop-again-2
+    enum-known-met-3
+    returns-3)

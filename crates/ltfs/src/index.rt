@@ -1,0 +1,386 @@
+// The index: its files one by one, in the order met, each by its extents.
+ghost use mathlib.Core.Path.{_≡_};
+ghost use mathlib.Core.Bool.{not, _&&_};
+ghost use Prim.Native.Nat.{ℕ, suc, _≤_};
+ghost use lib.ListN.{length};
+ghost use Rattle.ltfs.specs.Tree.{treeOf};
+ghost use Rattle.ltfs.specs.Index.{isNone, insides, indexName, extentName, extentsOf, roleOf, inContents, inDirectory};
+ghost use Rattle.ltfs.specs.Parts.{part, PlaceIn, NameIn, Left, inside, withExtentPart, withExtentBytes, extentOf, withExtent, withExtents, fileOf, extentIsGood, levelAt, RoleFound, NextFound, WalkIn};
+use crate::elements::Child;
+use crate::elements::is_named;
+use crate::elements::leave;
+use crate::elements::next_child;
+use crate::tokens::Place;
+use crate::values::Field;
+use crate::values::first_field;
+use crate::values::is_value;
+use crate::values::read_letter;
+use crate::values::read_number;
+use crate::values::value_in;
+
+pub(crate) struct Extent {
+    pub partition: Field,
+    pub block: Field,
+    pub offset: Field,
+    pub count: Field,
+}
+
+pub(crate) struct ExtentRead {
+    pub extent: Extent,
+    pub next: Place,
+}
+
+// A file: whether it has an extent, and several, whether all are good, and what the first says (0 for what it does not).
+pub(crate) struct File {
+    pub some: bool,
+    pub several: bool,
+    pub good: bool,
+    pub partition: u64,
+    pub block: u64,
+    pub offset: u64,
+    pub count: u64,
+}
+
+pub(crate) struct FileRead {
+    pub file: File,
+    pub next: Place,
+}
+
+// Where a reader of the index stands: how many elements it is in that are looked at, 0 outside of all.
+pub(crate) struct Walk {
+    pub depth: usize,
+    pub place: Place,
+}
+
+pub(crate) enum NextFile {
+    Found { file: File, walk: Walk },
+    Done,
+}
+
+// What an element is to the reader: one whose elements are looked at, a file, or none of these.
+enum Use {
+    Enter,
+    Read,
+    Skip,
+}
+
+// One element in an `extent` element.
+fn read_extent_part(text: &[u8], from: usize, to: usize, place: Place, extent: Extent) -> ExtentRead
+    requires { ⌜ PlaceIn (now text) place ⌝ }
+    requires { ⌜ NameIn (now text) from to ⌝ }
+    ensures { λ r. ⌜ (r .extent ≡ withExtentPart extent (part from to (now (text .entry))) (inside (now (text .entry)) place)) × Left (now (text .entry)) place (r .next) ⌝ }
+{
+    let partition = extent.partition;
+    let block = extent.block;
+    let offset = extent.offset;
+    let count = extent.count;
+    if is_named(text, from, to, b"partition") {
+        let read = read_letter(text, place);
+        let field = read.field;
+        let next = read.next;
+        let partition = first_field(partition, field);
+        let extent = Extent {
+            partition,
+            block,
+            offset,
+            count,
+        };
+        return ExtentRead { extent, next };
+    }
+    if is_named(text, from, to, b"startblock") {
+        let read = read_number(text, place);
+        let field = read.field;
+        let next = read.next;
+        let block = first_field(block, field);
+        let extent = Extent {
+            partition,
+            block,
+            offset,
+            count,
+        };
+        return ExtentRead { extent, next };
+    }
+    read_extent_bytes(text, from, to, place, extent)
+}
+
+fn read_extent_bytes(
+    text: &[u8],
+    from: usize,
+    to: usize,
+    place: Place,
+    extent: Extent,
+) -> ExtentRead
+    requires { ⌜ PlaceIn (now text) place ⌝ }
+    requires { ⌜ NameIn (now text) from to ⌝ }
+    ensures { λ r. ⌜ (r .extent ≡ withExtentBytes extent (part from to (now (text .entry))) (inside (now (text .entry)) place)) × Left (now (text .entry)) place (r .next) ⌝ }
+{
+    let partition = extent.partition;
+    let block = extent.block;
+    let offset = extent.offset;
+    let count = extent.count;
+    if is_named(text, from, to, b"byteoffset") {
+        let read = read_number(text, place);
+        let field = read.field;
+        let next = read.next;
+        let offset = first_field(offset, field);
+        let extent = Extent {
+            partition,
+            block,
+            offset,
+            count,
+        };
+        return ExtentRead { extent, next };
+    }
+    if is_named(text, from, to, b"bytecount") {
+        let read = read_number(text, place);
+        let field = read.field;
+        let next = read.next;
+        let count = first_field(count, field);
+        let extent = Extent {
+            partition,
+            block,
+            offset,
+            count,
+        };
+        return ExtentRead { extent, next };
+    }
+    let next = leave(text, place);
+    ExtentRead { extent, next }
+}
+
+fn read_extent(text: &[u8], place: Place) -> ExtentRead
+    requires { ⌜ PlaceIn (now text) place ⌝ }
+    ensures { λ r. ⌜ (r .extent ≡ extentOf (inside (now (text .entry)) place)) × Left (now (text .entry)) place (r .next) ⌝ }
+{
+    let mut extent = Extent {
+        partition: Field::Missing,
+        block: Field::Missing,
+        offset: Field::Missing,
+        count: Field::Missing,
+    };
+    let mut here = place;
+    loop {
+        let child = next_child(text, here);
+        match child {
+            Child::Done(next) => return ExtentRead { extent, next },
+            Child::Element { from, to, next } => {
+                let read = read_extent_part(text, from, to, next, extent);
+                extent = read.extent;
+                here = read.next;
+            }
+        }
+    }
+}
+
+fn extent_is_good(extent: Extent) -> bool
+    ensures { λ r. ⌜ r ≡ extentIsGood extent ⌝ }
+{
+    let partition = extent.partition;
+    let block = extent.block;
+    let offset = extent.offset;
+    let count = extent.count;
+    if !is_value(partition) {
+        return false;
+    }
+    if !is_value(block) {
+        return false;
+    }
+    if !is_value(offset) {
+        return false;
+    }
+    is_value(count)
+}
+
+// Whether the extents of a file are all good, with one more.
+fn still_good(file: File, extent: Extent) -> bool
+    ensures { λ r. ⌜ r ≡ (file .good && extentIsGood extent) ⌝ }
+{
+    if !file.good {
+        return false;
+    }
+    extent_is_good(extent)
+}
+
+// A file with one more extent.
+fn with_extent(file: File, extent: Extent) -> File
+    ensures { λ r. ⌜ r ≡ withExtent file extent ⌝ }
+{
+    let good = still_good(file, extent);
+    if file.some {
+        return File {
+            some: true,
+            several: true,
+            good,
+            partition: file.partition,
+            block: file.block,
+            offset: file.offset,
+            count: file.count,
+        };
+    }
+    let partition = extent.partition;
+    let block = extent.block;
+    let offset = extent.offset;
+    let count = extent.count;
+    File {
+        some: true,
+        several: false,
+        good,
+        partition: value_in(partition),
+        block: value_in(block),
+        offset: value_in(offset),
+        count: value_in(count),
+    }
+}
+
+// The extents in an `extentinfo` element.
+fn read_extents(text: &[u8], place: Place, file: File) -> FileRead
+    requires { ⌜ PlaceIn (now text) place ⌝ }
+    ensures { λ r. ⌜ (r .file ≡ withExtents file (insides extentName (inside (now (text .entry)) place))) × Left (now (text .entry)) place (r .next) ⌝ }
+{
+    let mut file = file;
+    let mut here = place;
+    loop {
+        let child = next_child(text, here);
+        match child {
+            Child::Done(next) => return FileRead { file, next },
+            Child::Element { from, to, next } => {
+                if is_named(text, from, to, b"extent") {
+                    let read = read_extent(text, next);
+                    let extent = read.extent;
+                    file = with_extent(file, extent);
+                    here = read.next;
+                } else {
+                    here = leave(text, next);
+                }
+            }
+        }
+    }
+}
+
+fn read_file(text: &[u8], place: Place) -> FileRead
+    requires { ⌜ PlaceIn (now text) place ⌝ }
+    ensures { λ r. ⌜ (r .file ≡ fileOf (extentsOf (inside (now (text .entry)) place))) × Left (now (text .entry)) place (r .next) ⌝ }
+{
+    let mut file = File {
+        some: false,
+        several: false,
+        good: true,
+        partition: 0,
+        block: 0,
+        offset: 0,
+        count: 0,
+    };
+    let mut here = place;
+    loop {
+        let child = next_child(text, here);
+        match child {
+            Child::Done(next) => return FileRead { file, next },
+            Child::Element { from, to, next } => {
+                if is_named(text, from, to, b"extentinfo") {
+                    let read = read_extents(text, next, file);
+                    file = read.file;
+                    here = read.next;
+                } else {
+                    here = leave(text, next);
+                }
+            }
+        }
+    }
+}
+
+// What a name means in the contents of a directory.
+fn use_in_contents(text: &[u8], from: usize, to: usize) -> Use
+    requires { ⌜ NameIn (now text) from to ⌝ }
+    ensures { λ r. ⌜ RoleFound (roleOf inContents (part from to (now (text .entry)))) inDirectory r ⌝ }
+{
+    if is_named(text, from, to, b"directory") {
+        return Use::Enter;
+    }
+    if is_named(text, from, to, b"file") {
+        return Use::Read;
+    }
+    Use::Skip
+}
+
+// What a name means so deep: 0 is outside of all, 1 in the index, then directories at even depths and their contents at odd ones.
+fn use_at(text: &[u8], from: usize, to: usize, depth: usize) -> Use
+    requires { ⌜ NameIn (now text) from to ⌝ }
+    ensures { λ r. ⌜ RoleFound (roleOf (levelAt depth) (part from to (now (text .entry)))) (levelAt (suc depth)) r ⌝ }
+{
+    if depth == 0 {
+        if is_named(text, from, to, b"ltfsindex") {
+            return Use::Enter;
+        }
+        return Use::Skip;
+    }
+    if depth == 1 {
+        if is_named(text, from, to, b"directory") {
+            return Use::Enter;
+        }
+        return Use::Skip;
+    }
+    if depth % 2 == 0 {
+        if is_named(text, from, to, b"contents") {
+            return Use::Enter;
+        }
+        return Use::Skip;
+    }
+    use_in_contents(text, from, to)
+}
+
+// The next file of the index.
+pub(crate) fn next_file(text: &[u8], walk: Walk) -> NextFile
+    requires { ⌜ WalkIn (now text) walk ⌝ }
+    ensures { λ r. ⌜ NextFound (now (text .entry)) walk r ⌝ }
+{
+    let mut depth = walk.depth;
+    let mut here = walk.place;
+    loop {
+        let child = next_child(text, here);
+        match child {
+            Child::Done(next) => {
+                if depth == 0 {
+                    return NextFile::Done;
+                }
+                depth -= 1;
+                here = next;
+            }
+            Child::Element { from, to, next } => {
+                let role = use_at(text, from, to, depth);
+                match role {
+                    Use::Enter => {
+                        depth += 1;
+                        here = next;
+                    }
+                    Use::Read => {
+                        let read = read_file(text, next);
+                        let file = read.file;
+                        let place = read.next;
+                        let walk = Walk { depth, place };
+                        return NextFile::Found { file, walk };
+                    }
+                    Use::Skip => here = leave(text, next),
+                }
+            }
+        }
+    }
+}
+
+// Whether a text has an outermost `ltfsindex`.
+pub(crate) fn has_index(text: &[u8]) -> bool
+    ensures { λ r. ⌜ r ≡ not (isNone (insides indexName (treeOf (now (text .entry))))) ⌝ }
+{
+    let mut here = Place::Text(0);
+    loop {
+        let child = next_child(text, here);
+        match child {
+            Child::Done(_) => return false,
+            Child::Element { from, to, next } => {
+                if is_named(text, from, to, b"ltfsindex") {
+                    return true;
+                }
+                here = leave(text, next);
+            }
+        }
+    }
+}

@@ -1,0 +1,164 @@
+// The sheet of a tape's files, from its name, its label and its index.
+ghost use mathlib.Core.Path.{_≡_};
+ghost use mathlib.Core.Bool.{true};
+ghost use mathlib.Core.List.{[]};
+ghost use Prim.Native.Nat.{_≤_};
+ghost use lib.ListN.{length, take};
+ghost use Rattle.walk.specs.declared.Rule.the-variants.{Least};
+ghost use Rattle.walk.specs.Run.{runOf};
+ghost use Rattle.sheets.specs.Text.{isName};
+ghost use Rattle.sheets.specs.Writing.{sheetText, writeVerdict, writtenAnswer, writtenRow};
+ghost use Rattle.ltfs.specs.Tree.{treeOf};
+ghost use Rattle.ltfs.specs.Index.{filesOf};
+ghost use Rattle.ltfs.specs.Table.{lastEnd, ltfsVerdict, ltfsReport, ltfsRow};
+ghost use Rattle.ltfs.specs.Parts.{rangesFrom, RowsFit, EndsFit, neighbourOverlap, refusedBy, reportOf, tableReport, tableRow};
+use crate::Report;
+use crate::balance::is_balanced;
+use crate::index::has_index;
+use crate::label::read_label;
+use crate::table::Tally;
+use crate::table::gather;
+use crate::values::is_value;
+use crate::values::value_in;
+use sheets::Written;
+use walk::Refusal;
+use walk::Rule;
+
+// The answer of a refusal: its kind, and every number 0.
+fn refused(refusal: Refusal) -> Report
+    ensures { λ r. ⌜ r ≡ refusedBy refusal ⌝ }
+{
+    Report {
+        refusal,
+        place: 0,
+        bytes: 0,
+        empty: 0,
+        other: 0,
+    }
+}
+
+// Whether a file of a table in tape order starts before the one before it ends.
+fn neighbours_overlap(starts: &[u64], lengths: &[u64], kept: usize) -> bool
+    requires { ⌜ kept ≤ 256 ⌝ }
+    requires { ⌜ RowsFit (now starts) (now lengths) ⌝ }
+    requires { ⌜ EndsFit (now starts) (now lengths) kept ⌝ }
+    ensures { λ r. ⌜ r ≡ neighbourOverlap (rangesFrom (take kept (now (starts .entry))) (take kept (now (lengths .entry)))) ⌝ }
+{
+    let mut i: usize = 1;
+    while i < kept {
+        let end = starts[i - 1] + lengths[i - 1];
+        if starts[i] < end {
+            return true;
+        }
+        i += 1;
+    }
+    false
+}
+
+// The end of the last file; 0 where there is none.
+fn last_end(starts: &[u64], lengths: &[u64], kept: usize) -> u64
+    requires { ⌜ kept ≤ 256 ⌝ }
+    requires { ⌜ RowsFit (now starts) (now lengths) ⌝ }
+    requires { ⌜ EndsFit (now starts) (now lengths) kept ⌝ }
+    ensures { λ r. ⌜ r ≡ lastEnd (rangesFrom (take kept (now (starts .entry))) (take kept (now (lengths .entry)))) ⌝ }
+{
+    if kept == 0 {
+        return 0;
+    }
+    starts[kept - 1] + lengths[kept - 1]
+}
+
+// The sheet of a table: no wants, turn price 0, the rule least.
+fn write_table(name: &[u8], starts: &[u64], lengths: &[u64], head: u64, out: &mut [u8]) -> Written
+    ensures { λ r. ⌜ r ≡ writtenAnswer (writeVerdict (now (name .entry)) Least (runOf (now (starts .entry)) (now (lengths .entry)) [] [] head 0) (now (out .entry))) (sheetText (now (name .entry)) Least (runOf (now (starts .entry)) (now (lengths .entry)) [] [] head 0)) ⌝ }
+    ensures { λ _. ⌜ now (out .exit) ≡ writtenRow (writeVerdict (now (name .entry)) Least (runOf (now (starts .entry)) (now (lengths .entry)) [] [] head 0) (now (out .entry))) (sheetText (now (name .entry)) Least (runOf (now (starts .entry)) (now (lengths .entry)) [] [] head 0)) (now (out .entry)) ⌝ }
+{
+    let none = [0u64; 1];
+    let wants = &none[..0];
+    sheets::write_sheet(
+        name,
+        Rule::Least,
+        starts,
+        lengths,
+        wants,
+        wants,
+        head,
+        0,
+        out,
+    )
+}
+
+// What is said of a sheet that was written or refused.
+fn report_of(written: Written, tally: Tally) -> Report
+    ensures { λ r. ⌜ r ≡ reportOf written tally ⌝ }
+{
+    let refusal = written.refusal;
+    if written.bytes == 0 {
+        return refused(refusal);
+    }
+    Report {
+        refusal,
+        place: 0,
+        bytes: written.bytes,
+        empty: tally.empty,
+        other: tally.other,
+    }
+}
+
+// The files of an index, for a block size and a data partition: 20, 21, 23, 22 and 8.
+fn lay_out(name: &[u8], size: u64, partition: u64, index: &[u8], out: &mut [u8]) -> Report
+    requires { ⌜ isName (now name) ≡ true ⌝ }
+    ensures { λ r. ⌜ r ≡ tableReport (now (name .entry)) size partition (filesOf (treeOf (now (index .entry)))) (now (out .entry)) ⌝ }
+    ensures { λ _. ⌜ now (out .exit) ≡ tableRow (now (name .entry)) size partition (filesOf (treeOf (now (index .entry)))) (now (out .entry)) ⌝ }
+{
+    let mut starts = [0u64; 256];
+    let mut lengths = [0u64; 256];
+    let tally = gather(index, size, partition, &mut starts, &mut lengths);
+    if !tally.good {
+        return refused(Refusal::BadText);
+    }
+    if tally.several {
+        return refused(Refusal::ManyExtents);
+    }
+    if tally.far {
+        return refused(Refusal::FarFile);
+    }
+    let kept = tally.kept;
+    if neighbours_overlap(&starts, &lengths, kept) {
+        return refused(Refusal::Overlap);
+    }
+    let head = last_end(&starts, &lengths, kept);
+    let written = write_table(name, &starts[..kept], &lengths[..kept], head, out);
+    report_of(written, tally)
+}
+
+// The sheet of a tape's files in the first bytes of a row, and a report of those left out.
+pub fn table_sheet(name: &[u8], label: &[u8], index: &[u8], out: &mut [u8]) -> Report
+    ensures { λ r. ⌜ r ≡ ltfsReport (ltfsVerdict (now (name .entry)) (now (label .entry)) (now (index .entry)) (now (out .entry))) (now (name .entry)) (now (label .entry)) (now (index .entry)) ⌝ }
+    ensures { λ _. ⌜ now (out .exit) ≡ ltfsRow (ltfsVerdict (now (name .entry)) (now (label .entry)) (now (index .entry)) (now (out .entry))) (now (name .entry)) (now (label .entry)) (now (index .entry)) (now (out .entry)) ⌝ }
+{
+    if !sheets::is_name(name) {
+        return refused(Refusal::BadName);
+    }
+    if !is_balanced(label) {
+        return refused(Refusal::BadText);
+    }
+    if !is_balanced(index) {
+        return refused(Refusal::BadText);
+    }
+    let read = read_label(label);
+    let size_field = read.size;
+    let partition_field = read.partition;
+    if !is_value(size_field) {
+        return refused(Refusal::BadText);
+    }
+    if !is_value(partition_field) {
+        return refused(Refusal::BadText);
+    }
+    if !has_index(index) {
+        return refused(Refusal::BadText);
+    }
+    let size = value_in(size_field);
+    let partition = value_in(partition_field);
+    lay_out(name, size, partition, index, out)
+}
