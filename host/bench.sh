@@ -1,8 +1,9 @@
 #!/bin/sh
 # Builds and runs the benchmark against ARCHIVE (default target/staticlib/libboundary.a) and prints its table.
 #
-#   host/bench.sh [--quick] [ARCHIVE]
+#   host/bench.sh [--quick] [--native] [ARCHIVE]
 #
+# --native: ARCHIVE was made by host/native.sh, for this machine's own processor.
 # CC (default gcc, or a cross compiler: see machine.sh) and CFLAGS (default -O3) may be set in the environment; the table
 # names them.
 set -eu
@@ -14,7 +15,8 @@ quick=
 for word in "$@"; do
     case $word in
         --quick) quick=--quick ;;
-        -*) printf 'bench.sh: unknown option %s; usage: host/bench.sh [--quick] [ARCHIVE]\n' "$word" >&2; exit 2 ;;
+        --native) emulated=no cc=gcc emulator='' ;;
+        -*) printf 'bench.sh: unknown option %s; usage: host/bench.sh [--quick] [--native] [ARCHIVE]\n' "$word" >&2; exit 2 ;;
         *) archive=$word ;;
     esac
 done

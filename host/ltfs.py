@@ -2,7 +2,8 @@
 """Runs the ltfs_sheet program on whole and damaged labels and indexes and compares every byte it prints with an answer worked out here.
 
 usage: host/ltfs.py [--cases N] [PROGRAM]    (default target/bin/ltfs_sheet, 4,000 generated cases beside the fixed ones)
-       host/ltfs.py --time [PROGRAM]         how long one call takes, at two sizes of the index
+       host/ltfs.py --time [PROGRAM]         how long one call takes, at three sizes of the index
+       host/ltfs.py --native ... PROGRAM     the program was made by host/native.sh, for this machine's own processor
        host/ltfs.py --examples [PROGRAM]     the pairs of examples/ltfs alone
 
 Two readers stand here that share nothing with the program: one of every text, by regular expressions, after docs/DECISIONS.md;
@@ -512,7 +513,8 @@ def main():
         del words[at:at + 2]
     options = [word for word in words if word.startswith("--")]
     programs = [word for word in words if not word.startswith("--")]
-    program = sheets.started(programs[0] if programs else os.path.join(HERE, "target/bin/ltfs_sheet"))
+    program = programs[0] if programs else os.path.join(HERE, "target/bin/ltfs_sheet")
+    program = [program] if "--native" in options else sheets.started(program)
     if "--time" in options:
         if len(program) > 1:
             print("EMULATED: the times below say nothing of the program on x86-64.")

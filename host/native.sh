@@ -1,0 +1,69 @@
+#!/bin/sh
+# Compiles a proved crate for this machine's own processor, to measure it where that is not x86-64: the module that the
+# Rattle compiler hands to its back end is kept, its target named anew, and compiled at -O3 as the kit does. What is
+# installed, and what the gate runs, is the x86-64 build.
+#
+#   host/native.sh CRATE OUT      OUT: a program; for a library crate an archive
+#
+# The crates below CRATE must be proved already (rt check CRATE).
+set -eu
+
+here=$(cd "$(dirname "$0")/.." && pwd)
+. "$here/host/machine.sh"
+
+fail() {
+    printf 'native.sh: %s\n' "$1" >&2
+    exit 1
+}
+
+[ $# -eq 2 ] || fail "usage: host/native.sh CRATE OUT"
+crate=$1 out=$2
+source=$here/crates/$crate/src
+kit=$(kit) && own=$kit/on/$machine && clang=$own/toolchain/bin/clang
+[ -x "$clang" ] || fail "no Rattle kit for this machine beside rt"
+
+work=$(mktemp -d)
+trap 'rm -rf "$work"' EXIT
+
+# A toolchain whose compiler keeps the module that it is given.
+mkdir -p "$work/tools/bin"
+ln -s "$own/toolchain/lib" "$work/tools/lib"
+for tool in llvm-ar ld.lld; do cp "$clang" "$work/tools/bin/$tool"; done
+cat > "$work/tools/bin/clang" << END
+#!/bin/sh
+for word in "\$@"; do case \$word in *.bc) cp "\$word" "$work/module.bc" ;; esac; done
+exec "$clang" "\$@"
+END
+chmod +x "$work/tools/bin/clang"
+
+# The words for the compiler, as rt gives them.
+if [ -f "$source/main.rt" ]; then
+    set -- "$source/main.rt"
+else
+    set -- "$source/lib.rt" --crate-type staticlib
+fi
+for library in std $(sed -n "s/^$crate://p" "$here/crates.txt"); do
+    if [ -d "$here/target/rlib/$library.rlib" ]; then
+        set -- "$@" --extern "$library=$here/target/rlib/$library.rlib"
+    else
+        set -- "$@" --extern "$library=$own/rlib/$library.rlib"
+    fi
+done
+"$own/bin/rattle" build --crate-name "$crate" "$@" -L "dependency=$here/target/rlib" -L "dependency=$own/rlib" \
+    --antt-project "$kit/logic/antt-project.json" --logic-built "$own/logic-built" --toolchain "$work/tools" \
+    -o "$work/made" > "$work/log" 2>&1 || { tail -n 5 "$work/log" >&2; fail "$crate was not built"; }
+
+# The same module for this processor: its triple and data layout are the compiler's own.
+"$clang" --target=x86_64-unknown-linux-gnu -Xclang -disable-llvm-passes -S -emit-llvm -x ir "$work/module.bc" -o "$work/module.ll"
+printf '' | "$clang" -x c - -S -emit-llvm -o "$work/empty.ll"
+layout=$(sed -n '/^target datalayout/p' "$work/empty.ll")
+triple=$(sed -n '/^target triple/p' "$work/empty.ll")
+sed -e "s/^target datalayout.*/$layout/" -e "s/^target triple.*/$triple/" -e 's/"target-cpu"="x86-64"//' "$work/module.ll" > "$work/here.ll"
+"$clang" -O3 -ffunction-sections -fdata-sections -fPIC -c -x ir "$work/here.ll" -o "$work/here.o"
+if [ -f "$source/main.rt" ]; then
+    gcc "$work/here.o" -o "$out"
+else
+    rm -f "$out"
+    ar rcs "$out" "$work/here.o"
+fi
+printf 'native.sh: %s, compiled for %s\n' "$out" "$machine"
