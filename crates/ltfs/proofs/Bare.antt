@@ -235,11 +235,13 @@ text-is (k ∷ wanted) (b ∷ text) l e =
     let t : text ≡ wanted = text-is wanted text (omega arith) (both .1) in
     rw (h, t)
 
-pub other-name : (wanted other text : List ℕ) → isText wanted text ≡ true → isText other wanted ≡ false → isText other text ≡ false
-other-name wanted other text e d =
+pub text-named : (wanted text : List ℕ) → isText wanted text ≡ true → text ≡ wanted
+text-named wanted text e =
     let both = and-true-both (eqb (length wanted) (length text)) (startsWith wanted text) e in
-    let t : text ≡ wanted = text-is wanted text (eqb-true (length wanted) (length text) (both .0)) (both .1) in
-    rw t d
+    text-is wanted text (eqb-true (length wanted) (length text) (both .0)) (both .1)
+
+pub other-name : (wanted other text : List ℕ) → isText wanted text ≡ true → isText other wanted ≡ false → isText other text ≡ false
+other-name wanted other text e d = rw (text-named wanted text e) d
 
 -- What the values of a name add to a field.
 pub fields-append : (form : List ℕ → Field) (field : Field) (a b : List (List ℕ)) → fieldFrom form field (a ++ b) ≡ fieldFrom form (fieldFrom form field a) b

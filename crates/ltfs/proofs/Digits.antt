@@ -1,5 +1,5 @@
 -- Numbers and letters byte by byte: what is known after some bytes says what the whole is.
-use Prim.Native.Nat.{ℕ, _+_, _-_, _*_, _^_, _≤_, _<_}
+use Prim.Native.Nat.{ℕ, _+_, _-_, _*_, _^_, _<_}
 use mathlib.Core.Path.{_≡_, refl, ap, sym, _∙_}
 use mathlib.Core.Bool.{Bool, true, false, cond, _&&_, and-false, false≢true}
 use mathlib.Core.List.{List, [], _∷_}
@@ -7,7 +7,7 @@ use native.Mathlib.Omega.{arith}
 use lib.Dec.{eqb, ltb}
 use borrow.Author.Tests.{lt-ltb, le-ltb, ltb-true, ltb-false}
 use Rattle.sheets.specs.Text.{between, allOf, valueFrom, valueOf, isDigit, isNumber}
-use Rattle.sheets.proofs.Bytes.{digit-bounds, and-true-both}
+use Rattle.sheets.proofs.Bytes.{digit-bounds, and-true-both, value-grows}
 use Rattle.ltfs.specs.declared.values.Chars.{Chars}
 use Rattle.ltfs.specs.declared.values.Field.{Field}
 use Rattle.ltfs.specs.Parts.{noChars, withByte, charsFrom, grows, numberField, letterField}
@@ -32,12 +32,6 @@ spoiled : (s : Chars) (bytes : List ℕ) → s .some ≡ true → s .good ≡ fa
 unfolding charsFrom withByte
 spoiled s [] e g = g
 spoiled s (b ∷ bytes) e g = spoiled (withByte s b) bytes refl (rw (e, g) (never-good (eqb (s .first) 48) (grows (s .value) b)))
-
--- A value only grows.
-value-grows : (n : ℕ) (text : List ℕ) → n ≤ valueFrom n text
-unfolding valueFrom
-value-grows n [] = omega arith
-value-grows n (b ∷ text) = let h = value-grows (n * 10 + (b - 48)) text in omega arith
 
 -- Digits behind a good number that does not begin with 0.
 record Goes (s : Chars) (bytes : List ℕ) : Type 0 where

@@ -7,6 +7,7 @@ pub mod Frames
 pub mod Names
 pub mod Digits
 pub mod Bare
+pub mod Spelled
 pub mod Labels
 pub mod Files
 pub mod Order

@@ -130,7 +130,7 @@ pub record Growing (text : List ℕ) (n i : ℕ) : Type 0 where
   pub value : valueOf text ≡ valueFrom n (drop i text)
 
 -- A value only grows.
-value-grows : (n : ℕ) (text : List ℕ) → n ≤ valueFrom n text
+pub value-grows : (n : ℕ) (text : List ℕ) → n ≤ valueFrom n text
 unfolding valueFrom
 value-grows n [] = omega arith
 value-grows n (b ∷ text) = let h = value-grows (n * 10 + (b - 48)) text in omega arith
