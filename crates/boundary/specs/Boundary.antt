@@ -6,15 +6,15 @@ use mathlib.Core.Bool.{Bool, true, false, cond, _||_, not}
 use mathlib.Core.List.{List, [], _∷_, _++_}
 use lib.ListN.{length, drop}
 use lib.Dec.{ltb, eqb}
-use Rattle.walk.specs.declared.Refusal.the-variants.{ShortRow, ShortRoom, BadRule}
-use Rattle.walk.specs.declared.Verdict.{Verdict}
+use Rattle.runs.specs.declared.Refusal.the-variants.{ShortRow, ShortRoom, BadRule}
+use Rattle.runs.specs.declared.Verdict.{Verdict}
 use Rattle.walk.specs.declared.Answer.{Answer}
-use Rattle.walk.specs.declared.Rule.{Rule}
-use Rattle.walk.specs.declared.Rule.the-variants.{Sweep, Least}
-use Rattle.walk.specs.Refusals.{numberOf, isRefusal, refuseIf, firstOf}
-use Rattle.walk.specs.Run.{Run}
-use Rattle.walk.specs.Judging.{judgeOf}
-use Rattle.walk.specs.Detours.{listOf}
+use Rattle.runs.specs.declared.Rule.{Rule}
+use Rattle.runs.specs.declared.Rule.the-variants.{Sweep, Least}
+use Rattle.runs.specs.Refusals.{numberOf, isRefusal, refuseIf, firstOf}
+use Rattle.runs.specs.Run.{Run}
+use Rattle.runs.specs.Judging.{judgeOf}
+use Rattle.runs.specs.Lists.{listOf}
 use Rattle.walk.specs.Price.{priceVerdict, pricedAnswer, pricedTimes}
 use Rattle.planner.specs.Plan.{Rows, roomSize, shortRows, Planned}
 

@@ -8,15 +8,15 @@ use mathlib.Core.List.{List, [], _∷_}
 use native.Mathlib.Omega.{arith}
 use lib.ListN.{length}
 use lib.Dec.{ltb, eqb}
-use Rattle.walk.specs.declared.Refusal.{Refusal}
-use Rattle.walk.specs.declared.Refusal.the-variants.{Accepted, BadEntry, ShortRow, ShortRoom, BadRule}
-use Rattle.walk.specs.Refusals.{numberOf, accepted, refuseIf, firstOf}
-use Rattle.walk.specs.Run.{Run, stopsOf}
-use Rattle.walk.specs.Judging.{judgeOf}
-use Rattle.walk.specs.Detours.{listVerdict}
+use Rattle.runs.specs.declared.Refusal.{Refusal}
+use Rattle.runs.specs.declared.Refusal.the-variants.{Accepted, BadEntry, ShortRow, ShortRoom, BadRule}
+use Rattle.runs.specs.Refusals.{numberOf, accepted, refuseIf, firstOf}
+use Rattle.runs.specs.Run.{Run, stopsOf}
+use Rattle.runs.specs.Judging.{judgeOf}
+use Rattle.runs.specs.Lists.{listVerdict}
 use Rattle.walk.specs.Price.{priceVerdict}
-use Rattle.walk.proofs.Verdicts.{refuses}
-use Rattle.walk.proofs.Judged.{accepted-run}
+use Rattle.runs.proofs.Verdicts.{refuses}
+use Rattle.runs.proofs.Judged.{accepted-run}
 use Rattle.planner.specs.Plan.{Rows, roomSize, shortRows}
 use Rattle.boundary.specs.Boundary.{shortSums, priceCall, priceTimes, priceSums, PriceCalled, badRule, planCall, PlanCalled}
 use Rattle.demands.specs.Table.{RunApplies, ListIsBad}

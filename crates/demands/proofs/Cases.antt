@@ -6,11 +6,12 @@ use mathlib.Core.Logic.{_↔_}
 use mathlib.Core.List.{List, [], _∷_}
 use lib.Dec.{eqb}
 use borrow.Author.Tests.{eqb-true, eq-eqb, not-true}
-use Rattle.walk.specs.Refusals.{isRefusal, firstWhere}
-use Rattle.walk.specs.Run.{Run, stopsOf, stopsFrom, rightEnd}
-use Rattle.walk.specs.Judging.{judgeOf}
+use Rattle.runs.specs.Refusals.{isRefusal, firstWhere}
+use Rattle.runs.specs.Run.{Run, stopsOf, stopsFrom, rightEnd}
+use Rattle.runs.specs.Judging.{judgeOf}
 use Rattle.walk.specs.Walk.{headAt, timeOf, timesOf, sumOf}
-use Rattle.walk.specs.Detours.{Detour, firstBadEntry, wanted, anyBelow, startOf, endOf, lastSweep, legsOf}
+use Rattle.runs.specs.Lists.{Detour, firstBadEntry, wanted, anyBelow}
+use Rattle.walk.specs.Detours.{startOf, endOf, lastSweep, legsOf}
 use Rattle.walk.proofs.Laws.{accepted-sound}
 use Rattle.plans.specs.Least.{Least}
 use Rattle.plans.proofs.Plan.{listed}

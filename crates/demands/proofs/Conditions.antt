@@ -9,10 +9,10 @@ use native.Mathlib.Decide.{decLt}
 use lib.ListN.{length, getD}
 use lib.Dec.{leb, ltb, eqb}
 use borrow.Author.Tests.{ltb-true, ltb-false}
-use Rattle.walk.specs.Run.{Run, lastPlace, endAt, stopsOf, rightEnd}
-use Rattle.walk.specs.Judging.{endBefore, badFile, badWant}
-use Rattle.walk.proofs.Table.{ends-rise, right-end-empty, right-end-row}
-use Rattle.walk.proofs.Judged.{GoodTable, GoodWants}
+use Rattle.runs.specs.Run.{Run, lastPlace, endAt, stopsOf, rightEnd}
+use Rattle.runs.specs.Judging.{endBefore, badFile, badWant}
+use Rattle.runs.proofs.Table.{ends-rise, right-end-empty, right-end-row}
+use Rattle.runs.proofs.Judged.{GoodTable, GoodWants}
 use Rattle.walk.proofs.Walks.{numbers-rise, in-table}
 use Rattle.demands.specs.Table.{FileIsBad, WantIsBad, WantedBeyond, startOfFile, endOfFile}
 use Rattle.demands.proofs.Tests.{Tells, tells-equal, tells-below, tells-at-most, tells-not, tells-either, tells-reworded, tells-regrouped}

@@ -8,18 +8,18 @@ use mathlib.Core.List.{List, [], _∷_}
 use native.Mathlib.Omega.{arith}
 use lib.ListN.{length}
 use lib.Dec.{ltb}
-use Rattle.walk.specs.declared.Refusal.{Refusal}
-use Rattle.walk.specs.declared.Refusal.the-variants.{BadEntry, ShortRow, ShortRoom}
-use Rattle.walk.specs.declared.Verdict.{Verdict}
+use Rattle.runs.specs.declared.Refusal.{Refusal}
+use Rattle.runs.specs.declared.Refusal.the-variants.{BadEntry, ShortRow, ShortRoom}
+use Rattle.runs.specs.declared.Verdict.{Verdict}
 use Rattle.walk.specs.declared.Answer.{Answer}
-use Rattle.walk.specs.declared.Rule.{Rule}
-use Rattle.walk.specs.Refusals.{numberOf, accepted, refuseIf}
-use Rattle.walk.specs.Run.{Run, stopsOf}
-use Rattle.walk.specs.Judging.{judgeOf}
-use Rattle.walk.specs.Detours.{listVerdict}
+use Rattle.runs.specs.declared.Rule.{Rule}
+use Rattle.runs.specs.Refusals.{numberOf, accepted, refuseIf}
+use Rattle.runs.specs.Run.{Run, stopsOf}
+use Rattle.runs.specs.Judging.{judgeOf}
+use Rattle.runs.specs.Lists.{listVerdict}
 use Rattle.walk.specs.Price.{refusalAnswer, pricedAnswer, priceVerdict, priceAnswer, priceRow}
-use Rattle.walk.proofs.Verdicts.{refuses}
-use Rattle.walk.proofs.Judged.{accepted-run}
+use Rattle.runs.proofs.Verdicts.{refuses}
+use Rattle.runs.proofs.Judged.{accepted-run}
 use Rattle.planner.specs.Plan.{Rows, Plans, roomSize, shortRows, planVerdict}
 use Rattle.demands.specs.Table.{RunApplies, ListIsBad}
 use Rattle.demands.specs.Demand1.{OnlyPlace, PriceApplies, PlanApplies, priceOrder, planOrder, PriceAnswers, PlanAnswers, Demand1Price, Demand1Plan, Demand1PriceIff, Demand1PlanIff}

@@ -7,14 +7,14 @@ use lib.Seq.{take-at}
 use Rattle.walk.specs.declared.Answer.{Answer}
 use Rattle.walk.specs.declared.Head.{Head}
 use Rattle.walk.specs.declared.Leg.{Leg}
-use Rattle.walk.specs.declared.Rule.{Rule}
-use Rattle.walk.specs.declared.Rule.the-variants.{Sweep, Least}
-use Rattle.walk.specs.Refusals.{firstWhere}
-use Rattle.walk.specs.Run.{Run, Stop, stopsOf}
+use Rattle.runs.specs.declared.Rule.{Rule}
+use Rattle.runs.specs.declared.Rule.the-variants.{Sweep, Least}
+use Rattle.runs.specs.Refusals.{firstWhere}
+use Rattle.runs.specs.Run.{Run, Stop, stopsOf}
 use Rattle.walk.specs.Walk.{timesOf}
-use Rattle.walk.specs.Detours.{Detour, WellFormed, firstBadEntry}
+use Rattle.runs.specs.Lists.{Detour, WellFormed, firstBadEntry}
 use Rattle.walk.specs.Price.{pricedAnswer, pricedTimes}
-use Rattle.walk.proofs.Judged.{accepted-run}
+use Rattle.runs.proofs.Judged.{accepted-run}
 use Rattle.walk.proofs.Filling.{stops-length}
 use Rattle.plans.specs.Least.{listSum, LeastFor}
 use Rattle.planner.specs.Plan.{Rows, ByRule, rowsWith}

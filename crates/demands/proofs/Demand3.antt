@@ -1,8 +1,8 @@
 -- Demand 3: no movement beats the reported sum. The planner's list is least, so the law of plans on movements applies to the two runs.
 use mathlib.Core.Path.{_≡_, refl}
 use native.Mathlib.Nat.{le-refl}
-use Rattle.walk.specs.declared.Rule.the-variants.{Least}
-use Rattle.walk.specs.Run.{Run, stopsOf}
+use Rattle.runs.specs.declared.Rule.the-variants.{Least}
+use Rattle.runs.specs.Run.{Run, stopsOf}
 use Rattle.walk.proofs.Laws.{accepted-sound}
 use Rattle.plans.proofs.Unbeaten.{SameTable, same-table, covers-of-reads, no-movement-beats}
 use Rattle.demands.specs.Demand3.{Demand3, Demand3Same}

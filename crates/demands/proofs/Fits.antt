@@ -4,13 +4,13 @@ use mathlib.Core.Path.{_≡_, refl}
 use mathlib.Core.Bool.{false, cond}
 use mathlib.Core.List.{List, []}
 use Rattle.walk.specs.declared.Answer.{Answer}
-use Rattle.walk.specs.declared.Rule.{Rule}
-use Rattle.walk.specs.declared.Rule.the-variants.{Sweep, Least}
-use Rattle.walk.specs.Run.{Run, stopsOf}
-use Rattle.walk.specs.Judging.{judgeOf}
-use Rattle.walk.specs.Detours.{Detour}
+use Rattle.runs.specs.declared.Rule.{Rule}
+use Rattle.runs.specs.declared.Rule.the-variants.{Sweep, Least}
+use Rattle.runs.specs.Run.{Run, stopsOf}
+use Rattle.runs.specs.Judging.{judgeOf}
+use Rattle.runs.specs.Lists.{Detour}
 use Rattle.walk.specs.Price.{refusalAnswer, pricedAnswer}
-use Rattle.walk.proofs.Verdicts.{refuses}
+use Rattle.runs.proofs.Verdicts.{refuses}
 use Rattle.walk.proofs.Laws.{accepted-sound}
 use Rattle.plans.proofs.LeastList.{leastList, least-list}
 use Rattle.planner.specs.Plan.{Rows, rowsWith, ByRule, Plans, planVerdict}

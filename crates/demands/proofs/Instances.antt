@@ -7,17 +7,18 @@ use mathlib.Core.List.{List, [], _∷_, _++_, map}
 use native.Mathlib.Omega.{arith}
 use lib.ListN.{replicate}
 use lib.Dec.{eqb}
-use Rattle.walk.specs.declared.Refusal.the-variants.{Accepted, BadEntry, ShortRoom}
+use Rattle.runs.specs.declared.Refusal.the-variants.{Accepted, BadEntry, ShortRoom}
 use Rattle.walk.specs.declared.Answer.{Answer}
 use Rattle.walk.specs.declared.Leg.{Leg}
-use Rattle.walk.specs.declared.Rule.the-variants.{Sweep, Least}
-use Rattle.walk.specs.Refusals.{isRefusal, firstWhere}
-use Rattle.walk.specs.Run.{Run, runOf, stopsFrom, stopsOf, rightEnd}
-use Rattle.walk.specs.Judging.{judgeOf}
+use Rattle.runs.specs.declared.Rule.the-variants.{Sweep, Least}
+use Rattle.runs.specs.Refusals.{isRefusal, firstWhere}
+use Rattle.runs.specs.Run.{Run, runOf, stopsFrom, stopsOf, rightEnd}
+use Rattle.runs.specs.Judging.{judgeOf}
 use Rattle.walk.specs.Walk.{headAt, Moves, served, ServesAll, timeOf, sumOf}
-use Rattle.walk.specs.Detours.{Detour, wanted, startOf, endOf, anyBelow, firstBadEntry, listVerdict, listOf, legOf, lastSweep, legsOf}
+use Rattle.runs.specs.Lists.{Detour, wanted, anyBelow, firstBadEntry, listVerdict, listOf}
+use Rattle.walk.specs.Detours.{startOf, endOf, legOf, lastSweep, legsOf}
 use Rattle.walk.specs.Price.{refusalAnswer, pricedAnswer, priceVerdict, priceAnswer, priceRow}
-use Rattle.walk.proofs.Verdicts.{refuses}
+use Rattle.runs.proofs.Verdicts.{refuses}
 use Rattle.plans.specs.Wants.{readsOf}
 use Rattle.plans.proofs.Plan.{listed}
 use Rattle.plans.proofs.Sums.{W}
@@ -27,7 +28,7 @@ use Rattle.plans.proofs.Value.{candidate, next, value, choice}
 use Rattle.plans.proofs.Best.{built, nextPlan, best}
 use Rattle.plans.proofs.LeastList.{leastList}
 use Rattle.planner.specs.Plan.{Rows, rowsOf, Plans, planVerdict}
-use Rattle.sheets.specs.Text.{allOf, isName}
+use Rattle.texts.specs.Text.{allOf, isName}
 use Rattle.demands.specs.Sheets.{GivesBack}
 use Rattle.demands.specs.Demand2.{listIn, IsTheWalk, IsLeast}
 use Rattle.demands.specs.Demand3.{AsksNoLess}

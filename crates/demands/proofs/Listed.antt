@@ -8,12 +8,12 @@ use native.Mathlib.Omega.{arith}
 use lib.ListN.{length, getD}
 use lib.Dec.{leb, ltb, eqb}
 use borrow.Author.Tests.{eqb-true, eqb-false, eq-eqb}
-use Rattle.walk.specs.declared.Refusal.the-variants.{BadEntry}
-use Rattle.walk.specs.Refusals.{refuseAt, firstOf}
-use Rattle.walk.specs.Run.{Run, stopsOf}
-use Rattle.walk.specs.Detours.{listOf, badAfter, firstBadEntry, listVerdict}
-use Rattle.walk.specs.Rows.{listed, rowEntry, rowAlone, rowClash, rowBad}
-use Rattle.walk.proofs.Entries.{first-bad-row}
+use Rattle.runs.specs.declared.Refusal.the-variants.{BadEntry}
+use Rattle.runs.specs.Refusals.{refuseAt, firstOf}
+use Rattle.runs.specs.Run.{Run, stopsOf}
+use Rattle.runs.specs.Lists.{listOf, badAfter, firstBadEntry, listVerdict}
+use Rattle.runs.specs.Rows.{listed, rowEntry, rowAlone, rowClash, rowBad}
+use Rattle.runs.proofs.Entries.{first-bad-row}
 use Rattle.walk.proofs.Walks.{listed-place}
 use Rattle.demands.specs.Table.{IsWanted, BadByItself, BadAgainst, EntryIsBad, ListIsBad}
 use Rattle.demands.proofs.Tests.{Tells, tells-below, tells-at-most, tells-not, tells-either, tells-reworded, tells-regrouped, tells-some}

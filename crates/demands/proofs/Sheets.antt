@@ -9,23 +9,23 @@ use native.Mathlib.Omega.{arith}
 use lib.ListN.{length}
 use lib.Dec.{ltb}
 use borrow.Author.Tests.{le-ltb}
-use Rattle.walk.specs.declared.Refusal.{Refusal}
-use Rattle.walk.specs.declared.Refusal.the-variants.{BadEntry, BadName, BadLine, LongSheet, ShortRow}
-use Rattle.walk.specs.declared.Rule.{Rule}
-use Rattle.walk.specs.declared.Verdict.{Verdict}
-use Rattle.walk.specs.Refusals.{numberOf, accepted, refuseIf, refuseAt, firstOf}
-use Rattle.walk.specs.Run.{Run, stopsOf, rightEnd}
-use Rattle.walk.specs.Judging.{tableChecks, wantsChecks, headChecks, judgeOf}
-use Rattle.walk.specs.Detours.{listVerdict}
-use Rattle.walk.proofs.Verdicts.{refuses}
-use Rattle.walk.proofs.Judged.{accepted-run}
-use Rattle.sheets.specs.Text.{isName}
+use Rattle.runs.specs.declared.Refusal.{Refusal}
+use Rattle.runs.specs.declared.Refusal.the-variants.{BadEntry, BadName, BadLine, LongSheet, ShortRow}
+use Rattle.runs.specs.declared.Rule.{Rule}
+use Rattle.runs.specs.declared.Verdict.{Verdict}
+use Rattle.runs.specs.Refusals.{numberOf, accepted, refuseIf, refuseAt, firstOf}
+use Rattle.runs.specs.Run.{Run, stopsOf, rightEnd}
+use Rattle.runs.specs.Judging.{tableChecks, wantsChecks, headChecks, judgeOf}
+use Rattle.runs.specs.Lists.{listVerdict}
+use Rattle.runs.proofs.Verdicts.{refuses}
+use Rattle.runs.proofs.Judged.{accepted-run}
+use Rattle.texts.specs.Text.{isName}
 use Rattle.sheets.specs.Sheet.{longestSheet, mostSheetFiles, firstBadLine, filesOf, wantsOf, headOf, turnOf, runIn}
 use Rattle.sheets.specs.Reading.{sheetVerdict, shortRows, readVerdict, readAnswer, readRow}
-use Rattle.sheets.specs.Writing.{sheetText, rowVerdict, writeVerdict, writtenAnswer, writtenRow}
-use Rattle.sheets.specs.PlanSheet.{planText, planVerdict}
+use Rattle.pages.specs.Writing.{sheetText, rowVerdict, writeVerdict, writtenAnswer, writtenRow}
+use Rattle.pages.specs.PlanSheet.{planText, planVerdict}
 use Rattle.sheets.proofs.Rows.{length-each}
-use Rattle.sheets.proofs.RoundTrip.{round-trip}
+use Rattle.pages.proofs.RoundTrip.{round-trip}
 use Rattle.demands.specs.Table.{RunApplies, ListIsBad}
 use Rattle.demands.specs.Sheets.{readOrder, ReadApplies, ReadAnswers, writeOrder, planSheetOrder, WriteApplies, PlanSheetApplies, WriteAnswers, Demand1Read, Demand1Write, Demand1PlanSheet, Demand2RoundTrip}
 use Rattle.demands.proofs.Tests.{tells-false, Tells, tells-below, tells-either}

@@ -6,18 +6,19 @@ use mathlib.Core.Logic.{_⊎_, inl, inr, ⊎-elim}
 use mathlib.Core.List.{List, [], _∷_}
 use lib.ListN.{length}
 use lib.Dec.{ltb}
-use Rattle.walk.specs.declared.Refusal.{Refusal}
-use Rattle.walk.specs.declared.Refusal.the-variants.{ShortRow, BadName, BadText, ManyExtents, Overlap, FarFile}
-use Rattle.walk.specs.declared.Verdict.{Verdict}
-use Rattle.walk.specs.Refusals.{accepted, refuseIf}
-use Rattle.walk.specs.Run.{lastPlace}
-use Rattle.walk.proofs.Verdicts.{refuses}
-use Rattle.sheets.specs.Text.{isName}
+use Rattle.runs.specs.declared.Refusal.{Refusal}
+use Rattle.runs.specs.declared.Refusal.the-variants.{ShortRow, BadName, BadText, ManyExtents, Overlap, FarFile}
+use Rattle.runs.specs.declared.Verdict.{Verdict}
+use Rattle.runs.specs.Refusals.{accepted, refuseIf}
+use Rattle.runs.specs.Run.{lastPlace}
+use Rattle.runs.proofs.Verdicts.{refuses}
+use Rattle.texts.specs.Text.{isName}
 use Rattle.sheets.specs.Sheet.{mostSheetFiles}
-use Rattle.sheets.specs.Writing.{rowVerdict, writtenRow}
+use Rattle.pages.specs.Writing.{rowVerdict, writtenRow}
 use Rattle.ltfs.specs.Tree.{isBalanced, treeOf}
 use Rattle.ltfs.specs.Index.{some, isGoodLabel, isGoodIndex, filesOf}
-use Rattle.ltfs.specs.Table.{inSeveral, endOfRange, areFar, someOverlap, rangesIn, tableIn, areGoodTexts, ltfsSheet, ltfsVerdict, ltfsReport, ltfsRow}
+use Rattle.ranges.specs.Ranges.{endOfRange}
+use Rattle.ltfs.specs.Table.{inSeveral, areFar, someOverlap, rangesIn, tableIn, areGoodTexts, ltfsSheet, ltfsVerdict, ltfsReport, ltfsRow}
 use Rattle.demands.specs.Tapes.{TapeApplies, tapeOrder, TapeAnswers, Demand1Tape}
 use Rattle.demands.proofs.Tests.{Tells, tells-below, tells-either, tells-true, tells-false}
 use Rattle.demands.proofs.Checks.{decides-if, decides-reworded, Finds, finds-none, finds-first, none-refuses}

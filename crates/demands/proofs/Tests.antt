@@ -7,8 +7,8 @@ use mathlib.Core.Logic.{_⊎_, inl, inr, ⊎-elim}
 use native.Mathlib.Omega.{arith}
 use lib.Dec.{leb, ltb, eqb}
 use borrow.Author.Tests.{eqb-true, eqb-false, ltb-true, ltb-false, leb-true, leb-false}
-use Rattle.walk.specs.Detours.{anyBelow}
-use Rattle.walk.proofs.Search.{any-zero}
+use Rattle.runs.specs.Lists.{anyBelow}
+use Rattle.runs.proofs.Search.{any-zero}
 
 pub record Tells (test : Bool) (condition : Type 0) : Type 0 where
   pub when-true : test ≡ true → condition

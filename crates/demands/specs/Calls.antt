@@ -4,10 +4,10 @@ use Prim.Native.Nat.{ℕ, _+_, _*_, _<_}
 use mathlib.Core.Path.{_≡_}
 use mathlib.Core.List.{List, [], _∷_}
 use lib.ListN.{length}
-use Rattle.walk.specs.declared.Refusal.{Refusal}
-use Rattle.walk.specs.declared.Refusal.the-variants.{Accepted, FileRows, BadFile, WantRows, BadWant, TooManyReads, TurnPrice, HeadPlace, ShortRow, ShortRoom, BadRule}
-use Rattle.walk.specs.Refusals.{numberOf}
-use Rattle.walk.specs.Run.{Run}
+use Rattle.runs.specs.declared.Refusal.{Refusal}
+use Rattle.runs.specs.declared.Refusal.the-variants.{Accepted, FileRows, BadFile, WantRows, BadWant, TooManyReads, TurnPrice, HeadPlace, ShortRow, ShortRoom, BadRule}
+use Rattle.runs.specs.Refusals.{numberOf}
+use Rattle.runs.specs.Run.{Run}
 use Rattle.planner.specs.Plan.{Rows}
 use Rattle.boundary.specs.Boundary.{PriceCalled, PlanCalled}
 use Rattle.demands.specs.Table.{FirstThatApplies}

@@ -4,11 +4,12 @@ use mathlib.Core.Path.{_≡_}
 use mathlib.Core.Bool.{Bool, true, false}
 use mathlib.Core.Logic.{_↔_}
 use mathlib.Core.List.{List, [], _∷_}
-use Rattle.walk.specs.Refusals.{isRefusal}
-use Rattle.walk.specs.Run.{Run, runOf, stopsOf}
-use Rattle.walk.specs.Judging.{judgeOf}
+use Rattle.runs.specs.Refusals.{isRefusal}
+use Rattle.runs.specs.Run.{Run, runOf, stopsOf}
+use Rattle.runs.specs.Judging.{judgeOf}
 use Rattle.walk.specs.Walk.{headAt, timesOf, sumOf}
-use Rattle.walk.specs.Detours.{Detour, WellFormed, legsOf}
+use Rattle.runs.specs.Lists.{Detour, WellFormed}
+use Rattle.walk.specs.Detours.{legsOf}
 use Rattle.plans.specs.Least.{Least}
 
 -- A run and a detour list, the sum and the times (one for each want) of its walk, and whether the list is the least rule's answer.

@@ -4,11 +4,11 @@ use mathlib.Core.Path.{_≡_}
 use mathlib.Core.Logic.{_↔_}
 use mathlib.Core.List.{List, [], _∷_}
 use lib.ListN.{length}
-use Rattle.walk.specs.declared.Refusal.{Refusal}
-use Rattle.walk.specs.declared.Refusal.the-variants.{Accepted, FileRows, BadFile, WantRows, BadWant, TooManyReads, TurnPrice, HeadPlace, ShortRow, ShortRoom, BadEntry}
+use Rattle.runs.specs.declared.Refusal.{Refusal}
+use Rattle.runs.specs.declared.Refusal.the-variants.{Accepted, FileRows, BadFile, WantRows, BadWant, TooManyReads, TurnPrice, HeadPlace, ShortRow, ShortRoom, BadEntry}
 use Rattle.walk.specs.declared.Answer.{Answer}
-use Rattle.walk.specs.declared.Rule.{Rule}
-use Rattle.walk.specs.Run.{Run}
+use Rattle.runs.specs.declared.Rule.{Rule}
+use Rattle.runs.specs.Run.{Run}
 use Rattle.walk.specs.Price.{priceAnswer, priceRow}
 use Rattle.planner.specs.Plan.{Rows, Plans, roomSize}
 use Rattle.demands.specs.Table.{RunApplies, ListIsBad, FirstThatApplies, SomeApplies}

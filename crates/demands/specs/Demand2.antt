@@ -5,13 +5,14 @@ use mathlib.Core.Path.{_≡_}
 use mathlib.Core.Logic.{_⊎_}
 use mathlib.Core.List.{List, []}
 use lib.ListN.{length, take}
-use Rattle.walk.specs.declared.Refusal.the-variants.{Accepted}
+use Rattle.runs.specs.declared.Refusal.the-variants.{Accepted}
 use Rattle.walk.specs.declared.Answer.{Answer}
-use Rattle.walk.specs.declared.Rule.{Rule}
-use Rattle.walk.specs.declared.Rule.the-variants.{Sweep, Least}
-use Rattle.walk.specs.Run.{Run, stopsOf}
+use Rattle.runs.specs.declared.Rule.{Rule}
+use Rattle.runs.specs.declared.Rule.the-variants.{Sweep, Least}
+use Rattle.runs.specs.Run.{Run, stopsOf}
 use Rattle.walk.specs.Walk.{headAt, walked, timesOf, sumOf}
-use Rattle.walk.specs.Detours.{Detour, WellFormed, listOf, legsOf}
+use Rattle.runs.specs.Lists.{Detour, WellFormed, listOf}
+use Rattle.walk.specs.Detours.{legsOf}
 use Rattle.plans.specs.Least.{ComesFirst, listSum}
 use Rattle.planner.specs.Plan.{Rows, Plans}
 

@@ -5,20 +5,20 @@ use mathlib.Core.Path.{_≡_}
 use mathlib.Core.Bool.{true, false}
 use mathlib.Core.List.{List, [], _∷_, _++_}
 use lib.ListN.{length, drop}
-use Rattle.walk.specs.declared.Refusal.{Refusal}
-use Rattle.walk.specs.declared.Refusal.the-variants.{Accepted, FileRows, BadFile, WantRows, BadWant, TooManyReads, TurnPrice, HeadPlace, ShortRow, BadEntry, BadLine, LongSheet, BadName}
-use Rattle.walk.specs.declared.Rule.{Rule}
-use Rattle.walk.specs.declared.Rule.the-variants.{Least}
-use Rattle.walk.specs.Refusals.{isRefusal}
-use Rattle.walk.specs.Run.{Run}
-use Rattle.walk.specs.Judging.{judgeOf}
+use Rattle.runs.specs.declared.Refusal.{Refusal}
+use Rattle.runs.specs.declared.Refusal.the-variants.{Accepted, FileRows, BadFile, WantRows, BadWant, TooManyReads, TurnPrice, HeadPlace, ShortRow, BadEntry, BadLine, LongSheet, BadName}
+use Rattle.runs.specs.declared.Rule.{Rule}
+use Rattle.runs.specs.declared.Rule.the-variants.{Least}
+use Rattle.runs.specs.Refusals.{isRefusal}
+use Rattle.runs.specs.Run.{Run}
+use Rattle.runs.specs.Judging.{judgeOf}
 use Rattle.sheets.specs.declared.Reading.{Reading}
-use Rattle.sheets.specs.declared.Written.{Written}
-use Rattle.sheets.specs.Text.{isName}
+use Rattle.pages.specs.declared.Written.{Written}
+use Rattle.texts.specs.Text.{isName}
 use Rattle.sheets.specs.Sheet.{longestSheet, mostSheetFiles, firstBadLine, filesOf, wantsOf, runIn}
 use Rattle.sheets.specs.Reading.{readVerdict, readAnswer, readRow, readName}
-use Rattle.sheets.specs.Writing.{sheetText, writeVerdict, writtenAnswer, writtenRow}
-use Rattle.sheets.specs.PlanSheet.{planText, planVerdict}
+use Rattle.pages.specs.Writing.{sheetText, writeVerdict, writtenAnswer, writtenRow}
+use Rattle.pages.specs.PlanSheet.{planText, planVerdict}
 use Rattle.demands.specs.Table.{RunApplies, ListIsBad, FirstThatApplies}
 
 -- The reader: 12, then 11 with the first line that is not as described, then 8.

@@ -6,15 +6,16 @@ use mathlib.Core.Bool.{true, false}
 use mathlib.Core.List.{List, [], _∷_}
 use lib.ListN.{length}
 use lib.Dec.{ltb}
-use Rattle.walk.specs.declared.Refusal.{Refusal}
-use Rattle.walk.specs.declared.Refusal.the-variants.{Accepted, ShortRow, BadName, BadText, ManyExtents, Overlap, FarFile}
-use Rattle.walk.specs.Run.{lastPlace}
-use Rattle.sheets.specs.Text.{isName}
+use Rattle.runs.specs.declared.Refusal.{Refusal}
+use Rattle.runs.specs.declared.Refusal.the-variants.{Accepted, ShortRow, BadName, BadText, ManyExtents, Overlap, FarFile}
+use Rattle.runs.specs.Run.{lastPlace}
+use Rattle.texts.specs.Text.{isName}
 use Rattle.sheets.specs.Sheet.{mostSheetFiles}
 use Rattle.ltfs.specs.declared.Report.{Report}
 use Rattle.ltfs.specs.Tree.{isBalanced, treeOf}
 use Rattle.ltfs.specs.Index.{some, isGoodLabel, isGoodIndex, filesOf}
-use Rattle.ltfs.specs.Table.{inSeveral, endOfRange, someOverlap, rangesIn, tableIn, ltfsSheet, ltfsVerdict, ltfsReport, ltfsRow}
+use Rattle.ranges.specs.Ranges.{endOfRange}
+use Rattle.ltfs.specs.Table.{inSeveral, someOverlap, rangesIn, tableIn, ltfsSheet, ltfsVerdict, ltfsReport, ltfsRow}
 use Rattle.demands.specs.Table.{FirstThatApplies}
 
 abbrev pub tapeOrder : List Refusal

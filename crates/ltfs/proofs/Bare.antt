@@ -7,8 +7,8 @@ use native.Mathlib.Omega.{arith}
 use lib.ListN.{length}
 use lib.Dec.{eqb}
 use borrow.Author.Tests.{eqb-true}
-use Rattle.sheets.specs.Text.{isText, startsWith}
-use Rattle.sheets.proofs.Bytes.{and-true-both}
+use Rattle.texts.specs.Text.{isText, startsWith}
+use Rattle.texts.proofs.Bytes.{and-true-both}
 use Rattle.ltfs.specs.declared.tokens.Place.{Place}
 use Rattle.ltfs.specs.declared.values.Chars.{Chars}
 use Rattle.ltfs.specs.declared.values.Field.{Field}

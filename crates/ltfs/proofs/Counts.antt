@@ -4,7 +4,7 @@ use mathlib.Core.Bool.{Bool, true, false, cond, _&&_}
 use mathlib.Core.List.{List, [], _∷_, map}
 use native.Mathlib.Omega.{arith}
 use lib.ListN.{length, getD, take, drop, length-append, length-map, length-take, length-drop}
-use Rattle.sheets.specs.Text.{startsWith}
+use Rattle.texts.specs.Text.{startsWith}
 use lib.Dec.{eqb, ltb}
 use Rattle.ltfs.specs.declared.tokens.Place.{Place}
 use Rattle.ltfs.specs.Markup.{Token, Char, End, after, never, further, endOf, tagEnd, declarationEnd, frontOf, isBlank, nameSize}

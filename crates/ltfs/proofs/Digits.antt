@@ -6,8 +6,8 @@ use mathlib.Core.List.{List, [], _∷_}
 use native.Mathlib.Omega.{arith}
 use lib.Dec.{eqb, ltb}
 use borrow.Author.Tests.{lt-ltb, le-ltb, ltb-true, ltb-false}
-use Rattle.sheets.specs.Text.{between, allOf, valueFrom, valueOf, isDigit, isNumber}
-use Rattle.sheets.proofs.Bytes.{digit-bounds, and-true-both, value-grows}
+use Rattle.texts.specs.Text.{between, allOf, valueFrom, valueOf, isDigit, isNumber}
+use Rattle.texts.proofs.Bytes.{digit-bounds, and-true-both, value-grows}
 use Rattle.ltfs.specs.declared.values.Chars.{Chars}
 use Rattle.ltfs.specs.declared.values.Field.{Field}
 use Rattle.ltfs.specs.Parts.{noChars, withByte, charsFrom, grows, numberField, letterField}

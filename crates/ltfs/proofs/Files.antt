@@ -7,11 +7,11 @@ use native.Mathlib.Omega.{arith}
 use native.Mathlib.Numerals.{add-one}
 use lib.ListN.{length}
 use borrow.Author.Tests.{eq-eqb, ne-eqb}
-use Rattle.sheets.specs.Text.{isText, startsWith}
+use Rattle.texts.specs.Text.{isText, startsWith}
 use Rattle.ltfs.specs.declared.tokens.Place.{Place}
 use Rattle.ltfs.specs.declared.values.Field.{Field}
 use Rattle.ltfs.specs.declared.index.Extent.{Extent}
-use Rattle.ltfs.specs.declared.index.File.{File}
+use Rattle.ranges.specs.declared.File.{File}
 use Rattle.ltfs.specs.declared.index.Walk.{Walk}
 use Rattle.ltfs.specs.declared.index.Use.{Use}
 use Rattle.ltfs.specs.Tree.{Forest, none, element, headOf, tailOf, treeOf}

@@ -7,24 +7,27 @@ use native.Mathlib.Omega.{arith}
 use lib.ListN.{length, take, length-map}
 use lib.Dec.{ltb}
 use borrow.Author.Tests.{ltb-false, le-ltb, ne-eqb}
-use Rattle.walk.specs.declared.Refusal.{Refusal}
-use Rattle.walk.specs.declared.Refusal.the-variants.{Accepted, BadName, BadText, ManyExtents, Overlap, FarFile, ShortRow}
-use Rattle.walk.specs.declared.Rule.{Rule}
-use Rattle.walk.specs.declared.Rule.the-variants.{Least}
-use Rattle.walk.specs.declared.Verdict.{Verdict}
-use Rattle.walk.specs.Refusals.{isRefusal, accepted, refuseIf, firstOf}
-use Rattle.walk.specs.Run.{Run, runOf}
-use Rattle.walk.specs.Judging.{judgeOf}
-use Rattle.walk.proofs.Search.{or-false-both}
-use Rattle.sheets.specs.declared.Written.{Written}
-use Rattle.sheets.specs.Text.{isName, isNumber, valueOf}
-use Rattle.sheets.specs.Writing.{topText, sheetText, rowVerdict, writeVerdict, writtenAnswer, writtenRow}
+use Rattle.runs.specs.declared.Refusal.{Refusal}
+use Rattle.runs.specs.declared.Refusal.the-variants.{Accepted, BadName, BadText, ManyExtents, Overlap, FarFile, ShortRow}
+use Rattle.runs.specs.declared.Rule.{Rule}
+use Rattle.runs.specs.declared.Rule.the-variants.{Least}
+use Rattle.runs.specs.declared.Verdict.{Verdict}
+use Rattle.runs.specs.Refusals.{isRefusal, accepted, refuseIf, firstOf}
+use Rattle.runs.specs.Run.{Run, runOf}
+use Rattle.runs.specs.Judging.{judgeOf}
+use Rattle.runs.proofs.Search.{or-false-both}
+use Rattle.pages.specs.declared.Written.{Written}
+use Rattle.texts.specs.Text.{isName, isNumber, valueOf}
+use Rattle.pages.specs.Writing.{topText, sheetText, rowVerdict, writeVerdict, writtenAnswer, writtenRow}
 use Rattle.ltfs.specs.declared.Report.{Report}
-use Rattle.ltfs.specs.declared.table.Tally.{Tally}
+use Rattle.ranges.specs.declared.Tally.{Tally}
 use Rattle.ltfs.specs.Tree.{Forest, isBalanced, treeOf}
 use Rattle.ltfs.specs.Index.{every, some, isNone, insides, areGood, isPartition, letterOf, indexName, blockSizes, dataPartitions, isGoodLabel, blockSizeOf, dataPartitionOf, isGoodExtent, filesOf, isGoodIndex}
-use Rattle.ltfs.specs.Table.{Range, inSeveral, rangesOf, inTapeOrder, areFar, someOverlap, lastEnd, runOfTable, rangesIn, tableIn, areGoodTexts, ltfsSheet, ltfsVerdict, refusedReport, ltfsReport, ltfsRow}
-use Rattle.ltfs.specs.Parts.{isValue, valueIn, numberField, letterField, labelOf, RowsFit, RowsHold, rangesFrom, EndsFit, neighbourOverlap, TallyHolds, refusedBy, reportOf, tableSheet, tableVerdict, tableReport, tableRow}
+use Rattle.ranges.specs.Ranges.{Range}
+use Rattle.ltfs.specs.Table.{inSeveral, rangesOf, inTapeOrder, areFar, someOverlap, lastEnd, runOfTable, rangesIn, tableIn, areGoodTexts, ltfsSheet, ltfsVerdict, refusedReport, ltfsReport, ltfsRow}
+use Rattle.ranges.specs.Ranges.{rangesFrom, neighbourOverlap}
+use Rattle.ltfs.specs.Parts.{isValue, valueIn, numberField, letterField, labelOf}
+use Rattle.ltfs.specs.Tallies.{RowsFit, RowsHold, EndsFit, TallyHolds, refusedBy, reportOf, tableSheet, tableVerdict, tableReport, tableRow}
 use Rattle.ltfs.proofs.Order.{some-kept, length-kept, tape-order-ascends, held-ranges}
 use Rattle.ltfs.proofs.Tallies.{field-good, field-value, number-form, letter-form, held-length}
 use Rattle.ltfs.proofs.Neighbours.{isVoid, isBeyond, same-overlap, none-void, ends-fit, passes}

@@ -2,7 +2,6 @@
 pub mod Scanning
 pub mod Pieces
 pub mod Counts
-pub mod Ranges
 pub mod Frames
 pub mod Names
 pub mod Digits

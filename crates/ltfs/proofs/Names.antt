@@ -10,7 +10,7 @@ use lib.ListN.{length, getD, set, length-set}
 use lib.Seq.{getD-set-same, getD-set-other}
 use lib.Dec.{eqb, ltb}
 use borrow.Author.Tests.{lt-ltb, le-ltb, ne-eqb}
-use Rattle.sheets.specs.Text.{isText}
+use Rattle.texts.specs.Text.{isText}
 use Rattle.ltfs.specs.declared.tokens.Place.{Place}
 use Rattle.ltfs.specs.Markup.{Token, Open, Close, Char, Broken}
 use Rattle.ltfs.specs.Tree.{mostOpen, closesAll, isBalanced}

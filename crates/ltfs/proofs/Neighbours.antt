@@ -4,77 +4,24 @@ use mathlib.Core.Path.{_≡_, refl, ap, sym, _∙_}
 use mathlib.Core.Bool.{Bool, true, false, cond, not, _&&_, _||_, and-false}
 use mathlib.Core.List.{List, [], _∷_, map}
 use native.Mathlib.Omega.{arith}
-use lib.ListN.{length, getD, take, drop, length-drop, length-map, List·getD-map}
+use lib.ListN.{length, getD, take, length-map, List·getD-map}
 use lib.Seq.{length-take-le, getD-take}
 use lib.Dec.{eqb, ltb, leb}
 use borrow.Author.Tests.{ltb-false, leb-true, eqb-false, lt-ltb, le-ltb, eq-eqb, not-true}
-use Rattle.walk.specs.Refusals.{accepted}
-use Rattle.walk.specs.Run.{lastPlace, mostFiles, stopsFrom, rightEnd}
-use Rattle.walk.specs.Judging.{badFile, endBefore, judgeOf}
-use Rattle.walk.specs.Refusals.{firstWhere}
-use Rattle.walk.proofs.Search.{or-false-both, first-all}
-use Rattle.sheets.proofs.Bytes.{and-true-both}
+use Rattle.runs.specs.Refusals.{accepted}
+use Rattle.runs.specs.Run.{lastPlace, mostFiles, stopsFrom, rightEnd}
+use Rattle.runs.specs.Judging.{badFile, endBefore, judgeOf}
+use Rattle.runs.specs.Refusals.{firstWhere}
+use Rattle.runs.proofs.Search.{or-false-both, first-all}
+use Rattle.texts.proofs.Bytes.{and-true-both}
 use Rattle.ltfs.specs.Tree.{Forest}
 use Rattle.ltfs.specs.Index.{every, some, isNone, byteCountOf, partitionOf}
-use Rattle.ltfs.specs.Table.{Range, firstExtent, isEmptyFile, isAccepted, only, endOfRange, rangeOf, rangesOf, overlap, someOverlap, lastEnd, runOfTable}
-use Rattle.ltfs.specs.Parts.{RowsFit, RowsHold, rangesFrom, EndsFit, neighbourOverlap}
+use Rattle.ranges.specs.Ranges.{Range, endOfRange}
+use Rattle.ltfs.specs.Table.{firstExtent, isEmptyFile, isAccepted, only, rangeOf, rangesOf, overlap, someOverlap, lastEnd, runOfTable}
+use Rattle.ranges.specs.Ranges.{rangesFrom, neighbourOverlap}
+use Rattle.ltfs.specs.Tallies.{RowsFit, RowsHold, EndsFit}
 use Rattle.ltfs.specs.Promises.{ascending}
-use Rattle.ltfs.proofs.Ranges.{row-at}
 use Rattle.ltfs.proofs.Order.{behind}
-
--- Neighbours one after the other, as a loop compares them: those passed do not overlap.
-pub record Compared (starts lengths : List ℕ) (kept i : ℕ) : Type 0 where
-  pub before : ℕ
-  pub next : i ≡ suc before
-  pub same : neighbourOverlap (rangesFrom (take kept starts) (take kept lengths)) ≡ neighbourOverlap (rangesFrom (drop before (take kept starts)) (drop before (take kept lengths)))
-
-pub compared-none : (starts lengths : List ℕ) (kept : ℕ) → Compared starts lengths kept 1
-compared-none starts lengths kept = record { before = 0; next = refl; same = refl }
-
-few-neighbours : (xs ys : List ℕ) → length xs ≤ 1 → neighbourOverlap (rangesFrom xs ys) ≡ false
-unfolding neighbourOverlap rangesFrom
-few-neighbours [] ys l = refl
-few-neighbours (x ∷ []) [] l = refl
-few-neighbours (x ∷ []) (y ∷ ys) l = refl
-few-neighbours (x ∷ z ∷ xs) ys l = absurd (omega arith)
-
-module _ (starts lengths : List ℕ) (kept : ℕ) (fits : RowsFit starts lengths) (few : kept ≤ 256) where
-  range-at : (j : ℕ) → j < kept
-      → rangesFrom (drop j (take kept starts)) (drop j (take kept lengths)) ≡ record { start = getD starts j 0; bytes = getD lengths j 0 } ∷ rangesFrom (drop (suc j) (take kept starts)) (drop (suc j) (take kept lengths))
-  unfolding rangesFrom
-  range-at j l = rw (row-at starts kept j (omega (arith, fits .first)) l, row-at lengths kept j (omega (arith, fits .second)) l)
-
-  two-at : (j : ℕ) → suc j < kept
-      → neighbourOverlap (rangesFrom (drop j (take kept starts)) (drop j (take kept lengths)))
-      ≡ (ltb (getD starts (suc j) 0) (getD starts j 0 + getD lengths j 0) || neighbourOverlap (rangesFrom (drop (suc j) (take kept starts)) (drop (suc j) (take kept lengths))))
-  unfolding neighbourOverlap
-  two-at j l = rw (range-at j (omega arith), range-at (suc j) l)
-
-  module _ (i : ℕ) (p : Compared starts lengths kept i) where
-    pub overlap-found : i < kept → getD starts i 0 < getD starts (i - 1) 0 + getD lengths (i - 1) 0 → true ≡ neighbourOverlap (rangesFrom (take kept starts) (take kept lengths))
-    overlap-found l h =
-        let n = p .next in
-        let z : i - 1 ≡ p .before = omega arith in
-        let h' : getD starts (suc (p .before)) 0 < getD starts (p .before) 0 + getD lengths (p .before) 0 = rw (z, n) at h in
-        sym (p .same ∙ two-at (p .before) (omega arith) ∙ (rw (lt-ltb (getD starts (suc (p .before)) 0) (getD starts (p .before) 0 + getD lengths (p .before) 0) h')))
-
-    pub overlap-passed : i < kept → getD starts (i - 1) 0 + getD lengths (i - 1) 0 ≤ getD starts i 0 → Compared starts lengths kept (i + 1)
-    overlap-passed l h =
-        let n = p .next in
-        let z : i - 1 ≡ p .before = omega arith in
-        let h' : getD starts (p .before) 0 + getD lengths (p .before) 0 ≤ getD starts (suc (p .before)) 0 = rw (z, n) at h in
-        record {
-          before = suc (p .before);
-          next = omega arith;
-          same = p .same ∙ two-at (p .before) (omega arith) ∙ (rw (le-ltb (getD starts (suc (p .before)) 0) (getD starts (p .before) 0 + getD lengths (p .before) 0) h'));
-        }
-
-    pub overlap-none : kept ≤ i → false ≡ neighbourOverlap (rangesFrom (take kept starts) (take kept lengths))
-    overlap-none l =
-        let n = p .next in
-        let d = length-drop (p .before) (take kept starts) in
-        let t = length-take-le kept starts (omega (arith, fits .first)) in
-        sym (p .same ∙ few-neighbours (drop (p .before) (take kept starts)) (drop (p .before) (take kept lengths)) (omega arith))
 
 -- The end of the last file.
 last-at : (xs ys : List ℕ) (n : ℕ) → length xs ≡ suc n → length ys ≡ suc n → getD xs n 0 + getD ys n 0 ≡ lastEnd (rangesFrom xs ys)

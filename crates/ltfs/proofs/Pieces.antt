@@ -12,8 +12,8 @@ use lib.Dec.{eqb, ltb}
 use borrow.Author.Tests.{eq-eqb, ne-eqb, le-ltb}
 use Rattle.ltfs.specs.declared.scan.Ending.{Ending}
 use Rattle.ltfs.specs.declared.tokens.Place.{Place}
-use Rattle.sheets.specs.Text.{startsWith}
-use Rattle.sheets.proofs.Bytes.{begun-long}
+use Rattle.texts.specs.Text.{startsWith}
+use Rattle.texts.proofs.Bytes.{begun-long}
 use Rattle.ltfs.specs.declared.tokens.Step.{Step}
 use Rattle.ltfs.specs.declared.tokens.Opening.{Opening}
 use Rattle.ltfs.specs.Markup.{Token, Open, Close, Char, End, after, never, further, endOf, tagEnd, declarationEnd, frontOf, isBlank, nameSize}

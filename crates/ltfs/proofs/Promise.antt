@@ -7,15 +7,15 @@ use native.Mathlib.Omega.{arith}
 use lib.ListN.{length, length-map}
 use lib.Dec.{eqb}
 use borrow.Author.Tests.{not-false}
-use Rattle.walk.specs.declared.Refusal.the-variants.{BadName, BadText, ManyExtents, Overlap, FarFile}
-use Rattle.walk.specs.declared.Rule.the-variants.{Least}
-use Rattle.walk.specs.Refusals.{refuseIf}
-use Rattle.walk.specs.Run.{Run}
-use Rattle.walk.specs.Judging.{judgeOf}
-use Rattle.walk.proofs.Verdicts.{all-accept, accepts-if}
-use Rattle.sheets.specs.Text.{isName}
-use Rattle.sheets.specs.Writing.{rowVerdict}
-use Rattle.sheets.proofs.RoundTrip.{round-trip}
+use Rattle.runs.specs.declared.Refusal.the-variants.{BadName, BadText, ManyExtents, Overlap, FarFile}
+use Rattle.runs.specs.declared.Rule.the-variants.{Least}
+use Rattle.runs.specs.Refusals.{refuseIf}
+use Rattle.runs.specs.Run.{Run}
+use Rattle.runs.specs.Judging.{judgeOf}
+use Rattle.runs.proofs.Verdicts.{all-accept, accepts-if}
+use Rattle.texts.specs.Text.{isName}
+use Rattle.pages.specs.Writing.{rowVerdict}
+use Rattle.pages.proofs.RoundTrip.{round-trip}
 use Rattle.ltfs.specs.Tree.{Forest, treeOf}
 use Rattle.ltfs.specs.Index.{some, blockSizeOf, dataPartitionOf, partitionOf, filesOf}
 use Rattle.ltfs.specs.Table.{firstExtent, inSeveral, isEmptyFile, liesElsewhere, isAccepted, howMany, only, rangeOf, rangesOf, areFar, someOverlap, runOfTable, rangesIn, tableIn, areGoodTexts, ltfsSheet, ltfsVerdict, ltfsReport}

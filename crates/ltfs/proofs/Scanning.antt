@@ -8,8 +8,8 @@ use native.Mathlib.Numerals.{add-one}
 use lib.ListN.{length, getD, take, drop, drop-of-length-le, length-drop}
 use lib.Seq.{drop-cons, take-all}
 use lib.Dec.{eqb}
-use Rattle.sheets.specs.Text.{startsWith}
-use Rattle.sheets.proofs.Bytes.{begun-long}
+use Rattle.texts.specs.Text.{startsWith}
+use Rattle.texts.proofs.Bytes.{begun-long}
 use Rattle.ltfs.specs.Markup.{End, after, never, further, endOf, tagEnd, quoteAfter, declarationEnd, depthAfter, frontOf, beginsName, inName, nameSize}
 use Rattle.ltfs.specs.Parts.{EndAt}
 

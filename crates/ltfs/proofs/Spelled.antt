@@ -1,12 +1,12 @@
 -- The tree of a balanced text, spelled out, is the text's tokens.
 use mathlib.Core.Path.{_≡_, refl, ap, sym, _∙_}
-use mathlib.Core.Bool.{true, false, true≢false}
+use mathlib.Core.Bool.{true, true≢false}
 use mathlib.Core.List.{List, [], _∷_, _++_, append-assoc}
 use Prim.Native.Nat.{ℕ}
 use lib.ListN.{length}
 use lib.Dec.{ltb}
-use Rattle.sheets.specs.Text.{isText}
-use Rattle.sheets.proofs.Bytes.{and-true-both}
+use Rattle.texts.specs.Text.{isText}
+use Rattle.texts.proofs.Bytes.{and-true-both}
 use Rattle.ltfs.specs.Markup.{Token, Open, Close, Char, Broken, tokensOf}
 use Rattle.ltfs.specs.Tree.{Forest, mostOpen, closesAll, isBalanced, headOf, tailOf, frames, treeOf}
 use Rattle.ltfs.specs.Promises.{spelled, TreeSaysAll}

@@ -3,7 +3,7 @@ use Prim.Native.Nat.{ℕ}
 use mathlib.Core.Bool.{Bool, true, false, cond, not, _&&_, _||_}
 use mathlib.Core.List.{List, [], _∷_, _++_, map}
 use lib.ListN.{getD}
-use Rattle.sheets.specs.Text.{isText, between, isNumber, valueOf}
+use Rattle.texts.specs.Text.{isText, between, isNumber, valueOf}
 use Rattle.ltfs.specs.Tree.{Forest, none, char, element}
 
 -- What every element of a list says, and whether all or any of a list are of a kind.

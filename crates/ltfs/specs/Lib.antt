@@ -1,7 +1,8 @@
--- What a reader of tape tables must believe, in request L1's words. Read in this order.
+-- What a reader of tape tables must believe, in request L1's words. Read in this order; Parts and Tallies, which only private contracts cite, can be left out.
 pub mod Markup
 pub mod Tree
 pub mod Index
 pub mod Table
 pub mod Parts
+pub mod Tallies
 pub mod Promises

@@ -1,11 +1,11 @@
 -- A text is a list of bytes. Its tokens: what a reader from left to right meets. Only what balance needs is told apart:
 -- attributes, comments, declarations and processing instructions are passed over, and `<x/>` is a start tag and its end tag.
 use Prim.Native.Nat.{ℕ, suc, zero, _+_, _-_}
-use mathlib.Core.Bool.{Bool, cond, not, _&&_, _||_}
+use mathlib.Core.Bool.{Bool, cond, _&&_, _||_}
 use mathlib.Core.List.{List, [], _∷_, _++_, map}
 use lib.ListN.{length, take, drop, getD}
 use lib.Dec.{eqb, ltb}
-use Rattle.sheets.specs.Text.{startsWith, between, isDigit, isLetter}
+use Rattle.texts.specs.Text.{startsWith, between, isDigit, isLetter}
 
 -- A start tag with its name, an end tag with its name, a byte of text, and a place where markup goes wrong: nothing is read behind it.
 pub data Token : Type 0 where

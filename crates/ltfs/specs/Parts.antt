@@ -1,20 +1,11 @@
 -- What the functions that read parts of a text find, by cases of their answers. No public contract cites this file.
 use Prim.Native.Nat.{ℕ, suc, zero, _+_, _-_, _*_, _%_, _≤_, _<_, _^_}
 use mathlib.Core.Path.{_≡_}
-use mathlib.Core.Bool.{Bool, true, false, cond, not, _&&_, _||_}
+use mathlib.Core.Bool.{Bool, true, false, cond, _&&_}
 use mathlib.Core.List.{List, [], _∷_, _++_, map}
-use lib.ListN.{length, take, drop, getD}
+use lib.ListN.{length, take, drop}
 use lib.Dec.{eqb, ltb}
-use Rattle.walk.specs.declared.Refusal.{Refusal}
-use Rattle.walk.specs.declared.Refusal.the-variants.{BadText, ManyExtents, Overlap, FarFile}
-use Rattle.walk.specs.declared.Rule.the-variants.{Least}
-use Rattle.walk.specs.declared.Verdict.{Verdict}
-use Rattle.walk.specs.Refusals.{isRefusal, refuseIf, firstOf}
-use Rattle.walk.specs.Run.{lastPlace}
-use Rattle.sheets.specs.declared.Written.{Written}
-use Rattle.sheets.specs.Text.{startsWith, isNumber, valueOf, isDigit}
-use Rattle.sheets.specs.Writing.{sheetText, rowVerdict, writtenRow}
-use Rattle.ltfs.specs.declared.Report.{Report}
+use Rattle.texts.specs.Text.{startsWith, isNumber, valueOf, isDigit}
 use Rattle.ltfs.specs.declared.scan.Ending.{Ending}
 use Rattle.ltfs.specs.declared.tokens.Place.{Place}
 use Rattle.ltfs.specs.declared.tokens.Step.{Step}
@@ -26,17 +17,13 @@ use Rattle.ltfs.specs.declared.values.Chars.{Chars}
 use Rattle.ltfs.specs.declared.values.Grown.{Grown}
 use Rattle.ltfs.specs.declared.label.Label.{Label}
 use Rattle.ltfs.specs.declared.index.Extent.{Extent}
-use Rattle.ltfs.specs.declared.index.File.{File}
+use Rattle.ranges.specs.declared.File.{File}
 use Rattle.ltfs.specs.declared.index.Walk.{Walk}
 use Rattle.ltfs.specs.declared.index.NextFile.{NextFile}
 use Rattle.ltfs.specs.declared.index.Use.{Use}
-use Rattle.ltfs.specs.declared.table.Tally.{Tally}
-use Rattle.ltfs.specs.declared.table.Start.{Start}
-use Rattle.ltfs.specs.declared.table.Kind.{Kind}
 use Rattle.ltfs.specs.Markup.{Token, Open, Close, Char, Broken, End, after, never, Piece, commentStart, plainStart, instructionStart, declarationStart, endTagStart, pieceTokens, tokensOf}
 use Rattle.ltfs.specs.Tree.{Forest, none, char, element, headOf, tailOf, frames}
-use Rattle.ltfs.specs.Index.{every, some, valuesAt, valuesIn, isPartition, letterOf, blockSizeName, partitionsName, dataName, blockSizes, dataPartitions, partitionName, startBlockName, byteOffsetName, byteCountName, isGoodExtent, Level, outside, inIndex, inDirectory, inContents, Role, holds, file, other, filesIn}
-use Rattle.ltfs.specs.Table.{Range, inSeveral, isEmptyFile, liesElsewhere, howMany, rangesOf, inTapeOrder, endOfRange, areFar, someOverlap, runOfTable}
+use Rattle.ltfs.specs.Index.{some, valuesAt, valuesIn, isPartition, letterOf, blockSizeName, partitionsName, dataName, blockSizes, dataPartitions, partitionName, startBlockName, byteOffsetName, byteCountName, Level, outside, inIndex, inDirectory, inContents, Role, holds, file, other, filesIn}
 
 -- The part of a text from one position to another.
 abbrev pub part : ℕ → ℕ → List ℕ → List ℕ
@@ -347,135 +334,3 @@ pub record FileMet (text : List ℕ) (walk : Walk) (f : File) (next : Walk) : Ty
 abbrev pub NextFound : List ℕ → Walk → NextFile → Type 0
 NextFound text walk (NextFile.Found f next) = FileMet text walk f next
 NextFound text walk NextFile.Done = filesLeft text walk ≡ []
-
--- Where a file starts, when its end is not above the limit.
-abbrev pub StartFound : ℕ → ℕ → Start → Type 0
-StartFound position count (Start.At start) = (start ≡ position) × (position + count ≤ lastPlace)
-StartFound position count Start.Far = lastPlace < position + count
-
--- The first entry above a start, and a row with a value put before an entry.
-unfoldable pub placeFor : ℕ → List ℕ → ℕ
-placeFor start [] = 0
-placeFor start (next ∷ starts) = cond (ltb start next) 0 (suc (placeFor start starts))
-
-unfoldable pub putAt : ℕ → ℕ → List ℕ → List ℕ
-putAt zero value row = value ∷ row
-putAt (suc i) value [] = value ∷ []
-putAt (suc i) value (next ∷ row) = next ∷ putAt i value row
-
--- The rows of a table have its size.
-pub record RowsFit (starts lengths : List ℕ) : Type 0 where
-  pub first : length starts ≡ 256
-  pub second : length lengths ≡ 256
-
-pub record FilePut (starts lengths : List ℕ) (kept start count : ℕ) (starts' lengths' : List ℕ) : Type 0 where
-  pub first : take (kept + 1) starts' ≡ putAt (placeFor start (take kept starts)) start (take kept starts)
-  pub second : take (kept + 1) lengths' ≡ putAt (placeFor start (take kept starts)) count (take kept lengths)
-
-abbrev pub kindOf : File → ℕ → Kind
-kindOf f partition =
-    cond (f .good)
-    (cond (not (f .some) || eqb (f .count) 0) Kind.Empty (cond (eqb (f .partition) partition) Kind.Accepted Kind.Elsewhere))
-    Kind.Bad
-
--- An accepted file: far, or put into the table.
-abbrev pub isFar : Tally → File → ℕ → Bool
-isFar tally f size = ltb lastPlace (f .block * size + f .offset + f .count) || eqb (tally .kept) 256
-
-pub record FileKept (tally : Tally) (f : File) (size : ℕ) (starts lengths : List ℕ) (r : Tally) (starts' lengths' : List ℕ) : Type 0 where
-  pub good : r .good ≡ tally .good
-  pub several : r .several ≡ tally .several
-  pub empty : r .empty ≡ tally .empty
-  pub other : r .other ≡ tally .other
-  pub far : r .far ≡ (tally .far || isFar tally f size)
-  pub within : r .kept ≤ 256
-  pub kept : isFar tally f size ≡ false → r .kept ≡ tally .kept + 1
-  pub put : isFar tally f size ≡ false → FilePut starts lengths (tally .kept) (f .block * size + f .offset) (f .count) starts' lengths'
-
--- Two rows as the ranges that they hold, side by side.
-unfoldable pub rangesFrom : List ℕ → List ℕ → List Range
-rangesFrom [] lengths = []
-rangesFrom (start ∷ starts) [] = []
-rangesFrom (start ∷ starts) (bytes ∷ lengths) = record { start = start; bytes = bytes } ∷ rangesFrom starts lengths
-
--- A table in the first entries of two rows.
-pub record RowsHold (table : List Range) (kept : ℕ) (starts lengths : List ℕ) : Type 0 where
-  pub start : take kept starts ≡ map (λ range. range .start) table
-  pub bytes : take kept lengths ≡ map (λ range. range .bytes) table
-
--- What files come to, where all their extents are good.
-pub record Counted (size partition : ℕ) (files : List (List Forest)) (tally : Tally) (starts lengths : List ℕ) : Type 0 where
-  pub empty : tally .empty ≡ howMany isEmptyFile files
-  pub other : tally .other ≡ howMany (liesElsewhere partition) files
-  pub far : tally .far ≡ areFar (rangesOf size partition files)
-  pub table : tally .far ≡ false → RowsHold (inTapeOrder (rangesOf size partition files)) (tally .kept) starts lengths
-
-pub record TallyHolds (size partition : ℕ) (files : List (List Forest)) (tally : Tally) (starts lengths : List ℕ) : Type 0 where
-  pub good : tally .good ≡ every (every isGoodExtent) files
-  pub several : tally .several ≡ some inSeveral files
-  pub within : tally .kept ≤ 256
-  pub counted : tally .good ≡ true → Counted size partition files tally starts lengths
-
--- A tally that may count one more file.
-pub record CountFits (tally : Tally) : Type 0 where
-  pub kept : tally .kept ≤ 256
-  pub others : tally .empty + tally .other + 1 < 2 ^ 64
-
--- Whatever files were counted, one more is counted.
-pub record FileCounted (tally : Tally) (f : File) (size partition : ℕ) (starts lengths : List ℕ) (r : Tally) (starts' lengths' : List ℕ) : Type 0 where
-  pub within : r .kept ≤ 256
-  pub others : r .empty + r .other ≤ tally .empty + tally .other + 1
-  pub holds : (files : List (List Forest)) (extents : List Forest) → f ≡ fileOf extents → TallyHolds size partition files tally starts lengths → TallyHolds size partition (files ++ (extents ∷ [])) r starts' lengths'
-
--- No end in the first entries of two rows is above the limit.
-abbrev pub EndsFit : List ℕ → List ℕ → ℕ → Type 0
-EndsFit starts lengths kept = (i : ℕ) → i < kept → getD starts i 0 + getD lengths i 0 ≤ lastPlace
-
--- A range that starts before the one before it ends.
-unfoldable pub neighbourOverlap : List Range → Bool
-neighbourOverlap [] = false
-neighbourOverlap (range ∷ []) = false
-neighbourOverlap (range ∷ next ∷ table) = ltb (next .start) (endOfRange range) || neighbourOverlap (next ∷ table)
-
--- The answer of a refusal, and of a sheet that was written or refused.
-abbrev pub refusedBy : Refusal → Report
-refusedBy kind = record { refusal = kind; place = 0; bytes = 0; empty = 0; other = 0 }
-
-unfoldable pub reportOf : Written → Tally → Report
-reportOf written tally =
-    cond (eqb (written .bytes) 0) (refusedBy (written .refusal))
-    (record {
-      refusal = written .refusal;
-      place = 0;
-      bytes = written .bytes;
-      empty = tally .empty;
-      other = tally .other;
-    })
-
--- The answer and the row for an index, a block size and a data partition, where name, balance, label and root are as they should be.
-unfoldable pub tableSheet : List ℕ → ℕ → ℕ → List (List Forest) → List ℕ
-tableSheet name size partition files = sheetText name Least (runOfTable (inTapeOrder (rangesOf size partition files)))
-
-unfoldable pub tableVerdict : List ℕ → ℕ → ℕ → List (List Forest) → List ℕ → Verdict
-tableVerdict name size partition files row =
-    firstOf
-    (refuseIf (not (every (every isGoodExtent) files)) BadText
-    ∷ refuseIf (some inSeveral files) ManyExtents
-    ∷ refuseIf (areFar (rangesOf size partition files)) FarFile
-    ∷ refuseIf (someOverlap (inTapeOrder (rangesOf size partition files))) Overlap
-    ∷ rowVerdict (tableSheet name size partition files) row
-    ∷ [])
-
-unfoldable pub tableReport : List ℕ → ℕ → ℕ → List (List Forest) → List ℕ → Report
-tableReport name size partition files row =
-    cond (isRefusal ((tableVerdict name size partition files row) .refusal)) (refusedBy ((tableVerdict name size partition files row) .refusal))
-    (record {
-      refusal = (tableVerdict name size partition files row) .refusal;
-      place = 0;
-      bytes = length (tableSheet name size partition files);
-      empty = howMany isEmptyFile files;
-      other = howMany (liesElsewhere partition) files;
-    })
-
-unfoldable pub tableRow : List ℕ → ℕ → ℕ → List (List Forest) → List ℕ → List ℕ
-tableRow name size partition files row = writtenRow (tableVerdict name size partition files row) (tableSheet name size partition files) row

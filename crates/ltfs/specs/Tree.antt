@@ -4,7 +4,7 @@ use mathlib.Core.Bool.{Bool, true, false, _&&_}
 use mathlib.Core.List.{List, [], _∷_}
 use lib.ListN.{length}
 use lib.Dec.{ltb}
-use Rattle.sheets.specs.Text.{isText}
+use Rattle.texts.specs.Text.{isText}
 use Rattle.ltfs.specs.Markup.{Token, Open, Close, Char, Broken, tokensOf}
 
 -- The elements that may be open at once, the outermost among them.

@@ -2,7 +2,7 @@
 ghost use mathlib.Core.Path.{_≡_};
 ghost use Prim.Native.Nat.{_≤_};
 ghost use lib.ListN.{length};
-ghost use Rattle.sheets.specs.Text.{isText};
+ghost use Rattle.texts.specs.Text.{isText};
 ghost use Rattle.ltfs.specs.Tree.{isBalanced};
 ghost use Rattle.ltfs.specs.Parts.{part};
 use crate::MOST_OPEN;
@@ -16,7 +16,7 @@ fn same_names(text: &[u8], from: usize, to: usize, start: usize, end: usize) -> 
     requires { ⌜ (start ≤ end) × (end ≤ length (now text)) ⌝ }
     ensures { λ r. ⌜ r ≡ isText (part from to (now (text .entry))) (part start end (now (text .entry))) ⌝ }
 {
-    sheets::same(&text[start..end], &text[from..to])
+    texts::same(&text[start..end], &text[from..to])
 }
 
 // The names of the open elements, outermost first, are the parts of the text from one row's entries to the other's.

@@ -3,7 +3,7 @@
 ghost use mathlib.Core.Path.{_≡_};
 ghost use Prim.Native.Nat.{_≤_};
 ghost use lib.ListN.{length};
-ghost use Rattle.sheets.specs.Text.{isText};
+ghost use Rattle.texts.specs.Text.{isText};
 ghost use Rattle.ltfs.specs.Parts.{part, PlaceIn, Left, ChildMet};
 use crate::tokens::Met;
 use crate::tokens::Place;
@@ -20,7 +20,7 @@ pub(crate) fn is_named(text: &[u8], from: usize, to: usize, name: &[u8]) -> bool
     requires { ⌜ (from ≤ to) × (to ≤ length (now text)) ⌝ }
     ensures { λ r. ⌜ r ≡ isText (now (name .entry)) (part from to (now (text .entry))) ⌝ }
 {
-    sheets::same(&text[from..to], name)
+    texts::same(&text[from..to], name)
 }
 
 pub(crate) fn next_child(text: &[u8], place: Place) -> Child

@@ -1,8 +1,7 @@
 // The index: its files one by one, in the order met, each by its extents.
 ghost use mathlib.Core.Path.{_≡_};
 ghost use mathlib.Core.Bool.{not, _&&_};
-ghost use Prim.Native.Nat.{ℕ, suc, _≤_};
-ghost use lib.ListN.{length};
+ghost use Prim.Native.Nat.{suc};
 ghost use Rattle.ltfs.specs.Tree.{treeOf};
 ghost use Rattle.ltfs.specs.Index.{isNone, insides, indexName, extentName, extentsOf, roleOf, inContents, inDirectory};
 ghost use Rattle.ltfs.specs.Parts.{part, PlaceIn, NameIn, Left, inside, withExtentPart, withExtentBytes, extentOf, withExtent, withExtents, fileOf, extentIsGood, levelAt, RoleFound, NextFound, WalkIn};
@@ -17,6 +16,7 @@ use crate::values::is_value;
 use crate::values::read_letter;
 use crate::values::read_number;
 use crate::values::value_in;
+use ranges::File;
 
 pub(crate) struct Extent {
     pub partition: Field,
@@ -28,17 +28,6 @@ pub(crate) struct Extent {
 pub(crate) struct ExtentRead {
     pub extent: Extent,
     pub next: Place,
-}
-
-// A file: whether it has an extent, and several, whether all are good, and what the first says (0 for what it does not).
-pub(crate) struct File {
-    pub some: bool,
-    pub several: bool,
-    pub good: bool,
-    pub partition: u64,
-    pub block: u64,
-    pub offset: u64,
-    pub count: u64,
 }
 
 pub(crate) struct FileRead {

@@ -21,7 +21,7 @@ pub(crate) fn end_of(text: &[u8], at: usize, wanted: &[u8]) -> Ending
 {
     let mut i = at;
     while i < text.len() {
-        if sheets::starts(&text[i..], wanted) {
+        if texts::starts(&text[i..], wanted) {
             return Ending::At(i + wanted.len());
         }
         i += 1;
@@ -164,10 +164,10 @@ pub(crate) fn behind_blanks(text: &[u8], at: usize) -> usize
 fn begins_name(byte: u8) -> bool
     ensures { λ r. ⌜ r ≡ beginsName byte ⌝ }
 {
-    if sheets::is_between(65, 90, byte) {
+    if texts::is_between(65, 90, byte) {
         return true;
     }
-    if sheets::is_between(97, 122, byte) {
+    if texts::is_between(97, 122, byte) {
         return true;
     }
     if byte == 95 {
@@ -185,7 +185,7 @@ fn in_name(byte: u8) -> bool
     if begins_name(byte) {
         return true;
     }
-    if sheets::is_between(48, 57, byte) {
+    if texts::is_between(48, 57, byte) {
         return true;
     }
     if byte == 45 {

@@ -3,26 +3,28 @@ ghost use mathlib.Core.Path.{_≡_};
 ghost use mathlib.Core.Bool.{true};
 ghost use mathlib.Core.List.{[]};
 ghost use Prim.Native.Nat.{_≤_};
-ghost use lib.ListN.{length, take};
-ghost use Rattle.walk.specs.declared.Rule.the-variants.{Least};
-ghost use Rattle.walk.specs.Run.{runOf};
-ghost use Rattle.sheets.specs.Text.{isName};
-ghost use Rattle.sheets.specs.Writing.{sheetText, writeVerdict, writtenAnswer, writtenRow};
+ghost use lib.ListN.{take};
+ghost use Rattle.runs.specs.declared.Rule.the-variants.{Least};
+ghost use Rattle.runs.specs.Run.{runOf};
+ghost use Rattle.texts.specs.Text.{isName};
+ghost use Rattle.pages.specs.Writing.{sheetText, writeVerdict, writtenAnswer, writtenRow};
 ghost use Rattle.ltfs.specs.Tree.{treeOf};
 ghost use Rattle.ltfs.specs.Index.{filesOf};
 ghost use Rattle.ltfs.specs.Table.{lastEnd, ltfsVerdict, ltfsReport, ltfsRow};
-ghost use Rattle.ltfs.specs.Parts.{rangesFrom, RowsFit, EndsFit, neighbourOverlap, refusedBy, reportOf, tableReport, tableRow};
+ghost use Rattle.ranges.specs.Ranges.{rangesFrom};
+ghost use Rattle.ltfs.specs.Tallies.{RowsFit, EndsFit, refusedBy, reportOf, tableReport, tableRow};
 use crate::Report;
 use crate::balance::is_balanced;
 use crate::index::has_index;
 use crate::label::read_label;
-use crate::table::Tally;
 use crate::table::gather;
 use crate::values::is_value;
 use crate::values::value_in;
-use sheets::Written;
-use walk::Refusal;
-use walk::Rule;
+use pages::Written;
+use ranges::Tally;
+use ranges::neighbours_overlap;
+use runs::Refusal;
+use runs::Rule;
 
 // The answer of a refusal: its kind, and every number 0.
 fn refused(refusal: Refusal) -> Report
@@ -35,24 +37,6 @@ fn refused(refusal: Refusal) -> Report
         empty: 0,
         other: 0,
     }
-}
-
-// Whether a file of a table in tape order starts before the one before it ends.
-fn neighbours_overlap(starts: &[u64], lengths: &[u64], kept: usize) -> bool
-    requires { ⌜ kept ≤ 256 ⌝ }
-    requires { ⌜ RowsFit (now starts) (now lengths) ⌝ }
-    requires { ⌜ EndsFit (now starts) (now lengths) kept ⌝ }
-    ensures { λ r. ⌜ r ≡ neighbourOverlap (rangesFrom (take kept (now (starts .entry))) (take kept (now (lengths .entry)))) ⌝ }
-{
-    let mut i: usize = 1;
-    while i < kept {
-        let end = starts[i - 1] + lengths[i - 1];
-        if starts[i] < end {
-            return true;
-        }
-        i += 1;
-    }
-    false
 }
 
 // The end of the last file; 0 where there is none.
@@ -75,7 +59,7 @@ fn write_table(name: &[u8], starts: &[u64], lengths: &[u64], head: u64, out: &mu
 {
     let none = [0u64; 1];
     let wants = &none[..0];
-    sheets::write_sheet(
+    pages::write_sheet(
         name,
         Rule::Least,
         starts,
@@ -124,7 +108,7 @@ fn lay_out(name: &[u8], size: u64, partition: u64, index: &[u8], out: &mut [u8])
         return refused(Refusal::FarFile);
     }
     let kept = tally.kept;
-    if neighbours_overlap(&starts, &lengths, kept) {
+    if neighbours_overlap(&starts[..kept], &lengths[..kept]) {
         return refused(Refusal::Overlap);
     }
     let head = last_end(&starts, &lengths, kept);
@@ -137,7 +121,7 @@ pub fn table_sheet(name: &[u8], label: &[u8], index: &[u8], out: &mut [u8]) -> R
     ensures { λ r. ⌜ r ≡ ltfsReport (ltfsVerdict (now (name .entry)) (now (label .entry)) (now (index .entry)) (now (out .entry))) (now (name .entry)) (now (label .entry)) (now (index .entry)) ⌝ }
     ensures { λ _. ⌜ now (out .exit) ≡ ltfsRow (ltfsVerdict (now (name .entry)) (now (label .entry)) (now (index .entry)) (now (out .entry))) (now (name .entry)) (now (label .entry)) (now (index .entry)) (now (out .entry)) ⌝ }
 {
-    if !sheets::is_name(name) {
+    if !texts::is_name(name) {
         return refused(Refusal::BadName);
     }
     if !is_balanced(label) {

@@ -138,19 +138,19 @@ fn end_tag(text: &[u8], at: usize) -> Step
 fn opening_of(text: &[u8]) -> Opening
     ensures { λ r. ⌜ OpeningMet (now (text .entry)) r ⌝ }
 {
-    if sheets::starts(text, b"!--") {
+    if texts::starts(text, b"!--") {
         return Opening::Comment;
     }
-    if sheets::starts(text, b"![CDATA[") {
+    if texts::starts(text, b"![CDATA[") {
         return Opening::Plain;
     }
-    if sheets::starts(text, b"?") {
+    if texts::starts(text, b"?") {
         return Opening::Instruction;
     }
-    if sheets::starts(text, b"!") {
+    if texts::starts(text, b"!") {
         return Opening::Declaration;
     }
-    if sheets::starts(text, b"/") {
+    if texts::starts(text, b"/") {
         return Opening::EndTag;
     }
     Opening::StartTag

@@ -1,6 +1,6 @@
 // Values: the bytes that stand directly in an element, as a number or as a partition's letter. Markup between them is passed over.
 ghost use mathlib.Core.Path.{_≡_};
-ghost use mathlib.Core.List.{List, []};
+ghost use mathlib.Core.List.{List};
 ghost use mathlib.Core.Bool.{cond, _&&_};
 ghost use Prim.Native.Nat.{ℕ, _+_, _-_, _*_};
 ghost use Rattle.ltfs.specs.Index.{charsOf};
@@ -88,7 +88,7 @@ fn wide(byte: u8) -> u64
 fn grow(value: u64, byte: u8) -> Grown
     ensures { λ r. ⌜ GrownTo (grows value byte) (value * 10 + (byte - 48)) r ⌝ }
 {
-    if !sheets::is_between(48, 57, byte) {
+    if !texts::is_between(48, 57, byte) {
         return Grown::No;
     }
     let digit = wide(byte - 48);
@@ -212,7 +212,7 @@ fn letter_in(chars: Chars) -> Field
         return Field::Bad;
     }
     let first = chars.first;
-    if !sheets::is_between(97, 122, first) {
+    if !texts::is_between(97, 122, first) {
         return Field::Bad;
     }
     Field::Value(wide(first))

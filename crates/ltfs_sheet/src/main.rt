@@ -6,7 +6,7 @@ ghost use lib.ListN.{length};
 use libc::STDERR_FILENO;
 use libc::STDIN_FILENO;
 use libc::STDOUT_FILENO;
-use walk::Refusal;
+use runs::Refusal;
 
 // A part of the input: from one position to another.
 enum Part {
@@ -27,7 +27,7 @@ fn line(fd: i32, key: &[u8], value: u64) {
 }
 
 fn refused(kind: Refusal, place: u64) {
-    line(STDOUT_FILENO, b"refused=", walk::number(kind));
+    line(STDOUT_FILENO, b"refused=", runs::number(kind));
     line(STDOUT_FILENO, b"place=", place);
 }
 
@@ -86,7 +86,7 @@ fn part_at(input: &[u8], at: usize, key: &[u8]) -> Part {
     if input.len() < at {
         return Part::Missing;
     }
-    if !sheets::starts(&input[at..], key) {
+    if !texts::starts(&input[at..], key) {
         return Part::Missing;
     }
     if input.len() - at < key.len() {
@@ -120,7 +120,7 @@ fn print_sheet(name: &[u8], label: &[u8], index: &[u8]) {
     let mut out = [0u8; 16384];
     let report = ltfs::table_sheet(name, label, index, &mut out);
     let kind = report.refusal;
-    if walk::number(kind) != 0 {
+    if runs::number(kind) != 0 {
         refused(kind, report.place);
         return;
     }
@@ -163,11 +163,11 @@ fn answer(input: &[u8]) {
         refused(Refusal::BadName, 0);
         return;
     }
-    if !sheets::starts(input, b"tape=") {
+    if !texts::starts(input, b"tape=") {
         refused(Refusal::BadName, 0);
         return;
     }
-    if !sheets::is_name(slice(input, 5, end)) {
+    if !texts::is_name(slice(input, 5, end)) {
         refused(Refusal::BadName, 0);
         return;
     }

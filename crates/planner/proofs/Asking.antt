@@ -5,7 +5,7 @@ use mathlib.Core.List.{List}
 use native.Mathlib.Omega.{arith}
 use native.Mathlib.Numerals.{add-one}
 use lib.ListN.{length, getD}
-use Rattle.walk.specs.Run.{Stop, stopsFrom}
+use Rattle.runs.specs.Run.{Stop, stopsFrom}
 use Rattle.plans.proofs.Value.{choice-first, choice-skip, choice-here, choice-not-here}
 use Rattle.plans.proofs.Walks.{leftAt, rightAt, countAt}
 use Rattle.planner.specs.Table.{Asked, RowTask, DetourFrom, rowAt, readsIn, readsOf, worth, choiceWorth, chosen, startAt, stopEnd, LowerFits, SkipFits}

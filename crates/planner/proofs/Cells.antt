@@ -8,7 +8,7 @@ use native.Mathlib.Decide.{decLt}
 use native.Mathlib.Nat.{mul-le-mul-right}
 use lib.Arith.{digits-lt, digits-div, digits-mod}
 use lib.ListN.{getD}
-use Rattle.walk.specs.Run.{Stop}
+use Rattle.runs.specs.Run.{Stop}
 use Rattle.planner.specs.Table.{Kept, Apart, Holds, Beyond, rowAt, tableSize}
 
 -- The rows stand in the order of a * k + b, and no two at one place.

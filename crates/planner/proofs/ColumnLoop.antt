@@ -8,7 +8,7 @@ use native.Mathlib.Decide.{decLe, decLt}
 use native.Mathlib.Numerals.{add-one}
 use native.Mathlib.Nat.{mul-le-mul-right}
 use lib.ListN.{length, getD}
-use Rattle.walk.specs.Run.{Stop, stopsFrom}
+use Rattle.runs.specs.Run.{Stop, stopsFrom}
 use Rattle.plans.proofs.Value.{value-none}
 use Rattle.plans.proofs.Walks.{leftAt, rightAt, countAt}
 use Rattle.planner.specs.Table.{Judged, Written, RowTask, ColumnTask, DoneUpTo, Filled, Holds, Columns, Done, Beyond, rowAt, tableSize, readsIn, readsOf, worth}

@@ -3,13 +3,13 @@ use mathlib.Core.Path.{_≡_, refl, sym, ap, _∙_}
 use mathlib.Core.Bool.{Bool, true, false}
 use mathlib.Core.List.{List}
 use Rattle.walk.specs.declared.Answer.{Answer}
-use Rattle.walk.specs.Refusals.{isRefusal}
-use Rattle.walk.specs.Run.{Run, stopsOf}
-use Rattle.walk.specs.Detours.{Detour}
+use Rattle.runs.specs.Refusals.{isRefusal}
+use Rattle.runs.specs.Run.{Run, stopsOf}
+use Rattle.runs.specs.Lists.{Detour}
 use Rattle.walk.specs.Price.{pricedAnswer}
 use Rattle.plans.proofs.LeastList.{least-unique}
-use Rattle.walk.specs.declared.Rule.{Rule}
-use Rattle.walk.specs.declared.Rule.the-variants.{Sweep, Least}
+use Rattle.runs.specs.declared.Rule.{Rule}
+use Rattle.runs.specs.declared.Rule.the-variants.{Sweep, Least}
 use Rattle.planner.specs.Plan.{Rows, Plans, Planned, Refused, ByRule, planVerdict, rowsWith}
 
 rule-unique : (rule : Rule) (r : Run) (l l′ : List Detour) → ByRule rule r l → ByRule rule r l′ → l ≡ l′

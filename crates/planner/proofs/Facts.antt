@@ -7,11 +7,11 @@ use native.Mathlib.Omega.{arith}
 use native.Mathlib.Decide.{decLt}
 use native.Mathlib.Numerals.{add-one}
 use lib.ListN.{length, getD}
-use Rattle.walk.specs.Run.{runOf, stopOf, stopsFrom, lastPlace, highestTurn, mostReads}
+use Rattle.runs.specs.Run.{runOf, stopOf, stopsFrom, lastPlace, highestTurn, mostReads}
 use Rattle.walk.proofs.Sound.{stopAt}
-use Rattle.walk.proofs.Accepted.{GoodFile, GoodWant}
-use Rattle.walk.proofs.Judged.{GoodRun, accepted-run}
-use Rattle.walk.proofs.Table.{table-file, end-before-start}
+use Rattle.runs.proofs.Accepted.{GoodFile, GoodWant}
+use Rattle.runs.proofs.Judged.{GoodRun, accepted-run}
+use Rattle.runs.proofs.Table.{table-file, end-before-start}
 use Rattle.walk.proofs.Walks.{numbers-rise}
 use Rattle.walk.proofs.Filling as filling
 use Rattle.plans.proofs.Sums.{W-zero, W-suc}

@@ -10,18 +10,18 @@ use lib.ListN.{length, getD, take, drop, replicate, length-append, length-replic
 use lib.Seq.{ext-getD, getD-append-add, getD-drop, length-take-le}
 use borrow.Author.Tests.{le-ltb, eq-eqb}
 use Rattle.walk.specs.declared.Answer.{Answer}
-use Rattle.walk.specs.Refusals.{isRefusal, firstWhere}
-use Rattle.walk.specs.Run.{Run, Stop, runOf, stopsFrom, stopsOf, total, mostReads}
-use Rattle.walk.specs.Judging.{judgeOf}
-use Rattle.walk.specs.Detours.{Detour, listOf, listVerdict, firstBadEntry, WellFormed}
+use Rattle.runs.specs.Refusals.{isRefusal, firstWhere}
+use Rattle.runs.specs.Run.{Run, Stop, runOf, stopsFrom, stopsOf, total, mostReads}
+use Rattle.runs.specs.Judging.{judgeOf}
+use Rattle.runs.specs.Lists.{Detour, listOf, listVerdict, firstBadEntry, WellFormed}
 use Rattle.walk.specs.Price.{priceVerdict, priceAnswer, priceRow, pricedTimes}
-use Rattle.walk.proofs.Verdicts.{refuses}
-use Rattle.walk.proofs.Entries.{length-list}
-use Rattle.walk.proofs.Judged.{accepted-run}
+use Rattle.runs.proofs.Verdicts.{refuses}
+use Rattle.runs.proofs.Entries.{length-list}
+use Rattle.runs.proofs.Judged.{accepted-run}
 use Rattle.walk.proofs.Laws.{accepted-sound}
 use Rattle.plans.proofs.LeastList.{leastList, least-list-none, least-list-some, least-list}
-use Rattle.walk.specs.declared.Rule.{Rule}
-use Rattle.walk.specs.declared.Rule.the-variants.{Sweep, Least}
+use Rattle.runs.specs.declared.Rule.{Rule}
+use Rattle.runs.specs.declared.Rule.the-variants.{Sweep, Least}
 use Rattle.planner.specs.Plan.{ByRule, Planned, rowsOf, roomSize}
 use Rattle.planner.specs.Table.{Judged, Written, Beyond, ListWritten, listAt, ruleList, tableSize}
 use Rattle.planner.proofs.Facts.{stops-length}

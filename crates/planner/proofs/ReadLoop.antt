@@ -6,9 +6,9 @@ use native.Mathlib.Omega.{arith}
 use native.Mathlib.Numerals.{add-one}
 use lib.ListN.{length, getD, set, take, drop, length-append, length-set}
 use lib.Seq.{getD-set-same, drop-set-lt, drop-drop, length-take-le}
-use Rattle.walk.specs.Run.{Stop, stopsFrom}
-use Rattle.walk.specs.Detours.{Detour, listOf}
-use Rattle.walk.proofs.Entries.{length-list}
+use Rattle.runs.specs.Run.{Stop, stopsFrom}
+use Rattle.runs.specs.Lists.{Detour, listOf}
+use Rattle.runs.proofs.Entries.{length-list}
 use Rattle.plans.proofs.Value.{choice-first}
 use Rattle.plans.proofs.Walks.{fileAt, leftAt, rightAt, countAt}
 use Rattle.planner.specs.Table.{Judged, Filled, Asked, ListWritten, readsIn, chosen, listAt}

@@ -7,16 +7,16 @@ use native.Mathlib.Omega.{arith}
 use lib.ListN.{length}
 use lib.Dec.{ltb}
 use borrow.Author.Tests.{ltb-false}
-use Rattle.walk.specs.declared.Refusal.the-variants.{ShortRow, ShortRoom}
-use Rattle.walk.specs.declared.Verdict.{Verdict}
+use Rattle.runs.specs.declared.Refusal.the-variants.{ShortRow, ShortRoom}
+use Rattle.runs.specs.declared.Verdict.{Verdict}
 use Rattle.walk.specs.declared.Answer.{Answer}
-use Rattle.walk.specs.Refusals.{isRefusal, refuseIf, firstOf}
-use Rattle.walk.specs.Run.{Run, total}
-use Rattle.walk.specs.Judging.{judgeOf}
+use Rattle.runs.specs.Refusals.{isRefusal, refuseIf, firstOf}
+use Rattle.runs.specs.Run.{Run, total}
+use Rattle.runs.specs.Judging.{judgeOf}
 use Rattle.walk.specs.Price.{refusalAnswer}
-use Rattle.walk.proofs.Search.{or-false-both}
-use Rattle.walk.proofs.Verdicts.{refuses, first-refuses, first-passes, test-says}
-use Rattle.walk.specs.declared.Rule.{Rule}
+use Rattle.runs.proofs.Search.{or-false-both}
+use Rattle.runs.proofs.Verdicts.{refuses, first-refuses, first-passes, test-says}
+use Rattle.runs.specs.declared.Rule.{Rule}
 use Rattle.planner.specs.Plan.{Rows, Plans, Planned, planVerdict, shortRows, roomSize}
 use Rattle.planner.specs.Table.{LongRows, tableSize, rowsVerdict}
 

@@ -6,7 +6,7 @@ use native.Mathlib.Omega.{arith}
 use native.Mathlib.Numerals.{add-one}
 use native.Mathlib.Nat.{le-refl}
 use lib.ListN.{length, getD}
-use Rattle.walk.specs.Run.{Stop, stopsFrom}
+use Rattle.runs.specs.Run.{Stop, stopsFrom}
 use Rattle.plans.proofs.Scan.{lower, lowest, lowest-end}
 use Rattle.plans.proofs.Value.{value-step}
 use Rattle.plans.proofs.Walks.{leftAt, rightAt, countAt}

@@ -6,8 +6,8 @@ use native.Mathlib.Numerals.{add-one}
 use mathlib.Core.Path.{_≡_, refl, ap}
 use mathlib.Core.List.{List, [], _∷_}
 use lib.ListN.{length, getD, drop}
-use Rattle.walk.specs.Run.{lastPlace, mostReads, total}
-use Rattle.walk.proofs.Accepted.{total-drop, total-end}
+use Rattle.runs.specs.Run.{lastPlace, mostReads, total}
+use Rattle.runs.proofs.Accepted.{total-drop, total-end}
 use Rattle.plans.proofs.Sums.{W-zero, W-suc, W-rises}
 use Rattle.planner.specs.Table.{RowFits, readsIn}
 

@@ -6,8 +6,8 @@ use native.Mathlib.Omega.{arith}
 use native.Mathlib.Numerals.{add-one}
 use lib.ListN.{length, getD, set, take, length-append}
 use lib.Seq.{getD-set-other, take-suc-set, length-take-le}
-use Rattle.walk.specs.Run.{Stop}
-use Rattle.walk.specs.Detours.{Detour, listOf}
+use Rattle.runs.specs.Run.{Stop}
+use Rattle.runs.specs.Lists.{Detour, listOf}
 use Rattle.plans.proofs.Plan.{Plan, empty, skip, detour, Over, listed}
 use Rattle.plans.proofs.Best.{best, best-none, best-skip, best-detour, best-over}
 use Rattle.plans.proofs.Walks.{fileAt, leftAt, rightAt, countAt}

@@ -6,7 +6,7 @@ use native.Mathlib.Omega.{arith}
 use native.Mathlib.Numerals.{add-one}
 use native.Mathlib.Nat.{mul-le-mul, le-refl, add-zero}
 use lib.ListN.{length, getD}
-use Rattle.walk.specs.Run.{Stop, stopsFrom, lastPlace, highestTurn, mostReads}
+use Rattle.runs.specs.Run.{Stop, stopsFrom, lastPlace, highestTurn, mostReads}
 use Rattle.plans.proofs.Plan.{trip}
 use Rattle.plans.proofs.Cost.{early}
 use Rattle.plans.proofs.Sums.{W, W-suc, W-rises}

@@ -6,13 +6,13 @@ use mathlib.Core.Logic.{_⊎_}
 use mathlib.Core.List.{List, [], _∷_}
 use lib.ListN.{length, getD, take, drop}
 use lib.Dec.{ltb}
-use Rattle.walk.specs.declared.Refusal.the-variants.{ShortRow, ShortRoom}
-use Rattle.walk.specs.declared.Verdict.{Verdict}
-use Rattle.walk.specs.Refusals.{isRefusal, refuseIf, firstOf}
-use Rattle.walk.specs.Run.{Stop, runOf, stopsFrom, total, endAt, lastPlace, highestTurn, mostReads}
-use Rattle.walk.specs.Judging.{judgeOf}
-use Rattle.walk.specs.Rows.{InTable}
-use Rattle.walk.specs.Detours.{Detour, listOf}
+use Rattle.runs.specs.declared.Refusal.the-variants.{ShortRow, ShortRoom}
+use Rattle.runs.specs.declared.Verdict.{Verdict}
+use Rattle.runs.specs.Refusals.{isRefusal, refuseIf, firstOf}
+use Rattle.runs.specs.Run.{Stop, runOf, stopsFrom, total, endAt, lastPlace, highestTurn, mostReads}
+use Rattle.runs.specs.Judging.{judgeOf}
+use Rattle.runs.specs.Rows.{InTable}
+use Rattle.runs.specs.Lists.{Detour, listOf}
 use Rattle.plans.proofs.Sums.{W}
 use Rattle.plans.proofs.Scan.{lower}
 use Rattle.plans.proofs.Value.{value, candidate, choice}
@@ -20,8 +20,8 @@ use Rattle.plans.proofs.Plan.{listed}
 use Rattle.plans.proofs.Best.{best}
 use Rattle.plans.proofs.LeastList.{leastList}
 use Rattle.plans.proofs.Walks.{fileAt, leftAt, rightAt, countAt}
-use Rattle.walk.specs.declared.Rule.{Rule}
-use Rattle.walk.specs.declared.Rule.the-variants.{Sweep, Least}
+use Rattle.runs.specs.declared.Rule.{Rule}
+use Rattle.runs.specs.declared.Rule.the-variants.{Sweep, Least}
 
 -- Rows that the judging accepts with some head, and the number of their reads.
 pub record Judged (starts lengths numbers counts : List ℕ) (turn reads : ℕ) : Type 0 where

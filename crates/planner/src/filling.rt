@@ -1,8 +1,8 @@
 // Filling the table: cell (a, b, s) is the least that the window (a, b] can cost with s reads skipped right of b.
 ghost use mathlib.Core.Path.{_≡_};
-ghost use Prim.Native.Nat.{ℕ, suc, _+_, _-_, _*_, _≤_, _<_, _^_};
+ghost use Prim.Native.Nat.{suc, _+_, _-_, _*_, _≤_, _<_};
 ghost use lib.ListN.{length, getD};
-ghost use Rattle.walk.specs.Run.{stopsFrom};
+ghost use Rattle.runs.specs.Run.{stopsFrom};
 ghost use Rattle.plans.proofs.Scan.{lower};
 ghost use Rattle.planner.specs.Table.{Written, SkipFits, LowerFits, lowered, RowTask, DetourFrom, ColumnTask, DoneUpTo, Judged, Filled, Beyond, tableSize, rowAt, readsIn, worth, choiceWorth};
 use crate::stops::early_of;

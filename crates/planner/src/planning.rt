@@ -1,12 +1,12 @@
 // The planner: refusals 1 to 7, 8 and 9, before anything is written; then the list of the rule, the room zeroed, and the list's own price.
 ghost use mathlib.Core.Path.{_≡_};
 ghost use mathlib.Core.Bool.{false, _||_};
-ghost use Prim.Native.Nat.{ℕ, _+_, _-_, _≤_, _<_};
+ghost use Prim.Native.Nat.{_+_, _-_, _≤_, _<_};
 ghost use lib.ListN.{length};
 ghost use lib.Dec.{ltb};
-ghost use Rattle.walk.specs.Refusals.{isRefusal};
-ghost use Rattle.walk.specs.Run.{runOf, stopsFrom, total, mostReads};
-ghost use Rattle.walk.specs.Judging.{judgeOf};
+ghost use Rattle.runs.specs.Refusals.{isRefusal};
+ghost use Rattle.runs.specs.Run.{runOf, stopsFrom, total, mostReads};
+ghost use Rattle.runs.specs.Judging.{judgeOf};
 ghost use Rattle.plans.proofs.LeastList.{leastList};
 ghost use Rattle.planner.specs.Plan.{Plans, Planned, rowsOf};
 ghost use Rattle.planner.specs.Table.{Judged, ListWritten, Beyond, tableSize, ruleList, LongRows, rowsVerdict};
@@ -14,10 +14,10 @@ use crate::filling::clear;
 use crate::filling::fill;
 use crate::reading::read_off;
 use crate::stops::reads_before;
+use runs::Refusal;
+use runs::Rule;
+use runs::Verdict;
 use walk::Answer;
-use walk::Refusal;
-use walk::Rule;
-use walk::Verdict;
 
 // Whether a row is too short for so many wants. The rows for a list hold one entry less, and none where nothing is wanted.
 fn short_rows(wants: usize, froms: usize, tos: usize, times: usize) -> bool
@@ -213,8 +213,8 @@ pub fn plan(
 ) -> Answer
     ensures { λ r. ⌜ Plans (runOf (now (starts .entry)) (now (lengths .entry)) (now (numbers .entry)) (now (counts .entry)) head turn) rule (rowsOf (now (froms .entry)) (now (tos .entry)) (now (times .entry)) (now (room .entry))) r (rowsOf (now (froms .exit)) (now (tos .exit)) (now (times .exit)) (now (room .exit))) ⌝ }
 {
-    let run = walk::judge(starts, lengths, numbers, counts, head, turn);
-    if walk::refused(run) {
+    let run = runs::judge(starts, lengths, numbers, counts, head, turn);
+    if runs::refused(run) {
         return walk::refuse(run);
     }
     let reads = reads_before(counts, counts.len()) as usize;
@@ -226,7 +226,7 @@ pub fn plan(
         times.len(),
         room.len(),
     );
-    if walk::refused(rows) {
+    if runs::refused(rows) {
         return walk::refuse(rows);
     }
     planned(

@@ -1,8 +1,8 @@
 // Reading the least list off the table, from the rightmost stop to the left: at each stop the first choice whose sum is the window's word.
 ghost use mathlib.Core.Path.{_≡_};
-ghost use Prim.Native.Nat.{ℕ, suc, _+_, _-_, _≤_, _<_};
+ghost use Prim.Native.Nat.{suc, _+_, _-_, _≤_, _<_};
 ghost use lib.ListN.{length};
-ghost use Rattle.walk.specs.Run.{stopsFrom};
+ghost use Rattle.runs.specs.Run.{stopsFrom};
 ghost use Rattle.planner.specs.Table.{Asked, DetourFrom, Filled, ListWritten, worth, choiceWorth, chosen, listAt};
 use crate::stops::early_of;
 use crate::stops::reads_before;

@@ -1,8 +1,8 @@
 // The stops read off the caller's rows, stop i being the i-th want's file; and where the rows of the table stand.
 ghost use mathlib.Core.Path.{_≡_};
-ghost use Prim.Native.Nat.{ℕ, _+_, _-_, _*_, _≤_, _<_};
+ghost use Prim.Native.Nat.{_+_, _-_, _*_, _≤_, _<_};
 ghost use lib.ListN.{length, getD};
-ghost use Rattle.walk.specs.Run.{total, mostReads};
+ghost use Rattle.runs.specs.Run.{total, mostReads};
 ghost use Rattle.planner.specs.Table.{startAt, stopEnd, IsStop, TripFits, EarlyFits, RowFits, rowAt, readsIn};
 
 // Where a stop starts.

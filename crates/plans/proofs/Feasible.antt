@@ -7,7 +7,7 @@ use mathlib.Core.List.{List}
 use native.Mathlib.Omega.{arith}
 use native.Mathlib.Decide.{decLe, decLt}
 use lib.Dec.{T}
-use Rattle.walk.specs.Run.{Stop}
+use Rattle.runs.specs.Run.{Stop}
 use Rattle.walk.specs.declared.Leg.{Leg}
 use Rattle.walk.specs.Walk.{headAt, Moves, served, timeOf}
 use Rattle.plans.proofs.Plan.{Plan, empty, skip, detour, Over, trip, lagAfter, legTime, timeIn}

@@ -7,11 +7,11 @@ use mathlib.Core.Logic.{_⊎_, inl, inr, ⊎-elim, by-cases}
 use mathlib.Core.Bool.{true≢false}
 use mathlib.Core.List.{List, [], _∷_}
 use lib.ListN.{length}
-use Rattle.walk.specs.Refusals.{firstWhere}
-use Rattle.walk.specs.Run.{Stop}
+use Rattle.runs.specs.Refusals.{firstWhere}
+use Rattle.runs.specs.Run.{Stop}
 use Rattle.walk.specs.Walk.{sumOf}
-use Rattle.walk.specs.Detours.{Detour, wanted, firstBadEntry, WellFormed}
-use Rattle.walk.proofs.Search.{true-or-false}
+use Rattle.runs.specs.Lists.{Detour, wanted, firstBadEntry, WellFormed}
+use Rattle.runs.proofs.Search.{true-or-false}
 use Rattle.walk.proofs.Sound.{Sound}
 use Rattle.plans.specs.Least.{startFor, Sooner, ComesFirst, listSum, LeastFor}
 use Rattle.plans.proofs.Plan.{Plan, Over, listed, startIn}

@@ -10,9 +10,9 @@ use native.Mathlib.Decide.{decLe, ℕ-discrete}
 use lib.Dec.{leb, ltb, eqb}
 use lib.ListN.{length}
 use borrow.Author.Tests.{ltb-false, leb-false, not-false, le-ltb, le-leb, lt-leb, eq-eqb, ne-eqb}
-use Rattle.walk.specs.Run.{Stop}
-use Rattle.walk.specs.Detours.{Detour, wanted, leftmost, WellFormed}
-use Rattle.walk.proofs.Search.{or-false-both}
+use Rattle.runs.specs.Run.{Stop}
+use Rattle.runs.specs.Lists.{Detour, wanted, leftmost, WellFormed}
+use Rattle.runs.proofs.Search.{or-false-both}
 use Rattle.walk.proofs.Sound.{Sound}
 use Rattle.plans.specs.Least.{startFor}
 use Rattle.plans.proofs.Plan.{Plan, empty, skip, detour, Over, listed, startIn}

@@ -9,9 +9,9 @@ use lib.Dec.{T}
 use Rattle.walk.specs.declared.Head.{Head}
 use Rattle.walk.specs.declared.Way.{Way}
 use Rattle.walk.specs.declared.Way.the-variants.{Leftward, Rightward}
-use Rattle.walk.specs.Run.{Stop}
+use Rattle.runs.specs.Run.{Stop}
 use Rattle.walk.specs.declared.Leg.{Leg}
-use Rattle.walk.proofs.Search.{true-or-false}
+use Rattle.runs.proofs.Search.{true-or-false}
 use Rattle.walk.proofs.Steps.{faced-place, lagOf, lag-after-leg, time-in-leg, read-inside}
 use Rattle.walk.specs.Walk.{headAt, faced, ready, runRight, setOff, afterLeg, Moves, reads, served, timeOf}
 

@@ -4,7 +4,7 @@ use Prim.Native.Nat.{ℕ, zero, suc, _+_, _-_, _*_, _≤_}
 use mathlib.Core.Bool.{cond}
 use mathlib.Core.List.{List, [], _∷_, _++_}
 use lib.Dec.{leb}
-use Rattle.walk.specs.Detours.{Detour}
+use Rattle.runs.specs.Lists.{Detour}
 
 -- Nothing; no detour ends at the window's last stop; or a detour from stop suc d to the last stop, what is done inside it before, and the rest.
 pub data Plan : Type 0 where

@@ -8,9 +8,9 @@ use native.Mathlib.Omega.{arith}
 use lib.Dec.{leb, ltb}
 use lib.ListN.{length}
 use borrow.Author.Tests.{ltb-true, leb-false, not-false, lt-ltb, lt-leb}
-use Rattle.walk.specs.Run.{Stop}
-use Rattle.walk.specs.Detours.{Detour, badAlone, badAfter, anyBelow, entryOf, badEntry, firstBadEntry, WellFormed}
-use Rattle.walk.proofs.Search.{true-or-false, or-false-both, first-zero, first-all, any-zero}
+use Rattle.runs.specs.Run.{Stop}
+use Rattle.runs.specs.Lists.{Detour, badAlone, badAfter, anyBelow, entryOf, badEntry, firstBadEntry, WellFormed}
+use Rattle.runs.proofs.Search.{true-or-false, or-false-both, first-zero, first-all, any-zero}
 
 -- "Some entry" is false where each is.
 module _ (bad : ℕ → Bool) where

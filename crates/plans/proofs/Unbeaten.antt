@@ -10,10 +10,11 @@ use native.Mathlib.Decide.{ℕ-discrete}
 use lib.Dec.{eqb}
 use lib.ListN.{length, getD}
 use borrow.Author.Tests.{eq-eqb, ne-eqb}
-use Rattle.walk.specs.Run.{Stop, endAt, stopsFrom}
+use Rattle.runs.specs.Run.{Stop, endAt, stopsFrom}
 use Rattle.walk.specs.declared.Leg.{Leg}
 use Rattle.walk.specs.Walk.{headAt, Moves, ServesAll, timeOf, sumOf}
-use Rattle.walk.specs.Detours.{Detour, WellFormed, legsOf}
+use Rattle.runs.specs.Lists.{Detour, WellFormed}
+use Rattle.walk.specs.Detours.{legsOf}
 use Rattle.walk.proofs.Sound.{Sound, stopAt}
 use Rattle.plans.specs.Least.{listSum, LeastFor}
 use Rattle.plans.specs.Wants.{readsOf}

@@ -12,11 +12,12 @@ use lib.Dec.{T, eqb}
 use lib.ListN.{length}
 use borrow.Author.Tests.{le-leb, lt-leb, eq-eqb, ne-eqb}
 use Rattle.walk.specs.declared.Head.{Head}
-use Rattle.walk.specs.Run.{Stop, rightEnd}
+use Rattle.runs.specs.Run.{Stop, rightEnd}
 use Rattle.walk.specs.declared.Leg.{Leg}
 use Rattle.walk.specs.Walk.{headAt, afterLeg, Moves, reads, served, ServesAll, timeOf, sumOf}
-use Rattle.walk.specs.Detours.{Detour, startOf, endOf, legOf, lastSweep, legsOf}
-use Rattle.walk.proofs.Search.{true-or-false}
+use Rattle.runs.specs.Lists.{Detour}
+use Rattle.walk.specs.Detours.{startOf, endOf, legOf, lastSweep, legsOf}
+use Rattle.runs.proofs.Search.{true-or-false}
 use Rattle.walk.proofs.Sound.{Sound, stopAt}
 use Rattle.plans.specs.Wants.{readsOf}
 use Rattle.plans.proofs.Plan.{Plan, empty, skip, detour, Over, listed, trip, lagAfter, timeIn}

@@ -5,9 +5,10 @@ use mathlib.Core.Bool.{cond}
 use mathlib.Core.Logic.{_⊎_}
 use mathlib.Core.List.{List, [], _∷_}
 use lib.Dec.{eqb}
-use Rattle.walk.specs.Run.{Run, Stop, stopsOf}
+use Rattle.runs.specs.Run.{Run, Stop, stopsOf}
 use Rattle.walk.specs.Walk.{headAt, sumOf}
-use Rattle.walk.specs.Detours.{Detour, WellFormed, legsOf}
+use Rattle.runs.specs.Lists.{Detour, WellFormed}
+use Rattle.walk.specs.Detours.{legsOf}
 
 -- Where the detour that ends at a file starts; 0, which is no file, where none ends there.
 unfoldable pub startFor : List Detour → ℕ → ℕ

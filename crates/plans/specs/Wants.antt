@@ -3,7 +3,7 @@ use Prim.Native.Nat.{ℕ}
 use mathlib.Core.Bool.{cond}
 use mathlib.Core.List.{List, [], _∷_}
 use lib.Dec.{eqb}
-use Rattle.walk.specs.Run.{Stop}
+use Rattle.runs.specs.Run.{Stop}
 
 -- The count of the stop with that number; 0 where there is none, since the file is not wanted.
 unfoldable pub readsOf : List Stop → ℕ → ℕ

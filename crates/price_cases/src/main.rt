@@ -1,7 +1,5 @@
 // Prices the lists of document 01's worked cases, its limits and the two longest walks, and prints a line for each.
 // What it must print stands beside it in stdout; host/prices.py works the same text out from the paper's sentences.
-ghost use mathlib.Core.Path.{_≡_};
-ghost use Prim.Native.Nat.{_≤_};
 ghost use lib.ListN.{length};
 use libc::STDOUT_FILENO;
 use walk::Answer;
@@ -31,7 +29,7 @@ fn times_line(times: &[u64], wants: usize) {
 
 fn answer_line(a: Answer, times: &[u64], wants: usize) {
     let kind = a.refusal;
-    let number = walk::number(kind);
+    let number = runs::number(kind);
     if number != 0 {
         field(b": refused=", number);
         field(b" place=", a.place);
@@ -280,8 +278,8 @@ fn longest_list() {
     whole_tape(
         b"longest list",
         16,
-        walk::LAST_PLACE,
-        walk::HIGHEST_TURN,
+        runs::LAST_PLACE,
+        runs::HIGHEST_TURN,
         &froms,
         &tos,
     );
@@ -296,8 +294,8 @@ fn deepest_list() {
     whole_tape(
         b"deepest list",
         16,
-        walk::LAST_PLACE,
-        walk::HIGHEST_TURN,
+        runs::LAST_PLACE,
+        runs::HIGHEST_TURN,
         &froms,
         &tos,
     );
@@ -310,20 +308,20 @@ fn swept_tape(label: &[u8], last: u64, head: u64, turn: u64) {
 }
 
 fn past_the_limits() {
-    swept_tape(b"one place past the tape", 16, walk::LAST_PLACE + 1, 0);
+    swept_tape(b"one place past the tape", 16, runs::LAST_PLACE + 1, 0);
     swept_tape(
         b"head one left of the last end",
         16,
-        walk::LAST_PLACE - 1,
+        runs::LAST_PLACE - 1,
         0,
     );
     swept_tape(
         b"turn price one too high",
         16,
-        walk::LAST_PLACE,
-        walk::HIGHEST_TURN + 1,
+        runs::LAST_PLACE,
+        runs::HIGHEST_TURN + 1,
     );
-    swept_tape(b"1,025 reads", 17, walk::LAST_PLACE, 0);
+    swept_tape(b"1,025 reads", 17, runs::LAST_PLACE, 0);
 }
 
 fn one_want_too_many() {

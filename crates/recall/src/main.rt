@@ -2,7 +2,7 @@
 // Everything that matters is in the libraries below; what is read and written is tested and not proved.
 use libc::STDIN_FILENO;
 use libc::STDOUT_FILENO;
-use walk::Rule;
+use runs::Rule;
 
 // The first n entries of a row, or the row where it has fewer.
 fn front(row: &[u64], n: u64) -> &[u64] {
@@ -47,7 +47,7 @@ fn print_plan(
     tos: &[u64],
 ) {
     let mut out = [0u8; 4096];
-    let w = sheets::write_plan(
+    let w = pages::write_plan(
         name,
         starts,
         lengths,
@@ -60,7 +60,7 @@ fn print_plan(
         &mut out,
     );
     let kind = w.refusal;
-    let number = walk::number(kind);
+    let number = runs::number(kind);
     if number != 0 {
         refused(number, w.place);
         return;
@@ -98,7 +98,7 @@ fn plan_run(
         &mut room,
     );
     let kind = a.refusal;
-    let number = walk::number(kind);
+    let number = runs::number(kind);
     if number != 0 {
         refused(number, a.place);
         return;
@@ -124,7 +124,7 @@ fn answer(sheet: &[u8]) {
     let mut counts = [0u64; 64];
     let r = sheets::read_sheet(sheet, &mut starts, &mut lengths, &mut numbers, &mut counts);
     let kind = r.refusal;
-    let number = walk::number(kind);
+    let number = runs::number(kind);
     if number != 0 {
         refused(number, r.place);
         return;

@@ -1,5 +1,5 @@
 -- What the reader answers and leaves in the rows, for each verdict.
-use Prim.Native.Nat.{ℕ, _+_, _-_, _≤_}
+use Prim.Native.Nat.{ℕ, _-_, _≤_}
 use mathlib.Core.Path.{_≡_, sym, _∙_, subst}
 use mathlib.Core.Bool.{Bool, true, false, not}
 use mathlib.Core.List.{List, [], _++_}
@@ -8,10 +8,10 @@ use native.Mathlib.Nat.{zero-add}
 use lib.ListN.{length, take, drop}
 use lib.Dec.{ltb}
 use borrow.Author.Tests.{not-true, not-false, ltb-false}
-use Rattle.walk.specs.declared.Refusal.the-variants.{Accepted, ShortRow}
-use Rattle.walk.specs.declared.Verdict.{Verdict}
-use Rattle.walk.specs.Refusals.{isRefusal, accepted}
-use Rattle.walk.proofs.Search.{or-false-both}
+use Rattle.runs.specs.declared.Refusal.the-variants.{Accepted, ShortRow}
+use Rattle.runs.specs.declared.Verdict.{Verdict}
+use Rattle.runs.specs.Refusals.{isRefusal, accepted}
+use Rattle.runs.proofs.Search.{or-false-both}
 use Rattle.sheets.specs.declared.reader.Top.{Top}
 use Rattle.sheets.specs.Lines.{fileKey, wantKey, lineAfter, firstIn, secondIn, afterLines}
 use Rattle.sheets.specs.Sheet.{filesOf, wantsOf, fileText, wantText, eachOf, runIn, nameIn}

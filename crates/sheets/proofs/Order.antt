@@ -1,18 +1,18 @@
 -- The lines of a sheet in turn: what each reader's answer says of the first line that is not as described.
-use Prim.Native.Nat.{ℕ, zero, suc, _+_, _-_, _≤_, _<_}
+use Prim.Native.Nat.{ℕ, zero, suc, _+_, _≤_, _<_}
 use mathlib.Core.Path.{_≡_, refl, ap, sym, _∙_, subst}
-use mathlib.Core.Bool.{Bool, true, false, not}
+use mathlib.Core.Bool.{Bool, true, false}
 use mathlib.Core.List.{List, _∷_}
 use native.Mathlib.Omega.{arith}
 use lib.ListN.{length, drop, drop-of-length-le}
 use lib.Seq.{drop-cons}
 use lib.Dec.{leb}
 use borrow.Author.Tests.{leb-true, lt-ltb, le-ltb}
-use Rattle.walk.specs.declared.Refusal.the-variants.{LongSheet, BadLine}
-use Rattle.walk.specs.declared.Verdict.{Verdict}
-use Rattle.walk.specs.Run.{mostWants}
-use Rattle.walk.proofs.Verdicts.{refuse-at}
-use Rattle.walk.specs.declared.Rule.{Rule}
+use Rattle.runs.specs.declared.Refusal.the-variants.{LongSheet, BadLine}
+use Rattle.runs.specs.declared.Verdict.{Verdict}
+use Rattle.runs.specs.Run.{mostWants}
+use Rattle.runs.proofs.Verdicts.{refuse-at}
+use Rattle.runs.specs.declared.Rule.{Rule}
 use Rattle.sheets.specs.declared.lines.NameLine.{NameLine}
 use Rattle.sheets.specs.declared.lines.NumberLine.{NumberLine}
 use Rattle.sheets.specs.declared.lines.RuleLine.{RuleLine}
@@ -20,12 +20,12 @@ use Rattle.sheets.specs.declared.reader.Top.{Top}
 use Rattle.sheets.specs.declared.reader.TopRead.{TopRead}
 use Rattle.sheets.specs.declared.reader.BelowRead.{BelowRead}
 use Rattle.sheets.specs.declared.reader.Laid.{Laid}
-use Rattle.sheets.specs.Text.{lineFeed, behind, isEmpty}
+use Rattle.texts.specs.Text.{lineFeed, behind, isEmpty}
 use Rattle.sheets.specs.Lines.{lineOf, afterLines, lineAfter, headKey, filesKey, fileKey, wantsKey, wantKey, isTapeLine, isNumberLine, numberIn, isCountLine, isTurnLine, turnIn, isRuleLine, ruleIn}
 use Rattle.sheets.specs.Sheet.{longestSheet, mostSheetFiles, headOf, turnOf, ruleOf, filesOf, fileText, wantsText, wantsOf, wantText, endText, shifted, firstSome, firstBadPair, firstBadTop, firstBadBelow, firstBadLine}
 use Rattle.sheets.specs.Reading.{sheetVerdict}
 use Rattle.sheets.specs.Parts.{Passed, NamePart, NameLineFound, NumberLineFound, RuleLineFound, PairsPassed, PairBad, TopIs, TopBad, TopFound, FilesAt, WantsAt, BelowIs, BelowBad, BelowFound, LaidOut, LaidRefused, LaidFound}
-use Rattle.sheets.proofs.Bytes.{and-true-both}
+use Rattle.texts.proofs.Bytes.{and-true-both}
 
 -- So many lines passed, and what is left stands at a position.
 pub record Reached (sheet : List ℕ) (lines at : ℕ) : Type 0 where

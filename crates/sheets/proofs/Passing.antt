@@ -5,24 +5,26 @@ use mathlib.Core.Bool.{Bool, true, false, not, and-false}
 use mathlib.Core.List.{List, [], _∷_}
 use native.Mathlib.Omega.{arith}
 use native.Mathlib.Numerals.{add-one}
+use lib.Dec.{eqb}
 use lib.ListN.{length, take, drop, length-drop}
 use lib.Seq.{take-all, drop-drop, length-take-le, drop-nil, take-nil}
 use borrow.Author.Tests.{le-leb, lt-leb}
-use Rattle.walk.specs.declared.Rule.{Rule}
-use Rattle.sheets.specs.declared.text.Found.{Found}
-use Rattle.sheets.specs.declared.text.Number.{Number}
+use Rattle.runs.specs.declared.Rule.{Rule}
+use Rattle.texts.specs.declared.Found.{Found}
+use Rattle.texts.specs.declared.Number.{Number}
 use Rattle.sheets.specs.declared.lines.Keyed.{Keyed}
 use Rattle.sheets.specs.declared.lines.NumberLine.{NumberLine}
 use Rattle.sheets.specs.declared.lines.Pair.{Pair}
 use Rattle.sheets.specs.declared.lines.PairLine.{PairLine}
 use Rattle.sheets.specs.declared.lines.PairLines.{PairLines}
-use Rattle.walk.specs.Refusals.{firstWhere}
-use Rattle.walk.proofs.Search.{first-more, first-here}
-use Rattle.sheets.specs.Text.{lineFeed, comma, isEmpty, has, before, behind, startsWith, isText, isNumber, isName}
+use Rattle.runs.specs.Refusals.{firstWhere}
+use Rattle.runs.proofs.Search.{first-more, first-here, or-false-both}
+use Rattle.texts.specs.Text.{lineFeed, comma, isEmpty, has, behind, startsWith, isText, isNumber, isName}
 use Rattle.sheets.specs.Lines.{lineOf, afterLines, lineAfter, tapeKey, turnKey, ruleKey, leastText, sweepText, valueText, isTapeLine, isNumberLine, numberIn, isCountLine, emptyTurn, isTurnLine, turnIn, isRuleLine, ruleIn, isPair, isPairLine}
 use Rattle.sheets.specs.Sheet.{firstBadPair}
-use Rattle.sheets.specs.Parts.{FirstAt, FoundIn, NumberIs, NumberFound, ValueAt, ValueFound, Passed, NamePart, NumberLineFound, PairIs, PairFound, PairAt, PairLineFound, PairsPassed, PairBad, PairLinesFound}
-use Rattle.sheets.proofs.Bytes.{not-empty, short-text, begun-long, behind-nowhere}
+use Rattle.texts.specs.Found.{FirstAt, FoundIn, NumberIs, NumberFound}
+use Rattle.sheets.specs.Parts.{ValueAt, ValueFound, Passed, NamePart, NumberLineFound, PairIs, PairFound, PairAt, PairLineFound, PairsPassed, PairBad, PairLinesFound}
+use Rattle.texts.proofs.Bytes.{not-empty, short-text, begun-long}
 
 -- The end of a part is a part of the end.
 drop-take : (n m : ℕ) (xs : List ℕ) → drop n (take m xs) ≡ take (m - n) (drop n xs)
@@ -245,6 +247,14 @@ module _ (sheet : List ℕ) (r : Keyed) (found : ValueFound tapeKey sheet 0 r) w
           record { good = rw (name-is ∙ f, v .begun); within = omega arith; rest = v .rest },
           record { ordered = omega arith; within = omega arith; name = subst (λ n. take (end - n) (drop n sheet) ≡ valueText tapeKey (lineOf sheet)) five (v .text) },
         )
+
+-- Nothing stands behind a byte that is not there.
+behind-nowhere : (c : ℕ) (text : List ℕ) → has c text ≡ false → behind c text ≡ []
+unfolding has behind
+behind-nowhere c [] e = refl
+behind-nowhere c (b ∷ text) e =
+    let both = or-false-both (eqb b c) (has c text) e in
+    rw (both .0) (behind-nowhere c text (both .1))
 
 -- A pair of numbers in a text, from its first comma.
 module _ (text : List ℕ) (r : Found) (found : FoundIn comma text r) where

@@ -1,5 +1,5 @@
 -- Rows filled from lines of pairs.
-use Prim.Native.Nat.{ℕ, zero, suc, _+_, _-_, _≤_, _<_}
+use Prim.Native.Nat.{ℕ, zero, suc, _+_, _≤_, _<_}
 use mathlib.Core.Path.{_≡_, refl, ap, sym, _∙_, subst}
 use mathlib.Core.Bool.{true, false, not, true≢false}
 use mathlib.Core.List.{List, [], _∷_, _++_}
@@ -8,7 +8,7 @@ use native.Mathlib.Numerals.{add-one}
 use lib.ListN.{length, drop, set, length-append, length-drop}
 use lib.Seq.{drop-cons, set-at, append-snoc}
 use borrow.Author.Tests.{not-false}
-use Rattle.walk.proofs.Search.{first-zero}
+use Rattle.runs.proofs.Search.{first-zero}
 use Rattle.sheets.specs.declared.lines.PairLine.{PairLine}
 use Rattle.sheets.specs.Lines.{lineOf, afterLines, lineAfter, isPairLine, firstIn, secondIn}
 use Rattle.sheets.specs.Sheet.{firstBadPair, eachOf}

@@ -1,8 +1,5 @@
 -- What a reader of the sheets must believe, in document 01's words. Read in this order.
-pub mod Text
 pub mod Lines
 pub mod Sheet
 pub mod Reading
-pub mod Writing
-pub mod PlanSheet
 pub mod Parts

@@ -4,9 +4,9 @@ use mathlib.Core.Bool.{Bool, cond, _&&_, _||_}
 use mathlib.Core.List.{List, [], _∷_}
 use lib.ListN.{length, drop}
 use lib.Dec.{leb}
-use Rattle.walk.specs.declared.Rule.{Rule}
-use Rattle.walk.specs.declared.Rule.the-variants.{Sweep, Least}
-use Rattle.sheets.specs.Text.{lineFeed, comma, isEmpty, has, before, behind, startsWith, isText, isNumber, isName, valueOf}
+use Rattle.runs.specs.declared.Rule.{Rule}
+use Rattle.runs.specs.declared.Rule.the-variants.{Sweep, Least}
+use Rattle.texts.specs.Text.{lineFeed, comma, isEmpty, has, before, behind, startsWith, isText, isNumber, isName, valueOf}
 
 -- The first line of a text. Where no LF ends it there is none, and the empty line that stands for it is as described nowhere:
 -- so a line that is missing and a last line without LF are refused alike.

@@ -4,11 +4,8 @@ use mathlib.Core.Path.{_≡_}
 use mathlib.Core.Bool.{Bool, true, false}
 use mathlib.Core.List.{List, _++_}
 use lib.ListN.{length, take, drop}
-use Rattle.walk.specs.declared.Verdict.{Verdict}
-use Rattle.walk.specs.Refusals.{isRefusal, accepted}
-use Rattle.walk.specs.Run.{mostWants}
-use Rattle.sheets.specs.declared.text.Found.{Found}
-use Rattle.sheets.specs.declared.text.Number.{Number}
+use Rattle.runs.specs.declared.Verdict.{Verdict}
+use Rattle.runs.specs.Refusals.{isRefusal, accepted}
 use Rattle.sheets.specs.declared.lines.Keyed.{Keyed}
 use Rattle.sheets.specs.declared.lines.NameLine.{NameLine}
 use Rattle.sheets.specs.declared.lines.NumberLine.{NumberLine}
@@ -20,30 +17,10 @@ use Rattle.sheets.specs.declared.reader.Top.{Top}
 use Rattle.sheets.specs.declared.reader.TopRead.{TopRead}
 use Rattle.sheets.specs.declared.reader.BelowRead.{BelowRead}
 use Rattle.sheets.specs.declared.reader.Laid.{Laid}
-use Rattle.sheets.specs.Text.{lineFeed, comma, has, before, behind, startsWith, isNumber, valueOf}
+use Rattle.texts.specs.Text.{lineFeed, comma, before, behind, startsWith, valueOf}
 use Rattle.sheets.specs.Lines.{lineOf, afterLines, lineAfter, tapeKey, fileKey, wantKey, valueText, isTapeLine, isRuleLine, ruleIn, isPair, isPairLine, firstIn, secondIn}
-use Rattle.sheets.specs.Sheet.{longestSheet, mostSheetFiles, headOf, turnOf, ruleOf, filesOf, fileText, wantsText, wantsOf, wantText, firstBadPair, firstBadTop, firstBadBelow, eachOf}
+use Rattle.sheets.specs.Sheet.{mostSheetFiles, headOf, turnOf, ruleOf, filesOf, fileText, wantsText, wantsOf, wantText, firstBadPair, firstBadTop, firstBadBelow, eachOf}
 use Rattle.sheets.specs.Reading.{sheetVerdict}
-
--- A byte stands in a text, first at an index.
-pub record FirstAt (c : ℕ) (text : List ℕ) (i : ℕ) : Type 0 where
-  pub within : i < length text
-  pub stands : has c text ≡ true
-  pub front : before c text ≡ take i text
-  pub back : behind c text ≡ drop (i + 1) text
-
-abbrev pub FoundIn : ℕ → List ℕ → Found → Type 0
-FoundIn c text (Found.At i) = FirstAt c text i
-FoundIn c text Found.Nowhere = has c text ≡ false
-
--- A text that is a number, and which.
-pub record NumberIs (text : List ℕ) (n : ℕ) : Type 0 where
-  pub good : isNumber text ≡ true
-  pub value : n ≡ valueOf text
-
-abbrev pub NumberFound : List ℕ → Number → Type 0
-NumberFound text (Number.Value n) = NumberIs text n
-NumberFound text Number.Bad = isNumber text ≡ false
 
 -- A line that begins with a key: where its value starts and its LF stands.
 pub record ValueAt (key sheet : List ℕ) (at from end : ℕ) : Type 0 where
@@ -195,31 +172,3 @@ leftRow key text count row = eachOf (λ i. firstIn key (lineAfter i text)) count
 
 abbrev pub rightRow : List ℕ → List ℕ → ℕ → List ℕ → List ℕ
 rightRow key text count row = eachOf (λ i. secondIn key (lineAfter i text)) count ++ drop count row
-
--- A text put on a page behind what stands before a position, in at most so many bytes.
-pub record Wrote (page : List ℕ) (at : ℕ) (text : List ℕ) (most : ℕ) (page′ : List ℕ) (next : ℕ) : Type 0 where
-  pub after : next ≡ at + length text
-  pub bytes : take next page′ ≡ take at page ++ text
-  pub within : next ≤ at + most
-
--- What fits on a page: a name and rows within the sheet's limits.
-pub record SheetFits (page name starts lengths numbers counts : List ℕ) : Type 0 where
-  pub room : longestSheet ≤ length page
-  pub short : length name ≤ 16
-  pub files : length starts ≤ mostSheetFiles
-  pub table : length starts ≡ length lengths
-  pub wants : length numbers ≤ mostWants
-  pub pairs : length numbers ≡ length counts
-
--- No plan sheet is longer than this: 156 bytes for the first lines, 49 for each detour and each time.
-abbrev pub planMost : ℕ
-planMost = 6428
-
--- What fits on a plan's page: a name, a list and times within the run's limits.
-pub record PlanFits (page name froms tos numbers times : List ℕ) : Type 0 where
-  pub room : planMost ≤ length page
-  pub short : length name ≤ 16
-  pub few : length froms ≤ mostWants
-  pub even : length froms ≡ length tos
-  pub wants : length numbers ≤ mostWants
-  pub timed : length numbers ≡ length times

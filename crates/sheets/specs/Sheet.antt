@@ -2,10 +2,10 @@
 use Prim.Native.Nat.{ℕ, suc, zero, _+_}
 use mathlib.Core.Bool.{Bool, true, false, not}
 use mathlib.Core.List.{List, [], _∷_, _++_}
-use Rattle.walk.specs.Refusals.{firstWhere}
-use Rattle.walk.specs.Run.{Run, mostWants}
-use Rattle.walk.specs.declared.Rule.{Rule}
-use Rattle.sheets.specs.Text.{isEmpty}
+use Rattle.runs.specs.Refusals.{firstWhere}
+use Rattle.runs.specs.Run.{Run, mostWants}
+use Rattle.runs.specs.declared.Rule.{Rule}
+use Rattle.texts.specs.Text.{isEmpty}
 use Rattle.sheets.specs.Lines.{lineOf, afterLines, lineAfter, tapeKey, headKey, filesKey, fileKey, wantsKey, wantKey, valueText, isTapeLine, isNumberLine, numberIn, isCountLine, isTurnLine, turnIn, isRuleLine, ruleIn, isPairLine, firstIn, secondIn}
 
 -- The limits of a sheet. `wants` is limited as the run is.

@@ -1,18 +1,17 @@
 // Readers of single lines. Each takes the position at which the line starts, and answers its value and where the next line starts.
-ghost use mathlib.Core.Path.{_≡_};
 ghost use Prim.Native.Nat.{_≤_, _<_};
 ghost use lib.ListN.{length};
 ghost use Rattle.sheets.specs.Lines.{isNumberLine, numberIn, isCountLine, isTurnLine, turnIn};
 ghost use Rattle.sheets.specs.Parts.{ValueFound, NameLineFound, NumberLineFound, RuleLineFound, PairFound, PairLineFound, PairLinesFound};
 use crate::EMPTY_TURN;
-use crate::text::Found;
-use crate::text::Number;
-use crate::text::find;
-use crate::text::is_name;
-use crate::text::read_number;
-use crate::text::same;
-use crate::text::starts;
-use walk::Rule;
+use runs::Rule;
+use texts::Found;
+use texts::Number;
+use texts::find;
+use texts::is_name;
+use texts::read_number;
+use texts::same;
+use texts::starts;
 
 // What stands behind a line's key: from and end are positions in the sheet, and the LF stands at end.
 pub(crate) enum Keyed {

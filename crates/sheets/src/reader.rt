@@ -20,9 +20,9 @@ use crate::lines::pair_lines;
 use crate::lines::rule_line;
 use crate::lines::tape_line;
 use crate::lines::turn_line;
-use walk::Refusal;
-use walk::Rule;
-use walk::Verdict;
+use runs::Refusal;
+use runs::Rule;
+use runs::Verdict;
 
 // The first five lines: their values, where the name ends and where the next line starts.
 struct Top {
@@ -94,7 +94,7 @@ fn read_wants(sheet: &[u8], at: usize, files: u64) -> BelowRead
     let NumberLine::Value {
         number: wants,
         next: want_at,
-    } = count_line(sheet, at, b"wants=", walk::MOST_WANTS as u64)
+    } = count_line(sheet, at, b"wants=", runs::MOST_WANTS as u64)
     else {
         return BelowRead::Bad(files + 6);
     };

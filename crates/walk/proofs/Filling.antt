@@ -11,11 +11,11 @@ use lib.ListN.{length, getD, take, drop, set, length-set, take-append-drop, drop
 use lib.Seq.{drop-cons, take-suc-set, drop-set-lt, drop-drop}
 use Rattle.walk.specs.declared.Head.{Head}
 use Rattle.walk.specs.declared.Leg.{Leg}
-use Rattle.walk.specs.Run.{Stop, stopOf, stopsFrom, total, mostReads, lastPlace, highestTurn}
+use Rattle.runs.specs.Run.{Stop, stopOf, stopsFrom, total, mostReads, lastPlace, highestTurn}
 use Rattle.walk.specs.Walk.{headAt, setOff, afterLeg, Moves, walked, reads, timeOf, timesOf, sumOf}
 use Rattle.walk.specs.Rows.{legAt, Walkable}
-use Rattle.walk.proofs.Search.{true-or-false}
-use Rattle.walk.proofs.Accepted.{total-drop}
+use Rattle.runs.proofs.Search.{true-or-false}
+use Rattle.runs.proofs.Accepted.{total-drop}
 use Rattle.walk.proofs.Steps.{set-off-clock, read-inside}
 use Rattle.walk.proofs.Legs.{legMost}
 

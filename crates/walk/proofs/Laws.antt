@@ -11,16 +11,18 @@ use mathlib.Core.Logic.{by-cases}
 use lib.ListN.{length, getD}
 use borrow.Author.Tests.{le-leb}
 use Rattle.walk.specs.declared.Leg.{Leg}
-use Rattle.walk.specs.Run.{Run, Stop, stopOf, stopsFrom, stopsOf, rightEnd, endAt, total}
-use Rattle.walk.specs.Judging.{judgeOf}
+use Rattle.runs.specs.Run.{Run, Stop, stopOf, stopsFrom, stopsOf, rightEnd, endAt, total}
+use Rattle.runs.specs.Judging.{judgeOf}
 use Rattle.walk.specs.Walk.{headAt, reads, served, ServesAll, timeOf, sumOf}
-use Rattle.walk.specs.Detours.{Detour, listOf, listVerdict, legOf, lastSweep, legsOf}
+use Rattle.runs.specs.Lists.{Detour, listOf, listVerdict}
+use Rattle.walk.specs.Detours.{legOf, lastSweep, legsOf}
 use Rattle.walk.specs.Price.{pricedAnswer}
-use Rattle.walk.specs.Rows.{InTable, rowLegs, Walkable}
-use Rattle.walk.proofs.Verdicts.{refuses}
+use Rattle.runs.specs.Rows.{InTable}
+use Rattle.walk.specs.Rows.{rowLegs, Walkable}
+use Rattle.runs.proofs.Verdicts.{refuses}
 use Rattle.walk.proofs.Sound.{Sound, stopAt}
-use Rattle.walk.proofs.Judged.{GoodRun, accepted-run}
-use Rattle.walk.proofs.Table.{named-file, ends-rise, end-before-start, right-end-row}
+use Rattle.runs.proofs.Judged.{GoodRun, accepted-run}
+use Rattle.runs.proofs.Table.{named-file, ends-rise, end-before-start, right-end-row}
 use Rattle.walk.proofs.Walks.{GoodList, accepted-list, legs-in-rows, walkable, numbers-rise, in-table}
 use Rattle.walk.proofs.Filling.{stops-length, stop-at, timeMost, time-bound, end-bound}
 

@@ -10,7 +10,7 @@ use lib.Seq.{drop-cons, getD-append-add}
 use lib.Dec.{leb}
 use Rattle.walk.specs.declared.Head.{Head}
 use Rattle.walk.specs.declared.Leg.{Leg}
-use Rattle.walk.specs.Run.{Stop, endAt, lastPlace}
+use Rattle.runs.specs.Run.{Stop, endAt, lastPlace}
 use Rattle.walk.specs.Walk.{headAt, runRight, setOff, afterLeg, Moves, walked, timeOf}
 use Rattle.walk.specs.Rows.{detourLegs, sweepLegs, rowLegs, legAt, Walkable}
 use Rattle.walk.proofs.Steps.{ready-place, set-off-clock, read-inside}

@@ -9,19 +9,19 @@ use native.Mathlib.Decide.{decLt}
 use lib.ListN.{length}
 use lib.Dec.{ltb, eqb}
 use borrow.Author.Tests.{ltb-false, eqb-true, not-false}
-use Rattle.walk.specs.declared.Refusal.{Refusal}
-use Rattle.walk.specs.declared.Refusal.the-variants.{FileRows, BadFile, WantRows, BadWant, TooManyReads, TurnPrice, HeadPlace, ShortRow, BadEntry}
-use Rattle.walk.specs.declared.Verdict.{Verdict}
-use Rattle.walk.specs.Refusals.{refuseIf, refuseAt, firstOf, firstWhere}
-use Rattle.walk.specs.Run.{Run, stopsOf, rightEnd, total, mostFiles, mostWants, mostReads, lastPlace, highestTurn}
-use Rattle.walk.specs.Judging.{badFile, badWant, tableChecks, wantsChecks, headChecks, judgeOf}
-use Rattle.walk.specs.Detours.{listOf, listVerdict, firstBadEntry}
+use Rattle.runs.specs.declared.Refusal.{Refusal}
+use Rattle.runs.specs.declared.Refusal.the-variants.{FileRows, BadFile, WantRows, BadWant, TooManyReads, TurnPrice, HeadPlace, ShortRow, BadEntry}
+use Rattle.runs.specs.declared.Verdict.{Verdict}
+use Rattle.runs.specs.Refusals.{refuseIf, refuseAt, firstOf, firstWhere}
+use Rattle.runs.specs.Run.{Run, stopsOf, rightEnd, total, mostFiles, mostWants, mostReads, lastPlace, highestTurn}
+use Rattle.runs.specs.Judging.{badFile, badWant, tableChecks, wantsChecks, headChecks, judgeOf}
+use Rattle.runs.specs.Lists.{listOf, listVerdict, firstBadEntry}
 use Rattle.walk.specs.Price.{priceVerdict}
-use Rattle.walk.specs.Rows.{rowBad}
-use Rattle.walk.proofs.Search.{true-or-false, or-false-both, first-within, first-before}
-use Rattle.walk.proofs.Verdicts.{refuses, accepts-if}
-use Rattle.walk.proofs.Judged.{GoodRun, accepted-run}
-use Rattle.walk.proofs.Entries.{first-bad-row}
+use Rattle.runs.specs.Rows.{rowBad}
+use Rattle.runs.proofs.Search.{true-or-false, or-false-both, first-within, first-before}
+use Rattle.runs.proofs.Verdicts.{refuses, accepts-if}
+use Rattle.runs.proofs.Judged.{GoodRun, accepted-run}
+use Rattle.runs.proofs.Entries.{first-bad-row}
 use Rattle.walk.proofs.Walks.{GoodEntry, good-entry, entries-few, entries-none}
 
 abbrev pub placeMost : ℕ

@@ -6,20 +6,20 @@ use mathlib.Core.List.{List, [], _∷_, _++_}
 use lib.ListN.{length, drop}
 use lib.Dec.{ltb}
 use borrow.Author.Tests.{lt-ltb, le-ltb}
-use Rattle.walk.specs.declared.Refusal.the-variants.{Accepted, ShortRow}
-use Rattle.walk.specs.declared.Verdict.{Verdict}
+use Rattle.runs.specs.declared.Refusal.the-variants.{Accepted, ShortRow}
+use Rattle.runs.specs.declared.Verdict.{Verdict}
 use Rattle.walk.specs.declared.Answer.{Answer}
 use Rattle.walk.specs.declared.Head.{Head}
-use Rattle.walk.specs.Refusals.{isRefusal, refuseIf, firstOf}
-use Rattle.walk.specs.Run.{Run, stopsOf}
-use Rattle.walk.specs.Judging.{judgeOf}
+use Rattle.runs.specs.Refusals.{isRefusal, refuseIf, firstOf}
+use Rattle.runs.specs.Run.{Run, stopsOf}
+use Rattle.runs.specs.Judging.{judgeOf}
 use Rattle.walk.specs.Walk.{headAt, walked, timesOf, sumOf}
-use Rattle.walk.specs.Detours.{listVerdict}
+use Rattle.runs.specs.Lists.{listVerdict}
 use Rattle.walk.specs.Price.{refusalAnswer, pricedAnswer, pricedTimes, priceVerdict, priceAnswer, priceRow}
 use Rattle.walk.specs.Rows.{rowLegs}
-use Rattle.walk.proofs.Verdicts.{refuses, first-refuses, first-passes, test-says}
-use Rattle.walk.proofs.Judged.{GoodRun, accepted-run}
-use Rattle.walk.proofs.Entries.{length-list}
+use Rattle.runs.proofs.Verdicts.{refuses, first-refuses, first-passes, test-says}
+use Rattle.runs.proofs.Judged.{GoodRun, accepted-run}
+use Rattle.runs.proofs.Entries.{length-list}
 use Rattle.walk.proofs.Walks.{GoodList, accepted-list, legs-in-rows}
 
 module _ (r : Run) (froms tos row : List ℕ) where

@@ -10,7 +10,7 @@ use Rattle.walk.specs.declared.Head.{Head}
 use Rattle.walk.specs.declared.Leg.{Leg}
 use Rattle.walk.specs.declared.Way.{Way}
 use Rattle.walk.specs.declared.Way.the-variants.{Leftward, Rightward}
-use Rattle.walk.specs.Run.{Stop}
+use Rattle.runs.specs.Run.{Stop}
 use Rattle.walk.specs.Walk.{otherWay, runRight, faced, ready, setOff, afterLeg, reads}
 
 -- To face left the head stays where it is, and pays at most one turn.

@@ -11,17 +11,19 @@ use lib.ListN.{length, getD}
 use lib.Dec.{eqb}
 use borrow.Author.Tests.{eqb-true, eq-eqb, ltb-false, leb-false, not-false}
 use Rattle.walk.specs.declared.Leg.{Leg}
-use Rattle.walk.specs.declared.Refusal.the-variants.{BadEntry}
-use Rattle.walk.specs.Refusals.{refuseIf, refuseAt}
-use Rattle.walk.specs.Run.{Run, stopsFrom, stopsOf, rightEnd, endAt, lastPlace, mostWants}
+use Rattle.runs.specs.declared.Refusal.the-variants.{BadEntry}
+use Rattle.runs.specs.Refusals.{refuseIf, refuseAt}
+use Rattle.runs.specs.Run.{Run, stopsFrom, stopsOf, rightEnd, endAt, lastPlace, mostWants}
 use Rattle.walk.specs.Walk.{Moves}
-use Rattle.walk.specs.Detours.{Detour, listOf, startOf, endOf, badAfter, firstBadEntry, listVerdict, legOf, lastSweep, legsOf}
-use Rattle.walk.specs.Rows.{InTable, listed, rowEntry, rowBad, detourLegs, sweepLegs, rowLegs, legAt, RowsFit, Walkable}
-use Rattle.walk.proofs.Search.{first-zero, any-zero, or-false-both, true-or-false}
-use Rattle.walk.proofs.Verdicts.{refuses, all-accept, accepts-if, accepts-at}
-use Rattle.walk.proofs.Judged.{GoodWants, GoodRun}
-use Rattle.walk.proofs.Table.{named-file, start-to-end, right-end-last, right-end-row}
-use Rattle.walk.proofs.Entries.{first-bad-row, listed-some}
+use Rattle.runs.specs.Lists.{Detour, listOf, badAfter, firstBadEntry, listVerdict}
+use Rattle.walk.specs.Detours.{startOf, endOf, legOf, lastSweep, legsOf}
+use Rattle.runs.specs.Rows.{InTable, listed, rowEntry, rowBad}
+use Rattle.walk.specs.Rows.{detourLegs, sweepLegs, rowLegs, legAt, RowsFit, Walkable}
+use Rattle.runs.proofs.Search.{first-zero, any-zero, or-false-both, true-or-false}
+use Rattle.runs.proofs.Verdicts.{refuses, all-accept, accepts-if, accepts-at}
+use Rattle.runs.proofs.Judged.{GoodWants, GoodRun}
+use Rattle.runs.proofs.Table.{named-file, start-to-end, right-end-last, right-end-row}
+use Rattle.runs.proofs.Entries.{first-bad-row, listed-some}
 use Rattle.walk.proofs.Legs.{leg-of-detour, leg-of-sweep, legs-most}
 
 -- An entry that is not bad.

@@ -1,32 +1,13 @@
--- Detour lists: pairs of file numbers, the rules that make one well formed, and the legs of its walk.
-use Prim.Native.Nat.{ℕ, suc, zero, _+_}
-use mathlib.Core.Path.{_≡_}
-use mathlib.Core.Bool.{Bool, false, cond, not, _||_}
+-- The legs of a detour list's walk.
+use Prim.Native.Nat.{ℕ}
+use mathlib.Core.Bool.{cond}
 use mathlib.Core.List.{List, [], _∷_, _++_, map}
-use lib.ListN.{length, getD}
-use lib.Dec.{leb, ltb, eqb}
-use Rattle.walk.specs.declared.Refusal.the-variants.{BadEntry}
-use Rattle.walk.specs.declared.Verdict.{Verdict}
+use lib.Dec.{eqb}
 use Rattle.walk.specs.declared.Leg.{Leg}
-use Rattle.walk.specs.Refusals.{refuseIf, refuseAt, firstOf, firstWhere}
-use Rattle.walk.specs.Run.{Stop, rightEnd}
+use Rattle.runs.specs.Run.{Stop, rightEnd}
+use Rattle.runs.specs.Lists.{Detour}
 
--- A detour (from, to): on first reaching the start of file `from` the head goes right to the end of file `to` and comes back.
-pub record Detour : Type 0 where
-  pub from : ℕ
-  pub to : ℕ
-
--- The list that two rows of one length hold.
-unfoldable pub listOf : List ℕ → List ℕ → List Detour
-listOf [] tos = []
-listOf (a ∷ froms) [] = []
-listOf (a ∷ froms) (b ∷ tos) = record { from = a; to = b } ∷ listOf froms tos
-
--- Whether a file is wanted, where it starts and where it ends.
-unfoldable pub wanted : List Stop → ℕ → Bool
-wanted [] f = false
-wanted (s ∷ ss) f = eqb (s .file) f || wanted ss f
-
+-- Where a wanted file starts and where it ends.
 unfoldable pub startOf : List Stop → ℕ → ℕ
 startOf [] f = 0
 startOf (s ∷ ss) f = cond (eqb (s .file) f) (s .start) (startOf ss f)
@@ -34,44 +15,6 @@ startOf (s ∷ ss) f = cond (eqb (s .file) f) (s .start) (startOf ss f)
 unfoldable pub endOf : List Stop → ℕ → ℕ
 endOf [] f = 0
 endOf (s ∷ ss) f = cond (eqb (s .file) f) (s .end) (endOf ss f)
-
-abbrev pub leftmost : List Stop → ℕ
-leftmost [] = 0
-leftmost (s ∷ ss) = s .file
-
--- An entry by itself: it names two wanted files, from ≤ to, and starts strictly right of the leftmost wanted file.
-abbrev pub badAlone : List Stop → Detour → Bool
-badAlone stops d =
-    not (wanted stops (d .from)) || not (wanted stops (d .to)) || ltb (d .to) (d .from) || leb (d .from) (leftmost stops)
-
--- An entry d against an earlier one e: starts strictly fall, and then either d ends left of e's start or e ends left of d's end.
-abbrev pub badAfter : Detour → Detour → Bool
-badAfter e d = leb (e .from) (d .from) || not (ltb (d .to) (e .from) || ltb (e .to) (d .to))
-
-unfoldable pub anyBelow : (ℕ → Bool) → ℕ → Bool
-anyBelow test zero = false
-anyBelow test (suc n) = anyBelow test n || test n
-
-abbrev pub entryOf : List Detour → ℕ → Detour
-entryOf list i = getD list i (record { from = 0; to = 0 })
-
-abbrev pub badEntry : List Stop → List Detour → ℕ → Bool
-badEntry stops list i = badAlone stops (entryOf list i) || anyBelow (λ j. badAfter (entryOf list j) (entryOf list i)) i
-
--- The first entry that breaks a rule by itself or against an earlier one, counted from 1; 0 where none does.
-unfoldable pub firstBadEntry : List Stop → List Detour → ℕ
-firstBadEntry stops list = firstWhere (badEntry stops list) (length list)
-
-abbrev pub WellFormed : List Stop → List Detour → Type 0
-WellFormed stops list = firstBadEntry stops list ≡ 0
-
--- 10: place 0 if starts and ends differ in number, else the first bad entry.
-unfoldable pub listVerdict : List Stop → List ℕ → List ℕ → Verdict
-listVerdict stops froms tos =
-    firstOf
-    (refuseIf (not (eqb (length froms) (length tos))) BadEntry
-    ∷ refuseAt (firstBadEntry stops (listOf froms tos)) BadEntry
-    ∷ [])
 
 abbrev pub legOf : List Stop → Detour → Leg
 legOf stops d = record { left = startOf stops (d .from); right = endOf stops (d .to) }

@@ -1,7 +1,4 @@
--- What a reader of the pricer must believe, in document 01's words. Read in this order.
-pub mod Refusals
-pub mod Run
-pub mod Judging
+-- What a reader of the pricer must believe, in document 01's words. Read in this order, after those of `runs`.
 pub mod Walk
 pub mod Detours
 pub mod Price

@@ -4,14 +4,15 @@ use mathlib.Core.Bool.{cond}
 use mathlib.Core.List.{List, [], _∷_, _++_}
 use lib.ListN.{length, drop}
 use lib.Dec.{ltb}
-use Rattle.walk.specs.declared.Refusal.the-variants.{Accepted, ShortRow}
-use Rattle.walk.specs.declared.Verdict.{Verdict}
+use Rattle.runs.specs.declared.Refusal.the-variants.{Accepted, ShortRow}
+use Rattle.runs.specs.declared.Verdict.{Verdict}
 use Rattle.walk.specs.declared.Answer.{Answer}
-use Rattle.walk.specs.Refusals.{isRefusal, refuseIf, firstOf}
-use Rattle.walk.specs.Run.{Run, stopsOf}
-use Rattle.walk.specs.Judging.{judgeOf}
+use Rattle.runs.specs.Refusals.{isRefusal, refuseIf, firstOf}
+use Rattle.runs.specs.Run.{Run, stopsOf}
+use Rattle.runs.specs.Judging.{judgeOf}
 use Rattle.walk.specs.Walk.{headAt, walked, timesOf, sumOf}
-use Rattle.walk.specs.Detours.{Detour, listOf, listVerdict, legsOf}
+use Rattle.runs.specs.Lists.{Detour, listOf, listVerdict}
+use Rattle.walk.specs.Detours.{legsOf}
 
 -- A refusal's answer: kind and place, and every other number 0.
 abbrev pub refusalAnswer : Verdict → Answer

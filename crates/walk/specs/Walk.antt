@@ -8,7 +8,7 @@ use Rattle.walk.specs.declared.Head.{Head}
 use Rattle.walk.specs.declared.Leg.{Leg}
 use Rattle.walk.specs.declared.Way.{Way}
 use Rattle.walk.specs.declared.Way.the-variants.{Leftward, Rightward}
-use Rattle.walk.specs.Run.{Stop}
+use Rattle.runs.specs.Run.{Stop}
 
 -- The head starts at m, clock 0, set to move left.
 abbrev pub headAt : ℕ → Head

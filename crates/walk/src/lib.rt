@@ -1,69 +1,18 @@
-// walk: the run and its judging, the head and its walk, detour lists and their price.
+// walk: the head and its walk, the legs of detour lists and their price.
 // For the planner, the sheets and the C boundary, which see only these contracts. What the words mean stands in specs/;
 // each public function answers every input, and its contract is an equation with a definition there.
 ghost use mathlib.Core.Path.{_≡_};
-ghost use mathlib.Core.List.{List};
-ghost use Prim.Native.Nat.{ℕ, _+_, _≤_, _<_, _^_};
-ghost use Rattle.walk.specs.Refusals.{numberOf, isRefusal};
+ghost use Prim.Native.Nat.{_+_, _≤_, _<_, _^_};
 ghost use Rattle.walk.specs.Walk.{headAt, runLeft, runRight, turned, ready, setOff};
 
-mod judging;
-mod lists;
 mod pricing;
 
-pub use judging::judge;
 pub use pricing::price;
 pub use pricing::refuse;
 
-// The limits of the tape and the run. All are inclusive.
-pub const MOST_FILES: usize = 4096;
-
-pub const MOST_WANTS: usize = 64;
-
-pub const MOST_READS: u64 = 1024;
-
-pub const LAST_PLACE: u64 = 1_099_511_627_776;
-
-pub const HIGHEST_TURN: u64 = 4_294_967_296;
-
-// The kinds of document 01's refusal table, in the order of their numbers; then those of the requests that came after it.
-pub enum Refusal {
-    Accepted,
-    FileRows,
-    BadFile,
-    WantRows,
-    BadWant,
-    TooManyReads,
-    TurnPrice,
-    HeadPlace,
-    ShortRow,
-    ShortRoom,
-    BadEntry,
-    BadLine,
-    LongSheet,
-    BadName,
-    BadRule,
-    BadText,
-    ManyExtents,
-    Overlap,
-    FarFile,
-}
-
-// Sweep always plans the empty list; Least the well-formed list of smallest sum, ties by the fixed rule.
-pub enum Rule {
-    Sweep,
-    Least,
-}
-
-// What a check finds: a kind, and the file, want, entry or line it speaks of, counted from 1 (0: none).
-pub struct Verdict {
-    pub refusal: Refusal,
-    pub place: u64,
-}
-
 // The one answer record: on a refusal every number but the place is 0.
 pub struct Answer {
-    pub refusal: Refusal,
+    pub refusal: runs::Refusal,
     pub place: u64,
     pub sum: u64,
     pub finish: u64,
@@ -87,41 +36,6 @@ pub struct Head {
 pub struct Leg {
     pub left: u64,
     pub right: u64,
-}
-
-// The number that the paper gives a kind of refusal; 0 for none.
-pub fn number(kind: Refusal) -> u64
-    ensures { λ r. ⌜ r ≡ numberOf kind ⌝ }
-{
-    match kind {
-        Refusal::Accepted => 0,
-        Refusal::FileRows => 1,
-        Refusal::BadFile => 2,
-        Refusal::WantRows => 3,
-        Refusal::BadWant => 4,
-        Refusal::TooManyReads => 5,
-        Refusal::TurnPrice => 6,
-        Refusal::HeadPlace => 7,
-        Refusal::ShortRow => 8,
-        Refusal::ShortRoom => 9,
-        Refusal::BadEntry => 10,
-        Refusal::BadLine => 11,
-        Refusal::LongSheet => 12,
-        Refusal::BadName => 13,
-        Refusal::BadRule => 14,
-        Refusal::BadText => 20,
-        Refusal::ManyExtents => 21,
-        Refusal::Overlap => 22,
-        Refusal::FarFile => 23,
-    }
-}
-
-// Whether a verdict refuses.
-pub fn refused(v: Verdict) -> bool
-    ensures { λ r. ⌜ r ≡ isRefusal (v .refusal) ⌝ }
-{
-    let kind = v.refusal;
-    number(kind) != 0
 }
 
 impl Head {

@@ -6,20 +6,36 @@ ghost use Prim.Native.Nat.{ℕ, _-_, _≤_, _<_};
 ghost use mathlib.Core.Bool.{_&&_};
 ghost use lib.ListN.{length, getD, drop};
 ghost use lib.Dec.{leb};
-ghost use Rattle.walk.specs.Run.{runOf, total, endAt, stopOf, stopsFrom, mostReads};
+ghost use Rattle.runs.specs.Run.{runOf, total, endAt, stopOf, stopsFrom, mostReads};
 ghost use Rattle.walk.specs.Walk.{headAt, walked, timeOf, timesOf, sumOf};
 ghost use Rattle.walk.specs.Price.{refusalAnswer, priceAnswer, priceRow};
-ghost use Rattle.walk.specs.Rows.{SoundTable, InTable, RowsFit, Walkable, rowLegs, legAt};
+ghost use Rattle.runs.specs.Rows.{SoundTable, InTable};
+ghost use Rattle.walk.specs.Rows.{RowsFit, Walkable, rowLegs, legAt};
 use crate::Answer;
 use crate::Head;
 use crate::Leg;
-use crate::Refusal;
-use crate::Verdict;
-use crate::judging::file_end;
-use crate::judging::file_start;
-use crate::judging::judge;
-use crate::lists::judge_list;
-use crate::refused;
+use runs::Refusal;
+use runs::Verdict;
+use runs::judge;
+use runs::judge_list;
+use runs::refused;
+
+// Where a file of the table starts and ends.
+fn file_start(starts: &[u64], file: u64) -> u64
+    requires { ⌜ InTable (now starts) file ⌝ }
+    ensures { λ r. ⌜ r ≡ getD (now (starts .entry)) (file - 1) 0 ⌝ }
+{
+    starts[(file - 1) as usize]
+}
+
+fn file_end(starts: &[u64], lengths: &[u64], file: u64) -> u64
+    requires { ⌜ SoundTable (now starts) (now lengths) ⌝ }
+    requires { ⌜ InTable (now starts) file ⌝ }
+    ensures { λ r. ⌜ r ≡ endAt (now (starts .entry)) (now (lengths .entry)) (file - 1) ⌝ }
+{
+    let at = (file - 1) as usize;
+    starts[at] + lengths[at]
+}
 
 // How many legs a list has: its detours, and the last sweep where anything is wanted.
 fn leg_count(numbers: &[u64], froms: &[u64]) -> usize

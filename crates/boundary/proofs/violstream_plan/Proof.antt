@@ -1,6 +1,6 @@
 -- `boundary::violstream_plan` meets its contract: 1 to 7, then 14, then 8 for the row of sums, and else the planner's own answer.
 -- Assumes nothing.
-use Rattle.walk.specs.Run.{Run, runOf}
+use Rattle.runs.specs.Run.{Run, runOf}
 use Rattle.planner.specs.Plan.{Rows, rowsOf}
 use Rattle.boundary.proofs.Plans.{run-refused, run-placed, rule-refused, sums-refused, plan-placed, plan-refused, plan-filled}
 use borrow.Author.Needs.{needs}

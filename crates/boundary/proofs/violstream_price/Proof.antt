@@ -1,7 +1,7 @@
 -- `boundary::violstream_price` meets its contract: the pricer's own answer, with 8 for the row of sums where nothing comes before it.
 -- Assumes nothing.
 use mathlib.Core.Path.{sym, ap, _∙_}
-use Rattle.walk.specs.Run.{Run, runOf}
+use Rattle.runs.specs.Run.{Run, runOf}
 use Rattle.walk.specs.Price.{priceVerdict}
 use Rattle.boundary.specs.Boundary.{codeOf}
 use Rattle.boundary.proofs.Calls.{price-code, price-placed, price-accepted, code-refuses, code-accepts, call-is-price, call-times, call-sums-kept, call-sums-filled, short-times, short-sums}

@@ -53,27 +53,26 @@ returns-3 c =
     (c7 .gather .ensures) (not-false _ (c3 .if1 .left)) (c2 .if2 .left) (c .before .if3 .taken) in
     ((c .refused3 .ensures) ∙ a .0, a .1)
 
+array-share-prefix-starts : tie.Need-array-share-prefix-starts
+array-share-prefix-starts c = search needs
+
 slice-aggregate-neighbours-overlap : tie.Need-slice-aggregate-neighbours-overlap
-slice-aggregate-neighbours-overlap c = search needs
+slice-aggregate-neighbours-overlap c =
+    let c7 = c .before .before .before .before .before .before .before in
+    let w = c7 .gather .ensures .within in
+    sym (length-take-le _ _ (search needs))
+
+array-share-prefix-lengths : tie.Need-array-share-prefix-lengths
+array-share-prefix-lengths c = search needs
 
 slice-aggregate-neighbours-overlap-2 : tie.Need-slice-aggregate-neighbours-overlap-2
-slice-aggregate-neighbours-overlap-2 c = search needs
+slice-aggregate-neighbours-overlap-2 c =
+    let c8 = c .before .before .before .before .before .before .before .before in
+    let w = c8 .gather .ensures .within in
+    sym (length-take-le _ _ (search needs))
 
 neighbours-overlap-requires : tie.Need-neighbours-overlap-requires
-neighbours-overlap-requires c κs =
-    let c2 = c .before .before in
-    let c3 = c2 .before in
-    let c4 = c3 .before in
-    let c8 = c4 .before .before .before .before in
-    let c14 = c8 .before .before .before .before .before .before in (
-      (c8 .gather .ensures .within),
-      (
-        search needs,
-        laid-ends (c14 .args .name .now) (c14 .args .size) (c14 .args .partition) _ (c14 .args .out .now)
-            (c8 .gather .result) _ _ (c8 .gather .ensures) (not-false _ (c4 .if1 .left)) (c3 .if2 .left) (c2 .if3 .left)
-            (record { first = c8 .gather .kept .1 .1 .1 .0; second = c8 .gather .kept .1 .1 .1 .1 .0 }),
-      ),
-    )
+neighbours-overlap-requires c κs = search needs
 
 refused-requires-4 : tie.Need-refused-requires-4
 refused-requires-4 c κs = search needs
@@ -115,8 +114,8 @@ last-end-requires c κs =
       ),
     )
 
-array-share-prefix-starts : tie.Need-array-share-prefix-starts
-array-share-prefix-starts c = search needs
+array-share-prefix-starts-2 : tie.Need-array-share-prefix-starts-2
+array-share-prefix-starts-2 c = search needs
 
 slice-aggregate-write-table : tie.Need-slice-aggregate-write-table
 slice-aggregate-write-table c =
@@ -124,8 +123,8 @@ slice-aggregate-write-table c =
     let w = c14 .gather .ensures .within in
     sym (length-take-le _ _ (search needs))
 
-array-share-prefix-lengths : tie.Need-array-share-prefix-lengths
-array-share-prefix-lengths c = search needs
+array-share-prefix-lengths-2 : tie.Need-array-share-prefix-lengths-2
+array-share-prefix-lengths-2 c = search needs
 
 slice-aggregate-write-table-2 : tie.Need-slice-aggregate-write-table-2
 slice-aggregate-write-table-2 c =
@@ -174,7 +173,9 @@ lay-out-spec =
     returns-2
     refused-requires-3
     returns-3
+    array-share-prefix-starts
     slice-aggregate-neighbours-overlap
+    array-share-prefix-lengths
     slice-aggregate-neighbours-overlap-2
     neighbours-overlap-requires
     refused-requires-4
@@ -182,9 +183,9 @@ lay-out-spec =
     slice-aggregate-last-end
     slice-aggregate-last-end-2
     last-end-requires
-    array-share-prefix-starts
+    array-share-prefix-starts-2
     slice-aggregate-write-table
-    array-share-prefix-lengths
+    array-share-prefix-lengths-2
     slice-aggregate-write-table-2
     write-table-requires
     report-of-requires

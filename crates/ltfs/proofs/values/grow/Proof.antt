@@ -3,7 +3,7 @@
 use mathlib.Core.Path.{sym, _∙_}
 use borrow.Author.Tests.{not-true, not-false, le-ltb, lt-ltb}
 use Prim.Native.Nat.{_+_, _-_, _*_, _^_}
-use Rattle.sheets.proofs.Bytes.{digit-bounds}
+use Rattle.texts.proofs.Bytes.{digit-bounds}
 use borrow.Author.Needs.{needs}
 use native.Mathlib.Omega.{arith}
 use Rattle.ltfs.proofs.values.grow.Statement.{statement}

@@ -2,9 +2,9 @@
 -- Assumes nothing.
 use mathlib.Core.Path.{_∙_}
 use native.Mathlib.Omega.{arith}
-use Rattle.walk.specs.Run.{runOf}
+use Rattle.runs.specs.Run.{runOf}
 use Rattle.planner.specs.Plan.{rowsOf}
-use Rattle.walk.proofs.Judged.{accepted-run}
+use Rattle.runs.proofs.Judged.{accepted-run}
 use Rattle.planner.proofs.Sizes.{reads-whole}
 use Rattle.planner.proofs.Outcome.{reads-small}
 use Rattle.planner.proofs.Refusals.{run-refused, run-accepted, rows-refused, rows-long, room-big, run-planned}

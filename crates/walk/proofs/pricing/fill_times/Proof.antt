@@ -5,7 +5,7 @@ use Rattle.walk.proofs.Filling.{filling-start, filled-one, filled-row, 
 use borrow.Author.Needs.{needs}
 use Prim.Native.Nat.{_-_}
 use lib.ListN.{length}
-use Rattle.walk.specs.Run.{stopsFrom}
+use Rattle.runs.specs.Run.{stopsFrom}
 use Rattle.walk.specs.Rows.{rowLegs}
 use Rattle.walk.proofs.Filling.{Filling}
 use Rattle.walk.proofs.pricing.fill_times.Statement.{statement}

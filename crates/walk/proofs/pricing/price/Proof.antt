@@ -2,9 +2,9 @@
 -- Assumes nothing.
 use borrow.Author.Needs.{needs}
 use mathlib.Core.Path.{_≡_, sym}
-use Rattle.walk.specs.Run.{Run, runOf, stopsOf}
-use Rattle.walk.specs.Detours.{listVerdict}
-use Rattle.walk.proofs.Judged.{GoodRun}
+use Rattle.runs.specs.Run.{Run, runOf, stopsOf}
+use Rattle.runs.specs.Lists.{listVerdict}
+use Rattle.runs.proofs.Judged.{GoodRun}
 use Rattle.walk.proofs.Walks.{GoodList, rows-fit, walkable, list-fits}
 use Rattle.walk.proofs.Priced.{run-refused, run-good, list-refused, list-good, row-refused, priced}
 use Rattle.walk.proofs.pricing.price.Statement.{statement}

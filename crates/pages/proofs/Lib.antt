@@ -1,0 +1,7 @@
+-- Laws that this crate's proofs share, and those that other crates cite.
+pub mod Pages
+pub mod Sheets
+pub mod Plans
+pub mod Reread
+pub mod RoundTrip
+pub mod Worked

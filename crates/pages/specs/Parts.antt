@@ -1,0 +1,35 @@
+-- What the functions that put a sheet on a page ask and leave. No public contract cites this file.
+use Prim.Native.Nat.{ℕ, _+_, _≤_}
+use mathlib.Core.Path.{_≡_}
+use mathlib.Core.List.{List, _++_}
+use lib.ListN.{length, take}
+use Rattle.runs.specs.Run.{mostWants}
+use Rattle.sheets.specs.Sheet.{longestSheet, mostSheetFiles}
+
+-- A text put on a page behind what stands before a position, in at most so many bytes.
+pub record Wrote (page : List ℕ) (at : ℕ) (text : List ℕ) (most : ℕ) (page′ : List ℕ) (next : ℕ) : Type 0 where
+  pub after : next ≡ at + length text
+  pub bytes : take next page′ ≡ take at page ++ text
+  pub within : next ≤ at + most
+
+-- What fits on a page: a name and rows within the sheet's limits.
+pub record SheetFits (page name starts lengths numbers counts : List ℕ) : Type 0 where
+  pub room : longestSheet ≤ length page
+  pub short : length name ≤ 16
+  pub files : length starts ≤ mostSheetFiles
+  pub table : length starts ≡ length lengths
+  pub wants : length numbers ≤ mostWants
+  pub pairs : length numbers ≡ length counts
+
+-- No plan sheet is longer than this: 156 bytes for the first lines, 49 for each detour and each time.
+abbrev pub planMost : ℕ
+planMost = 6428
+
+-- What fits on a plan's page: a name, a list and times within the run's limits.
+pub record PlanFits (page name froms tos numbers times : List ℕ) : Type 0 where
+  pub room : planMost ≤ length page
+  pub short : length name ≤ 16
+  pub few : length froms ≤ mostWants
+  pub even : length froms ≡ length tos
+  pub wants : length numbers ≤ mostWants
+  pub timed : length numbers ≡ length times

@@ -1,0 +1,57 @@
+-- A row of checks: what the first refusal is, step by step, and what acceptance says of each check.
+use Prim.Native.Nat.{ℕ, zero, suc}
+use mathlib.Core.Path.{_≡_, refl, sym, _∙_}
+use mathlib.Core.Bool.{Bool, true, false, true≢false}
+use mathlib.Core.List.{List, [], _∷_}
+use Rattle.runs.specs.declared.Refusal.{Refusal}
+use Rattle.runs.specs.declared.Verdict.{Verdict}
+use Rattle.runs.specs.Refusals.{isRefusal, refuseIf, refuseAt, firstOf}
+
+-- A verdict is a refusal or not.
+abbrev pub refuses : Verdict → Bool
+refuses v = isRefusal (v .refusal)
+
+pub refuse-at : (p : ℕ) (k : Refusal) → (p ≡ 0 → ⊥) → refuseAt p k ≡ record { refusal = k; place = p }
+refuse-at zero k some = absurd (some refl)
+refuse-at (suc p) k some = refl
+
+-- A test of a verdict says whether it refuses.
+pub test-says : {v w : Verdict} {f b : Bool} → v ≡ w → f ≡ refuses v → f ≡ b → refuses w ≡ b
+test-says v-is f-is e = rw (← v-is, ← f-is, e)
+
+-- The first check refuses, and that is the verdict; or it does not, and the others decide.
+pub first-refuses : (v : Verdict) (vs : List Verdict) → refuses v ≡ true → v ≡ firstOf (v ∷ vs)
+first-refuses v vs e = rw e
+
+pub first-passes : (v : Verdict) (vs : List Verdict) → refuses v ≡ false → firstOf (v ∷ vs) ≡ firstOf vs
+first-passes v vs e = rw e
+
+-- A row within a row says the same.
+pub first-alone : (vs : List Verdict) → firstOf (firstOf vs ∷ []) ≡ firstOf vs
+first-alone [] = refl
+first-alone (v ∷ vs) = go (refuses v) refl (first-alone vs)
+  where
+    go : (b : Bool) → refuses v ≡ b → firstOf (firstOf vs ∷ []) ≡ firstOf vs → firstOf (firstOf (v ∷ vs) ∷ []) ≡ firstOf (v ∷ vs)
+    go true h rest = rw (h, h)
+    go false h rest = rw h rest
+
+-- Where the row accepts, so does each check.
+abbrev pub AllAccept : List Verdict → Type 0
+AllAccept [] = Unit {0}
+AllAccept (v ∷ vs) = (refuses v ≡ false) × AllAccept vs
+
+pub all-accept : (vs : List Verdict) → refuses (firstOf vs) ≡ false → AllAccept vs
+all-accept [] e = tt
+all-accept (v ∷ vs) e = go (refuses v) refl (all-accept vs)
+  where
+    go : (b : Bool) → refuses v ≡ b → (refuses (firstOf vs) ≡ false → AllAccept vs) → AllAccept (v ∷ vs)
+    go true h rest = absurd (true≢false (sym h ∙ (rw h at e)))
+    go false h rest = (h, rest (rw (first-passes v vs h) at e))
+
+pub accepts-if : (b : Bool) (k : Refusal) → isRefusal k ≡ true → refuses (refuseIf b k) ≡ false → b ≡ false
+accepts-if true k r e = absurd (true≢false (sym r ∙ e))
+accepts-if false k r e = refl
+
+pub accepts-at : (p : ℕ) (k : Refusal) → isRefusal k ≡ true → refuses (refuseAt p k) ≡ false → p ≡ 0
+accepts-at zero k r e = refl
+accepts-at (suc p) k r e = absurd (true≢false (sym r ∙ e))

@@ -1,0 +1,62 @@
+-- `runs::judging::too_many` meets its contract: the sum so far and what is left make the total, and the sum has not passed the limit.
+-- Assumes nothing.
+use borrow.Author.Needs.{needs}
+use Prim.Native.Nat.{_-_}
+use lib.ListN.{length}
+use native.Mathlib.Omega.{arith}
+use Rattle.runs.proofs.Accepted.{Counted, over-limit, counted-more, within-limit}
+use Rattle.runs.proofs.judging.too_many.Statement.{statement}
+use Rattle.runs.proofs.judging.too_many.Tie as tie
+
+abbrev Inv-loop : tie.InvT-loop
+Inv-loop counts sum₀ i₀ sum i = Counted counts sum i
+
+abbrev μ-loop : tie.MeasureT-loop
+μ-loop counts sum₀ i₀ sum i = length counts - i
+
+loop-holds : tie.Need-loop-holds Inv-loop μ-loop
+loop-holds c = record { within = search needs; small = search needs; whole = omega arith }
+
+mul-count : tie.Need-mul-count Inv-loop μ-loop
+mul-count c = search needs
+
+shared-slice-read-count : tie.Need-shared-slice-read-count Inv-loop μ-loop
+shared-slice-read-count c = search needs
+
+sub-if1 : tie.Need-sub-if1 Inv-loop μ-loop
+sub-if1 c = search needs
+
+returns : tie.Need-returns Inv-loop μ-loop
+returns c = over-limit _ _ _ (c .before .before .before .loop .inv) (search needs) (c .if1 .taken)
+
+add-sum : tie.Need-add-sum Inv-loop μ-loop
+add-sum c = search needs
+
+add-i : tie.Need-add-i Inv-loop μ-loop
+add-i c = search needs
+
+loop-less : tie.Need-loop-less Inv-loop μ-loop
+loop-less c = search needs
+
+loop-again : tie.Need-loop-again Inv-loop μ-loop
+loop-again c = counted-more _ _ _ (c .before .before .before .loop .inv) (search needs) (c .if1 .left)
+
+returns-2 : tie.Need-returns-2 Inv-loop μ-loop
+returns-2 c = within-limit _ _ _ (c .before .loop .inv) (c .loop-test .left)
+
+pub too-many-spec : {M : Type 1} → statement M
+too-many-spec =
+    tie.close
+    (tie.spec
+    Inv-loop
+    μ-loop
+    loop-holds
+    mul-count
+    shared-slice-read-count
+    sub-if1
+    returns
+    add-sum
+    add-i
+    loop-less
+    loop-again
+    returns-2)

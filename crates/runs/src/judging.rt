@@ -1,0 +1,242 @@
+// Judging a run: refusals 1 to 7, in the order of the table.
+ghost use mathlib.Core.Path.{_≡_};
+ghost use mathlib.Core.Bool.{_||_};
+ghost use Prim.Native.Nat.{ℕ, _+_, _-_, _≤_, _<_};
+ghost use mathlib.Core.List.{List};
+ghost use lib.ListN.{length, getD};
+ghost use lib.Dec.{eqb, ltb, leb};
+ghost use Rattle.runs.specs.Refusals.{firstWhere, firstOf};
+ghost use Rattle.runs.specs.Run.{runOf, total, lastPlace, mostReads, rightEnd, stopsFrom};
+ghost use Rattle.runs.specs.Rows.{SoundTable, InTable};
+ghost use Rattle.runs.specs.Judging.{badFile, badWant, tableChecks, wantsChecks, headChecks, judgeOf};
+use crate::HIGHEST_TURN;
+use crate::LAST_PLACE;
+use crate::MOST_FILES;
+use crate::MOST_READS;
+use crate::MOST_WANTS;
+use crate::Refusal;
+use crate::Verdict;
+use crate::refused;
+
+// How much tape lies right of a place on it.
+fn tape_right_of(place: u64) -> u64
+    requires { ⌜ place ≤ lastPlace ⌝ }
+    ensures { λ r. ⌜ r ≡ lastPlace - place ⌝ }
+{
+    LAST_PLACE - place
+}
+
+// A file against the end of the one before it. The end is compared by a difference, so that it cannot wrap.
+fn bad_file(start: u64, size: u64, before: u64) -> bool
+    ensures { λ r. ⌜ r ≡ (eqb size 0 || ltb start before || ltb lastPlace (start + size)) ⌝ }
+{
+    if size == 0 {
+        return true;
+    }
+    if start < before {
+        return true;
+    }
+    if LAST_PLACE < start {
+        return true;
+    }
+    tape_right_of(start) < size
+}
+
+// The first bad file, counted from 1; 0 where there is none.
+fn first_bad_file(starts: &[u64], lengths: &[u64]) -> u64
+    requires { ⌜ length (now starts) ≡ length (now lengths) ⌝ }
+    ensures { λ r. ⌜ r ≡ firstWhere (badFile (now (starts .entry)) (now (lengths .entry))) (length (now (starts .entry))) ⌝ }
+{
+    let mut before: u64 = 0;
+    let mut i: usize = 0;
+    while i < starts.len() {
+        let start = starts[i];
+        let length = lengths[i];
+        if bad_file(start, length, before) {
+            return (i + 1) as u64;
+        }
+        before = start + length;
+        i += 1;
+    }
+    0
+}
+
+// A want against the number before it.
+fn bad_want(files: u64, number: u64, count: u64, before: u64) -> bool
+    ensures { λ r. ⌜ r ≡ (eqb number 0 || ltb files number || leb number before || eqb count 0) ⌝ }
+{
+    if number == 0 {
+        return true;
+    }
+    if files < number {
+        return true;
+    }
+    if number <= before {
+        return true;
+    }
+    count == 0
+}
+
+// The first bad want, counted from 1; 0 where there is none.
+fn first_bad_want(files: u64, numbers: &[u64], counts: &[u64]) -> u64
+    requires { ⌜ length (now numbers) ≡ length (now counts) ⌝ }
+    ensures { λ r. ⌜ r ≡ firstWhere (badWant files (now (numbers .entry)) (now (counts .entry))) (length (now (numbers .entry))) ⌝ }
+{
+    let mut before: u64 = 0;
+    let mut i: usize = 0;
+    while i < numbers.len() {
+        let number = numbers[i];
+        let count = counts[i];
+        if bad_want(files, number, count, before) {
+            return (i + 1) as u64;
+        }
+        before = number;
+        i += 1;
+    }
+    0
+}
+
+// Whether the counts pass the limit. The adding stops there, so that it cannot wrap.
+fn too_many(counts: &[u64]) -> bool
+    ensures { λ r. ⌜ r ≡ ltb mostReads (total (now (counts .entry))) ⌝ }
+{
+    let mut sum: u64 = 0;
+    let mut i: usize = 0;
+    while i < counts.len() {
+        let count = counts[i];
+        if MOST_READS - sum < count {
+            return true;
+        }
+        sum += count;
+        i += 1;
+    }
+    false
+}
+
+// The end of the rightmost wanted file; 0 where nothing is wanted.
+fn right_end(starts: &[u64], lengths: &[u64], numbers: &[u64]) -> u64
+    requires { ⌜ SoundTable (now starts) (now lengths) ⌝ }
+    requires { ⌜ ((i : ℕ) → i < length (now numbers) → InTable (now starts) (getD (now numbers) i 0)) ⌝ }
+    ensures { λ r. ⌜ ((cs : List ℕ) → length cs ≡ length (now (numbers .entry)) → r ≡ rightEnd (stopsFrom (now (starts .entry)) (now (lengths .entry)) (now (numbers .entry)) cs)) ⌝ }
+{
+    if numbers.len() == 0 {
+        return 0;
+    }
+    let last = numbers.len() - 1;
+    let at = (numbers[last] - 1) as usize;
+    starts[at] + lengths[at]
+}
+
+// 1 and 2.
+fn judge_table(starts: &[u64], lengths: &[u64]) -> Verdict
+    ensures { λ r. ⌜ r ≡ firstOf (tableChecks (now (starts .entry)) (now (lengths .entry))) ⌝ }
+{
+    if MOST_FILES < starts.len() {
+        return Verdict {
+            refusal: Refusal::FileRows,
+            place: 0,
+        };
+    }
+    if starts.len() != lengths.len() {
+        return Verdict {
+            refusal: Refusal::FileRows,
+            place: 0,
+        };
+    }
+    let file = first_bad_file(starts, lengths);
+    if file != 0 {
+        return Verdict {
+            refusal: Refusal::BadFile,
+            place: file,
+        };
+    }
+    Verdict {
+        refusal: Refusal::Accepted,
+        place: 0,
+    }
+}
+
+// 3, 4 and 5.
+fn judge_wants(files: u64, numbers: &[u64], counts: &[u64]) -> Verdict
+    ensures { λ r. ⌜ r ≡ firstOf (wantsChecks files (now (numbers .entry)) (now (counts .entry))) ⌝ }
+{
+    if MOST_WANTS < numbers.len() {
+        return Verdict {
+            refusal: Refusal::WantRows,
+            place: 0,
+        };
+    }
+    if numbers.len() != counts.len() {
+        return Verdict {
+            refusal: Refusal::WantRows,
+            place: 0,
+        };
+    }
+    let want = first_bad_want(files, numbers, counts);
+    if want != 0 {
+        return Verdict {
+            refusal: Refusal::BadWant,
+            place: want,
+        };
+    }
+    if too_many(counts) {
+        return Verdict {
+            refusal: Refusal::TooManyReads,
+            place: 0,
+        };
+    }
+    Verdict {
+        refusal: Refusal::Accepted,
+        place: 0,
+    }
+}
+
+// 6 and 7.
+fn judge_head(turn: u64, head: u64, rightmost: u64) -> Verdict
+    ensures { λ r. ⌜ r ≡ firstOf (headChecks turn head rightmost) ⌝ }
+{
+    if HIGHEST_TURN < turn {
+        return Verdict {
+            refusal: Refusal::TurnPrice,
+            place: 0,
+        };
+    }
+    if LAST_PLACE < head {
+        return Verdict {
+            refusal: Refusal::HeadPlace, // off the tape
+            place: 0,
+        };
+    }
+    if head < rightmost {
+        return Verdict {
+            refusal: Refusal::HeadPlace, // left of a wanted file's end
+            place: 0,
+        };
+    }
+    Verdict {
+        refusal: Refusal::Accepted,
+        place: 0,
+    }
+}
+
+// The first refusal of 1 to 7 that applies to a run, or acceptance.
+pub fn judge(
+    starts: &[u64],
+    lengths: &[u64],
+    numbers: &[u64],
+    counts: &[u64],
+    head: u64,
+    turn: u64,
+) -> Verdict
+    ensures { λ r. ⌜ r ≡ judgeOf (runOf (now (starts .entry)) (now (lengths .entry)) (now (numbers .entry)) (now (counts .entry)) head turn) ⌝ }
+{
+    let table = judge_table(starts, lengths);
+    if refused(table) {
+        return table;
+    }
+    let wants = judge_wants(starts.len() as u64, numbers, counts);
+    if refused(wants) {
+        return wants;
+    }
+    judge_head(turn, head, right_end(starts, lengths, numbers))
+}
