@@ -21,9 +21,9 @@ use Rattle.runs.proofs.Verdicts.{refuses}
 use Rattle.runs.proofs.Judged.{accepted-run}
 use Rattle.texts.specs.Text.{isName}
 use Rattle.sheets.specs.Sheet.{longestSheet, mostSheetFiles, firstBadLine, filesOf, wantsOf, headOf, turnOf, runIn}
-use Rattle.sheets.specs.Reading.{sheetVerdict, shortRows, readVerdict, readAnswer, readRow}
+use Rattle.sheets.specs.Reading.{sheetVerdict, shortPairRows, readVerdict, readAnswer, readRow}
 use Rattle.pages.specs.Writing.{sheetText, rowVerdict, writeVerdict, writtenAnswer, writtenRow}
-use Rattle.pages.specs.PlanSheet.{planText, planVerdict}
+use Rattle.pages.specs.PlanSheet.{planText, planSheetVerdict}
 use Rattle.sheets.proofs.Rows.{length-each}
 use Rattle.pages.proofs.RoundTrip.{round-trip}
 use Rattle.demands.specs.Table.{RunApplies, ListIsBad}
@@ -63,7 +63,7 @@ module _ (sheet starts lengths numbers counts : List ℕ) where
   row-short p (ReadApplies.numbers h) = (refl, inr (inl h))
   row-short p (ReadApplies.counts h) = (refl, inr (inr h))
 
-  tells-short : (n : ℕ) (firsts seconds : List ℕ) → Tells (shortRows n firsts seconds) ((length firsts < n) ⊎ (length seconds < n))
+  tells-short : (n : ℕ) (firsts seconds : List ℕ) → Tells (shortPairRows n firsts seconds) ((length firsts < n) ⊎ (length seconds < n))
   tells-short n firsts seconds =
       tells-either (ltb (length firsts) n) (ltb (length seconds) n) (tells-below (length firsts) n) (tells-below (length seconds) n)
 
@@ -72,7 +72,7 @@ module _ (sheet starts lengths numbers counts : List ℕ) where
   read-finds =
       let long = refuseIf (ltb longestSheet (length sheet)) LongSheet in
       let line = refuseAt (firstBadLine sheet) BadLine in
-      let short = refuseIf (shortRows (filesOf sheet) starts lengths || shortRows (wantsOf sheet) numbers counts) ShortRow in
+      let short = refuseIf (shortPairRows (filesOf sheet) starts lengths || shortPairRows (wantsOf sheet) numbers counts) ShortRow in
       rw
       (first-of-joined (long ∷ line ∷ []) (short ∷ []))
       (finds-first Applies (line ∷ short ∷ []) refl
@@ -81,7 +81,7 @@ module _ (sheet starts lengths numbers counts : List ℕ) where
       (λ b. finds-first Applies [] refl
       (decides-reworded short-row row-short
       (decides-if _ ShortRow
-      (tells-either (shortRows (filesOf sheet) starts lengths) (shortRows (wantsOf sheet) numbers counts)
+      (tells-either (shortPairRows (filesOf sheet) starts lengths) (shortPairRows (wantsOf sheet) numbers counts)
       (tells-short (filesOf sheet) starts lengths)
       (tells-short (wantsOf sheet) numbers counts))))
       (λ c. finds-none Applies))))
@@ -89,7 +89,7 @@ module _ (sheet starts lengths numbers counts : List ℕ) where
   read-accepted : refuses (readVerdict sheet starts lengths numbers counts) ≡ false → readVerdict sheet starts lengths numbers counts ≡ accepted
   unfolding readVerdict
   read-accepted e =
-      none-refuses (sheetVerdict sheet ∷ refuseIf (shortRows (filesOf sheet) starts lengths || shortRows (wantsOf sheet) numbers counts) ShortRow ∷ []) e
+      none-refuses (sheetVerdict sheet ∷ refuseIf (shortPairRows (filesOf sheet) starts lengths || shortPairRows (wantsOf sheet) numbers counts) ShortRow ∷ []) e
 
   read-says : (b : Bool) → refuses (readVerdict sheet starts lengths numbers counts) ≡ b
       → ReadAnswers sheet starts lengths numbers counts (readAnswer (readVerdict sheet starts lengths numbers counts) sheet)
@@ -178,8 +178,8 @@ module _ (name : List ℕ) (r : Run) (froms tos row : List ℕ) where
   sheet-row p (PlanSheetApplies.run h) = absurd h
   sheet-row p (PlanSheetApplies.row h) = (refl, h)
 
-  sheet-finds : Finds PlanSheet planSheetOrder (planVerdict name r froms tos row)
-  unfolding planVerdict rowVerdict
+  sheet-finds : Finds PlanSheet planSheetOrder (planSheetVerdict name r froms tos row)
+  unfolding planSheetVerdict rowVerdict
   sheet-finds =
       let named = refuseIf (not (isName name)) BadName in
       let list = listVerdict (stopsOf r) froms tos in
@@ -194,12 +194,12 @@ module _ (name : List ℕ) (r : Run) (froms tos row : List ℕ) where
       (λ d. finds-none PlanSheet))))
 
   pub sheet-says : WriteAnswers PlanSheet planSheetOrder row
-      (writtenAnswer (planVerdict name r froms tos row) (planText name r froms tos)) (writtenRow (planVerdict name r froms tos row) (planText name r froms tos) row)
-  unfolding planVerdict
+      (writtenAnswer (planSheetVerdict name r froms tos row) (planText name r froms tos)) (writtenRow (planSheetVerdict name r froms tos row) (planText name r froms tos) row)
+  unfolding planSheetVerdict
   sheet-says =
       writer-says PlanSheet planSheetOrder
       (judgeOf r ∷ refuseIf (not (isName name)) BadName ∷ listVerdict (stopsOf r) froms tos ∷ rowVerdict (planText name r froms tos) row ∷ [])
-      (planText name r froms tos) row sheet-finds (refuses (planVerdict name r froms tos row)) refl
+      (planText name r froms tos) row sheet-finds (refuses (planSheetVerdict name r froms tos row)) refl
 
 pub demand1-plan-sheet : Demand1PlanSheet
 demand1-plan-sheet name r froms tos row answer out says fills = rw (says, fills) (sheet-says name r froms tos row)

@@ -18,7 +18,7 @@ use Rattle.texts.specs.Text.{isName}
 use Rattle.sheets.specs.Sheet.{longestSheet, mostSheetFiles, firstBadLine, filesOf, wantsOf, runIn}
 use Rattle.sheets.specs.Reading.{readVerdict, readAnswer, readRow, readName}
 use Rattle.pages.specs.Writing.{sheetText, writeVerdict, writtenAnswer, writtenRow}
-use Rattle.pages.specs.PlanSheet.{planText, planVerdict}
+use Rattle.pages.specs.PlanSheet.{planText, planSheetVerdict}
 use Rattle.demands.specs.Table.{RunApplies, ListIsBad, FirstThatApplies}
 
 -- The reader: 12, then 11 with the first line that is not as described, then 8.
@@ -89,8 +89,8 @@ Demand1Write =
 abbrev pub Demand1PlanSheet : Type 0
 Demand1PlanSheet =
     (name : List ℕ) (r : Run) (froms tos row : List ℕ) (answer : Written) (out : List ℕ)
-    → answer ≡ writtenAnswer (planVerdict name r froms tos row) (planText name r froms tos)
-    → out ≡ writtenRow (planVerdict name r froms tos row) (planText name r froms tos) row
+    → answer ≡ writtenAnswer (planSheetVerdict name r froms tos row) (planText name r froms tos)
+    → out ≡ writtenRow (planSheetVerdict name r froms tos row) (planText name r froms tos) row
     → WriteAnswers (PlanSheetApplies name r froms tos row) planSheetOrder row answer out
 
 -- What the reader gives for the sheet that the writer writes, in rows that are long enough: that run, that rule and that name.

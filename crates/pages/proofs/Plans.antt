@@ -26,7 +26,7 @@ use Rattle.walk.proofs.Filling.{stops-length}
 use Rattle.runs.proofs.Verdicts.{test-says}
 use Rattle.texts.specs.Text.{isName}
 use Rattle.pages.specs.Writing.{rowVerdict}
-use Rattle.pages.specs.PlanSheet.{planLines, planText, planVerdict}
+use Rattle.pages.specs.PlanSheet.{planLines, planText, planSheetVerdict}
 use Rattle.pages.specs.Parts.{Wrote, planMost, PlanFits}
 use Rattle.pages.proofs.Sheets.{name-length, last-verdict}
 
@@ -37,8 +37,8 @@ times-length price h gs (s ∷ stops) = ap suc (times-length price h gs stops)
 
 -- v is the run's verdict, f whether it refuses, t whether the name is one.
 module _ (name : List ℕ) (run : Run) (froms tos row : List ℕ) (v : Verdict) (f : Bool) (v-is : v ≡ judgeOf run) (f-is : f ≡ isRefusal (v .refusal)) where
-  pub plan-run-refused : f ≡ true → planVerdict name run froms tos row ≡ v
-  unfolding planVerdict
+  pub plan-run-refused : f ≡ true → planSheetVerdict name run froms tos row ≡ v
+  unfolding planSheetVerdict
   plan-run-refused e = rw (test-says v-is f-is e, v-is)
 
   module _ (good : f ≡ false) where
@@ -46,8 +46,8 @@ module _ (name : List ℕ) (run : Run) (froms tos row : List ℕ) (v : Verdict) 
     good-run = accepted-run run (test-says v-is f-is good)
 
     module _ (t : Bool) (t-is : t ≡ isName name) where
-      pub plan-name-refused : t ≡ false → planVerdict name run froms tos row ≡ record { refusal = BadName; place = 0 }
-      unfolding planVerdict
+      pub plan-name-refused : t ≡ false → planSheetVerdict name run froms tos row ≡ record { refusal = BadName; place = 0 }
+      unfolding planSheetVerdict
       plan-name-refused e = rw (test-says v-is f-is good, ← t-is, e)
 
       -- a is what the pricer answered with a row for times that is long enough, g whether that refuses.
@@ -76,8 +76,8 @@ module _ (name : List ℕ) (run : Run) (froms tos row : List ℕ) (v : Verdict) 
             (λ e. e ∙ sym (g-is ∙ ap (λ x. isRefusal (x .refusal)) (priced-good e)))
             (true-or-false (isRefusal (list .refusal)))
 
-        pub plan-list-refused : g ≡ true → planVerdict name run froms tos row ≡ record { refusal = a .refusal; place = a .place }
-        unfolding planVerdict list
+        pub plan-list-refused : g ≡ true → planSheetVerdict name run froms tos row ≡ record { refusal = a .refusal; place = a .place }
+        unfolding planSheetVerdict list
         plan-list-refused e =
             rw (test-says v-is f-is good, ← t-is, named, list-says ∙ e) (ap (λ x. record { refusal = x .refusal; place = x .place }) (sym (priced-refused (list-says ∙ e))))
 
@@ -86,8 +86,8 @@ module _ (name : List ℕ) (run : Run) (froms tos row : List ℕ) (v : Verdict) 
           unfolding list
           good-list = accepted-list (run .starts) (run .lengths) (run .numbers) (run .counts) froms tos (sym (good-run .wants .equal)) (list-says ∙ fine)
 
-          pub plan-last : planVerdict name run froms tos row ≡ rowVerdict (planText name run froms tos) row
-          unfolding planVerdict list
+          pub plan-last : planSheetVerdict name run froms tos row ≡ rowVerdict (planText name run froms tos) row
+          unfolding planSheetVerdict list
           plan-last = rw (test-says v-is f-is good, ← t-is, named, list-says ∙ fine) (last-verdict (planText name run froms tos) row)
 
           -- The times that the pricer left in the row.

@@ -57,8 +57,8 @@ planText name run froms tos =
     planLines name (total (run .counts)) (pricedAnswer run (listOf froms tos)) froms tos (run .numbers) (pricedTimes run (listOf froms tos))
 
 -- 1 to 7, then 13, then 10, then 8.
-unfoldable pub planVerdict : List ℕ → Run → List ℕ → List ℕ → List ℕ → Verdict
-planVerdict name run froms tos row =
+unfoldable pub planSheetVerdict : List ℕ → Run → List ℕ → List ℕ → List ℕ → Verdict
+planSheetVerdict name run froms tos row =
     firstOf
     (judgeOf run
     ∷ refuseIf (not (isName name)) BadName

@@ -3,7 +3,7 @@ ghost use mathlib.Core.Path.{_≡_};
 ghost use Prim.Native.Nat.{_≤_};
 ghost use lib.ListN.{length};
 ghost use Rattle.runs.specs.Run.{runOf, total, mostReads};
-ghost use Rattle.pages.specs.PlanSheet.{planTop, planLines, planText, planVerdict};
+ghost use Rattle.pages.specs.PlanSheet.{planTop, planLines, planText, planSheetVerdict};
 ghost use Rattle.pages.specs.Writing.{writtenAnswer, writtenRow};
 ghost use Rattle.pages.specs.Parts.{Wrote, planMost, PlanFits};
 use crate::Written;
@@ -74,8 +74,8 @@ pub fn write_plan(
     tos: &[u64],
     out: &mut [u8],
 ) -> Written
-    ensures { λ r. ⌜ r ≡ writtenAnswer (planVerdict (now (name .entry)) (runOf (now (starts .entry)) (now (lengths .entry)) (now (numbers .entry)) (now (counts .entry)) head turn) (now (froms .entry)) (now (tos .entry)) (now (out .entry))) (planText (now (name .entry)) (runOf (now (starts .entry)) (now (lengths .entry)) (now (numbers .entry)) (now (counts .entry)) head turn) (now (froms .entry)) (now (tos .entry))) ⌝ }
-    ensures { λ _. ⌜ now (out .exit) ≡ writtenRow (planVerdict (now (name .entry)) (runOf (now (starts .entry)) (now (lengths .entry)) (now (numbers .entry)) (now (counts .entry)) head turn) (now (froms .entry)) (now (tos .entry)) (now (out .entry))) (planText (now (name .entry)) (runOf (now (starts .entry)) (now (lengths .entry)) (now (numbers .entry)) (now (counts .entry)) head turn) (now (froms .entry)) (now (tos .entry))) (now (out .entry)) ⌝ }
+    ensures { λ r. ⌜ r ≡ writtenAnswer (planSheetVerdict (now (name .entry)) (runOf (now (starts .entry)) (now (lengths .entry)) (now (numbers .entry)) (now (counts .entry)) head turn) (now (froms .entry)) (now (tos .entry)) (now (out .entry))) (planText (now (name .entry)) (runOf (now (starts .entry)) (now (lengths .entry)) (now (numbers .entry)) (now (counts .entry)) head turn) (now (froms .entry)) (now (tos .entry))) ⌝ }
+    ensures { λ _. ⌜ now (out .exit) ≡ writtenRow (planSheetVerdict (now (name .entry)) (runOf (now (starts .entry)) (now (lengths .entry)) (now (numbers .entry)) (now (counts .entry)) head turn) (now (froms .entry)) (now (tos .entry)) (now (out .entry))) (planText (now (name .entry)) (runOf (now (starts .entry)) (now (lengths .entry)) (now (numbers .entry)) (now (counts .entry)) head turn) (now (froms .entry)) (now (tos .entry))) (now (out .entry)) ⌝ }
 {
     let run = runs::judge(starts, lengths, numbers, counts, head, turn);
     if runs::refused(run) {

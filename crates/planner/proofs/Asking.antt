@@ -8,7 +8,7 @@ use lib.ListN.{length, getD}
 use Rattle.runs.specs.Run.{Stop, stopsFrom}
 use Rattle.plans.proofs.Value.{choice-first, choice-skip, choice-here, choice-not-here}
 use Rattle.plans.proofs.Walks.{leftAt, rightAt, countAt}
-use Rattle.planner.specs.Table.{Asked, RowTask, DetourFrom, rowAt, readsIn, readsOf, worth, choiceWorth, chosen, startAt, stopEnd, LowerFits, SkipFits}
+use Rattle.planner.specs.Table.{Asked, RowTask, DetourFrom, rowAt, readsIn, readsFirst, worth, choiceWorth, chosen, startAt, stopEnd, LowerFits, SkipFits}
 use Rattle.planner.proofs.Sizes.{reads-more}
 use Rattle.planner.proofs.Facts.{reads-at}
 use Rattle.planner.proofs.Cells.{row-inside}
@@ -43,7 +43,7 @@ module _ (starts lengths numbers counts : List ℕ) (turn reads : ℕ) (room : L
   least-word =
       let e : suc (b + 1) ≡ b + 2 = omega arith in
       q .filled .holds a (b + 1) (omega (arith, q .window, q .inside)) (q .inside) (omega (arith, q .window)) s
-      (omega (arith, ap (readsOf stops) e, reads-at starts lengths numbers counts turn reads (q .filled .judged) (b + 2) (omega (arith, q .inside)), q .span))
+      (omega (arith, ap (readsFirst stops) e, reads-at starts lengths numbers counts turn reads (q .filled .judged) (b + 2) (omega (arith, q .inside)), q .span))
       ∙ ap (λ x. worth stops turn a x s) (add-one b)
 
   pub least-at : (at : ℕ) → at ≡ rowAt (length numbers) reads a (b + 1) → getD room (at + s) 0 ≡ worth (stopsFrom starts lengths numbers counts) turn a (suc b) s

@@ -11,7 +11,7 @@ use lib.ListN.{length, getD}
 use Rattle.runs.specs.Run.{Stop, stopsFrom}
 use Rattle.plans.proofs.Value.{value-none}
 use Rattle.plans.proofs.Walks.{leftAt, rightAt, countAt}
-use Rattle.planner.specs.Table.{Judged, Written, RowTask, ColumnTask, DoneUpTo, Filled, Holds, Columns, Done, Beyond, rowAt, tableSize, readsIn, readsOf, worth}
+use Rattle.planner.specs.Table.{Judged, Written, RowTask, ColumnTask, DoneUpTo, Filled, Holds, Columns, Done, Beyond, rowAt, tableSize, readsIn, readsFirst, worth}
 use Rattle.planner.proofs.Sizes.{reads-none, reads-more}
 use Rattle.planner.proofs.Facts.{reads-at, reads-up-to}
 use Rattle.planner.proofs.Cells.{row-inside, row-kept, holds-kept, beyond-kept, beyond-on, beyond-none}
@@ -86,10 +86,10 @@ module _ (starts lengths numbers counts : List ℕ) (turn reads b n : ℕ) where
     pub row-task : a ≤ b → RowTask starts lengths numbers counts turn reads ys a b n
     row-task h = record { judged = l .judged; window = h; inside = l .inside; big = l .big; columns = l .columns; span = omega (arith, l .span) }
 
-    span-reads : (s : ℕ) → s + readsOf (stopsFrom starts lengths numbers counts) (suc (b + 1)) ≤ reads → s < n
+    span-reads : (s : ℕ) → s + readsFirst (stopsFrom starts lengths numbers counts) (suc (b + 1)) ≤ reads → s < n
     span-reads s h =
         let e : suc (b + 1) ≡ b + 2 = omega arith in
-        omega (arith, l .span, h, ap (readsOf (stopsFrom starts lengths numbers counts)) e, reads-at starts lengths numbers counts turn reads (l .judged) (b + 2) (omega (arith, l .inside)))
+        omega (arith, l .span, h, ap (readsFirst (stopsFrom starts lengths numbers counts)) e, reads-at starts lengths numbers counts turn reads (l .judged) (b + 2) (omega (arith, l .inside)))
 
     pub column-turn : (zs : List ℕ) → a ≤ b → Written (rowAt (length numbers) reads a (b + 1)) n (worth (stopsFrom starts lengths numbers counts) turn a (suc b)) ys zs → ColumnLoop xs zs (a + 1)
     column-turn zs h w =

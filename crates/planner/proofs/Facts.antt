@@ -16,7 +16,7 @@ use Rattle.walk.proofs.Walks.{numbers-rise}
 use Rattle.walk.proofs.Filling as filling
 use Rattle.plans.proofs.Sums.{W-zero, W-suc}
 use Rattle.plans.proofs.Walks.{fileAt, leftAt, rightAt, countAt}
-use Rattle.planner.specs.Table.{Judged, IsStop, TripFits, EarlyFits, RowFits, rowAt, startAt, stopEnd, readsIn, readsOf}
+use Rattle.planner.specs.Table.{Judged, IsStop, TripFits, EarlyFits, RowFits, rowAt, startAt, stopEnd, readsIn, readsFirst}
 use Rattle.planner.proofs.Sizes.{row-small, reads-none, reads-more, reads-within}
 
 module _ (starts lengths numbers counts : List ℕ) (turn reads : ℕ) (j : Judged starts lengths numbers counts turn reads) where
@@ -104,7 +104,7 @@ module _ (starts lengths numbers counts : List ℕ) (turn reads : ℕ) (j : Judg
   pub file-at : (i : ℕ) → i < length numbers → fileAt (stopsFrom starts lengths numbers counts) i ≡ getD numbers i 0
   file-at i l = ap (λ s. s .file) (stop-at i l)
 
-  pub reads-at : (n : ℕ) → n ≤ length numbers → readsOf (stopsFrom starts lengths numbers counts) n ≡ readsIn counts n
+  pub reads-at : (n : ℕ) → n ≤ length numbers → readsFirst (stopsFrom starts lengths numbers counts) n ≡ readsIn counts n
   reads-at zero l = W-zero (countAt (stopsFrom starts lengths numbers counts)) ∙ sym (reads-none counts)
   reads-at (suc n) l =
       let more : readsIn counts (suc n) ≡ readsIn counts n + getD counts n 0 = rw (add-one n) at (reads-more counts n) in

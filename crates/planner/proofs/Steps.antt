@@ -13,7 +13,7 @@ use Rattle.plans.proofs.Sums.{W, W-suc, W-rises}
 use Rattle.plans.proofs.Scan.{lower}
 use Rattle.plans.proofs.Bounds.{candidate-bound}
 use Rattle.plans.proofs.Walks.{leftAt, rightAt, countAt}
-use Rattle.planner.specs.Table.{Judged, Written, Apart, LowerFits, lowered, RowTask, DetourFrom, rowAt, readsIn, readsOf, startAt, stopEnd, worth, choiceWorth}
+use Rattle.planner.specs.Table.{Judged, Written, Apart, LowerFits, lowered, RowTask, DetourFrom, rowAt, readsIn, readsFirst, startAt, stopEnd, worth, choiceWorth}
 use Rattle.planner.proofs.Words.{written-same}
 use Rattle.planner.proofs.Facts.{left-at, right-at, count-at, reads-at, few-reads, cheap-turn, ends-near, reads-up-to, count-few}
 use Rattle.planner.proofs.Cells.{row-inside, rows-apart}
@@ -32,7 +32,7 @@ module _ (starts lengths numbers counts : List ℕ) (turn reads : ℕ) (j : Judg
   pub count-next : countAt (stopsFrom starts lengths numbers counts) (suc b) ≡ getD counts (b + 1) 0
   count-next = rw (← add-one b) (count-at starts lengths numbers counts turn reads j (b + 1) inside)
 
-  pub reads-next : readsOf (stopsFrom starts lengths numbers counts) (suc (suc b)) ≡ readsIn counts (b + 2)
+  pub reads-next : readsFirst (stopsFrom starts lengths numbers counts) (suc (suc b)) ≡ readsIn counts (b + 2)
   reads-next =
       let e : suc (suc b) ≡ b + 2 = omega arith in
       rw e (reads-at starts lengths numbers counts turn reads j (b + 2) (omega arith))
@@ -66,7 +66,7 @@ module _ (starts lengths numbers counts : List ℕ) (turn reads : ℕ) (room : L
   pub skipped : (s : ℕ) → s < n → s + readsIn counts (b + 2) ≤ reads
   skipped s l = omega (arith, t .span)
 
-  next-reads : readsOf stops (suc (suc b)) ≡ readsOf stops (suc b) + countAt stops (suc b)
+  next-reads : readsFirst stops (suc (suc b)) ≡ readsFirst stops (suc b) + countAt stops (suc b)
   next-reads = W-suc (countAt stops) (suc b)
 
   -- The words of a row (c, b), from where the reads of stop b + 1 are skipped too.

@@ -117,12 +117,12 @@ abbrev pub choiceWorth : List Stop → ℕ → ℕ → ℕ → ℕ → ℕ → �
 choiceWorth stops turn a b s c = candidate (leftAt stops) (rightAt stops) (countAt stops) turn (worth stops turn) a b s c
 
 -- The reads of the first n stops.
-abbrev pub readsOf : List Stop → ℕ → ℕ
-readsOf stops n = W (countAt stops) n
+abbrev pub readsFirst : List Stop → ℕ → ℕ
+readsFirst stops n = W (countAt stops) n
 
 -- Row (a, b) holds its worth, for every s that can be skipped right of b.
 abbrev pub Holds : List Stop → ℕ → ℕ → ℕ → List ℕ → ℕ → ℕ → Type 0
-Holds stops turn k reads room a b = (s : ℕ) → s + readsOf stops (suc b) ≤ reads → getD room (rowAt k reads a b + s) 0 ≡ worth stops turn a b s
+Holds stops turn k reads room a b = (s : ℕ) → s + readsFirst stops (suc b) ≤ reads → getD room (rowAt k reads a b + s) 0 ≡ worth stops turn a b s
 
 -- The columns up to b are right.
 abbrev pub Columns : List Stop → ℕ → ℕ → ℕ → List ℕ → ℕ → Type 0

@@ -15,7 +15,7 @@ use Rattle.runs.proofs.Search.{or-false-both}
 use Rattle.sheets.specs.declared.reader.Top.{Top}
 use Rattle.sheets.specs.Lines.{fileKey, wantKey, lineAfter, firstIn, secondIn, afterLines}
 use Rattle.sheets.specs.Sheet.{filesOf, wantsOf, fileText, wantText, eachOf, runIn, nameIn}
-use Rattle.sheets.specs.Reading.{readVerdict, refusedReading, readAnswer, readRow, readName, readFrom, placeOn, shortRows}
+use Rattle.sheets.specs.Reading.{readVerdict, refusedReading, readAnswer, readRow, readName, readFrom, placeOn, shortPairRows}
 use Rattle.sheets.specs.Parts.{LaidOut, LaidRefused, PairsReady, leftRow, rightRow}
 use Rattle.sheets.proofs.Rows.{length-each}
 
@@ -37,37 +37,37 @@ module _ (sheet starts lengths numbers counts : List ℕ) where
 
   -- 8, for files or for wants: t and w say whether the rows have room.
   module _ (top : Top) (wants at : ℕ) (p : LaidOut sheet top wants at) (t : Bool)
-      (t-is : t ≡ not (shortRows (top .files) starts lengths)) where
+      (t-is : t ≡ not (shortPairRows (top .files) starts lengths)) where
     pub files-short : t ≡ false → readVerdict sheet starts lengths numbers counts ≡ record { refusal = ShortRow; place = 0 }
     unfolding readVerdict
     files-short f =
-        let short : shortRows (filesOf sheet) starts lengths ≡ true = subst (λ n. shortRows n starts lengths ≡ true) (p .upper .files) (not-false (shortRows (top .files) starts lengths) (sym t-is ∙ f)) in
+        let short : shortPairRows (filesOf sheet) starts lengths ≡ true = subst (λ n. shortPairRows n starts lengths ≡ true) (p .upper .files) (not-false (shortPairRows (top .files) starts lengths) (sym t-is ∙ f)) in
         rw (p .accepts, short)
 
     pub files-room : t ≡ true → (top .files ≤ length starts) × (top .files ≤ length lengths)
     files-room f =
-        let both = or-false-both (ltb (length starts) (top .files)) (ltb (length lengths) (top .files)) (not-true (shortRows (top .files) starts lengths) (sym t-is ∙ f)) in
+        let both = or-false-both (ltb (length starts) (top .files)) (ltb (length lengths) (top .files)) (not-true (shortPairRows (top .files) starts lengths) (sym t-is ∙ f)) in
         (ltb-false (length starts) (top .files) (both .0), ltb-false (length lengths) (top .files) (both .1))
 
-    module _ (f : t ≡ true) (w : Bool) (w-is : w ≡ not (shortRows wants numbers counts)) where
-      long : shortRows (filesOf sheet) starts lengths ≡ false
-      long = subst (λ n. shortRows n starts lengths ≡ false) (p .upper .files) (not-true (shortRows (top .files) starts lengths) (sym t-is ∙ f))
+    module _ (f : t ≡ true) (w : Bool) (w-is : w ≡ not (shortPairRows wants numbers counts)) where
+      long : shortPairRows (filesOf sheet) starts lengths ≡ false
+      long = subst (λ n. shortPairRows n starts lengths ≡ false) (p .upper .files) (not-true (shortPairRows (top .files) starts lengths) (sym t-is ∙ f))
 
       pub wants-short : w ≡ false → readVerdict sheet starts lengths numbers counts ≡ record { refusal = ShortRow; place = 0 }
       unfolding readVerdict
       wants-short g =
-          let short : shortRows (wantsOf sheet) numbers counts ≡ true = subst (λ n. shortRows n numbers counts ≡ true) (p .below .count) (not-false (shortRows wants numbers counts) (sym w-is ∙ g)) in
+          let short : shortPairRows (wantsOf sheet) numbers counts ≡ true = subst (λ n. shortPairRows n numbers counts ≡ true) (p .below .count) (not-false (shortPairRows wants numbers counts) (sym w-is ∙ g)) in
           rw (p .accepts, long, short)
 
       pub wants-room : w ≡ true → (wants ≤ length numbers) × (wants ≤ length counts)
       wants-room g =
-          let both = or-false-both (ltb (length numbers) wants) (ltb (length counts) wants) (not-true (shortRows wants numbers counts) (sym w-is ∙ g)) in
+          let both = or-false-both (ltb (length numbers) wants) (ltb (length counts) wants) (not-true (shortPairRows wants numbers counts) (sym w-is ∙ g)) in
           (ltb-false (length numbers) wants (both .0), ltb-false (length counts) wants (both .1))
 
       pub all-room : w ≡ true → readVerdict sheet starts lengths numbers counts ≡ accepted
       unfolding readVerdict
       all-room g =
-          let wide : shortRows (wantsOf sheet) numbers counts ≡ false = subst (λ n. shortRows n numbers counts ≡ false) (p .below .count) (not-true (shortRows wants numbers counts) (sym w-is ∙ g)) in
+          let wide : shortPairRows (wantsOf sheet) numbers counts ≡ false = subst (λ n. shortPairRows n numbers counts ≡ false) (p .below .count) (not-true (shortPairRows wants numbers counts) (sym w-is ∙ g)) in
           rw (p .accepts, long, wide)
 
 -- A sheet that is read: the answer, the rows, and what the filling of each pair of rows asks.

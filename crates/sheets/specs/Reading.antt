@@ -18,15 +18,15 @@ sheetVerdict sheet =
     firstOf (refuseIf (ltb longestSheet (length sheet)) LongSheet ∷ refuseAt (firstBadLine sheet) BadLine ∷ [])
 
 -- Whether one of two rows is shorter than so many entries.
-abbrev pub shortRows : ℕ → List ℕ → List ℕ → Bool
-shortRows count firsts seconds = ltb (length firsts) count || ltb (length seconds) count
+abbrev pub shortPairRows : ℕ → List ℕ → List ℕ → Bool
+shortPairRows count firsts seconds = ltb (length firsts) count || ltb (length seconds) count
 
 -- Then 8: a row shorter than the files or wants read.
 unfoldable pub readVerdict : List ℕ → List ℕ → List ℕ → List ℕ → List ℕ → Verdict
 readVerdict sheet starts lengths numbers counts =
     firstOf
     (sheetVerdict sheet
-    ∷ refuseIf (shortRows (filesOf sheet) starts lengths || shortRows (wantsOf sheet) numbers counts) ShortRow
+    ∷ refuseIf (shortPairRows (filesOf sheet) starts lengths || shortPairRows (wantsOf sheet) numbers counts) ShortRow
     ∷ [])
 
 -- A refusal's answer: kind and place, every other number 0 and the rule least.

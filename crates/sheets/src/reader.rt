@@ -3,7 +3,7 @@ ghost use mathlib.Core.Path.{_≡_};
 ghost use mathlib.Core.Bool.{not};
 ghost use lib.ListN.{drop};
 ghost use Rattle.sheets.specs.Sheet.{runIn};
-ghost use Rattle.sheets.specs.Reading.{shortRows, readVerdict, refusedReading, readAnswer, readRow, readName, readFrom, placeOn};
+ghost use Rattle.sheets.specs.Reading.{shortPairRows, readVerdict, refusedReading, readAnswer, readRow, readName, readFrom, placeOn};
 ghost use Rattle.sheets.specs.Parts.{TopFound, FilesAt, WantsAt, BelowFound, LaidFound, PairsReady, leftRow, rightRow};
 use crate::LONGEST_SHEET;
 use crate::MOST_SHEET_FILES;
@@ -190,7 +190,7 @@ fn refused_reading(v: Verdict) -> Reading
 
 // Whether two rows hold so many entries.
 fn room_for(count: u64, firsts: &[u64], seconds: &[u64]) -> bool
-    ensures { λ r. ⌜ r ≡ not (shortRows count (now (firsts .entry)) (now (seconds .entry))) ⌝ }
+    ensures { λ r. ⌜ r ≡ not (shortPairRows count (now (firsts .entry)) (now (seconds .entry))) ⌝ }
 {
     if (firsts.len() as u64) < count {
         return false;
