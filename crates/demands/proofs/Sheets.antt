@@ -2,18 +2,19 @@
 -- nothing (demand 1); what the run sheet writer writes reads back (demand 2).
 use Prim.Native.Nat.{ℕ, zero, suc, _≤_, _<_}
 use mathlib.Core.Path.{_≡_, refl, sym, ap, _∙_}
-use mathlib.Core.Bool.{Bool, true, false, not, _||_}
+use mathlib.Core.Bool.{Bool, true, false, not, _||_, true≢false}
 use mathlib.Core.Logic.{_⊎_, inl, inr, ⊎-elim}
 use mathlib.Core.List.{List, [], _∷_}
 use native.Mathlib.Omega.{arith}
-use lib.ListN.{length}
+use lib.ListN.{length, take, drop}
+use lib.Seq.{take-append-seam}
 use lib.Dec.{ltb}
 use borrow.Author.Tests.{le-ltb}
 use Rattle.runs.specs.declared.Refusal.{Refusal}
-use Rattle.runs.specs.declared.Refusal.the-variants.{BadEntry, BadName, BadLine, LongSheet, ShortRow}
+use Rattle.runs.specs.declared.Refusal.the-variants.{Accepted, BadEntry, BadName, BadLine, LongSheet, ShortRow}
 use Rattle.runs.specs.declared.Rule.{Rule}
 use Rattle.runs.specs.declared.Verdict.{Verdict}
-use Rattle.runs.specs.Refusals.{numberOf, accepted, refuseIf, refuseAt, firstOf}
+use Rattle.runs.specs.Refusals.{numberOf, isRefusal, accepted, refuseIf, refuseAt, firstOf}
 use Rattle.runs.specs.Run.{Run, stopsOf, rightEnd}
 use Rattle.runs.specs.Judging.{tableChecks, wantsChecks, headChecks, judgeOf}
 use Rattle.runs.specs.Lists.{listVerdict}
@@ -22,12 +23,13 @@ use Rattle.runs.proofs.Judged.{accepted-run}
 use Rattle.texts.specs.Text.{isName}
 use Rattle.sheets.specs.Sheet.{longestSheet, mostSheetFiles, firstBadLine, filesOf, wantsOf, headOf, turnOf, runIn}
 use Rattle.sheets.specs.Reading.{sheetVerdict, shortPairRows, readVerdict, readAnswer, readRow}
-use Rattle.pages.specs.Writing.{sheetText, rowVerdict, writeVerdict, writtenAnswer, writtenRow}
+use Rattle.pages.specs.declared.Written.{Written}
+use Rattle.pages.specs.Writing.{refusedWriting, sheetText, rowVerdict, writeVerdict, writtenAnswer, writtenRow}
 use Rattle.pages.specs.PlanSheet.{planText, planSheetVerdict}
 use Rattle.sheets.proofs.Rows.{length-each}
 use Rattle.pages.proofs.RoundTrip.{round-trip}
 use Rattle.demands.specs.Table.{RunApplies, ListIsBad}
-use Rattle.demands.specs.Sheets.{readOrder, ReadApplies, ReadAnswers, writeOrder, planSheetOrder, WriteApplies, PlanSheetApplies, WriteAnswers, Demand1Read, Demand1Write, Demand1PlanSheet, Demand2RoundTrip}
+use Rattle.demands.specs.Sheets.{readOrder, ReadApplies, ReadAnswers, writeOrder, planSheetOrder, WriteApplies, PlanSheetApplies, WriteAnswers, Demand1Read, Demand1Write, Demand1PlanSheet, Demand2Written, Demand2RoundTrip}
 use Rattle.demands.proofs.Tests.{tells-false, Tells, tells-below, tells-either}
 use Rattle.demands.proofs.Checks.{Decides, refused, passed, decides-if, decides-reworded, Finds, finds-none, finds-first, first-of-joined, none-refuses}
 use Rattle.demands.proofs.Judged.{run-finds}
@@ -234,6 +236,18 @@ reads-sheet : (sheet starts lengths numbers counts : List ℕ) → sheetVerdict 
 unfolding readVerdict
 reads-sheet sheet starts lengths numbers counts e a b c d =
     rw (e, le-ltb (length starts) (filesOf sheet) a, le-ltb (length lengths) (filesOf sheet) b, le-ltb (length numbers) (wantsOf sheet) c, le-ltb (length counts) (wantsOf sheet) d)
+
+pub demand2-written : Demand2Written
+unfolding writtenAnswer writtenRow
+demand2-written name rule r row answer out a o e = by-test (isRefusal (writeVerdict name rule r row .refusal)) refl
+  where
+    by-test : (b : Bool) → isRefusal (writeVerdict name rule r row .refusal) ≡ b → take (answer .bytes) out ≡ sheetText name rule r
+    by-test true h =
+        let is : answer ≡ refusedWriting (writeVerdict name rule r row) = a ∙ rw h in
+        absurd (true≢false (sym h ∙ ap isRefusal (sym (ap (λ (w : Written). w .refusal) is) ∙ e)))
+    by-test false h =
+        let is : answer ≡ record { refusal = Accepted; place = 0; bytes = length (sheetText name rule r) } = a ∙ rw h in
+        rw (is, o, h) (take-append-seam (sheetText name rule r) (drop (length (sheetText name rule r)) row))
 
 pub demand2-round-trip : Demand2RoundTrip
 unfolding readAnswer readRow

@@ -4,7 +4,7 @@ use Prim.Native.Nat.{ℕ, suc, _≤_, _<_}
 use mathlib.Core.Path.{_≡_}
 use mathlib.Core.Bool.{true, false}
 use mathlib.Core.List.{List, [], _∷_, _++_}
-use lib.ListN.{length, drop}
+use lib.ListN.{length, take, drop}
 use Rattle.runs.specs.declared.Refusal.{Refusal}
 use Rattle.runs.specs.declared.Refusal.the-variants.{Accepted, FileRows, BadFile, WantRows, BadWant, TooManyReads, TurnPrice, HeadPlace, ShortRow, BadEntry, BadLine, LongSheet, BadName}
 use Rattle.runs.specs.declared.Rule.{Rule}
@@ -92,6 +92,15 @@ Demand1PlanSheet =
     → answer ≡ writtenAnswer (planSheetVerdict name r froms tos row) (planText name r froms tos)
     → out ≡ writtenRow (planSheetVerdict name r froms tos row) (planText name r froms tos) row
     → WriteAnswers (PlanSheetApplies name r froms tos row) planSheetOrder row answer out
+
+-- What the writer wrote, where it accepts: as many bytes as it says, and they are the sheet.
+abbrev pub Demand2Written : Type 0
+Demand2Written =
+    (name : List ℕ) (rule : Rule) (r : Run) (row : List ℕ) (answer : Written) (out : List ℕ)
+    → answer ≡ writtenAnswer (writeVerdict name rule r row) (sheetText name rule r)
+    → out ≡ writtenRow (writeVerdict name rule r row) (sheetText name rule r) row
+    → answer .refusal ≡ Accepted
+    → take (answer .bytes) out ≡ sheetText name rule r
 
 -- What the reader gives for the sheet that the writer writes, in rows that are long enough: that run, that rule and that name.
 pub record GivesBack (name : List ℕ) (rule : Rule) (r : Run) (starts lengths numbers counts : List ℕ) : Type 0 where

@@ -1,6 +1,6 @@
 // texts: a byte in a text, a text's beginning, numbers and tape names.
-// For the readers of sheets and of LTFS indexes, which see only these contracts. What the words mean stands in specs/; each function
-// answers every text.
+// For the readers and writers of sheets and the reader of LTFS indexes, which see only these contracts. What the words mean stands in
+// specs/; each function answers every text.
 ghost use mathlib.Core.Path.{_≡_};
 ghost use mathlib.Core.Bool.{not, _&&_};
 ghost use Rattle.texts.specs.Text.{isEmpty, startsWith, isText, between, leadingZero, isNameByte, isName};
