@@ -19,6 +19,7 @@ use Rattle.runs.specs.Lists.{listOf, listVerdict}
 use Rattle.walk.specs.Price.{refusalAnswer, pricedAnswer, priceVerdict, priceAnswer, priceRow}
 use Rattle.runs.proofs.Search.{true-or-false}
 use Rattle.runs.proofs.Verdicts.{refuses}
+use Rattle.walk.proofs.Priced.{price-accepted}
 use Rattle.walk.proofs.Places.{placeMost, price-near}
 use Rattle.boundary.specs.Boundary.{codeOf, sumsWith, priceCall, priceTimes, priceSums}
 
@@ -52,11 +53,6 @@ four-set w x y z (a ∷ b ∷ []) l = absurd (omega arith)
 four-set w x y z (a ∷ b ∷ c ∷ []) l = absurd (omega arith)
 four-set w x y z (a ∷ b ∷ c ∷ d ∷ row) l = refl
 
--- A row of checks that refuses nothing is acceptance itself.
-pub first-accepted : (vs : List Verdict) → refuses (firstOf vs) ≡ false → firstOf vs ≡ accepted
-first-accepted [] e = refl
-first-accepted (v ∷ vs) e = ⊎-elim (λ h. absurd (true≢false (sym h ∙ (rw h at e)))) (λ h. rw h (first-accepted vs (rw h at e))) (true-or-false (refuses v))
-
 -- A code is 0 exactly where nothing is refused.
 pub code-refuses : (v : Verdict) → (codeOf v ≡ 0 → ⊥) → (refuses v ≡ false → v ≡ accepted) → refuses v ≡ true
 code-refuses v some none = ⊎-elim (λ h. h) (λ h. absurd (some (ap codeOf (none h)))) (true-or-false (refuses v))
@@ -66,11 +62,6 @@ code-accepts v e = rw (eq-eqb (numberOf (v .refusal)) 0 (omega arith))
 
 -- The pricer's answer and its code.
 module _ (r : Run) (froms tos row : List ℕ) where
-  pub price-accepted : refuses (priceVerdict r froms tos row) ≡ false → priceVerdict r froms tos row ≡ accepted
-  unfolding priceVerdict
-  price-accepted e =
-      first-accepted (judgeOf r ∷ listVerdict (stopsOf r) froms tos ∷ refuseIf (ltb (length row) (length (r .numbers))) ShortRow ∷ []) e
-
   module _ (a : Answer) (is : a ≡ priceAnswer r froms tos row) where
     when-refused : refuses (priceVerdict r froms tos row) ≡ true → a ≡ refusalAnswer (priceVerdict r froms tos row)
     unfolding priceAnswer
@@ -82,7 +73,7 @@ module _ (r : Run) (froms tos row : List ℕ) where
 
     pub price-code : numberOf (a .refusal) + 256 * a .place ≡ codeOf (priceVerdict r froms tos row)
     unfolding pricedAnswer
-    price-code = ⊎-elim (λ h. rw (when-refused h)) (λ h. rw (when-accepted h, price-accepted h)) (true-or-false (refuses (priceVerdict r froms tos row)))
+    price-code = ⊎-elim (λ h. rw (when-refused h)) (λ h. rw (when-accepted h, price-accepted r froms tos row h)) (true-or-false (refuses (priceVerdict r froms tos row)))
 
     pub price-placed : a .place ≤ placeMost
     unfolding pricedAnswer
@@ -97,7 +88,7 @@ module _ (r : Run) (froms tos row : List ℕ) where
   unfolding priceCall
   call-is-price sums l =
       rw (le-ltb (length sums) 4 l)
-      (⊎-elim (λ h. rw h) (λ h. rw (h, price-accepted h)) (true-or-false (refuses (priceVerdict r froms tos row))))
+      (⊎-elim (λ h. rw h) (λ h. rw (h, price-accepted r froms tos row h)) (true-or-false (refuses (priceVerdict r froms tos row))))
 
   pub call-times : (sums out : List ℕ) → 4 ≤ length sums → out ≡ priceRow r froms tos row → out ≡ priceTimes r froms tos row sums
   unfolding priceTimes priceRow

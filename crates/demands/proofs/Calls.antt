@@ -15,7 +15,7 @@ use Rattle.runs.specs.Run.{Run, stopsOf}
 use Rattle.runs.specs.Judging.{judgeOf}
 use Rattle.runs.specs.Lists.{listVerdict}
 use Rattle.walk.specs.Price.{priceVerdict}
-use Rattle.runs.proofs.Verdicts.{refuses}
+use Rattle.runs.proofs.Verdicts.{none-refuses, refuses}
 use Rattle.runs.proofs.Judged.{accepted-run}
 use Rattle.planner.specs.Plan.{Rows, roomSize, shortRows}
 use Rattle.boundary.specs.Boundary.{shortSums, priceCall, priceTimes, priceSums, PriceCalled, badRule, planCall, PlanCalled}
@@ -23,7 +23,7 @@ use Rattle.demands.specs.Table.{RunApplies, ListIsBad}
 use Rattle.demands.specs.Demand1.{PriceApplies, PlanApplies, priceOrder}
 use Rattle.demands.specs.Calls.{PriceCallApplies, PlanCallApplies, planCallOrder, PlanCallAnswers, Demand1PriceCall, Demand1PlanCall}
 use Rattle.demands.proofs.Tests.{tells-equal, tells-below, tells-not, tells-either}
-use Rattle.demands.proofs.Checks.{decides-if, decides-reworded, Finds, finds-none, finds-first, first-of-joined, none-refuses}
+use Rattle.demands.proofs.Checks.{decides-if, decides-reworded, Finds, finds-none, finds-first, first-of-joined}
 use Rattle.demands.proofs.Judged.{run-finds}
 use Rattle.demands.proofs.Listed.{decides-list}
 use Rattle.demands.proofs.Demand1.{price-of-run, price-list, price-row, plan-of-run, IsShort, short-row, row-short, room-short, tells-short}

@@ -13,6 +13,7 @@ use Rattle.walk.specs.Walk.{headAt, timeOf, timesOf, sumOf}
 use Rattle.runs.specs.Lists.{Detour, firstBadEntry, wanted, anyBelow}
 use Rattle.walk.specs.Detours.{startOf, endOf, lastSweep, legsOf}
 use Rattle.walk.proofs.Laws.{accepted-sound}
+use Rattle.texts.proofs.Bytes.{and-true-both}
 use Rattle.plans.specs.Least.{Least}
 use Rattle.plans.proofs.Plan.{listed}
 use Rattle.plans.proofs.Sums.{W}
@@ -36,16 +37,12 @@ sameList [] (y ∷ ys) = false
 sameList (x ∷ xs) [] = false
 sameList (x ∷ xs) (y ∷ ys) = eqb (x .from) (y .from) && eqb (x .to) (y .to) && sameList xs ys
 
-both-true : (a b : Bool) → (a && b) ≡ true → (a ≡ true) × (b ≡ true)
-both-true true b e = (refl, e)
-both-true false b e = absurd (true≢false (sym e))
-
 same-row : (xs ys : List ℕ) → sameRow xs ys ≡ true → xs ≡ ys
 unfolding sameRow
 same-row [] [] e = refl
 same-row [] (y ∷ ys) e = absurd (true≢false (sym e))
 same-row (x ∷ xs) [] e = absurd (true≢false (sym e))
-same-row (x ∷ xs) (y ∷ ys) e = let both = both-true _ _ e in ap₂ (λ a l. a ∷ l) (eqb-true x y (both .0)) (same-row xs ys (both .1))
+same-row (x ∷ xs) (y ∷ ys) e = let both = and-true-both _ _ e in ap₂ (λ a l. a ∷ l) (eqb-true x y (both .0)) (same-row xs ys (both .1))
 
 same-list : (xs ys : List Detour) → sameList xs ys ≡ true → xs ≡ ys
 unfolding sameList
@@ -53,8 +50,8 @@ same-list [] [] e = refl
 same-list [] (y ∷ ys) e = absurd (true≢false (sym e))
 same-list (x ∷ xs) [] e = absurd (true≢false (sym e))
 same-list (x ∷ xs) (y ∷ ys) e =
-    let both = both-true _ _ e in
-    let ends = both-true _ _ (both .0) in
+    let both = and-true-both _ _ e in
+    let ends = and-true-both _ _ (both .0) in
     ap₂ (λ d l. d ∷ l) (ap₂ (λ a b. record { from = a; to = b }) (eqb-true _ _ (ends .0)) (eqb-true _ _ (ends .1))) (same-list xs ys (both .1))
 
 same-list-itself : (xs : List Detour) → sameList xs xs ≡ true
@@ -95,10 +92,10 @@ least-if-same r list b accepted same =
 holds-if-passes : (c : Case) → passes c ≡ true → Holds c
 unfolding passes
 holds-if-passes c e =
-    let four = both-true _ _ e in
-    let three = both-true _ _ (four .0) in
-    let two = both-true _ _ (three .0) in
-    let one = both-true _ _ (two .0) in
+    let four = and-true-both _ _ e in
+    let three = and-true-both _ _ (four .0) in
+    let two = and-true-both _ _ (three .0) in
+    let one = and-true-both _ _ (two .0) in
     let accepted = not-true _ (one .0) in
     record {
       accepted = accepted;
@@ -111,7 +108,7 @@ holds-if-passes c e =
 all-hold : (cs : List Case) → allPass cs ≡ true → AllHold cs
 unfolding allPass
 all-hold [] e = tt
-all-hold (c ∷ cs) e = let both = both-true _ _ e in (holds-if-passes c (both .0), all-hold cs (both .1))
+all-hold (c ∷ cs) e = let both = and-true-both _ _ e in (holds-if-passes c (both .0), all-hold cs (both .1))
 
 cases-pass : allPass cases ≡ true
 unfolding allPass passes alike sameRow sameList judgeOf firstWhere stopsFrom rightEnd firstBadEntry wanted anyBelow startOf endOf lastSweep legsOf timeOf timesOf sumOf leastList listed W lowest scan filledTo filled candidate next value choice built nextPlan best

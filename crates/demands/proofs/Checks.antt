@@ -96,15 +96,6 @@ first-of-joined (v ∷ vs) ws = go (refuses v) refl (first-of-joined vs ws)
 pub both-pass : (v : Verdict) (vs : List Verdict) → refuses v ≡ false → refuses (firstOf vs) ≡ false → refuses (firstOf (v ∷ vs)) ≡ false
 both-pass v vs e h = rw e h
 
--- Where no check refuses, the verdict is acceptance, with place 0.
-pub none-refuses : (vs : List Verdict) → refuses (firstOf vs) ≡ false → firstOf vs ≡ accepted
-none-refuses [] e = refl
-none-refuses (v ∷ vs) e = go (refuses v) refl (none-refuses vs)
-  where
-    go : (b : Bool) → refuses v ≡ b → (refuses (firstOf vs) ≡ false → firstOf vs ≡ accepted) → firstOf (v ∷ vs) ≡ accepted
-    go true h rest = absurd (true≢false (sym h ∙ (rw h at e)))
-    go false h rest = rw h (rest (rw h at e))
-
 -- Of the first that applies: it is a refusal if and only if some condition applies.
 abbrev pub AllRefuse : List Refusal → Type 0
 AllRefuse [] = Unit {0}

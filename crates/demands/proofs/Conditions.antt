@@ -13,7 +13,7 @@ use Rattle.runs.specs.Run.{Run, lastPlace, endAt, stopsOf, rightEnd}
 use Rattle.runs.specs.Judging.{endBefore, badFile, badWant}
 use Rattle.runs.proofs.Table.{ends-rise, right-end-empty, right-end-row}
 use Rattle.runs.proofs.Judged.{GoodTable, GoodWants}
-use Rattle.walk.proofs.Walks.{numbers-rise, in-table}
+use Rattle.walk.proofs.Walks.{not-past-last, in-table}
 use Rattle.demands.specs.Table.{FileIsBad, WantIsBad, WantedBeyond, startOfFile, endOfFile}
 use Rattle.demands.proofs.Tests.{Tells, tells-equal, tells-below, tells-at-most, tells-not, tells-either, tells-reworded, tells-regrouped}
 
@@ -78,13 +78,6 @@ module _ (r : Run) where
 
   -- The rightmost wanted end, of a good table and good wants, is that of the last want, and no wanted file ends right of it.
   module _ (files : GoodTable (r .starts) (r .lengths)) (wants : GoodWants (length (r .starts)) (r .numbers) (r .counts)) where
-    not-past-last : (i : ℕ) → i < length (r .numbers) → getD (r .numbers) i 0 ≤ getD (r .numbers) (length (r .numbers) - 1) 0
-    not-past-last i l =
-        by-cases
-        (decLt i (length (r .numbers) - 1))
-        (λ h. omega (arith, numbers-rise (length (r .starts)) (r .numbers) (r .counts) wants i (length (r .numbers) - 1) h (omega arith)))
-        (λ h. let e : i ≡ length (r .numbers) - 1 = omega arith in rw (← e) (omega arith))
-
     within-right-end : (i : ℕ) → i < length (r .numbers) → endOfFile r (getD (r .numbers) i 0) ≤ rightEnd (stopsOf r)
     within-right-end i l =
         let here = in-table (length (r .starts)) (r .numbers) (r .counts) wants (r .starts) refl i l in
@@ -93,7 +86,7 @@ module _ (r : Run) where
           arith,
           right-end-row (r .starts) (r .lengths) (r .numbers) (r .counts) (omega arith) (sym (wants .equal)),
           ends-rise (r .starts) (r .lengths) (files .table) (getD (r .numbers) i 0 - 1) (getD (r .numbers) (length (r .numbers) - 1) 0 - 1)
-              (omega (arith, not-past-last i l, here .least))
+              (omega (arith, not-past-last (length (r .starts)) (r .numbers) (r .counts) wants i l, here .least))
               (omega (arith, last .least, last .most)),
         )
 

@@ -18,13 +18,14 @@ use Rattle.runs.specs.Run.{Run, stopsOf}
 use Rattle.runs.specs.Judging.{judgeOf}
 use Rattle.runs.specs.Lists.{listVerdict}
 use Rattle.walk.specs.Price.{refusalAnswer, pricedAnswer, priceVerdict, priceAnswer, priceRow}
-use Rattle.runs.proofs.Verdicts.{refuses}
+use Rattle.runs.proofs.Verdicts.{none-refuses, refuses}
 use Rattle.runs.proofs.Judged.{accepted-run}
+use Rattle.walk.proofs.Priced.{price-accepted}
 use Rattle.planner.specs.Plan.{Rows, Plans, roomSize, shortRows, planVerdict}
 use Rattle.demands.specs.Table.{RunApplies, ListIsBad}
 use Rattle.demands.specs.Demand1.{OnlyPlace, PriceApplies, PlanApplies, priceOrder, planOrder, PriceAnswers, PlanAnswers, Demand1Price, Demand1Plan, Demand1PriceIff, Demand1PlanIff}
 use Rattle.demands.proofs.Tests.{Tells, tells-below, tells-either, tells-regrouped}
-use Rattle.demands.proofs.Checks.{refused-iff, decides-if, decides-reworded, Finds, finds-none, finds-first, none-refuses}
+use Rattle.demands.proofs.Checks.{refused-iff, decides-if, decides-reworded, Finds, finds-none, finds-first}
 use Rattle.demands.proofs.Judged.{run-finds}
 use Rattle.demands.proofs.Listed.{decides-list}
 
@@ -58,14 +59,10 @@ module _ (r : Run) (froms tos row : List ℕ) where
       (decides-reworded (λ p h. rw (h .0) (PriceApplies.row (h .1))) price-row (decides-if _ ShortRow (tells-below (length row) (length (r .numbers)))))
       (λ c. finds-none (PriceApplies r froms tos row))))
 
-  price-accepted : refuses (priceVerdict r froms tos row) ≡ false → priceVerdict r froms tos row ≡ accepted
-  unfolding priceVerdict
-  price-accepted e = none-refuses (judgeOf r ∷ listVerdict (stopsOf r) froms tos ∷ refuseIf (ltb (length row) (length (r .numbers))) ShortRow ∷ []) e
-
   price-says : (b : Bool) → refuses (priceVerdict r froms tos row) ≡ b → PriceAnswers r froms tos row (priceAnswer r froms tos row) (priceRow r froms tos row)
   unfolding priceAnswer priceRow pricedAnswer
   price-says true e = rw e (record { first = price-finds; kept = λ n. (refusal-only-place (priceVerdict r froms tos row), refl) })
-  price-says false e = rw e (record { first = rw (price-accepted e) at price-finds; kept = λ n. absurd (n refl) })
+  price-says false e = rw e (record { first = rw (price-accepted r froms tos row e) at price-finds; kept = λ n. absurd (n refl) })
 
 pub demand1-price : Demand1Price
 demand1-price r froms tos row answer out says fills = rw (says, fills) (price-says r froms tos row (refuses (priceVerdict r froms tos row)) refl)

@@ -1,31 +1,22 @@
 -- Demand 2: the planner's numbers are the walk's, its list is the least under the least rule and empty under the sweep rule, and its contract fits one answer.
-use Prim.Native.Nat.{ℕ}
-use mathlib.Core.Path.{_≡_, refl, sym, ap, _∙_}
-use mathlib.Core.List.{List, [], _∷_}
+use mathlib.Core.Path.{_≡_, sym, ap, _∙_}
+use mathlib.Core.List.{List}
 use lib.ListN.{length, drop}
 use lib.Seq.{take-at}
 use Rattle.walk.specs.declared.Answer.{Answer}
-use Rattle.walk.specs.declared.Head.{Head}
-use Rattle.walk.specs.declared.Leg.{Leg}
 use Rattle.runs.specs.declared.Rule.{Rule}
 use Rattle.runs.specs.declared.Rule.the-variants.{Sweep, Least}
 use Rattle.runs.specs.Refusals.{firstWhere}
-use Rattle.runs.specs.Run.{Run, Stop, stopsOf}
-use Rattle.walk.specs.Walk.{timesOf}
+use Rattle.runs.specs.Run.{Run, stopsOf}
 use Rattle.runs.specs.Lists.{Detour, WellFormed, firstBadEntry}
 use Rattle.walk.specs.Price.{pricedAnswer, pricedTimes}
 use Rattle.runs.proofs.Judged.{accepted-run}
-use Rattle.walk.proofs.Filling.{stops-length}
+use Rattle.walk.proofs.Filling.{one-time-each, stops-length}
 use Rattle.plans.specs.Least.{listSum, LeastFor}
 use Rattle.planner.specs.Plan.{Rows, ByRule, rowsWith}
 use Rattle.planner.proofs.Determined.{plan-determined}
 use Rattle.demands.specs.Demand2.{listIn, IsTheWalk, IsLeast, Demand2Walk, Demand2Least, Demand2Sweep, Demand2One}
 use Rattle.demands.proofs.Planned.{plan-in-rows, run-accepted, list-in-rows, reported-sum}
-
-one-time-each : (price : ℕ) (h : Head) (gs : List Leg) (stops : List Stop) → length (timesOf price h gs stops) ≡ length stops
-unfolding timesOf
-one-time-each price h gs [] = refl
-one-time-each price h gs (s ∷ ss) = rw (one-time-each price h gs ss)
 
 -- A list by either rule is well formed.
 by-rule-formed : (rule : Rule) (r : Run) (list : List Detour) → ByRule rule r list → WellFormed (stopsOf r) list

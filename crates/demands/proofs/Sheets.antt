@@ -18,7 +18,7 @@ use Rattle.runs.specs.Refusals.{numberOf, isRefusal, accepted, refuseIf, refuse
 use Rattle.runs.specs.Run.{Run, stopsOf, rightEnd}
 use Rattle.runs.specs.Judging.{tableChecks, wantsChecks, headChecks, judgeOf}
 use Rattle.runs.specs.Lists.{listVerdict}
-use Rattle.runs.proofs.Verdicts.{refuses}
+use Rattle.runs.proofs.Verdicts.{none-refuses, refuses}
 use Rattle.runs.proofs.Judged.{accepted-run}
 use Rattle.texts.specs.Text.{isName}
 use Rattle.sheets.specs.Sheet.{longestSheet, mostSheetFiles, firstBadLine, filesOf, wantsOf, headOf, turnOf, runIn}
@@ -31,7 +31,7 @@ use Rattle.pages.proofs.RoundTrip.{round-trip}
 use Rattle.demands.specs.Table.{RunApplies, ListIsBad}
 use Rattle.demands.specs.Sheets.{readOrder, ReadApplies, ReadAnswers, writeOrder, planSheetOrder, WriteApplies, PlanSheetApplies, WriteAnswers, Demand1Read, Demand1Write, Demand1PlanSheet, Demand2Written, Demand2RoundTrip}
 use Rattle.demands.proofs.Tests.{tells-false, Tells, tells-below, tells-either}
-use Rattle.demands.proofs.Checks.{Decides, refused, passed, decides-if, decides-reworded, Finds, finds-none, finds-first, first-of-joined, none-refuses}
+use Rattle.demands.proofs.Checks.{Decides, refused, passed, decides-if, decides-reworded, Finds, finds-none, finds-first, first-of-joined}
 use Rattle.demands.proofs.Judged.{run-finds}
 use Rattle.demands.proofs.Listed.{decides-list}
 

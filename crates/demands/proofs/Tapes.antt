@@ -11,7 +11,7 @@ use Rattle.runs.specs.declared.Refusal.the-variants.{ShortRow, BadName, BadText
 use Rattle.runs.specs.declared.Verdict.{Verdict}
 use Rattle.runs.specs.Refusals.{accepted, refuseIf}
 use Rattle.runs.specs.Run.{lastPlace}
-use Rattle.runs.proofs.Verdicts.{refuses}
+use Rattle.runs.proofs.Verdicts.{none-refuses, refuses}
 use Rattle.texts.specs.Text.{isName}
 use Rattle.sheets.specs.Sheet.{mostSheetFiles}
 use Rattle.pages.specs.Writing.{rowVerdict, writtenRow}
@@ -21,7 +21,7 @@ use Rattle.ranges.specs.Ranges.{endOfRange}
 use Rattle.ltfs.specs.Table.{inSeveral, areFar, someOverlap, rangesIn, tableIn, areGoodTexts, ltfsSheet, ltfsVerdict, ltfsReport, ltfsRow}
 use Rattle.demands.specs.Tapes.{TapeApplies, tapeOrder, TapeAnswers, Demand1Tape}
 use Rattle.demands.proofs.Tests.{Tells, tells-below, tells-either, tells-true, tells-false}
-use Rattle.demands.proofs.Checks.{decides-if, decides-reworded, Finds, finds-none, finds-first, none-refuses}
+use Rattle.demands.proofs.Checks.{decides-if, decides-reworded, Finds, finds-none, finds-first}
 
 -- Not all of four tests hold: one does not.
 not-all : (a b c d : Bool) → Tells (not (a && b && c && d)) ((a ≡ false) ⊎ ((b ≡ false) ⊎ ((c ≡ false) ⊎ (d ≡ false))))

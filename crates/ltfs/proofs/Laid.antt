@@ -19,6 +19,7 @@ use Rattle.runs.proofs.Search.{or-false-both}
 use Rattle.pages.specs.declared.Written.{Written}
 use Rattle.texts.specs.Text.{isName, isNumber, valueOf}
 use Rattle.pages.specs.Writing.{topText, sheetText, rowVerdict, writeVerdict, writtenAnswer, writtenRow}
+use Rattle.pages.proofs.Sheets.{first-row}
 use Rattle.ltfs.specs.declared.Report.{Report}
 use Rattle.ranges.specs.declared.Tally.{Tally}
 use Rattle.ltfs.specs.Tree.{Forest, isBalanced, treeOf}
@@ -31,11 +32,6 @@ use Rattle.ltfs.specs.Tallies.{RowsFit, RowsHold, EndsFit, TallyHolds, r
 use Rattle.ltfs.proofs.Order.{some-kept, length-kept, tape-order-ascends, held-ranges}
 use Rattle.ltfs.proofs.Tallies.{field-good, field-value, number-form, letter-form, held-length}
 use Rattle.ltfs.proofs.Neighbours.{isVoid, isBeyond, same-overlap, none-void, ends-fit, passes}
-
--- A row that is too short is the last check.
-first-row : (b : Bool) → firstOf (refuseIf b ShortRow ∷ []) ≡ refuseIf b ShortRow
-first-row true = refl
-first-row false = refl
 
 -- A sheet has bytes.
 text-some : (name : List ℕ) (run : Run) → length (sheetText name Least run) ≡ 0 → ⊥

@@ -1,6 +1,6 @@
 -- What the plan sheet writer answers, step by step: the run, the name, the list as the pricer judges it, the row.
-use Prim.Native.Nat.{ℕ, suc, _≤_}
-use mathlib.Core.Path.{_≡_, refl, ap, sym, _∙_}
+use Prim.Native.Nat.{ℕ, _≤_}
+use mathlib.Core.Path.{_≡_, ap, sym, _∙_}
 use mathlib.Core.Bool.{Bool, true, false}
 use mathlib.Core.Logic.{⊎-elim}
 use mathlib.Core.List.{List, [], _∷_, _++_}
@@ -11,29 +11,21 @@ use borrow.Author.Tests.{le-ltb}
 use Rattle.runs.specs.declared.Refusal.the-variants.{BadName}
 use Rattle.runs.specs.declared.Verdict.{Verdict}
 use Rattle.walk.specs.declared.Answer.{Answer}
-use Rattle.walk.specs.declared.Head.{Head}
-use Rattle.walk.specs.declared.Leg.{Leg}
 use Rattle.runs.specs.Refusals.{isRefusal, firstOf, accepted}
-use Rattle.runs.specs.Run.{Run, Stop, stopsOf, total, mostWants}
+use Rattle.runs.specs.Run.{Run, stopsOf, total, mostWants}
 use Rattle.runs.specs.Judging.{judgeOf}
-use Rattle.walk.specs.Walk.{timesOf}
 use Rattle.runs.specs.Lists.{listOf, listVerdict}
 use Rattle.walk.specs.Price.{refusalAnswer, pricedAnswer, pricedTimes, priceVerdict, priceAnswer, priceRow}
 use Rattle.runs.proofs.Search.{true-or-false}
 use Rattle.runs.proofs.Judged.{GoodRun, accepted-run}
 use Rattle.walk.proofs.Walks.{GoodList, accepted-list, list-fits}
-use Rattle.walk.proofs.Filling.{stops-length}
+use Rattle.walk.proofs.Filling.{one-time-each, stops-length}
 use Rattle.runs.proofs.Verdicts.{test-says}
 use Rattle.texts.specs.Text.{isName}
 use Rattle.pages.specs.Writing.{rowVerdict}
 use Rattle.pages.specs.PlanSheet.{planLines, planText, planSheetVerdict}
 use Rattle.pages.specs.Parts.{Wrote, planMost, PlanFits}
 use Rattle.pages.proofs.Sheets.{name-length, last-verdict}
-
-times-length : (price : ℕ) (h : Head) (gs : List Leg) (stops : List Stop) → length (timesOf price h gs stops) ≡ length stops
-unfolding timesOf
-times-length price h gs [] = refl
-times-length price h gs (s ∷ stops) = ap suc (times-length price h gs stops)
 
 -- v is the run's verdict, f whether it refuses, t whether the name is one.
 module _ (name : List ℕ) (run : Run) (froms tos row : List ℕ) (v : Verdict) (f : Bool) (v-is : v ≡ judgeOf run) (f-is : f ≡ isRefusal (v .refusal)) where
@@ -98,7 +90,7 @@ module _ (name : List ℕ) (run : Run) (froms tos row : List ℕ) (v : Verdict) 
 
             times-count : length (pricedTimes run (listOf froms tos)) ≡ length (run .numbers)
             unfolding pricedTimes
-            times-count = times-length (run .turn) _ _ (stopsOf run) ∙ stops-length (run .starts) (run .lengths) (run .numbers) (run .counts) (sym (good-run .wants .equal))
+            times-count = one-time-each (run .turn) _ _ (stopsOf run) ∙ stops-length (run .starts) (run .lengths) (run .numbers) (run .counts) (sym (good-run .wants .equal))
 
             times-taken : take (length (run .numbers)) times′ ≡ pricedTimes run (listOf froms tos)
             times-taken = ap (take (length (run .numbers))) timed ∙ take-at (pricedTimes run (listOf froms tos)) (drop (length (run .numbers)) times) (length (run .numbers)) times-count

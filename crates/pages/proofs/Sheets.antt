@@ -66,13 +66,13 @@ module _ (page text : List ℕ) (most : ℕ) (page′ : List ℕ) (n : ℕ) (w :
   page-row row′ f = f ∙ rw (e, ← w .bytes)
 
 -- The last check of a row of checks is the verdict, once the others have passed.
+pub first-row : (b : Bool) → firstOf (refuseIf b ShortRow ∷ []) ≡ refuseIf b ShortRow
+first-row true = refl
+first-row false = refl
+
 pub last-verdict : (text row : List ℕ) → firstOf (rowVerdict text row ∷ []) ≡ rowVerdict text row
 unfolding rowVerdict
-last-verdict text row = by-test (ltb (length row) (length text))
-  where
-    by-test : (b : Bool) → firstOf (refuseIf b ShortRow ∷ []) ≡ refuseIf b ShortRow
-    by-test true = refl
-    by-test false = refl
+last-verdict text row = first-row (ltb (length row) (length text))
 
 pub name-length : (name : List ℕ) → isName name ≡ true → length name ≤ 16
 unfolding isName

@@ -5,7 +5,7 @@ use mathlib.Core.Bool.{Bool, true, false, true≢false}
 use mathlib.Core.List.{List, [], _∷_}
 use Rattle.runs.specs.declared.Refusal.{Refusal}
 use Rattle.runs.specs.declared.Verdict.{Verdict}
-use Rattle.runs.specs.Refusals.{isRefusal, refuseIf, refuseAt, firstOf}
+use Rattle.runs.specs.Refusals.{isRefusal, accepted, refuseIf, refuseAt, firstOf}
 
 -- A verdict is a refusal or not.
 abbrev pub refuses : Verdict → Bool
@@ -34,6 +34,15 @@ first-alone (v ∷ vs) = go (refuses v) refl (first-alone vs)
     go : (b : Bool) → refuses v ≡ b → firstOf (firstOf vs ∷ []) ≡ firstOf vs → firstOf (firstOf (v ∷ vs) ∷ []) ≡ firstOf (v ∷ vs)
     go true h rest = rw (h, h)
     go false h rest = rw h rest
+
+-- Where no check refuses, the verdict is acceptance, with place 0.
+pub none-refuses : (vs : List Verdict) → refuses (firstOf vs) ≡ false → firstOf vs ≡ accepted
+none-refuses [] e = refl
+none-refuses (v ∷ vs) e = go (refuses v) refl (none-refuses vs)
+  where
+    go : (b : Bool) → refuses v ≡ b → (refuses (firstOf vs) ≡ false → firstOf vs ≡ accepted) → firstOf (v ∷ vs) ≡ accepted
+    go true h rest = absurd (true≢false (sym h ∙ (rw h at e)))
+    go false h rest = rw h (rest (rw h at e))
 
 -- Where the row accepts, so does each check.
 abbrev pub AllAccept : List Verdict → Type 0

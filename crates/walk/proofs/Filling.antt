@@ -19,6 +19,12 @@ use Rattle.runs.proofs.Accepted.{total-drop}
 use Rattle.walk.proofs.Steps.{set-off-clock, read-inside}
 use Rattle.walk.proofs.Legs.{legMost}
 
+-- One time for each stop.
+pub one-time-each : (price : ℕ) (h : Head) (gs : List Leg) (stops : List Stop) → length (timesOf price h gs stops) ≡ length stops
+unfolding timesOf
+one-time-each price h gs [] = refl
+one-time-each price h gs (s ∷ ss) = ap suc (one-time-each price h gs ss)
+
 -- The stops read off the rows, one for each want.
 module _ (starts lengths : List ℕ) where
   pub stops-length : (ns cs : List ℕ) → length cs ≡ length ns → length (stopsFrom starts lengths ns cs) ≡ length ns

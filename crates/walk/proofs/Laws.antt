@@ -6,8 +6,6 @@ use mathlib.Core.Bool.{true, false, or-true}
 use mathlib.Core.List.{List, [], _∷_, _++_, map}
 use native.Mathlib.Omega.{arith}
 use native.Mathlib.Nat.{mul-le-mul-left}
-use native.Mathlib.Decide.{decLt}
-use mathlib.Core.Logic.{by-cases}
 use lib.ListN.{length, getD}
 use borrow.Author.Tests.{le-leb}
 use Rattle.walk.specs.declared.Leg.{Leg}
@@ -23,7 +21,7 @@ use Rattle.runs.proofs.Verdicts.{refuses}
 use Rattle.walk.proofs.Sound.{Sound, stopAt}
 use Rattle.runs.proofs.Judged.{GoodRun, accepted-run}
 use Rattle.runs.proofs.Table.{named-file, ends-rise, end-before-start, right-end-row}
-use Rattle.walk.proofs.Walks.{GoodList, accepted-list, legs-in-rows, walkable, numbers-rise, in-table}
+use Rattle.walk.proofs.Walks.{GoodList, accepted-list, legs-in-rows, walkable, numbers-rise, not-past-last, in-table}
 use Rattle.walk.proofs.Filling.{stops-length, stop-at, timeMost, time-bound, end-bound}
 
 -- A file read by the first leg from its own start has time m − l + U + s.
@@ -117,17 +115,10 @@ module _ (r : Run) (good : GoodRun r) where
       let row = right-end-row (r .starts) (r .lengths) (r .numbers) (r .counts) (omega arith) (sym (good .wants .equal)) in
       let rise =
       ends-rise (r .starts) (r .lengths) (good .files .table) (getD (r .numbers) i 0 - 1) (getD (r .numbers) (length (r .numbers) - 1) 0 - 1)
-      (omega (arith, not-past i l, here .least))
+      (omega (arith, not-past-last (length (r .starts)) (r .numbers) (r .counts) (good .wants) i l, here .least))
       (omega (arith, last .least, last .most))
       in
       omega (arith, row, rise, good .start .past)
-    where
-      not-past : (i : ℕ) → i < length (r .numbers) → getD (r .numbers) i 0 ≤ getD (r .numbers) (length (r .numbers) - 1) 0
-      not-past i l =
-          by-cases
-          (decLt i (length (r .numbers) - 1))
-          (λ h. omega (arith, rising i (length (r .numbers) - 1) h (omega arith)))
-          (λ h. let e : i ≡ length (r .numbers) - 1 = omega arith in rw (← e) (omega arith))
 
   pub run-sound : Sound (stopsOf r) (r .head)
   run-sound =

@@ -10,14 +10,14 @@ use Rattle.runs.specs.declared.Refusal.the-variants.{Accepted, ShortRow}
 use Rattle.runs.specs.declared.Verdict.{Verdict}
 use Rattle.walk.specs.declared.Answer.{Answer}
 use Rattle.walk.specs.declared.Head.{Head}
-use Rattle.runs.specs.Refusals.{isRefusal, refuseIf, firstOf}
+use Rattle.runs.specs.Refusals.{isRefusal, accepted, refuseIf, firstOf}
 use Rattle.runs.specs.Run.{Run, stopsOf}
 use Rattle.runs.specs.Judging.{judgeOf}
 use Rattle.walk.specs.Walk.{headAt, walked, timesOf, sumOf}
 use Rattle.runs.specs.Lists.{listVerdict}
 use Rattle.walk.specs.Price.{refusalAnswer, pricedAnswer, pricedTimes, priceVerdict, priceAnswer, priceRow}
 use Rattle.walk.specs.Rows.{rowLegs}
-use Rattle.runs.proofs.Verdicts.{refuses, first-refuses, first-passes, test-says}
+use Rattle.runs.proofs.Verdicts.{refuses, first-refuses, first-passes, none-refuses, test-says}
 use Rattle.runs.proofs.Judged.{GoodRun, accepted-run}
 use Rattle.runs.proofs.Entries.{length-list}
 use Rattle.walk.proofs.Walks.{GoodList, accepted-list, legs-in-rows}
@@ -33,6 +33,10 @@ module _ (r : Run) (froms tos row : List ℕ) where
 
   after-run : List Verdict
   after-run = listVerdict (stopsOf r) froms tos ∷ refuseIf (ltb (length row) (length (r .numbers))) ShortRow ∷ []
+
+  pub price-accepted : refuses (priceVerdict r froms tos row) ≡ false → priceVerdict r froms tos row ≡ accepted
+  unfolding priceVerdict after-run
+  price-accepted e = none-refuses (judgeOf r ∷ after-run) e
 
   after-list : List Verdict
   after-list = refuseIf (ltb (length row) (length (r .numbers))) ShortRow ∷ []

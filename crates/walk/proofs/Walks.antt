@@ -115,17 +115,19 @@ module _ (files : ℕ) (numbers counts : List ℕ) (w : GoodWants files numbers 
   listed-in-table : (starts : List ℕ) → files ≡ length starts → (f : ℕ) → listed numbers f ≡ true → InTable starts f
   listed-in-table starts e f h = let p = listed-place numbers f h in rw (p .is) at (in-table starts e (p .index) (p .within))
 
-  -- No listed number is right of the last.
-  listed-last : (f : ℕ) → listed numbers f ≡ true → f ≤ getD numbers (length numbers - 1) 0
-  listed-last f h =
-      let p = listed-place numbers f h in
+  -- No number is past the last.
+  pub not-past-last : (i : ℕ) → i < length numbers → getD numbers i 0 ≤ getD numbers (length numbers - 1) 0
+  not-past-last i l =
       ⊎-elim
-      (λ e. omega (arith, sym (p .is) ∙ ap (λ x. getD numbers x 0) e))
-      (λ lt. let rise = numbers-rise (p .index) (length numbers - 1) lt (omega (arith, p .within)) in omega (arith, rise, p .is))
-      (eq-or-lt-of-le (before (p .index) (p .within)))
+      (λ e. omega (arith, ap (λ x. getD numbers x 0) e))
+      (λ lt. omega (arith, numbers-rise i (length numbers - 1) lt (omega arith)))
+      (eq-or-lt-of-le before)
     where
-      before : (i : ℕ) → i < length numbers → i ≤ length numbers - 1
-      before i l = omega arith
+      before : i ≤ length numbers - 1
+      before = omega arith
+
+  listed-last : (f : ℕ) → listed numbers f ≡ true → f ≤ getD numbers (length numbers - 1) 0
+  listed-last f h = let p = listed-place numbers f h in omega (arith, p .is, not-past-last (p .index) (p .within))
 
   -- The first n entries of two rows, each of them good.
   module _ (froms tos : List ℕ) (n : ℕ) (each : (i : ℕ) → i < n → GoodEntry numbers froms tos i) where

@@ -4,7 +4,8 @@ use mathlib.Core.Path.{sym, ap, _∙_}
 use Rattle.runs.specs.Run.{Run, runOf}
 use Rattle.walk.specs.Price.{priceVerdict}
 use Rattle.boundary.specs.Boundary.{codeOf}
-use Rattle.boundary.proofs.Calls.{price-code, price-placed, price-accepted, code-refuses, code-accepts, call-is-price, call-times, call-sums-kept, call-sums-filled, short-times, short-sums}
+use Rattle.walk.proofs.Priced.{price-accepted}
+use Rattle.boundary.proofs.Calls.{price-code, price-placed, code-refuses, code-accepts, call-is-price, call-times, call-sums-kept, call-sums-filled, short-times, short-sums}
 use borrow.Author.Needs.{needs}
 use Rattle.boundary.proofs.violstream_price.Statement.{statement}
 use Rattle.boundary.proofs.violstream_price.Tie as tie
