@@ -2,14 +2,14 @@
 use Prim.Native.Nat.{ℕ, zero, suc, _^_, _≤_, _<_}
 use mathlib.Core.Path.{_≡_, refl, ap, sym, _∙_}
 use mathlib.Core.Bool.{Bool, true, false, not}
-use mathlib.Core.List.{List, [], _∷_, _++_, append-assoc, append-nil}
+use mathlib.Core.List.{List, [], _∷_, _++_, append-assoc}
 use native.Mathlib.Omega.{arith}
 use lib.ListN.{length, getD, take}
 use lib.Seq.{drop-append-seam, take-suc, take-length}
 use lib.Dec.{eqb}
 use borrow.Author.Tests.{eq-eqb, le-leb}
 use Rattle.runs.proofs.Search.{or-false-both, first-all}
-use Rattle.texts.specs.Text.{lineFeed, comma, has, before, behind, startsWith, isText, valueOf, decimal}
+use Rattle.texts.specs.Text.{lineFeed, comma, has, before, behind, startsWith, valueOf, decimal}
 use Rattle.sheets.specs.Lines.{lineOf, afterLines, lineAfter, valueText, isNumberLine, numberIn, isCountLine, isPair, isPairLine, firstIn, secondIn}
 use Rattle.sheets.specs.Sheet.{firstBadPair, eachOf}
 use Rattle.pages.specs.Writing.{line, pairText, pairLine, pairLines}
@@ -55,9 +55,6 @@ key-begins (k ∷ key) text = rw (eq-eqb k k refl, key-begins key text)
 
 pub key-value : (key text : List ℕ) → valueText key (key ++ text) ≡ text
 key-value key text = drop-append-seam key text
-
-pub text-same : (text : List ℕ) → isText text text ≡ true
-text-same text = rw (eq-eqb (length text) (length text) refl) (ap (startsWith text) (sym (append-nil text)) ∙ key-begins text [])
 
 -- A number line reads back.
 module _ (key : List ℕ) (n : ℕ) (small : n < 2 ^ 64) where

@@ -65,23 +65,6 @@ module _ (f : ℕ → ℕ) (a c k : ℕ) (h : First f a c k) where
   pub first-here : (d : ℕ) → 0 < k → k ≤ suc d → d < c → f (suc d) ≡ f k → k ≡ suc d
   first-here d p l b e = by-cases (decLe k d) (λ m. omega (arith, h .before d p m b)) (λ n. omega arith)
 
-  first-least : (j : ℕ) → (0 < j → (a < j) × (j ≤ c)) → f k ≤ f j
-  first-least zero w = h .least-skip
-  first-least (suc d) w = h .least d (omega (arith, w (omega arith))) (omega (arith, w (omega arith)))
-
--- Whichever way it is found, the first choice is one.
-pub first-unique : (f : ℕ → ℕ) (a c k j : ℕ) → First f a c k → First f a c j → k ≡ j
-first-unique f a c zero j h g = omega (arith, first-skip f a c j g (omega (arith, g .least-skip, first-least f a c 0 h j (g .within))))
-first-unique f a c (suc d) zero h g = first-skip f a c (suc d) h (omega (arith, h .least-skip, first-least f a c 0 g (suc d) (h .within)))
-first-unique f a c (suc d) (suc e) h g =
-    by-cases
-    (decLe d e)
-    (λ m. first-here f a c (suc d) h e (omega arith) (omega arith) (omega (arith, g .within (omega arith))) same)
-    (λ n. omega (arith, first-here f a c (suc e) g d (omega arith) (omega arith) (omega (arith, h .within (omega arith))) (omega (arith, same))))
-  where
-    same : f (suc e) ≡ f (suc d)
-    same = omega (arith, first-least f a c (suc d) h (suc e) (g .within), first-least f a c (suc e) g (suc d) (h .within))
-
 first-step : (f : ℕ → ℕ) (d top k : ℕ) → d < top → First f (suc d) top k → f k ≤ f (suc d) → First f d top k
 first-step f d top k l h w = record {
   within = λ p. omega (arith, h .within p);
