@@ -9,9 +9,10 @@ use lib.ListN.{length, getD, drop, drop-of-length-le}
 use lib.Seq.{drop-cons}
 use lib.Dec.{eqb}
 use borrow.Author.Tests.{eq-eqb, ne-eqb}
+use Rattle.runs.specs.declared.Verdict.{Verdict}
 use Rattle.runs.specs.Refusals.{firstWhere}
 use Rattle.runs.specs.Run.{stopsFrom}
-use Rattle.runs.specs.Lists.{listOf, wanted, leftmost, badAfter, badEntry, anyBelow, entryOf, firstBadEntry}
+use Rattle.runs.specs.Lists.{listOf, wanted, leftmost, badAfter, badEntry, anyBelow, entryOf, firstBadEntry, listVerdict}
 use Rattle.runs.specs.Rows.{listed, rowEntry, rowAlone, rowClash, rowBad}
 use Rattle.runs.proofs.Search.{first-same, any-same, first-more, first-here, any-none, any-more, any-here, any-done}
 
@@ -131,3 +132,10 @@ module _ (numbers froms tos : List ℕ) (i : ℕ) (p : EntriesPassed numbers fro
     pub entry-passed : t ≡ false → u ≡ false → EntriesPassed numbers froms tos (i + 1)
     entry-passed e d =
         record { within = omega arith; none = first-more (rowBad numbers froms tos) i (p .none) (rw (← alone, ← clash, e, d)) }
+
+-- Two verdicts that fit `judge_list`'s contract are equal: counts as many as the wants are there, the numbers themselves.
+abbrev pub FitsList : List ℕ → List ℕ → List ℕ → Verdict → Type 0
+FitsList numbers froms tos v = (starts lengths counts : List ℕ) → length counts ≡ length numbers → v ≡ listVerdict (stopsFrom starts lengths numbers counts) froms tos
+
+pub list-determined : (numbers froms tos : List ℕ) (v w : Verdict) → FitsList numbers froms tos v → FitsList numbers froms tos w → v ≡ w
+list-determined numbers froms tos v w p q = p [] [] numbers refl ∙ sym (q [] [] numbers refl)
