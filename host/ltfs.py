@@ -1,7 +1,7 @@
 #!/usr/bin/env python3
-"""Runs the ltfs_sheet program on whole and damaged labels and indexes and compares every byte it prints with an answer worked out here.
+"""Runs the cmd_ltfs program on whole and damaged labels and indexes and compares every byte it prints with an answer worked out here.
 
-usage: host/ltfs.py [--cases N] [PROGRAM]    (default target/bin/ltfs_sheet, 4,000 generated cases beside the fixed ones)
+usage: host/ltfs.py [--cases N] [PROGRAM]    (default target/bin/cmd_ltfs, 4,000 generated cases beside the fixed ones)
        host/ltfs.py --time [PROGRAM]         how long one call takes, at three sizes of the index
        host/ltfs.py --native ... PROGRAM     the program was made by host/native.sh, for this machine's own processor
        host/ltfs.py --examples [PROGRAM]     the pairs of examples/ltfs alone
@@ -513,7 +513,7 @@ def main():
         del words[at:at + 2]
     options = [word for word in words if word.startswith("--")]
     programs = [word for word in words if not word.startswith("--")]
-    program = programs[0] if programs else os.path.join(HERE, "target/bin/ltfs_sheet")
+    program = programs[0] if programs else os.path.join(HERE, "target/bin/cmd_ltfs")
     program = [program] if "--native" in options else sheets.started(program)
     if "--time" in options:
         if len(program) > 1:

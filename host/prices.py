@@ -1,6 +1,6 @@
 #!/usr/bin/env python3
-"""Works out what the program price_cases must print, from document 01's sentences, and compares it with the file that the
-gate holds the program to, crates/price_cases/stdout.
+"""Works out what the program check_prices must print, from document 01's sentences, and compares it with the file that the
+gate holds the program to, crates/check_prices/stdout.
 
 usage: host/prices.py            compares
        host/prices.py --print    prints the text instead
@@ -84,12 +84,12 @@ def main():
     if "--print" in sys.argv[1:]:
         sys.stdout.write(must)
         return
-    path = os.path.join(sheets.HERE, "crates/price_cases/stdout")
+    path = os.path.join(sheets.HERE, "crates/check_prices/stdout")
     with open(path, encoding="ascii") as handle:
         held = handle.read()
     if held != must:
-        sys.exit("prices.py: crates/price_cases/stdout is not what document 01 gives; 'host/prices.py --print' shows that")
-    print(f"prices.py: the {must.count(chr(10))} lines that price_cases must print are as worked out here")
+        sys.exit("prices.py: crates/check_prices/stdout is not what document 01 gives; 'host/prices.py --print' shows that")
+    print(f"prices.py: the {must.count(chr(10))} lines that check_prices must print are as worked out here")
 
 
 if __name__ == "__main__":

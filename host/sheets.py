@@ -1,7 +1,7 @@
 #!/usr/bin/env python3
 """Runs the recall program on whole and damaged sheets and compares every byte it prints with an answer worked out here.
 
-usage: host/sheets.py [PROGRAM]           (default target/bin/recall)
+usage: host/sheets.py [PROGRAM]           (default target/bin/cmd_plan)
        host/sheets.py --time [PROGRAM]    how long one call takes on a full sheet, and on none
 
 The program is for x86-64; on another processor it is started as machine.sh says.
@@ -16,7 +16,7 @@ import time
 
 HERE = os.path.dirname(os.path.dirname(os.path.abspath(__file__)))
 WORDS = [word for word in sys.argv[1:] if word != "--time"]
-PROGRAM = WORDS[0] if WORDS else os.path.join(HERE, "target/bin/recall")
+PROGRAM = WORDS[0] if WORDS else os.path.join(HERE, "target/bin/cmd_plan")
 MACHINE = os.path.join(HERE, "host/machine.sh")
 NUMBER = rb"(0|[1-9][0-9]*)"
 

@@ -14,14 +14,14 @@ use Rattle.runs.specs.Lists.{Detour, firstBadEntry, wanted, anyBelow}
 use Rattle.walk.specs.Detours.{startOf, endOf, lastSweep, legsOf}
 use Rattle.walk.proofs.Laws.{accepted-sound}
 use Rattle.texts.proofs.Bytes.{and-true-both}
-use Rattle.plans.specs.Least.{Least}
-use Rattle.plans.proofs.Plan.{listed}
-use Rattle.plans.proofs.Sums.{W}
-use Rattle.plans.proofs.Scan.{lowest, scan}
-use Rattle.plans.proofs.Columns.{filledTo, filled}
-use Rattle.plans.proofs.Value.{candidate, next, value, choice}
-use Rattle.plans.proofs.Best.{built, nextPlan, best}
-use Rattle.plans.proofs.LeastList.{leastList, least-list, least-unique}
+use Rattle.least.specs.Least.{Least}
+use Rattle.least.proofs.Plan.{listed}
+use Rattle.least.proofs.Sums.{W}
+use Rattle.least.proofs.Scan.{lowest, scan}
+use Rattle.least.proofs.Columns.{filledTo, filled}
+use Rattle.least.proofs.Value.{candidate, next, value, choice}
+use Rattle.least.proofs.Best.{built, nextPlan, best}
+use Rattle.least.proofs.LeastList.{leastList, least-list, least-unique}
 use Rattle.demands.specs.Cases.{Case, Holds, AllHold, cases, CasesHold}
 
 -- Whether two rows, and whether two lists, are equal.

@@ -4,7 +4,7 @@ use native.Mathlib.Nat.{le-refl}
 use Rattle.runs.specs.declared.Rule.the-variants.{Least}
 use Rattle.runs.specs.Run.{Run, stopsOf}
 use Rattle.walk.proofs.Laws.{accepted-sound}
-use Rattle.plans.proofs.Unbeaten.{SameTable, same-table, covers-of-reads, no-movement-beats}
+use Rattle.least.proofs.Unbeaten.{SameTable, same-table, covers-of-reads, no-movement-beats}
 use Rattle.demands.specs.Demand3.{Demand3, Demand3Same}
 use Rattle.demands.proofs.Planned.{plan-in-rows, run-accepted, reported-sum}
 

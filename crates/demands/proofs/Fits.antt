@@ -12,7 +12,7 @@ use Rattle.runs.specs.Lists.{Detour}
 use Rattle.walk.specs.Price.{refusalAnswer, pricedAnswer}
 use Rattle.runs.proofs.Verdicts.{refuses}
 use Rattle.walk.proofs.Laws.{accepted-sound}
-use Rattle.plans.proofs.LeastList.{leastList, least-list}
+use Rattle.least.proofs.LeastList.{leastList, least-list}
 use Rattle.planner.specs.Plan.{Rows, rowsWith, ByRule, Plans, planVerdict}
 use Rattle.demands.proofs.Planned.{verdict-accepts-run}
 

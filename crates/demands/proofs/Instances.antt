@@ -19,14 +19,14 @@ use Rattle.runs.specs.Lists.{Detour, wanted, anyBelow, firstBadEntry, listVerdi
 use Rattle.walk.specs.Detours.{startOf, endOf, legOf, lastSweep, legsOf}
 use Rattle.walk.specs.Price.{refusalAnswer, pricedAnswer, priceVerdict, priceAnswer, priceRow}
 use Rattle.runs.proofs.Verdicts.{refuses}
-use Rattle.plans.specs.Wants.{readsOf}
-use Rattle.plans.proofs.Plan.{listed}
-use Rattle.plans.proofs.Sums.{W}
-use Rattle.plans.proofs.Scan.{lowest, scan}
-use Rattle.plans.proofs.Columns.{filledTo, filled}
-use Rattle.plans.proofs.Value.{candidate, next, value, choice}
-use Rattle.plans.proofs.Best.{built, nextPlan, best}
-use Rattle.plans.proofs.LeastList.{leastList}
+use Rattle.least.specs.Wants.{readsOf}
+use Rattle.least.proofs.Plan.{listed}
+use Rattle.least.proofs.Sums.{W}
+use Rattle.least.proofs.Scan.{lowest, scan}
+use Rattle.least.proofs.Columns.{filledTo, filled}
+use Rattle.least.proofs.Value.{candidate, next, value, choice}
+use Rattle.least.proofs.Best.{built, nextPlan, best}
+use Rattle.least.proofs.LeastList.{leastList}
 use Rattle.planner.specs.Plan.{Rows, rowsOf, Plans, planVerdict}
 use Rattle.texts.specs.Text.{allOf, isName}
 use Rattle.demands.specs.Sheets.{GivesBack}

@@ -12,7 +12,7 @@ use Rattle.runs.specs.declared.Refusal.the-variants.{BadEntry}
 use Rattle.runs.specs.Refusals.{refuseAt, firstOf}
 use Rattle.runs.specs.Run.{Run, stopsOf}
 use Rattle.runs.specs.Lists.{listOf, badAfter, firstBadEntry, listVerdict}
-use Rattle.runs.specs.Rows.{listed, rowEntry, rowAlone, rowClash, rowBad}
+use Rattle.runs.specs.Private.{listed, rowEntry, rowAlone, rowClash, rowBad}
 use Rattle.runs.proofs.Entries.{first-bad-row}
 use Rattle.walk.proofs.Walks.{listed-place}
 use Rattle.demands.specs.Table.{IsWanted, BadByItself, BadAgainst, EntryIsBad, ListIsBad}

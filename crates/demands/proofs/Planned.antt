@@ -14,7 +14,7 @@ use Rattle.runs.specs.Judging.{judgeOf}
 use Rattle.runs.specs.Lists.{Detour, listOf}
 use Rattle.walk.specs.Price.{pricedAnswer}
 use Rattle.runs.proofs.Verdicts.{refuses, all-accept}
-use Rattle.plans.specs.Least.{listSum}
+use Rattle.least.specs.Least.{listSum}
 use Rattle.planner.specs.Plan.{Rows, Plans, Planned, planVerdict, roomSize, shortRows, rowsWith}
 use Rattle.demands.specs.Demand2.{listIn}
 

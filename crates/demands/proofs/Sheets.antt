@@ -23,11 +23,11 @@ use Rattle.runs.proofs.Judged.{accepted-run}
 use Rattle.texts.specs.Text.{isName}
 use Rattle.sheets.specs.Sheet.{longestSheet, mostSheetFiles, firstBadLine, filesOf, wantsOf, headOf, turnOf, runIn}
 use Rattle.sheets.specs.Reading.{sheetVerdict, shortPairRows, readVerdict, readAnswer, readRow}
-use Rattle.pages.specs.declared.Written.{Written}
-use Rattle.pages.specs.Writing.{refusedWriting, sheetText, rowVerdict, writeVerdict, writtenAnswer, writtenRow}
-use Rattle.pages.specs.PlanSheet.{planText, planSheetVerdict}
+use Rattle.writers.specs.declared.Written.{Written}
+use Rattle.writers.specs.Writing.{refusedWriting, sheetText, rowVerdict, writeVerdict, writtenAnswer, writtenRow}
+use Rattle.writers.specs.PlanSheet.{planText, planSheetVerdict}
 use Rattle.sheets.proofs.Rows.{length-each}
-use Rattle.pages.proofs.RoundTrip.{round-trip}
+use Rattle.writers.proofs.RoundTrip.{round-trip}
 use Rattle.demands.specs.Table.{RunApplies, ListIsBad}
 use Rattle.demands.specs.Sheets.{readOrder, ReadApplies, ReadAnswers, writeOrder, planSheetOrder, WriteApplies, PlanSheetApplies, WriteAnswers, Demand1Read, Demand1Write, Demand1PlanSheet, Demand2Written, Demand2RoundTrip}
 use Rattle.demands.proofs.Tests.{tells-false, Tells, tells-below, tells-either}

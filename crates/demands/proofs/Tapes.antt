@@ -14,7 +14,7 @@ use Rattle.runs.specs.Run.{lastPlace}
 use Rattle.runs.proofs.Verdicts.{none-refuses, refuses}
 use Rattle.texts.specs.Text.{isName}
 use Rattle.sheets.specs.Sheet.{mostSheetFiles}
-use Rattle.pages.specs.Writing.{rowVerdict, writtenRow}
+use Rattle.writers.specs.Writing.{rowVerdict, writtenRow}
 use Rattle.ltfs.specs.Tree.{isBalanced, treeOf}
 use Rattle.ltfs.specs.Index.{some, isGoodLabel, isGoodIndex, filesOf}
 use Rattle.ranges.specs.Ranges.{endOfRange}

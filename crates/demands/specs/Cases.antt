@@ -10,7 +10,7 @@ use Rattle.runs.specs.Judging.{judgeOf}
 use Rattle.walk.specs.Walk.{headAt, timesOf, sumOf}
 use Rattle.runs.specs.Lists.{Detour, WellFormed}
 use Rattle.walk.specs.Detours.{legsOf}
-use Rattle.plans.specs.Least.{Least}
+use Rattle.least.specs.Least.{Least}
 
 -- A run and a detour list, the sum and the times (one for each want) of its walk, and whether the list is the least rule's answer.
 pub record Case : Type 0 where

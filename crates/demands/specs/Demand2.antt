@@ -13,7 +13,7 @@ use Rattle.runs.specs.Run.{Run, stopsOf}
 use Rattle.walk.specs.Walk.{headAt, walked, timesOf, sumOf}
 use Rattle.runs.specs.Lists.{Detour, WellFormed, listOf}
 use Rattle.walk.specs.Detours.{legsOf}
-use Rattle.plans.specs.Least.{ComesFirst, listSum}
+use Rattle.least.specs.Least.{ComesFirst, listSum}
 use Rattle.planner.specs.Plan.{Rows, Plans}
 
 -- The list that an accepted answer leaves in the rows: as many entries as the answer says.

@@ -11,7 +11,7 @@ use Rattle.runs.specs.Refusals.{isRefusal}
 use Rattle.runs.specs.Run.{Run, stopsOf}
 use Rattle.runs.specs.Judging.{judgeOf}
 use Rattle.walk.specs.Walk.{headAt, Moves, ServesAll, sumOf}
-use Rattle.plans.specs.Wants.{readsOf}
+use Rattle.least.specs.Wants.{readsOf}
 use Rattle.planner.specs.Plan.{Rows, Plans}
 
 -- The first run asks for no less than the second: the same tape table, at least as many reads of every file, a turn price no lower, a

@@ -13,12 +13,12 @@ use Rattle.runs.specs.Refusals.{isRefusal}
 use Rattle.runs.specs.Run.{Run}
 use Rattle.runs.specs.Judging.{judgeOf}
 use Rattle.sheets.specs.declared.Reading.{Reading}
-use Rattle.pages.specs.declared.Written.{Written}
+use Rattle.writers.specs.declared.Written.{Written}
 use Rattle.texts.specs.Text.{isName}
 use Rattle.sheets.specs.Sheet.{longestSheet, mostSheetFiles, firstBadLine, filesOf, wantsOf, runIn}
 use Rattle.sheets.specs.Reading.{readVerdict, readAnswer, readRow, readName}
-use Rattle.pages.specs.Writing.{sheetText, writeVerdict, writtenAnswer, writtenRow}
-use Rattle.pages.specs.PlanSheet.{planText, planSheetVerdict}
+use Rattle.writers.specs.Writing.{sheetText, writeVerdict, writtenAnswer, writtenRow}
+use Rattle.writers.specs.PlanSheet.{planText, planSheetVerdict}
 use Rattle.demands.specs.Table.{RunApplies, ListIsBad, FirstThatApplies}
 
 -- The reader: 12, then 11 with the first line that is not as described, then 8.

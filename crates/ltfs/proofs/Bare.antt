@@ -15,7 +15,7 @@ use Rattle.ltfs.specs.declared.values.Field.{Field}
 use Rattle.ltfs.specs.Markup.{Open, Close, Char}
 use Rattle.ltfs.specs.Tree.{Forest, none, char, element, headOf, tailOf}
 use Rattle.ltfs.specs.Index.{joined, charsOf, insides, under, valuesAt, Level, filesIn}
-use Rattle.ltfs.specs.Parts.{part, PlaceIn, tokensAt, framesAt, inside, Left, bare, ElementMet, NoElement, Begins, noChars, withByte, charsFrom, firstField, fieldFrom}
+use Rattle.ltfs.specs.Private.Parts.{part, PlaceIn, tokensAt, framesAt, inside, Left, bare, ElementMet, NoElement, Begins, noChars, withByte, charsFrom, firstField, fieldFrom}
 use Rattle.ltfs.proofs.Frames.{begins-fewer, frames-first}
 
 -- Bytes before the first element hold no element.

@@ -10,7 +10,7 @@ use Rattle.ltfs.specs.declared.tokens.Place.{Place}
 use Rattle.ltfs.specs.Markup.{Token, Char, End, after, never, further, endOf, tagEnd, declarationEnd, frontOf, isBlank, nameSize}
 use Rattle.ltfs.specs.Markup.{commentStart, commentEnd, plainStart, plainEnd, instructionStart, instructionEnd, declarationStart, endTagStart}
 use Rattle.ltfs.specs.Markup.{Piece, broken, passedTo, plainTo, tagTo, startTag, endTag, pieceOf, pieceTokens, tokenStep, tokensBehind, tokensOf}
-use Rattle.ltfs.specs.Parts.{part, PlaceIn, tokensAt}
+use Rattle.ltfs.specs.Private.Parts.{part, PlaceIn, tokensAt}
 
 -- A piece that begins a text of so many bytes, with its `<` before it: if no more tokens than bytes follow, there are no more in all.
 record Few (size : ℕ) (p : Piece) : Type 0 where

@@ -10,7 +10,7 @@ use Rattle.texts.specs.Text.{between, allOf, valueFrom, valueOf, isDigit, isNum
 use Rattle.texts.proofs.Bytes.{digit-bounds, and-true-both, value-grows}
 use Rattle.ltfs.specs.declared.values.Chars.{Chars}
 use Rattle.ltfs.specs.declared.values.Field.{Field}
-use Rattle.ltfs.specs.Parts.{noChars, withByte, charsFrom, grows, numberField, letterField}
+use Rattle.ltfs.specs.Private.Parts.{noChars, withByte, charsFrom, grows, numberField, letterField}
 
 -- What was once met stays met.
 some-from : (s : Chars) (bytes : List ℕ) → s .some ≡ true → (charsFrom s bytes) .some ≡ true

@@ -17,8 +17,8 @@ use Rattle.ltfs.specs.declared.index.Use.{Use}
 use Rattle.ltfs.specs.Tree.{Forest, none, element, headOf, tailOf, treeOf}
 use Rattle.ltfs.specs.Index.{joined, isNone, charsOf, insides, under, valuesAt, partitionName, startBlockName, byteOffsetName, byteCountName, indexName, directoryName, contentsName, extentInfoName, extentName}
 use Rattle.ltfs.specs.Index.{Level, outside, inDirectory, inContents, Role, holds, file, other, roleOf, extentsOf, filesOfRole, filesIn}
-use Rattle.ltfs.specs.Parts.{part, PlaceIn, tokensAt, framesAt, inside, Left, bare, ElementMet, NoElement, numberField, letterField, firstField, fieldFrom, withExtentBytes, extentFrom, withExtentPart, extentOf, withExtent, withExtents, fileOf}
-use Rattle.ltfs.specs.Parts.{levelAt, RoleFound, filesUnder, filesLeft, WalkIn, FileMet}
+use Rattle.ltfs.specs.Private.Parts.{part, PlaceIn, tokensAt, framesAt, inside, Left, bare, ElementMet, NoElement, numberField, letterField, firstField, fieldFrom, withExtentBytes, extentFrom, withExtentPart, extentOf, withExtent, withExtents, fileOf}
+use Rattle.ltfs.specs.Private.Parts.{levelAt, RoleFound, filesUnder, filesLeft, WalkIn, FileMet}
 use Rattle.ltfs.proofs.Bare.{Reads, insides-bare, files-bare, under-bare, values-bare, under-named, under-other, under-none, insides-named, insides-other, other-name, field-named, field-other, field-split, field-over, met-here}
 
 -- An extent by its four fields.

@@ -8,7 +8,7 @@ use lib.ListN.{length}
 use Rattle.ltfs.specs.declared.tokens.Place.{Place}
 use Rattle.ltfs.specs.Markup.{Token, Open, Close, Char, Broken}
 use Rattle.ltfs.specs.Tree.{Forest, headOf, tailOf, frame, frames}
-use Rattle.ltfs.specs.Parts.{part, NameIn, PlaceIn, tokensAt, Begins, framesAt, inside, Left, bare, ElementMet, NoElement}
+use Rattle.ltfs.specs.Private.Parts.{part, NameIn, PlaceIn, tokensAt, Begins, framesAt, inside, Left, bare, ElementMet, NoElement}
 
 -- One token fewer.
 pub begins-fewer : (text : List ℕ) (here next : Place) (token : Token) → Begins (tokensAt text here) text token next → length (tokensAt text next) < length (tokensAt text here)

@@ -9,7 +9,7 @@ use Rattle.ltfs.specs.declared.values.Field.{Field}
 use Rattle.ltfs.specs.declared.label.Label.{Label}
 use Rattle.ltfs.specs.Tree.{Forest, none, element, treeOf}
 use Rattle.ltfs.specs.Index.{charsOf, valuesAt, labelName, blockSizeName, partitionsName, dataName, blockSizes, dataPartitions}
-use Rattle.ltfs.specs.Parts.{tokensAt, framesAt, inside, bare, numberField, letterField, firstField, fieldFrom, withPartitions, withLabel, withLabelPart, labelOf}
+use Rattle.ltfs.specs.Private.Parts.{tokensAt, framesAt, inside, bare, numberField, letterField, firstField, fieldFrom, withPartitions, withLabel, withLabelPart, labelOf}
 use Rattle.ltfs.proofs.Bare.{Reads, values-bare, values-one, values-named, values-other, other-name, fields-append, field-named, field-other, field-split, field-over}
 
 -- The data partitions in a `partitions` element.

@@ -16,10 +16,10 @@ use Rattle.runs.specs.Refusals.{isRefusal, accepted, refuseIf, firstOf}
 use Rattle.runs.specs.Run.{Run, runOf}
 use Rattle.runs.specs.Judging.{judgeOf}
 use Rattle.runs.proofs.Search.{or-false-both}
-use Rattle.pages.specs.declared.Written.{Written}
+use Rattle.writers.specs.declared.Written.{Written}
 use Rattle.texts.specs.Text.{isName, isNumber, valueOf}
-use Rattle.pages.specs.Writing.{topText, sheetText, rowVerdict, writeVerdict, writtenAnswer, writtenRow}
-use Rattle.pages.proofs.Sheets.{first-row}
+use Rattle.writers.specs.Writing.{topText, sheetText, rowVerdict, writeVerdict, writtenAnswer, writtenRow}
+use Rattle.writers.proofs.Sheets.{first-row}
 use Rattle.ltfs.specs.declared.Report.{Report}
 use Rattle.ranges.specs.declared.Tally.{Tally}
 use Rattle.ltfs.specs.Tree.{Forest, isBalanced, treeOf}
@@ -27,8 +27,8 @@ use Rattle.ltfs.specs.Index.{every, some, isNone, insides, areGood, isPa
 use Rattle.ranges.specs.Ranges.{Range}
 use Rattle.ltfs.specs.Table.{inSeveral, rangesOf, inTapeOrder, areFar, someOverlap, lastEnd, runOfTable, rangesIn, tableIn, areGoodTexts, ltfsSheet, ltfsVerdict, refusedReport, ltfsReport, ltfsRow}
 use Rattle.ranges.specs.Ranges.{rangesFrom, neighbourOverlap}
-use Rattle.ltfs.specs.Parts.{isValue, valueIn, numberField, letterField, labelOf}
-use Rattle.ltfs.specs.Tallies.{RowsFit, RowsHold, EndsFit, TallyHolds, refusedBy, reportOf, tableSheet, tableVerdict, tableReport, tableRow}
+use Rattle.ltfs.specs.Private.Parts.{isValue, valueIn, numberField, letterField, labelOf}
+use Rattle.ltfs.specs.Private.Tallies.{RowsFit, RowsHold, EndsFit, TallyHolds, refusedBy, reportOf, tableSheet, tableVerdict, tableReport, tableRow}
 use Rattle.ltfs.proofs.Order.{some-kept, length-kept, tape-order-ascends, held-ranges}
 use Rattle.ltfs.proofs.Tallies.{field-good, field-value, number-form, letter-form, held-length}
 use Rattle.ltfs.proofs.Neighbours.{isVoid, isBeyond, same-overlap, none-void, ends-fit, passes}

@@ -14,7 +14,7 @@ use Rattle.texts.specs.Text.{isText}
 use Rattle.ltfs.specs.declared.tokens.Place.{Place}
 use Rattle.ltfs.specs.Markup.{Token, Open, Close, Char, Broken}
 use Rattle.ltfs.specs.Tree.{mostOpen, closesAll, isBalanced}
-use Rattle.ltfs.specs.Parts.{part, NameIn, PlaceIn, tokensAt, Begins}
+use Rattle.ltfs.specs.Private.Parts.{part, NameIn, PlaceIn, tokensAt, Begins}
 
 -- The first names of two rows, the last of them first.
 unfoldable pub names : List ℕ → List ℕ → List ℕ → ℕ → List (List ℕ)

@@ -19,7 +19,7 @@ use Rattle.ltfs.specs.Index.{every, some, isNone, byteCountOf, partition
 use Rattle.ranges.specs.Ranges.{Range, endOfRange}
 use Rattle.ltfs.specs.Table.{firstExtent, isEmptyFile, isAccepted, only, rangeOf, rangesOf, overlap, someOverlap, lastEnd, runOfTable}
 use Rattle.ranges.specs.Ranges.{rangesFrom, neighbourOverlap}
-use Rattle.ltfs.specs.Tallies.{RowsFit, RowsHold, EndsFit}
+use Rattle.ltfs.specs.Private.Tallies.{RowsFit, RowsHold, EndsFit}
 use Rattle.ltfs.specs.Promises.{ascending}
 use Rattle.ltfs.proofs.Order.{behind}
 

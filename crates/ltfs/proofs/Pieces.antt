@@ -19,7 +19,7 @@ use Rattle.ltfs.specs.declared.tokens.Opening.{Opening}
 use Rattle.ltfs.specs.Markup.{Token, Open, Close, Char, End, after, never, further, endOf, tagEnd, declarationEnd, frontOf, isBlank, nameSize}
 use Rattle.ltfs.specs.Markup.{commentStart, commentEnd, plainStart, plainEnd, instructionStart, instructionEnd, declarationStart, endTagStart}
 use Rattle.ltfs.specs.Markup.{Piece, opens, alone, closes, plain, passed, broken, passedTo, plainTo, tagTo, startTag, endTagTo, endTag, pieceOf, pieceTokens, tokensBehind, tokensOf}
-use Rattle.ltfs.specs.Parts.{part, NameIn, EndAt, EndFound, PlaceIn, placeAt, tokensAt, Begins, Passes, StepMet, PieceMet, OpeningMet, pastTo}
+use Rattle.ltfs.specs.Private.Parts.{part, NameIn, EndAt, EndFound, PlaceIn, placeAt, tokensAt, Begins, Passes, StepMet, PieceMet, OpeningMet, pastTo}
 use Rattle.ltfs.proofs.Scanning.{rest-all}
 
 -- Bytes that belong to markup already read are passed over.

@@ -14,8 +14,8 @@ use Rattle.runs.specs.Run.{Run}
 use Rattle.runs.specs.Judging.{judgeOf}
 use Rattle.runs.proofs.Verdicts.{all-accept, accepts-if}
 use Rattle.texts.specs.Text.{isName}
-use Rattle.pages.specs.Writing.{rowVerdict}
-use Rattle.pages.proofs.RoundTrip.{round-trip}
+use Rattle.writers.specs.Writing.{rowVerdict}
+use Rattle.writers.proofs.RoundTrip.{round-trip}
 use Rattle.ltfs.specs.Tree.{Forest, treeOf}
 use Rattle.ltfs.specs.Index.{some, blockSizeOf, dataPartitionOf, partitionOf, filesOf}
 use Rattle.ltfs.specs.Table.{firstExtent, inSeveral, isEmptyFile, liesElsewhere, isAccepted, howMany, only, rangeOf, rangesOf, areFar, someOverlap, runOfTable, rangesIn, tableIn, areGoodTexts, ltfsSheet, ltfsVerdict, ltfsReport}

@@ -11,7 +11,7 @@ use lib.Dec.{eqb}
 use Rattle.texts.specs.Text.{startsWith}
 use Rattle.texts.proofs.Bytes.{begun-long}
 use Rattle.ltfs.specs.Markup.{End, after, never, further, endOf, tagEnd, quoteAfter, declarationEnd, depthAfter, frontOf, beginsName, inName, nameSize}
-use Rattle.ltfs.specs.Parts.{EndAt}
+use Rattle.ltfs.specs.Private.Parts.{EndAt}
 
 pub further-none : (e : End) → further 0 e ≡ e
 further-none (after k) = ap after (omega arith)

@@ -1,8 +1,7 @@
--- What a reader of tape tables must believe, in request L1's words. Read in this order; Parts and Tallies, which only private contracts cite, can be left out.
+-- What a reader of tape tables must believe, in request L1's words. Read in this order; Private, which only private contracts cite, can be left out.
 pub mod Markup
 pub mod Tree
 pub mod Index
 pub mod Table
-pub mod Parts
-pub mod Tallies
 pub mod Promises
+pub mod Private

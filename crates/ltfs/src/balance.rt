@@ -4,7 +4,7 @@ ghost use Prim.Native.Nat.{_≤_};
 ghost use lib.ListN.{length};
 ghost use Rattle.texts.specs.Text.{isText};
 ghost use Rattle.ltfs.specs.Tree.{isBalanced};
-ghost use Rattle.ltfs.specs.Parts.{part};
+ghost use Rattle.ltfs.specs.Private.Parts.{part};
 use crate::MOST_OPEN;
 use crate::tokens::Met;
 use crate::tokens::Place;

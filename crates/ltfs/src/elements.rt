@@ -4,7 +4,7 @@ ghost use mathlib.Core.Path.{_≡_};
 ghost use Prim.Native.Nat.{_≤_};
 ghost use lib.ListN.{length};
 ghost use Rattle.texts.specs.Text.{isText};
-ghost use Rattle.ltfs.specs.Parts.{part, PlaceIn, Left, ChildMet};
+ghost use Rattle.ltfs.specs.Private.Parts.{part, PlaceIn, Left, ChildMet};
 use crate::tokens::Met;
 use crate::tokens::Place;
 use crate::tokens::next_token;

@@ -4,7 +4,7 @@ ghost use mathlib.Core.Bool.{not, _&&_};
 ghost use Prim.Native.Nat.{suc};
 ghost use Rattle.ltfs.specs.Tree.{treeOf};
 ghost use Rattle.ltfs.specs.Index.{isNone, insides, indexName, extentName, extentsOf, roleOf, inContents, inDirectory};
-ghost use Rattle.ltfs.specs.Parts.{part, PlaceIn, NameIn, Left, inside, withExtentPart, withExtentBytes, extentOf, withExtent, withExtents, fileOf, extentIsGood, levelAt, RoleFound, NextFound, WalkIn};
+ghost use Rattle.ltfs.specs.Private.Parts.{part, PlaceIn, NameIn, Left, inside, withExtentPart, withExtentBytes, extentOf, withExtent, withExtents, fileOf, extentIsGood, levelAt, RoleFound, NextFound, WalkIn};
 use crate::elements::Child;
 use crate::elements::is_named;
 use crate::elements::leave;

@@ -1,7 +1,7 @@
 // The label: block size and data partition.
 ghost use mathlib.Core.Path.{_≡_};
 ghost use Rattle.ltfs.specs.Tree.{treeOf};
-ghost use Rattle.ltfs.specs.Parts.{PlaceIn, Left, inside, part, NameIn, labelOf, withLabel, withLabelPart, withPartitions};
+ghost use Rattle.ltfs.specs.Private.Parts.{PlaceIn, Left, inside, part, NameIn, labelOf, withLabel, withLabelPart, withPartitions};
 use crate::elements::Child;
 use crate::elements::is_named;
 use crate::elements::leave;

@@ -5,7 +5,7 @@ ghost use mathlib.Core.Bool.{_&&_};
 ghost use lib.ListN.{length, drop};
 ghost use lib.Dec.{eqb};
 ghost use Rattle.ltfs.specs.Markup.{endOf, tagEnd, declarationEnd, quoteAfter, depthAfter, frontOf, isBlank, beginsName, inName, nameSize};
-ghost use Rattle.ltfs.specs.Parts.{EndFound};
+ghost use Rattle.ltfs.specs.Private.Parts.{EndFound};
 
 // The position behind what was looked for, or that it never ends.
 pub(crate) enum Ending {

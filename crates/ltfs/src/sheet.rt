@@ -7,12 +7,12 @@ ghost use lib.ListN.{take};
 ghost use Rattle.runs.specs.declared.Rule.the-variants.{Least};
 ghost use Rattle.runs.specs.Run.{runOf};
 ghost use Rattle.texts.specs.Text.{isName};
-ghost use Rattle.pages.specs.Writing.{sheetText, writeVerdict, writtenAnswer, writtenRow};
+ghost use Rattle.writers.specs.Writing.{sheetText, writeVerdict, writtenAnswer, writtenRow};
 ghost use Rattle.ltfs.specs.Tree.{treeOf};
 ghost use Rattle.ltfs.specs.Index.{filesOf};
 ghost use Rattle.ltfs.specs.Table.{lastEnd, ltfsVerdict, ltfsReport, ltfsRow};
 ghost use Rattle.ranges.specs.Ranges.{rangesFrom};
-ghost use Rattle.ltfs.specs.Tallies.{RowsFit, EndsFit, refusedBy, reportOf, tableReport, tableRow};
+ghost use Rattle.ltfs.specs.Private.Tallies.{RowsFit, EndsFit, refusedBy, reportOf, tableReport, tableRow};
 use crate::Report;
 use crate::balance::is_balanced;
 use crate::index::has_index;
@@ -20,11 +20,11 @@ use crate::label::read_label;
 use crate::table::gather;
 use crate::values::is_value;
 use crate::values::value_in;
-use pages::Written;
 use ranges::Tally;
 use ranges::neighbours_overlap;
 use runs::Refusal;
 use runs::Rule;
+use writers::Written;
 
 // The answer of a refusal: its kind, and every number 0.
 fn refused(refusal: Refusal) -> Report
@@ -59,7 +59,7 @@ fn write_table(name: &[u8], starts: &[u64], lengths: &[u64], head: u64, out: &mu
 {
     let none = [0u64; 1];
     let wants = &none[..0];
-    pages::write_sheet(
+    writers::write_sheet(
         name,
         Rule::Least,
         starts,

@@ -5,7 +5,7 @@ ghost use Prim.Native.Nat.{_+_, _-_, _≤_, _<_};
 ghost use lib.ListN.{length, drop, getD};
 ghost use lib.Dec.{ltb, eqb};
 ghost use Rattle.ltfs.specs.Markup.{startTag, endTag, plainTo, plainEnd, endOf, nameSize, pieceOf};
-ghost use Rattle.ltfs.specs.Parts.{PlaceIn, PieceMet, OpeningMet, StepMet, pastTo, placeAt, tokensAt, TokenMet};
+ghost use Rattle.ltfs.specs.Private.Parts.{PlaceIn, PieceMet, OpeningMet, StepMet, pastTo, placeAt, tokensAt, TokenMet};
 use crate::scan::Ending;
 use crate::scan::behind_blanks;
 use crate::scan::behind_name;

@@ -6,9 +6,9 @@ use native.Mathlib.Omega.{arith}
 use native.Mathlib.Numerals.{add-one}
 use lib.ListN.{length, getD}
 use Rattle.runs.specs.Run.{Stop, stopsFrom}
-use Rattle.plans.proofs.Value.{choice-first, choice-skip, choice-here, choice-not-here}
-use Rattle.plans.proofs.Walks.{leftAt, rightAt, countAt}
-use Rattle.planner.specs.Table.{Asked, RowTask, DetourFrom, rowAt, readsIn, readsFirst, worth, choiceWorth, chosen, startAt, stopEnd, LowerFits, SkipFits}
+use Rattle.least.proofs.Value.{choice-first, choice-skip, choice-here, choice-not-here}
+use Rattle.least.proofs.Walks.{leftAt, rightAt, countAt}
+use Rattle.planner.specs.Private.{Asked, RowTask, DetourFrom, rowAt, readsIn, readsFirst, worth, choiceWorth, chosen, startAt, stopEnd, LowerFits, SkipFits}
 use Rattle.planner.proofs.Sizes.{reads-more}
 use Rattle.planner.proofs.Facts.{reads-at}
 use Rattle.planner.proofs.Cells.{row-inside}

@@ -9,7 +9,7 @@ use native.Mathlib.Nat.{mul-le-mul-right}
 use lib.Arith.{digits-lt, digits-div, digits-mod}
 use lib.ListN.{getD}
 use Rattle.runs.specs.Run.{Stop}
-use Rattle.planner.specs.Table.{Kept, Apart, Holds, Beyond, rowAt, tableSize}
+use Rattle.planner.specs.Private.{Kept, Apart, Holds, Beyond, rowAt, tableSize}
 
 -- The rows stand in the order of a * k + b, and no two at one place.
 same-row : (k a b a′ b′ : ℕ) → b < k → b′ < k → a * k + b ≡ a′ * k + b′ → (a ≡ a′) × (b ≡ b′)

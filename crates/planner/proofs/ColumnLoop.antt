@@ -9,9 +9,9 @@ use native.Mathlib.Numerals.{add-one}
 use native.Mathlib.Nat.{mul-le-mul-right}
 use lib.ListN.{length, getD}
 use Rattle.runs.specs.Run.{Stop, stopsFrom}
-use Rattle.plans.proofs.Value.{value-none}
-use Rattle.plans.proofs.Walks.{leftAt, rightAt, countAt}
-use Rattle.planner.specs.Table.{Judged, Written, RowTask, ColumnTask, DoneUpTo, Filled, Holds, Columns, Done, Beyond, rowAt, tableSize, readsIn, readsFirst, worth}
+use Rattle.least.proofs.Value.{value-none}
+use Rattle.least.proofs.Walks.{leftAt, rightAt, countAt}
+use Rattle.planner.specs.Private.{Judged, Written, RowTask, ColumnTask, DoneUpTo, Filled, Holds, Columns, Done, Beyond, rowAt, tableSize, readsIn, readsFirst, worth}
 use Rattle.planner.proofs.Sizes.{reads-none, reads-more}
 use Rattle.planner.proofs.Facts.{reads-at, reads-up-to}
 use Rattle.planner.proofs.Cells.{row-inside, row-kept, holds-kept, beyond-kept, beyond-on, beyond-none}

@@ -7,7 +7,7 @@ use Rattle.runs.specs.Refusals.{isRefusal}
 use Rattle.runs.specs.Run.{Run, stopsOf}
 use Rattle.runs.specs.Lists.{Detour}
 use Rattle.walk.specs.Price.{pricedAnswer}
-use Rattle.plans.proofs.LeastList.{least-unique}
+use Rattle.least.proofs.LeastList.{least-unique}
 use Rattle.runs.specs.declared.Rule.{Rule}
 use Rattle.runs.specs.declared.Rule.the-variants.{Sweep, Least}
 use Rattle.planner.specs.Plan.{Rows, Plans, Planned, Refused, ByRule, planVerdict, rowsWith}

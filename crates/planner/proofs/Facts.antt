@@ -14,9 +14,9 @@ use Rattle.runs.proofs.Judged.{GoodRun, accepted-run}
 use Rattle.runs.proofs.Table.{table-file, end-before-start}
 use Rattle.walk.proofs.Walks.{numbers-rise}
 use Rattle.walk.proofs.Filling as filling
-use Rattle.plans.proofs.Sums.{W-zero, W-suc}
-use Rattle.plans.proofs.Walks.{fileAt, leftAt, rightAt, countAt}
-use Rattle.planner.specs.Table.{Judged, IsStop, TripFits, EarlyFits, RowFits, rowAt, startAt, stopEnd, readsIn, readsFirst}
+use Rattle.least.proofs.Sums.{W-zero, W-suc}
+use Rattle.least.proofs.Walks.{fileAt, leftAt, rightAt, countAt}
+use Rattle.planner.specs.Private.{Judged, IsStop, TripFits, EarlyFits, RowFits, rowAt, startAt, stopEnd, readsIn, readsFirst}
 use Rattle.planner.proofs.Sizes.{row-small, reads-none, reads-more, reads-within}
 
 module _ (starts lengths numbers counts : List ℕ) (turn reads : ℕ) (j : Judged starts lengths numbers counts turn reads) where

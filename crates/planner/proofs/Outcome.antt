@@ -19,11 +19,11 @@ use Rattle.runs.proofs.Verdicts.{refuses}
 use Rattle.runs.proofs.Entries.{length-list}
 use Rattle.runs.proofs.Judged.{accepted-run}
 use Rattle.walk.proofs.Laws.{accepted-sound}
-use Rattle.plans.proofs.LeastList.{leastList, least-list-none, least-list-some, least-list}
+use Rattle.least.proofs.LeastList.{leastList, least-list-none, least-list-some, least-list}
 use Rattle.runs.specs.declared.Rule.{Rule}
 use Rattle.runs.specs.declared.Rule.the-variants.{Sweep, Least}
 use Rattle.planner.specs.Plan.{ByRule, Planned, rowsOf, roomSize}
-use Rattle.planner.specs.Table.{Judged, Written, Beyond, ListWritten, listAt, ruleList, tableSize}
+use Rattle.planner.specs.Private.{Judged, Written, Beyond, ListWritten, listAt, ruleList, tableSize}
 use Rattle.planner.proofs.Facts.{stops-length}
 
 -- Nothing is written.

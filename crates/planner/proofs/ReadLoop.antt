@@ -9,9 +9,9 @@ use lib.Seq.{getD-set-same, drop-set-lt, drop-drop, length-take-le}
 use Rattle.runs.specs.Run.{Stop, stopsFrom}
 use Rattle.runs.specs.Lists.{Detour, listOf}
 use Rattle.runs.proofs.Entries.{length-list}
-use Rattle.plans.proofs.Value.{choice-first}
-use Rattle.plans.proofs.Walks.{fileAt, leftAt, rightAt, countAt}
-use Rattle.planner.specs.Table.{Judged, Filled, Asked, ListWritten, readsIn, chosen, listAt}
+use Rattle.least.proofs.Value.{choice-first}
+use Rattle.least.proofs.Walks.{fileAt, leftAt, rightAt, countAt}
+use Rattle.planner.specs.Private.{Judged, Filled, Asked, ListWritten, readsIn, chosen, listAt}
 use Rattle.planner.proofs.Sizes.{reads-more, reads-rise}
 use Rattle.planner.proofs.Facts.{count-at, file-at, reads-up-to, few-stops, few-reads}
 use Rattle.planner.proofs.Stack.{list-set, list-none, list-skip, list-detour, list-few, owed, owed-kept, owed-none, owed-top, Stacked, stacked-kept, depth-below, TopFrame, top-frame}

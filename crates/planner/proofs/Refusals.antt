@@ -18,7 +18,7 @@ use Rattle.runs.proofs.Search.{or-false-both}
 use Rattle.runs.proofs.Verdicts.{refuses, first-refuses, first-passes, test-says}
 use Rattle.runs.specs.declared.Rule.{Rule}
 use Rattle.planner.specs.Plan.{Rows, Plans, Planned, planVerdict, shortRows, roomSize}
-use Rattle.planner.specs.Table.{LongRows, tableSize, rowsVerdict}
+use Rattle.planner.specs.Private.{LongRows, tableSize, rowsVerdict}
 
 one-more : (k n : ℕ) → k - 1 ≤ n → k ≤ n + 1
 one-more k n h = omega arith

@@ -8,8 +8,8 @@ use mathlib.Core.List.{List, [], _∷_}
 use lib.ListN.{length, getD, drop}
 use Rattle.runs.specs.Run.{lastPlace, mostReads, total}
 use Rattle.runs.proofs.Accepted.{total-drop, total-end}
-use Rattle.plans.proofs.Sums.{W-zero, W-suc, W-rises}
-use Rattle.planner.specs.Table.{RowFits, readsIn}
+use Rattle.least.proofs.Sums.{W-zero, W-suc, W-rises}
+use Rattle.planner.specs.Private.{RowFits, readsIn}
 
 drop-none : (xs : List ℕ) → drop 0 xs ≡ xs
 drop-none [] = refl

@@ -8,10 +8,10 @@ use lib.ListN.{length, getD, set, take, length-append}
 use lib.Seq.{getD-set-other, take-suc-set, length-take-le}
 use Rattle.runs.specs.Run.{Stop}
 use Rattle.runs.specs.Lists.{Detour, listOf}
-use Rattle.plans.proofs.Plan.{Plan, empty, skip, detour, Over, listed}
-use Rattle.plans.proofs.Best.{best, best-none, best-skip, best-detour, best-over}
-use Rattle.plans.proofs.Walks.{fileAt, leftAt, rightAt, countAt}
-use Rattle.planner.specs.Table.{readsIn, chosen, listAt}
+use Rattle.least.proofs.Plan.{Plan, empty, skip, detour, Over, listed}
+use Rattle.least.proofs.Best.{best, best-none, best-skip, best-detour, best-over}
+use Rattle.least.proofs.Walks.{fileAt, leftAt, rightAt, countAt}
+use Rattle.planner.specs.Private.{readsIn, chosen, listAt}
 
 -- A plan over (a, b] lists at most b - a detours.
 listed-few : (F : ℕ → ℕ) (p : Plan) (a b : ℕ) → Over p a b → length (listed F p b) ≤ b - a

@@ -7,8 +7,8 @@ use native.Mathlib.Omega.{arith}
 use native.Mathlib.Decide.{decLt}
 use lib.ListN.{length, getD, set, length-set}
 use lib.Seq.{getD-set-same, getD-set-other}
-use Rattle.plans.proofs.Scan.{lower}
-use Rattle.planner.specs.Table.{Kept, Written, Apart, SkipFits, LowerFits, lowered}
+use Rattle.least.proofs.Scan.{lower}
+use Rattle.planner.specs.Private.{Kept, Written, Apart, SkipFits, LowerFits, lowered}
 
 pub kept-none : (at : ℕ) (xs : List ℕ) → Kept at 0 xs xs
 kept-none at xs = record { same = refl; below = λ i h. refl; above = λ i h. refl }

@@ -1,3 +1,3 @@
--- What a reader of the planner must believe stands in Plan; Table is for the contracts of private functions.
+-- What a reader of the planner must believe stands in Plan; Private is for the contracts of private functions.
 pub mod Plan
-pub mod Table
+pub mod Private

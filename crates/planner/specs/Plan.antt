@@ -13,7 +13,7 @@ use Rattle.runs.specs.Run.{Run, stopsOf, total}
 use Rattle.runs.specs.Judging.{judgeOf}
 use Rattle.runs.specs.Lists.{Detour}
 use Rattle.walk.specs.Price.{refusalAnswer, pricedAnswer, pricedTimes}
-use Rattle.plans.specs.Least.{LeastFor}
+use Rattle.least.specs.Least.{LeastFor}
 use Rattle.runs.specs.declared.Rule.{Rule}
 use Rattle.runs.specs.declared.Rule.the-variants.{Sweep, Least}
 

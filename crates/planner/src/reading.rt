@@ -3,7 +3,7 @@ ghost use mathlib.Core.Path.{_≡_};
 ghost use Prim.Native.Nat.{suc, _+_, _-_, _≤_, _<_};
 ghost use lib.ListN.{length};
 ghost use Rattle.runs.specs.Run.{stopsFrom};
-ghost use Rattle.planner.specs.Table.{Asked, DetourFrom, Filled, ListWritten, worth, choiceWorth, chosen, listAt};
+ghost use Rattle.planner.specs.Private.{Asked, DetourFrom, Filled, ListWritten, worth, choiceWorth, chosen, listAt};
 use crate::stops::early_of;
 use crate::stops::reads_before;
 use crate::stops::row;

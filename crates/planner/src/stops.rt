@@ -3,7 +3,7 @@ ghost use mathlib.Core.Path.{_≡_};
 ghost use Prim.Native.Nat.{_+_, _-_, _*_, _≤_, _<_};
 ghost use lib.ListN.{length, getD};
 ghost use Rattle.runs.specs.Run.{total, mostReads};
-ghost use Rattle.planner.specs.Table.{startAt, stopEnd, IsStop, TripFits, EarlyFits, RowFits, rowAt, readsIn};
+ghost use Rattle.planner.specs.Private.{startAt, stopEnd, IsStop, TripFits, EarlyFits, RowFits, rowAt, readsIn};
 
 // Where a stop starts.
 fn start_of(starts: &[u64], numbers: &[u64], i: usize) -> u64

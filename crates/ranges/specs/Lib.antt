@@ -1,3 +1,3 @@
--- What a reader of the ranges must believe; and Parts, which only private contracts cite.
+-- What a reader of the ranges must believe; and Private, which only private contracts cite.
 pub mod Ranges
-pub mod Parts
+pub mod Private

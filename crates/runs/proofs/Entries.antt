@@ -13,7 +13,7 @@ use Rattle.runs.specs.declared.Verdict.{Verdict}
 use Rattle.runs.specs.Refusals.{firstWhere}
 use Rattle.runs.specs.Run.{stopsFrom}
 use Rattle.runs.specs.Lists.{listOf, wanted, leftmost, badAfter, badEntry, anyBelow, entryOf, firstBadEntry, listVerdict}
-use Rattle.runs.specs.Rows.{listed, rowEntry, rowAlone, rowClash, rowBad}
+use Rattle.runs.specs.Private.{listed, rowEntry, rowAlone, rowClash, rowBad}
 use Rattle.runs.proofs.Search.{first-same, any-same, first-more, first-here, any-none, any-more, any-here, any-done}
 
 -- Looking for a number in a row: what is left to look at decides.

@@ -11,7 +11,7 @@ use Rattle.runs.specs.declared.Verdict.{Verdict}
 use Rattle.runs.specs.Refusals.{isRefusal, firstOf}
 use Rattle.runs.specs.Run.{Run, runOf, stopsOf, rightEnd, total, mostFiles, mostWants, mostReads, lastPlace, highestTurn}
 use Rattle.runs.specs.Judging.{badWant, tableChecks, wantsChecks, headChecks, judgeOf}
-use Rattle.runs.specs.Rows.{SoundTable, InTable}
+use Rattle.runs.specs.Private.{SoundTable, InTable}
 use Rattle.runs.proofs.Search.{first-zero, or-false-both}
 use Rattle.runs.proofs.Verdicts.{refuses, first-refuses, first-passes, first-alone, all-accept, accepts-if, accepts-at}
 use Rattle.runs.proofs.Accepted.{GoodWant, good-want}

@@ -8,7 +8,7 @@ use native.Mathlib.Nat.{eq-or-lt-of-le}
 use lib.ListN.{length, getD}
 use Rattle.runs.specs.Run.{stopsFrom, endAt, rightEnd}
 use Rattle.runs.specs.Judging.{badFile}
-use Rattle.runs.specs.Rows.{SoundTable, InTable}
+use Rattle.runs.specs.Private.{SoundTable, InTable}
 use Rattle.runs.proofs.Search.{first-zero}
 use Rattle.runs.proofs.Accepted.{GoodFile, good-file}
 

@@ -3,4 +3,4 @@ pub mod Refusals
 pub mod Run
 pub mod Judging
 pub mod Lists
-pub mod Rows
+pub mod Private

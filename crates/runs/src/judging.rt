@@ -7,7 +7,7 @@ ghost use lib.ListN.{length, getD};
 ghost use lib.Dec.{eqb, ltb, leb};
 ghost use Rattle.runs.specs.Refusals.{firstWhere, firstOf};
 ghost use Rattle.runs.specs.Run.{runOf, total, lastPlace, mostReads, rightEnd, stopsFrom};
-ghost use Rattle.runs.specs.Rows.{SoundTable, InTable};
+ghost use Rattle.runs.specs.Private.{SoundTable, InTable};
 ghost use Rattle.runs.specs.Judging.{badFile, badWant, tableChecks, wantsChecks, headChecks, judgeOf};
 use crate::HIGHEST_TURN;
 use crate::LAST_PLACE;

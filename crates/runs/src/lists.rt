@@ -6,7 +6,7 @@ ghost use lib.ListN.{length};
 ghost use Rattle.runs.specs.Refusals.{firstWhere};
 ghost use Rattle.runs.specs.Run.{stopsFrom};
 ghost use Rattle.runs.specs.Lists.{badAfter, listVerdict};
-ghost use Rattle.runs.specs.Rows.{listed, rowAlone, rowClash, rowBad};
+ghost use Rattle.runs.specs.Private.{listed, rowAlone, rowClash, rowBad};
 use crate::Refusal;
 use crate::Verdict;
 

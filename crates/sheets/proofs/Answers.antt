@@ -16,7 +16,7 @@ use Rattle.sheets.specs.declared.reader.Top.{Top}
 use Rattle.sheets.specs.Lines.{fileKey, wantKey, lineAfter, firstIn, secondIn, afterLines}
 use Rattle.sheets.specs.Sheet.{filesOf, wantsOf, fileText, wantText, eachOf, runIn, nameIn}
 use Rattle.sheets.specs.Reading.{readVerdict, refusedReading, readAnswer, readRow, readName, readFrom, placeOn, shortPairRows}
-use Rattle.sheets.specs.Parts.{LaidOut, LaidRefused, PairsReady, leftRow, rightRow}
+use Rattle.sheets.specs.Private.{LaidOut, LaidRefused, PairsReady, leftRow, rightRow}
 use Rattle.sheets.proofs.Rows.{length-each}
 
 -- A refusal: the answer is the refusal's, and every row stays.

@@ -24,7 +24,7 @@ use Rattle.texts.specs.Text.{lineFeed, behind, isEmpty}
 use Rattle.sheets.specs.Lines.{lineOf, afterLines, lineAfter, headKey, filesKey, fileKey, wantsKey, wantKey, isTapeLine, isNumberLine, numberIn, isCountLine, isTurnLine, turnIn, isRuleLine, ruleIn}
 use Rattle.sheets.specs.Sheet.{longestSheet, mostSheetFiles, headOf, turnOf, ruleOf, filesOf, fileText, wantsText, wantsOf, wantText, endText, shifted, firstSome, firstBadPair, firstBadTop, firstBadBelow, firstBadLine}
 use Rattle.sheets.specs.Reading.{sheetVerdict}
-use Rattle.sheets.specs.Parts.{Passed, NamePart, NameLineFound, NumberLineFound, RuleLineFound, PairsPassed, PairBad, TopIs, TopBad, TopFound, FilesAt, WantsAt, BelowIs, BelowBad, BelowFound, LaidOut, LaidRefused, LaidFound}
+use Rattle.sheets.specs.Private.{Passed, NamePart, NameLineFound, NumberLineFound, RuleLineFound, PairsPassed, PairBad, TopIs, TopBad, TopFound, FilesAt, WantsAt, BelowIs, BelowBad, BelowFound, LaidOut, LaidRefused, LaidFound}
 use Rattle.texts.proofs.Bytes.{and-true-both}
 
 -- So many lines passed, and what is left stands at a position.

@@ -23,7 +23,7 @@ use Rattle.texts.specs.Text.{lineFeed, comma, isEmpty, has, behind, startsWith,
 use Rattle.sheets.specs.Lines.{lineOf, afterLines, lineAfter, tapeKey, turnKey, ruleKey, leastText, sweepText, valueText, isTapeLine, isNumberLine, numberIn, isCountLine, emptyTurn, isTurnLine, turnIn, isRuleLine, ruleIn, isPair, isPairLine}
 use Rattle.sheets.specs.Sheet.{firstBadPair}
 use Rattle.texts.specs.Found.{FirstAt, FoundIn, NumberIs, NumberFound}
-use Rattle.sheets.specs.Parts.{ValueAt, ValueFound, Passed, NamePart, NumberLineFound, PairIs, PairFound, PairAt, PairLineFound, PairsPassed, PairBad, PairLinesFound}
+use Rattle.sheets.specs.Private.{ValueAt, ValueFound, Passed, NamePart, NumberLineFound, PairIs, PairFound, PairAt, PairLineFound, PairsPassed, PairBad, PairLinesFound}
 use Rattle.texts.proofs.Bytes.{not-empty, short-text, begun-long}
 
 -- The end of a part is a part of the end.

@@ -12,7 +12,7 @@ use Rattle.runs.proofs.Search.{first-zero}
 use Rattle.sheets.specs.declared.lines.PairLine.{PairLine}
 use Rattle.sheets.specs.Lines.{lineOf, afterLines, lineAfter, isPairLine, firstIn, secondIn}
 use Rattle.sheets.specs.Sheet.{firstBadPair, eachOf}
-use Rattle.sheets.specs.Parts.{PairAt, PairLineFound, PairsReady, leftRow, rightRow}
+use Rattle.sheets.specs.Private.{PairAt, PairLineFound, PairsReady, leftRow, rightRow}
 
 pub length-each : (value : ℕ → ℕ) (n : ℕ) → length (eachOf value n) ≡ n
 unfolding eachOf

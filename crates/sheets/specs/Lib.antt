@@ -2,4 +2,4 @@
 pub mod Lines
 pub mod Sheet
 pub mod Reading
-pub mod Parts
+pub mod Private

@@ -2,7 +2,7 @@
 ghost use Prim.Native.Nat.{_≤_, _<_};
 ghost use lib.ListN.{length};
 ghost use Rattle.sheets.specs.Lines.{isNumberLine, numberIn, isCountLine, isTurnLine, turnIn};
-ghost use Rattle.sheets.specs.Parts.{ValueFound, NameLineFound, NumberLineFound, RuleLineFound, PairFound, PairLineFound, PairLinesFound};
+ghost use Rattle.sheets.specs.Private.{ValueFound, NameLineFound, NumberLineFound, RuleLineFound, PairFound, PairLineFound, PairLinesFound};
 use crate::EMPTY_TURN;
 use runs::Rule;
 use texts::Found;

@@ -4,7 +4,7 @@ ghost use mathlib.Core.Bool.{not};
 ghost use lib.ListN.{drop};
 ghost use Rattle.sheets.specs.Sheet.{runIn};
 ghost use Rattle.sheets.specs.Reading.{shortPairRows, readVerdict, refusedReading, readAnswer, readRow, readName, readFrom, placeOn};
-ghost use Rattle.sheets.specs.Parts.{TopFound, FilesAt, WantsAt, BelowFound, LaidFound, PairsReady, leftRow, rightRow};
+ghost use Rattle.sheets.specs.Private.{TopFound, FilesAt, WantsAt, BelowFound, LaidFound, PairsReady, leftRow, rightRow};
 use crate::LONGEST_SHEET;
 use crate::MOST_SHEET_FILES;
 use crate::Reading;

@@ -13,7 +13,7 @@ use Rattle.walk.specs.declared.Head.{Head}
 use Rattle.walk.specs.declared.Leg.{Leg}
 use Rattle.runs.specs.Run.{Stop, stopOf, stopsFrom, total, mostReads, lastPlace, highestTurn}
 use Rattle.walk.specs.Walk.{headAt, setOff, afterLeg, Moves, walked, reads, timeOf, timesOf, sumOf}
-use Rattle.walk.specs.Rows.{legAt, Walkable}
+use Rattle.walk.specs.Private.{legAt, Walkable}
 use Rattle.runs.proofs.Search.{true-or-false}
 use Rattle.runs.proofs.Accepted.{total-drop}
 use Rattle.walk.proofs.Steps.{set-off-clock, read-inside}

@@ -15,8 +15,8 @@ use Rattle.walk.specs.Walk.{headAt, reads, served, ServesAll, timeOf, su
 use Rattle.runs.specs.Lists.{Detour, listOf, listVerdict}
 use Rattle.walk.specs.Detours.{legOf, lastSweep, legsOf}
 use Rattle.walk.specs.Price.{pricedAnswer}
-use Rattle.runs.specs.Rows.{InTable}
-use Rattle.walk.specs.Rows.{rowLegs, Walkable}
+use Rattle.runs.specs.Private.{InTable}
+use Rattle.walk.specs.Private.{rowLegs, Walkable}
 use Rattle.runs.proofs.Verdicts.{refuses}
 use Rattle.walk.proofs.Sound.{Sound, stopAt}
 use Rattle.runs.proofs.Judged.{GoodRun, accepted-run}

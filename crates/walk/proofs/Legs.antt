@@ -12,7 +12,7 @@ use Rattle.walk.specs.declared.Head.{Head}
 use Rattle.walk.specs.declared.Leg.{Leg}
 use Rattle.runs.specs.Run.{Stop, endAt, lastPlace}
 use Rattle.walk.specs.Walk.{headAt, runRight, setOff, afterLeg, Moves, walked, timeOf}
-use Rattle.walk.specs.Rows.{detourLegs, sweepLegs, rowLegs, legAt, Walkable}
+use Rattle.walk.specs.Private.{detourLegs, sweepLegs, rowLegs, legAt, Walkable}
 use Rattle.walk.proofs.Steps.{ready-place, set-off-clock, read-inside}
 
 module _ (starts lengths : List ℕ) where

@@ -17,7 +17,7 @@ use Rattle.runs.specs.Run.{Run, stopsOf, rightEnd, total, mostFiles, mostWants,
 use Rattle.runs.specs.Judging.{badFile, badWant, tableChecks, wantsChecks, headChecks, judgeOf}
 use Rattle.runs.specs.Lists.{listOf, listVerdict, firstBadEntry}
 use Rattle.walk.specs.Price.{priceVerdict}
-use Rattle.runs.specs.Rows.{rowBad}
+use Rattle.runs.specs.Private.{rowBad}
 use Rattle.runs.proofs.Search.{true-or-false, or-false-both, first-within, first-before}
 use Rattle.runs.proofs.Verdicts.{refuses, accepts-if}
 use Rattle.runs.proofs.Judged.{GoodRun, accepted-run}

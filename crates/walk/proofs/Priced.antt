@@ -16,7 +16,7 @@ use Rattle.runs.specs.Judging.{judgeOf}
 use Rattle.walk.specs.Walk.{headAt, walked, timesOf, sumOf}
 use Rattle.runs.specs.Lists.{listVerdict}
 use Rattle.walk.specs.Price.{refusalAnswer, pricedAnswer, pricedTimes, priceVerdict, priceAnswer, priceRow}
-use Rattle.walk.specs.Rows.{rowLegs}
+use Rattle.walk.specs.Private.{rowLegs}
 use Rattle.runs.proofs.Verdicts.{refuses, first-refuses, first-passes, none-refuses, test-says}
 use Rattle.runs.proofs.Judged.{GoodRun, accepted-run}
 use Rattle.runs.proofs.Entries.{length-list}

@@ -17,8 +17,8 @@ use Rattle.runs.specs.Run.{Run, stopsFrom, stopsOf, rightEnd, endAt, lastPlace,
 use Rattle.walk.specs.Walk.{Moves}
 use Rattle.runs.specs.Lists.{Detour, listOf, badAfter, firstBadEntry, listVerdict}
 use Rattle.walk.specs.Detours.{startOf, endOf, legOf, lastSweep, legsOf}
-use Rattle.runs.specs.Rows.{InTable, listed, rowEntry, rowBad}
-use Rattle.walk.specs.Rows.{detourLegs, sweepLegs, rowLegs, legAt, RowsFit, Walkable}
+use Rattle.runs.specs.Private.{InTable, listed, rowEntry, rowBad}
+use Rattle.walk.specs.Private.{detourLegs, sweepLegs, rowLegs, legAt, RowsFit, Walkable}
 use Rattle.runs.proofs.Search.{first-zero, any-zero, or-false-both, true-or-false}
 use Rattle.runs.proofs.Verdicts.{refuses, all-accept, accepts-if, accepts-at}
 use Rattle.runs.proofs.Judged.{GoodWants, GoodRun}

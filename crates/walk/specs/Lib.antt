@@ -2,4 +2,4 @@
 pub mod Walk
 pub mod Detours
 pub mod Price
-pub mod Rows
+pub mod Private

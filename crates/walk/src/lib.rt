@@ -1,5 +1,5 @@
 // walk: the head and its walk, the legs of detour lists and their price.
-// For the planner, the pages and the C boundary, which see only these contracts. What the words mean stands in specs/;
+// For the planner, the writers and the C boundary, which see only these contracts. What the words mean stands in specs/;
 // each public function answers every input, and its contract is an equation with a definition there.
 ghost use mathlib.Core.Path.{_≡_};
 ghost use Prim.Native.Nat.{_+_, _≤_, _<_, _^_};

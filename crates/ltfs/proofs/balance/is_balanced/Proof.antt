@@ -3,7 +3,7 @@
 use mathlib.Core.Path.{refl, sym, _∙_}
 use lib.ListN.{length}
 use borrow.Author.Tests.{not-true, not-false}
-use Rattle.ltfs.specs.Parts.{tokensAt}
+use Rattle.ltfs.specs.Private.Parts.{tokensAt}
 use Rattle.ltfs.proofs.Frames.{begins-fewer}
 use Rattle.ltfs.proofs.Names.{Balancing, balancing-none, balance-end, balance-broken, balance-byte, balance-full, balance-open, balance-outside, balance-name, balance-other, balance-close}
 use borrow.Author.Needs.{needs}

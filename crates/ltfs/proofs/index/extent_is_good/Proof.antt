@@ -2,7 +2,7 @@
 -- Assumes nothing.
 use mathlib.Core.Path.{sym, _∙_}
 use borrow.Author.Tests.{not-true, not-false}
-use Rattle.ltfs.specs.Parts.{extentIsGood}
+use Rattle.ltfs.specs.Private.Parts.{extentIsGood}
 use borrow.Author.Needs.{needs}
 use Rattle.ltfs.proofs.index.extent_is_good.Statement.{statement}
 use Rattle.ltfs.proofs.index.extent_is_good.Tie as tie

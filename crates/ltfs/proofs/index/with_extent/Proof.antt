@@ -1,6 +1,6 @@
 -- `ltfs::index::with_extent` meets its contract.
 -- Assumes nothing.
-use Rattle.ltfs.specs.Parts.{withExtent}
+use Rattle.ltfs.specs.Private.Parts.{withExtent}
 use borrow.Author.Needs.{needs}
 use Rattle.ltfs.proofs.index.with_extent.Statement.{statement}
 use Rattle.ltfs.proofs.index.with_extent.Tie as tie

@@ -1,7 +1,7 @@
 -- `ltfs::sheet::report_of` meets its contract.
 -- Assumes nothing.
 use borrow.Author.Tests.{eq-eqb, ne-eqb}
-use Rattle.ltfs.specs.Tallies.{reportOf}
+use Rattle.ltfs.specs.Private.Tallies.{reportOf}
 use borrow.Author.Needs.{needs}
 use Rattle.ltfs.proofs.sheet.report_of.Statement.{statement}
 use Rattle.ltfs.proofs.sheet.report_of.Tie as tie

@@ -3,7 +3,7 @@
 use mathlib.Core.Path.{refl, _∙_}
 use Prim.Native.Nat.{_-_}
 use lib.ListN.{length}
-use Rattle.ltfs.specs.Parts.{placeAt}
+use Rattle.ltfs.specs.Private.Parts.{placeAt}
 use Rattle.ltfs.proofs.Pieces.{Onward, onward-more, onward-less, onward-begins}
 use borrow.Author.Needs.{needs}
 use Rattle.ltfs.proofs.tokens.next_token.Statement.{statement}

@@ -1,7 +1,7 @@
 -- `ltfs::tokens::past` meets its contract.
 -- Assumes nothing.
 use mathlib.Core.Path.{sym, ap}
-use Rattle.ltfs.specs.Parts.{pastTo}
+use Rattle.ltfs.specs.Private.Parts.{pastTo}
 use borrow.Author.Needs.{needs}
 use Rattle.ltfs.proofs.tokens.past.Statement.{statement}
 use Rattle.ltfs.proofs.tokens.past.Tie as tie

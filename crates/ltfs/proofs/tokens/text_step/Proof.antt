@@ -1,7 +1,7 @@
 -- `ltfs::tokens::text_step` meets its contract.
 -- Assumes nothing.
 use Rattle.ltfs.proofs.Pieces.{tokens-end, tokens-byte, tokens-markup}
-use Rattle.ltfs.specs.Parts.{tokensAt}
+use Rattle.ltfs.specs.Private.Parts.{tokensAt}
 use borrow.Author.Needs.{needs}
 use Rattle.ltfs.proofs.tokens.text_step.Statement.{statement}
 use Rattle.ltfs.proofs.tokens.text_step.Tie as tie

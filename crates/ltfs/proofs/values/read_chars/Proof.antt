@@ -1,7 +1,7 @@
 -- `ltfs::values::read_chars` meets its contract: the bytes left make, with what is known, what all make.
 -- Assumes nothing.
 use lib.ListN.{length}
-use Rattle.ltfs.specs.Parts.{tokensAt}
+use Rattle.ltfs.specs.Private.Parts.{tokensAt}
 use Rattle.ltfs.proofs.Bare.{CharsLeft, chars-none, chars-byte, chars-start, chars-over, chars-finish}
 use Rattle.ltfs.proofs.Frames.{begins-fewer, frames-none, frames-broken}
 use borrow.Author.Needs.{needs}

@@ -1,6 +1,6 @@
 -- `ltfs::values::with_byte` meets its contract.
 -- Assumes nothing.
-use Rattle.ltfs.specs.Parts.{withByte}
+use Rattle.ltfs.specs.Private.Parts.{withByte}
 use borrow.Author.Needs.{needs}
 use Rattle.ltfs.proofs.values.with_byte.Statement.{statement}
 use Rattle.ltfs.proofs.values.with_byte.Tie as tie

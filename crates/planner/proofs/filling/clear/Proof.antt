@@ -4,7 +4,7 @@ use borrow.Author.Needs.{needs}
 use mathlib.Core.Path.{refl}
 use Prim.Native.Nat.{_-_, _≤_}
 use native.Mathlib.Omega.{arith}
-use Rattle.planner.specs.Table.{Written}
+use Rattle.planner.specs.Private.{Written}
 use Rattle.planner.proofs.Words.{written-none, written-more, written-all}
 use Rattle.planner.proofs.filling.clear.Statement.{statement}
 use Rattle.planner.proofs.filling.clear.Tie as tie

@@ -3,7 +3,7 @@ use borrow.Author.Needs.{needs}
 use mathlib.Core.Path.{_≡_}
 use Prim.Native.Nat.{_+_, _-_, _*_, _≤_}
 use native.Mathlib.Omega.{arith}
-use Rattle.planner.specs.Table.{Written, lowered}
+use Rattle.planner.specs.Private.{Written, lowered}
 use Rattle.planner.proofs.Words.{written-none, sum-here, row-lowered, written-all}
 use Rattle.planner.proofs.filling.lower_row.Statement.{statement}
 use Rattle.planner.proofs.filling.lower_row.Tie as tie

@@ -2,7 +2,7 @@ use borrow.Author.Needs.{needs}
 use Prim.Native.Nat.{_+_, _-_, _≤_}
 use native.Mathlib.Omega.{arith}
 use lib.ListN.{getD}
-use Rattle.planner.specs.Table.{Written}
+use Rattle.planner.specs.Private.{Written}
 use Rattle.planner.proofs.Words.{written-none, word-from, row-skipped, written-all}
 use Rattle.planner.proofs.filling.skip_row.Statement.{statement}
 use Rattle.planner.proofs.filling.skip_row.Tie as tie

@@ -1,7 +1,7 @@
 -- `planner::planning::judge_rows` meets its contract: the rows before the room.
 -- Assumes nothing.
 use borrow.Author.Needs.{needs}
-use Rattle.planner.specs.Table.{rowsVerdict}
+use Rattle.planner.specs.Private.{rowsVerdict}
 use Rattle.planner.proofs.planning.judge_rows.Statement.{statement}
 use Rattle.planner.proofs.planning.judge_rows.Tie as tie
 

@@ -2,7 +2,7 @@ use borrow.Author.Needs.{needs}
 use mathlib.Core.Path.{_≡_, sym, ap, _∙_}
 use Prim.Native.Nat.{_+_, _-_, _≤_}
 use native.Mathlib.Omega.{arith}
-use Rattle.planner.specs.Table.{readsIn}
+use Rattle.planner.specs.Private.{readsIn}
 use Rattle.planner.proofs.Sizes.{reads-none, reads-more, reads-within}
 use Rattle.planner.proofs.stops.reads_before.Statement.{statement}
 use Rattle.planner.proofs.stops.reads_before.Tie as tie

@@ -3,7 +3,7 @@
 use Prim.Native.Nat.{_-_}
 use native.Mathlib.Omega.{arith}
 use lib.ListN.{length, getD}
-use Rattle.runs.specs.Rows.{InTable}
+use Rattle.runs.specs.Private.{InTable}
 use Rattle.runs.proofs.Table.{named-file, right-end-empty, right-end-row}
 use borrow.Author.Needs.{needs}
 use Rattle.runs.proofs.judging.right_end.Statement.{statement}

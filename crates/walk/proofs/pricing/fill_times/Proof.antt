@@ -6,7 +6,7 @@ use borrow.Author.Needs.{needs}
 use Prim.Native.Nat.{_-_}
 use lib.ListN.{length}
 use Rattle.runs.specs.Run.{stopsFrom}
-use Rattle.walk.specs.Rows.{rowLegs}
+use Rattle.walk.specs.Private.{rowLegs}
 use Rattle.walk.proofs.Filling.{Filling}
 use Rattle.walk.proofs.pricing.fill_times.Statement.{statement}
 use Rattle.walk.proofs.pricing.fill_times.Tie as tie

@@ -7,7 +7,7 @@ use mathlib.Core.Bool.{_&&_}
 use native.Mathlib.Omega.{arith}
 use lib.Dec.{leb}
 use Rattle.runs.specs.Run.{stopOf}
-use Rattle.walk.specs.Rows.{rowLegs}
+use Rattle.walk.specs.Private.{rowLegs}
 use Rattle.walk.proofs.Legs.{Timing, timing-start, timing-on, read-now, reads-within, never-read, next-leg, NextLeg}
 use Rattle.walk.proofs.pricing.time_of.Statement.{statement}
 use Rattle.walk.proofs.pricing.time_of.Tie as tie

@@ -3,7 +3,7 @@
 use borrow.Author.Needs.{needs}
 use Prim.Native.Nat.{_-_}
 use native.Mathlib.Omega.{arith}
-use Rattle.walk.specs.Rows.{rowLegs}
+use Rattle.walk.specs.Private.{rowLegs}
 use Rattle.walk.proofs.Legs.{Ending, ending-start, ending-on, ended, next-leg, NextLeg}
 use Rattle.walk.proofs.pricing.walk_end.Statement.{statement}
 use Rattle.walk.proofs.pricing.walk_end.Tie as tie

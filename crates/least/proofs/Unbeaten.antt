@@ -1,0 +1,176 @@
+-- No movement of one run beats the least list of another that wants no more: the head further left, the turn cheaper, each file read as often or less.
+use Prim.Native.Nat.{ℕ, zero, suc, _-_, _*_, _≤_, _<_}
+use native.Mathlib.Omega.{arith}
+use native.Mathlib.Nat.{mul-le-mul}
+use mathlib.Core.Path.{_≡_, refl, sym, ap, _∙_}
+use mathlib.Core.Bool.{false, cond}
+use mathlib.Core.Logic.{by-cases}
+use mathlib.Core.List.{List, [], _∷_}
+use native.Mathlib.Decide.{ℕ-discrete}
+use lib.Dec.{eqb}
+use lib.ListN.{length, getD}
+use borrow.Author.Tests.{eq-eqb, ne-eqb}
+use Rattle.runs.specs.Run.{Stop, endAt, stopsFrom}
+use Rattle.walk.specs.declared.Leg.{Leg}
+use Rattle.walk.specs.Walk.{headAt, Moves, ServesAll, timeOf, sumOf}
+use Rattle.runs.specs.Lists.{Detour, WellFormed}
+use Rattle.walk.specs.Detours.{legsOf}
+use Rattle.walk.proofs.Sound.{Sound, stopAt}
+use Rattle.least.specs.Least.{listSum, LeastFor}
+use Rattle.least.specs.Wants.{readsOf}
+use Rattle.least.proofs.Plan.{listed}
+use Rattle.least.proofs.Rising.{Rises, index-order}
+use Rattle.least.proofs.Sums.{W-below, W-part}
+use Rattle.least.proofs.Feasible.{Feasible, InTime, plan-in-time, feasible-of-movement, feasible-part, feasible-below}
+use Rattle.least.proofs.Walks.{fileAt, leftAt, rightAt, countAt, sound-spaced, walk-times, by-file, sum-by-index, serves-each}
+use Rattle.least.proofs.Lists.{numbers-rise, listed-formed}
+
+-- For any feasible times the walk of some well-formed list reads every stop no later.
+pub record ListInTime (U m n : ℕ) (stops : List Stop) (t : ℕ → ℕ) : Type 0 where
+  pub list : List Detour
+  pub formed : WellFormed stops list
+  pub timely : (i : ℕ) → i ≤ n → timeOf U (headAt m) (legsOf stops list) (stopAt stops i) ≤ t i
+
+pub list-in-time : (U m n : ℕ) (stops : List Stop) (t : ℕ → ℕ) → Sound stops m → length stops ≡ suc n → Feasible m U (leftAt stops) (rightAt stops) n t → ListInTime U m n stops t
+list-in-time U m n stops t ok size v =
+    let w : InTime m U (leftAt stops) (rightAt stops) n t = plan-in-time m U (leftAt stops) (rightAt stops) n t (sound-spaced stops m n ok size) v in
+    record {
+      list = listed (fileAt stops) (w .plan) n;
+      formed = listed-formed m n stops ok size (w .plan) (w .over);
+      timely = λ i h. rw (walk-times m n stops ok size (w .plan) (w .over) U i h) (w .timely i h);
+    }
+
+-- Every stop of the second list is one of the first, wanted there at least as often.
+pub record Covers (stops stops′ : List Stop) : Type 0 where
+  pub index : ℕ → ℕ
+  pub within : (i : ℕ) → i < length stops′ → index i < length stops
+  pub files : (i : ℕ) → i < length stops′ → fileAt stops (index i) ≡ fileAt stops′ i
+  pub starts : (i : ℕ) → i < length stops′ → leftAt stops (index i) ≡ leftAt stops′ i
+  pub ends : (i : ℕ) → i < length stops′ → rightAt stops (index i) ≡ rightAt stops′ i
+  pub counts : (i : ℕ) → i < length stops′ → countAt stops′ i ≤ countAt stops (index i)
+
+module _ (U m U′ m′ n n′ : ℕ) (stops stops′ : List Stop) (ok : Sound stops m) (ok′ : Sound stops′ m′) (size : length stops ≡ suc n) (size′ : length stops′ ≡ suc n′)
+    (covers : Covers stops stops′) (gs : List Leg) (moves : Moves m gs) (serves : ServesAll gs stops) where
+  -- Files rise in both lists, so the stops of the second stand in the first in their order.
+  index-rises : Rises (covers .index) n′
+  index-rises i j h l =
+      index-order (fileAt stops) n (numbers-rise m n stops ok size) (covers .index i) (covers .index j) (omega (arith, covers .within i (omega arith)))
+      (omega (arith, covers .files i (omega arith), covers .files j (omega arith), numbers-rise m′ n′ stops′ ok′ size′ i j h l))
+
+  -- When the movement reads stop i of the first list.
+  abbrev readAt : ℕ → ℕ
+  readAt i = timeOf U (headAt m) gs (stopAt stops i)
+
+  movement-feasible : m′ ≤ m → U′ ≤ U → Feasible m′ U′ (leftAt stops′) (rightAt stops′) n′ (λ i. readAt (covers .index i))
+  movement-feasible hm hU =
+      feasible-below m U (leftAt stops′) (rightAt stops′) n′ (λ i. readAt (covers .index i))
+      (feasible-part m U (leftAt stops) (rightAt stops) n readAt
+      (feasible-of-movement U m gs moves (stopAt stops) n (λ i h. omega (arith, ok .extends i (omega arith))) (λ i h. serves-each gs stops serves i (omega arith)))
+      (leftAt stops′) (rightAt stops′) (covers .index) n′ index-rises
+      (λ i h. (omega (arith, covers .within i (omega arith)), covers .starts i (omega arith), covers .ends i (omega arith))))
+      m′ U′ hm hU
+
+  -- A list of the second run that reads no stop later than the movement has no larger sum.
+  timely-sum : (l : ListInTime U′ m′ n′ stops′ (λ i. readAt (covers .index i))) → listSum U′ m′ stops′ (l .list) ≤ sumOf U (headAt m) gs stops
+  timely-sum l =
+      omega (
+        arith,
+        sum-by-index U′ (headAt m′) (legsOf stops′ (l .list)) stops′,
+        W-below
+            (λ i. countAt stops′ i * timeOf U′ (headAt m′) (legsOf stops′ (l .list)) (stopAt stops′ i))
+            (λ i. countAt stops (covers .index i) * readAt (covers .index i))
+            (length stops′)
+            (λ i h. mul-le-mul (covers .counts i h) (l .timely i (omega arith))),
+        W-part (λ i. countAt stops i * readAt i) (covers .index) (length stops′) (length stops) (λ i j h k. index-rises i j h (omega arith)) (covers .within),
+        sum-by-index U (headAt m) gs stops,
+      )
+
+  some-unbeaten : m′ ≤ m → U′ ≤ U → (list : List Detour) → LeastFor U′ m′ stops′ list → listSum U′ m′ stops′ list ≤ sumOf U (headAt m) gs stops
+  some-unbeaten hm hU list least =
+      let l : ListInTime U′ m′ n′ stops′ (λ i. readAt (covers .index i)) = list-in-time U′ m′ n′ stops′ (λ i. readAt (covers .index i)) ok′ size′ (movement-feasible hm hU) in
+      omega (arith, least .smallest (l .list) (l .formed), timely-sum l)
+
+none-unbeaten : (U′ m′ : ℕ) (list : List Detour) → listSum U′ m′ [] list ≡ 0
+unfolding sumOf
+none-unbeaten U′ m′ list = refl
+
+pub no-movement-beats :
+    (U m U′ m′ : ℕ) (stops stops′ : List Stop) →
+    Sound stops m →
+    Sound stops′ m′ →
+    m′ ≤ m →
+    U′ ≤ U →
+    Covers stops stops′ →
+    (gs : List Leg) →
+    Moves m gs →
+    ServesAll gs stops →
+    (list : List Detour) →
+    LeastFor U′ m′ stops′ list →
+    listSum U′ m′ stops′ list ≤ sumOf U (headAt m) gs stops
+no-movement-beats U m U′ m′ stops [] ok ok′ hm hU covers gs moves serves list least = omega (arith, none-unbeaten U′ m′ list)
+no-movement-beats U m U′ m′ stops (s ∷ ss) ok ok′ hm hU covers gs moves serves list least =
+    some-unbeaten U m U′ m′ (length stops - 1) (length ss) stops (s ∷ ss) ok ok′ (omega (arith, covers .within 0 (omega arith))) refl covers gs moves serves hm hU list least
+
+-- Where two lists have a file in common, it lies at one place.
+pub record SameTable (stops stops′ : List Stop) : Type 0 where
+  pub starts : (i i′ : ℕ) → i < length stops → i′ < length stops′ → fileAt stops i ≡ fileAt stops′ i′ → leftAt stops i ≡ leftAt stops′ i′
+  pub ends : (i i′ : ℕ) → i < length stops → i′ < length stops′ → fileAt stops i ≡ fileAt stops′ i′ → rightAt stops i ≡ rightAt stops′ i′
+
+-- The index of the stop with a number.
+unfoldable indexOf : List Stop → ℕ → ℕ
+indexOf [] f = 0
+indexOf (s ∷ ss) f = cond (eqb (s .file) f) 0 (suc (indexOf ss f))
+
+-- A file that is read is some stop's.
+record Found (stops : List Stop) (f i : ℕ) : Type 0 where
+  within : i < length stops
+  file : fileAt stops i ≡ f
+  count : countAt stops i ≡ readsOf stops f
+
+found-by-reads : (stops : List Stop) (f : ℕ) → 0 < readsOf stops f → Found stops f (indexOf stops f)
+unfolding readsOf indexOf
+found-by-reads [] f h = absurd (omega arith)
+found-by-reads (s ∷ ss) f h =
+    by-cases
+    (ℕ-discrete (s .file) f)
+    (λ e. rw (eq-eqb (s .file) f e) (record { within = omega arith; file = e; count = rw (eq-eqb (s .file) f e) }))
+    (λ e.
+    let past : eqb (s .file) f ≡ false = ne-eqb (s .file) f e in
+    let later : Found ss f (indexOf ss f) = found-by-reads ss f (rw past at h) in
+    rw past (record { within = omega (arith, later .within); file = later .file; count = rw past (later .count) }))
+
+-- Two runs over one table, the second wanting no file more often.
+module _ (m′ : ℕ) (stops stops′ : List Stop) (ok′ : Sound stops′ m′) (reads : (f : ℕ) → readsOf stops′ f ≤ readsOf stops f) where
+  found : (i : ℕ) → i < length stops′ → Found stops (fileAt stops′ i) (indexOf stops (fileAt stops′ i))
+  found i h = found-by-reads stops (fileAt stops′ i) (omega (arith, ok′ .counted i h, by-file stops′ (ok′ .ascends) i h .reads, reads (fileAt stops′ i)))
+
+  pub covers-of-reads : SameTable stops stops′ → Covers stops stops′
+  covers-of-reads table =
+      record {
+        index = λ i. indexOf stops (fileAt stops′ i);
+        within = λ i h. found i h .within;
+        files = λ i h. found i h .file;
+        starts = λ i h. table .starts (indexOf stops (fileAt stops′ i)) i (found i h .within) h (found i h .file);
+        ends = λ i h. table .ends (indexOf stops (fileAt stops′ i)) i (found i h .within) h (found i h .file);
+        counts = λ i h. omega (arith, found i h .count, by-file stops′ (ok′ .ascends) i h .reads, reads (fileAt stops′ i));
+      }
+
+-- The stops of a table lie where it says.
+module _ (starts lengths : List ℕ) where
+  record OnTable (s : Stop) : Type 0 where
+    start : s .start ≡ getD starts (s .file - 1) 0
+    end : s .end ≡ endAt starts lengths (s .file - 1)
+
+  on-table : (ns cs : List ℕ) (i : ℕ) → i < length (stopsFrom starts lengths ns cs) → OnTable (stopAt (stopsFrom starts lengths ns cs) i)
+  unfolding stopsFrom
+  on-table [] cs i h = absurd (omega arith)
+  on-table (f ∷ ns) [] i h = absurd (omega arith)
+  on-table (f ∷ ns) (c ∷ cs) zero h = record { start = refl; end = refl }
+  on-table (f ∷ ns) (c ∷ cs) (suc i) h = on-table ns cs i (omega arith)
+
+  pub same-table : (ns cs ns′ cs′ : List ℕ) → SameTable (stopsFrom starts lengths ns cs) (stopsFrom starts lengths ns′ cs′)
+  same-table ns cs ns′ cs′ =
+      record {
+        starts = λ i i′ h h′ e. on-table ns cs i h .start ∙ ap (λ f. getD starts (f - 1) 0) e ∙ sym (on-table ns′ cs′ i′ h′ .start);
+        ends = λ i i′ h h′ e. on-table ns cs i h .end ∙ ap (λ f. endAt starts lengths (f - 1)) e ∙ sym (on-table ns′ cs′ i′ h′ .end);
+      }

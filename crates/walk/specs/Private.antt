@@ -1,0 +1,43 @@
+-- The legs of a list read off the caller's rows, for the contracts of private functions. No public contract cites this file.
+use Prim.Native.Nat.{ℕ, _-_, _<_, _≤_}
+use mathlib.Core.Path.{_≡_}
+use mathlib.Core.List.{List, [], _∷_, _++_}
+use lib.ListN.{length, getD}
+use Rattle.walk.specs.declared.Leg.{Leg}
+use Rattle.runs.specs.Run.{endAt, mostWants, lastPlace, highestTurn}
+use Rattle.walk.specs.Walk.{Moves}
+use Rattle.runs.specs.Private.{SoundTable, InTable}
+
+-- The legs of a list, read off the rows.
+unfoldable pub detourLegs : List ℕ → List ℕ → List ℕ → List ℕ → List Leg
+detourLegs starts lengths [] tos = []
+detourLegs starts lengths (a ∷ froms) [] = []
+detourLegs starts lengths (a ∷ froms) (b ∷ tos) =
+    record { left = getD starts (a - 1) 0; right = endAt starts lengths (b - 1) } ∷ detourLegs starts lengths froms tos
+
+unfoldable pub sweepLegs : List ℕ → List ℕ → List ℕ → List Leg
+sweepLegs starts lengths [] = []
+sweepLegs starts lengths (n ∷ ns) =
+    record { left = getD starts (n - 1) 0; right = endAt starts lengths (getD (n ∷ ns) (length ns) 0 - 1) } ∷ []
+
+unfoldable pub rowLegs : List ℕ → List ℕ → List ℕ → List ℕ → List ℕ → List Leg
+rowLegs starts lengths numbers froms tos = detourLegs starts lengths froms tos ++ sweepLegs starts lengths numbers
+
+abbrev pub legAt : List Leg → ℕ → Leg
+legAt gs i = getD gs i (record { left = 0; right = 0 })
+
+-- Rows whose numbers all name files of a sound table.
+pub record RowsFit (starts lengths numbers froms tos : List ℕ) : Type 0 where
+  pub table : SoundTable starts lengths
+  pub even : length froms ≡ length tos
+  pub wants : (i : ℕ) → i < length numbers → InTable starts (getD numbers i 0)
+  pub lefts : (i : ℕ) → i < length froms → InTable starts (getD froms i 0)
+  pub rights : (i : ℕ) → i < length froms → InTable starts (getD tos i 0)
+
+-- A walk within the limits: so many legs, each on the tape, from a head place at a turn price.
+pub record Walkable (gs : List Leg) (head turn : ℕ) : Type 0 where
+  pub moves : Moves head gs
+  pub few : length gs ≤ mostWants
+  pub onTape : (i : ℕ) → i < length gs → legAt gs i .right ≤ lastPlace
+  pub near : head ≤ lastPlace
+  pub cheap : turn ≤ highestTurn

@@ -1,0 +1,372 @@
+-- Reading what the run sheet writer wrote for an accepted run within the sheet's limits gives that run, name and rule included;
+-- and that sheet is never too long.
+use Prim.Native.Nat.{ℕ, zero, suc, _+_, _*_, _^_, _≤_, _<_}
+use mathlib.Core.Path.{_≡_, refl, ap, sym, _∙_}
+use mathlib.Core.Bool.{true, false, cond, _&&_, _||_}
+use mathlib.Core.List.{List, [], _∷_, _++_, append-assoc, append-nil}
+use native.Mathlib.Omega.{arith}
+use lib.ListN.{length, getD, length-append}
+use borrow.Author.Tests.{le-ltb}
+use Rattle.runs.specs.Refusals.{isRefusal, accepted}
+use Rattle.runs.specs.Run.{Run, total, mostWants}
+use Rattle.runs.specs.Judging.{judgeOf, badFile}
+use Rattle.runs.proofs.Search.{first-zero}
+use Rattle.runs.proofs.Accepted.{GoodFile, good-file}
+use Rattle.runs.proofs.Judged.{accepted-run}
+use Rattle.runs.specs.declared.Rule.{Rule}
+use Rattle.runs.specs.declared.Rule.the-variants.{Sweep, Least}
+use Rattle.texts.specs.Text.{lineFeed, has, behind, isName, isNameByte, between, allOf, isEmpty, startsWith, isNumber, decimal}
+use Rattle.sheets.specs.Lines.{lineOf, afterLines, lineAfter, tapeKey, headKey, turnKey, ruleKey, ruleText, filesKey, fileKey, wantsKey, wantKey, valueText, isTapeLine, isNumberLine, numberIn, isCountLine, emptyTurn, isTurnLine, turnIn, isRuleLine, ruleIn, firstIn, secondIn}
+use Rattle.sheets.specs.Sheet.{longestSheet, mostSheetFiles, headOf, turnOf, ruleOf, filesOf, fileText, wantsText, wantsOf, wantText, endText, firstBadPair, firstBadTop, firstBadBelow, firstBadLine, eachOf, runIn, nameIn}
+use Rattle.sheets.specs.Reading.{sheetVerdict, readName}
+use Rattle.writers.specs.Writing.{line, numberLine, pairText, pairLine, pairLines, topText, sheetText}
+use Rattle.texts.proofs.Bytes.{and-true-both, not-empty}
+use Rattle.writers.proofs.Pages.{decimal-short}
+use Rattle.texts.proofs.Decimals.{has-none, decimal-without, decimal-some, decimal-number, decimal-value}
+use Rattle.writers.proofs.Sheets.{name-length}
+use Rattle.writers.proofs.Reread.{line-first, line-behind, key-begins, key-value, number-back, value-back, count-back, pairs-behind, pairs-good, firsts-back, seconds-back}
+
+-- Every entry of a row is below 2 to the 64.
+abbrev pub SmallRow : List ℕ → Type 0
+SmallRow row = (i : ℕ) → i < length row → getD row i 0 < 2 ^ 64
+
+-- A run that a sheet can hold.
+pub record SmallRun (run : Run) : Type 0 where
+  pub head : run .head < 2 ^ 64
+  pub turn : run .turn < 2 ^ 64
+  pub files : length (run .starts) ≤ mostSheetFiles
+  pub table : length (run .starts) ≡ length (run .lengths)
+  pub wants : length (run .numbers) ≤ mostWants
+  pub pairs : length (run .numbers) ≡ length (run .counts)
+  pub starts : SmallRow (run .starts)
+  pub lengths : SmallRow (run .lengths)
+  pub numbers : SmallRow (run .numbers)
+  pub counts : SmallRow (run .counts)
+
+entry-total : (row : List ℕ) (i : ℕ) → getD row i 0 ≤ total row
+entry-total [] i = omega arith
+entry-total (x ∷ row) zero = omega arith
+entry-total (x ∷ row) (suc i) = omega (arith, entry-total row i)
+
+pub small-run : (run : Run) → isRefusal ((judgeOf run) .refusal) ≡ false → length (run .starts) ≤ mostSheetFiles → SmallRun run
+small-run run e few =
+    let g = accepted-run run e in
+    let file : (i : ℕ) → i < length (run .starts) → GoodFile (run .starts) (run .lengths) i = λ i l. good-file (run .starts) (run .lengths) i (first-zero (badFile (run .starts) (run .lengths)) (length (run .starts)) (g .files .table .sound) i l) in
+    record {
+      head = omega (arith, g .start .near);
+      turn = omega (arith, g .start .cheap);
+      files = few;
+      table = g .files .table .equal;
+      wants = g .wants .few;
+      pairs = g .wants .equal;
+      starts = λ i l. omega (arith, file i l .ends);
+      lengths = λ i l. omega (arith, file i (omega (arith, g .files .table .equal)) .ends);
+      numbers = λ i l. omega (arith, g .wants .each i l .inTable, g .files .few);
+      counts = λ i l. omega (arith, entry-total (run .counts) i, g .wants .reads);
+    }
+
+-- How long the lines are.
+line-length : (key text : List ℕ) → length (line key text) ≡ length key + length text + 1
+line-length key text = length-append (key ++ text) (lineFeed ∷ []) ∙ rw (length-append key text)
+
+pair-length : (key : List ℕ) (a b : ℕ) → a < 2 ^ 64 → b < 2 ^ 64 → length (pairLine key a b) ≤ length key + 42
+pair-length key a b l m =
+    let split = length-append (decimal a ++ (44 ∷ [])) (decimal b) in
+    omega (arith, line-length key (pairText a b), split, length-append (decimal a) (44 ∷ []), decimal-short a l, decimal-short b m)
+
+pairs-length : (key xs ys : List ℕ) → length key ≤ 7 → SmallRow xs → SmallRow ys → length (pairLines key xs ys) ≤ length xs * 49
+unfolding pairLines
+pairs-length key [] ys k s t = omega arith
+pairs-length key (a ∷ xs) [] k s t = omega arith
+pairs-length key (a ∷ xs) (b ∷ ys) k s t =
+    omega (
+      arith,
+      length-append (pairLine key a b) (pairLines key xs ys),
+      pair-length key a b (s 0 (omega arith)) (t 0 (omega arith)),
+      pairs-length key xs ys k (λ i l. s (suc i) (omega arith)) (λ i l. t (suc i) (omega arith)),
+    )
+
+regrouped : (a b c d e f g h : List ℕ) → a ++ b ++ c ++ d ++ e ++ f ++ g ++ h ≡ a ++ (b ++ (c ++ (d ++ (e ++ (f ++ (g ++ h))))))
+regrouped a b c d e f g h = simp append-assoc
+
+number-length : (key : List ℕ) (n : ℕ) → n < 2 ^ 64 → length (numberLine key n) ≤ length key + 21
+number-length key n l = omega (arith, line-length key (decimal n), decimal-short n l)
+
+rule-length : (r : Rule) → length (line ruleKey (ruleText r)) ≤ 11
+rule-length Sweep = omega arith
+rule-length Least = omega arith
+
+sum-length : (a b c d e f g h : List ℕ) → length a ≤ 22 → length b ≤ 26 → length c ≤ 26 → length d ≤ 11 → length e ≤ 27 → length f ≤ 12544 → length g ≤ 27 → length h ≤ 3136
+    → length (a ++ b ++ c ++ d ++ e ++ f ++ g ++ h) ≤ 16384
+sum-length a b c d e f g h la lb lc ld le lf lg lh = simp length-append (omega arith)
+
+-- The lines that are not plain number lines.
+name-back : (key name : List ℕ) → isName name ≡ true → (startsWith key (key ++ name) && isName (valueText key (key ++ name))) ≡ true
+name-back key name e = rw (key-begins key name, key-value key name, e)
+
+price-back : (key : List ℕ) (n : ℕ) → n < 2 ^ 64
+    → (startsWith key (key ++ decimal n) && (isEmpty (valueText key (key ++ decimal n)) || isNumber (valueText key (key ++ decimal n)))) ≡ true
+price-back key n l = rw (key-begins key (decimal n), key-value key (decimal n), not-empty (decimal n) (decimal-some n n), decimal-number n l)
+
+price-value : (key : List ℕ) (n : ℕ) → cond (isEmpty (valueText key (key ++ decimal n))) emptyTurn (numberIn key (key ++ decimal n)) ≡ n
+price-value key n = rw (key-value key (decimal n), not-empty (decimal n) (decimal-some n n), decimal-value n)
+
+rule-test : (r : Rule) → isRuleLine (ruleKey ++ ruleText r) ≡ true
+unfolding isRuleLine startsWith
+rule-test Sweep = refl
+rule-test Least = refl
+
+rule-value : (r : Rule) → ruleIn (ruleKey ++ ruleText r) ≡ r
+unfolding ruleIn startsWith
+rule-value Sweep = refl
+rule-value Least = refl
+
+-- The sheet of a run, read again.
+module _ (name : List ℕ) (rule : Rule) (run : Run) (named : isName name ≡ true) (small : SmallRun run) where
+  F : ℕ
+  F = length (run .starts)
+
+  W : ℕ
+  W = length (run .numbers)
+
+  -- What follows each of the first lines.
+  rest₆ : List ℕ
+  rest₆ = pairLines wantKey (run .numbers) (run .counts)
+
+  rest₅ : List ℕ
+  rest₅ = pairLines fileKey (run .starts) (run .lengths) ++ (numberLine wantsKey W ++ rest₆)
+
+  rest₄ : List ℕ
+  rest₄ = numberLine filesKey F ++ rest₅
+
+  rest₃ : List ℕ
+  rest₃ = line ruleKey (ruleText rule) ++ rest₄
+
+  rest₂ : List ℕ
+  rest₂ = numberLine turnKey (run .turn) ++ rest₃
+
+  rest₁ : List ℕ
+  rest₁ = numberLine headKey (run .head) ++ rest₂
+
+  text : List ℕ
+  text = sheetText name rule run
+
+  text-is : text ≡ line tapeKey name ++ rest₁
+  unfolding text sheetText topText rest₁ rest₂ rest₃ rest₄ rest₅ rest₆ F W
+  text-is =
+      regrouped (line tapeKey name) (numberLine headKey (run .head)) (numberLine turnKey (run .turn)) (line ruleKey (ruleText rule))
+      (numberLine filesKey F) (pairLines fileKey (run .starts) (run .lengths)) (numberLine wantsKey W) rest₆
+
+  -- The lines hold no LF of their own.
+  name-flat : has lineFeed name ≡ false
+  unfolding isName
+  name-flat = has-none isNameByte lineFeed refl name (and-true-both (between 1 16 (length name)) (allOf isNameByte name) named .1)
+
+  rule-flat : (r : Rule) → has lineFeed (ruleText r) ≡ false
+  unfolding has
+  rule-flat Sweep = refl
+  rule-flat Least = refl
+
+  number-flat : (n : ℕ) → has lineFeed (decimal n) ≡ false
+  number-flat n = decimal-without lineFeed n refl
+
+  -- What is left after each line.
+  after₁ : afterLines 1 text ≡ rest₁
+  unfolding afterLines has
+  after₁ = ap (behind lineFeed) text-is ∙ line-behind tapeKey name rest₁ refl name-flat
+
+  after₂ : afterLines 2 text ≡ rest₂
+  unfolding afterLines rest₁ has
+  after₂ = ap (behind lineFeed) after₁ ∙ line-behind headKey (decimal (run .head)) rest₂ refl (number-flat (run .head))
+
+  after₃ : afterLines 3 text ≡ rest₃
+  unfolding afterLines rest₂ has
+  after₃ = ap (behind lineFeed) after₂ ∙ line-behind turnKey (decimal (run .turn)) rest₃ refl (number-flat (run .turn))
+
+  after₄ : afterLines 4 text ≡ rest₄
+  unfolding afterLines rest₃ has
+  after₄ = ap (behind lineFeed) after₃ ∙ line-behind ruleKey (ruleText rule) rest₄ refl (rule-flat rule)
+
+  after₅ : afterLines 5 text ≡ rest₅
+  unfolding afterLines rest₄ has
+  after₅ = ap (behind lineFeed) after₄ ∙ line-behind filesKey (decimal F) rest₅ refl (number-flat F)
+
+  -- The first five lines.
+  line₀ : lineAfter 0 text ≡ tapeKey ++ name
+  unfolding afterLines has
+  line₀ = ap lineOf text-is ∙ line-first tapeKey name rest₁ refl name-flat
+
+  line₁ : lineAfter 1 text ≡ headKey ++ decimal (run .head)
+  unfolding rest₁ has
+  line₁ = ap lineOf after₁ ∙ line-first headKey (decimal (run .head)) rest₂ refl (number-flat (run .head))
+
+  line₂ : lineAfter 2 text ≡ turnKey ++ decimal (run .turn)
+  unfolding rest₂ has
+  line₂ = ap lineOf after₂ ∙ line-first turnKey (decimal (run .turn)) rest₃ refl (number-flat (run .turn))
+
+  line₃ : lineAfter 3 text ≡ ruleKey ++ ruleText rule
+  unfolding rest₃ has
+  line₃ = ap lineOf after₃ ∙ line-first ruleKey (ruleText rule) rest₄ refl (rule-flat rule)
+
+  line₄ : lineAfter 4 text ≡ filesKey ++ decimal F
+  unfolding rest₄ has
+  line₄ = ap lineOf after₄ ∙ line-first filesKey (decimal F) rest₅ refl (number-flat F)
+
+  F-small : F < 2 ^ 64
+  unfolding F
+  F-small = omega (arith, small .files)
+
+  W-small : W < 2 ^ 64
+  unfolding W
+  W-small = omega (arith, small .wants)
+
+  files-back : filesOf text ≡ F
+  unfolding filesOf
+  files-back = ap (numberIn filesKey) line₄ ∙ value-back filesKey F F-small
+
+  -- The lines below.
+  files-text : fileText text ≡ rest₅
+  unfolding fileText
+  files-text = after₅
+
+  wants-text : wantsText text ≡ numberLine wantsKey W ++ rest₆
+  unfolding wantsText rest₅ F has
+  wants-text =
+      ap (λ n. afterLines n (fileText text)) files-back
+      ∙ ap (afterLines F) files-text
+      ∙ pairs-behind fileKey refl (numberLine wantsKey W ++ rest₆) (run .starts) (run .lengths) (small .table)
+
+  wants-line : lineOf (wantsText text) ≡ wantsKey ++ decimal W
+  unfolding has
+  wants-line = ap lineOf wants-text ∙ line-first wantsKey (decimal W) rest₆ refl (number-flat W)
+
+  wants-back : wantsOf text ≡ W
+  unfolding wantsOf
+  wants-back = ap (numberIn wantsKey) wants-line ∙ value-back wantsKey W W-small
+
+  want-text : wantText text ≡ rest₆
+  unfolding wantText afterLines has
+  want-text = ap (behind lineFeed) wants-text ∙ line-behind wantsKey (decimal W) rest₆ refl (number-flat W)
+
+  want-pairs : wantText text ≡ pairLines wantKey (run .numbers) (run .counts) ++ []
+  unfolding rest₆
+  want-pairs = want-text ∙ sym (append-nil (pairLines wantKey (run .numbers) (run .counts)))
+
+  end-text : endText text ≡ []
+  unfolding endText W has
+  end-text =
+      ap (λ n. afterLines n (wantText text)) wants-back
+      ∙ ap (afterLines W) want-pairs
+      ∙ pairs-behind wantKey refl [] (run .numbers) (run .counts) (small .pairs)
+
+  -- Each line is as described.
+  tape-good : isTapeLine (lineAfter 0 text) ≡ true
+  unfolding isTapeLine
+  tape-good = ap isTapeLine line₀ ∙ name-back tapeKey name named
+
+  head-good : isNumberLine headKey (lineAfter 1 text) ≡ true
+  head-good = ap (isNumberLine headKey) line₁ ∙ number-back headKey (run .head) (small .head)
+
+  turn-good : isTurnLine (lineAfter 2 text) ≡ true
+  unfolding isTurnLine
+  turn-good = ap isTurnLine line₂ ∙ price-back turnKey (run .turn) (small .turn)
+
+  rule-good : isRuleLine (lineAfter 3 text) ≡ true
+  rule-good = ap isRuleLine line₃ ∙ rule-test rule
+
+  files-good : isCountLine filesKey mostSheetFiles (lineAfter 4 text) ≡ true
+  unfolding F
+  files-good = ap (isCountLine filesKey mostSheetFiles) line₄ ∙ count-back filesKey F F-small mostSheetFiles (small .files)
+
+  wants-good : isCountLine wantsKey mostWants (lineOf (wantsText text)) ≡ true
+  unfolding W
+  wants-good = ap (isCountLine wantsKey mostWants) wants-line ∙ count-back wantsKey W W-small mostWants (small .wants)
+
+  file-good : firstBadPair fileKey (filesOf text) (fileText text) ≡ 0
+  unfolding rest₅ F has
+  file-good =
+      ap (λ n. firstBadPair fileKey n (fileText text)) files-back
+      ∙ ap (firstBadPair fileKey F) files-text
+      ∙ pairs-good fileKey refl (numberLine wantsKey W ++ rest₆) (run .starts) (run .lengths) (small .table) (small .starts) (λ i l. small .lengths i (omega (arith, small .table)))
+
+  want-good : firstBadPair wantKey (wantsOf text) (wantText text) ≡ 0
+  unfolding W has
+  want-good =
+      ap (λ n. firstBadPair wantKey n (wantText text)) wants-back
+      ∙ ap (firstBadPair wantKey W) want-pairs
+      ∙ pairs-good wantKey refl [] (run .numbers) (run .counts) (small .pairs) (small .numbers) (λ i l. small .counts i (omega (arith, small .pairs)))
+
+  all-described : firstBadLine text ≡ 0
+  unfolding firstBadLine firstBadTop firstBadBelow
+  all-described = rw (tape-good, head-good, turn-good, rule-good, files-good, file-good, wants-good, want-good, end-text)
+
+  -- What the sheet holds is what was written.
+  head-back : headOf text ≡ run .head
+  unfolding headOf
+  head-back = ap (numberIn headKey) line₁ ∙ value-back headKey (run .head) (small .head)
+
+  turn-back : turnOf text ≡ run .turn
+  unfolding turnOf turnIn
+  turn-back = ap turnIn line₂ ∙ price-value turnKey (run .turn)
+
+  rule-back : ruleOf text ≡ rule
+  unfolding ruleOf
+  rule-back = ap ruleIn line₃ ∙ rule-value rule
+
+  names-back : nameIn text ≡ name
+  unfolding nameIn
+  names-back = ap (valueText tapeKey) line₀ ∙ key-value tapeKey name
+
+  file-column : (column : List ℕ → ℕ) (row : List ℕ) → eachOf (λ i. column (lineAfter i rest₅)) F ≡ row → eachOf (λ i. column (lineAfter i (fileText text))) (filesOf text) ≡ row
+  file-column column row e = ap (eachOf (λ i. column (lineAfter i (fileText text)))) files-back ∙ ap (λ t. eachOf (λ i. column (lineAfter i t)) F) files-text ∙ e
+
+  want-column : (column : List ℕ → ℕ) (row : List ℕ) → eachOf (λ i. column (lineAfter i (pairLines wantKey (run .numbers) (run .counts) ++ []))) W ≡ row
+      → eachOf (λ i. column (lineAfter i (wantText text))) (wantsOf text) ≡ row
+  want-column column row e = ap (eachOf (λ i. column (lineAfter i (wantText text)))) wants-back ∙ ap (λ t. eachOf (λ i. column (lineAfter i t)) W) want-pairs ∙ e
+
+  run-back : runIn text ≡ run
+  unfolding runIn F W rest₅ has
+  run-back =
+      let starts = file-column (firstIn fileKey) (run .starts) (firsts-back fileKey refl (numberLine wantsKey W ++ rest₆) (run .starts) (run .lengths) (small .table)) in
+      let lengths = file-column (secondIn fileKey) (run .lengths) (seconds-back fileKey refl (numberLine wantsKey W ++ rest₆) (run .starts) (run .lengths) (small .table)) in
+      let numbers = want-column (firstIn wantKey) (run .numbers) (firsts-back wantKey refl [] (run .numbers) (run .counts) (small .pairs)) in
+      let counts = want-column (secondIn wantKey) (run .counts) (seconds-back wantKey refl [] (run .numbers) (run .counts) (small .pairs)) in
+      λ i. record { starts = starts i; lengths = lengths i; numbers = numbers i; counts = counts i; head = head-back i; turn = turn-back i }
+
+  -- The sheet is not too long.
+  short-enough : length text ≤ longestSheet
+  unfolding text sheetText topText F W
+  short-enough =
+      sum-length (line tapeKey name) (numberLine headKey (run .head)) (numberLine turnKey (run .turn)) (line ruleKey (ruleText rule))
+      (numberLine filesKey F) (pairLines fileKey (run .starts) (run .lengths)) (numberLine wantsKey W) (pairLines wantKey (run .numbers) (run .counts))
+      (omega (arith, line-length tapeKey name, name-length name named))
+      (number-length headKey (run .head) (small .head))
+      (number-length turnKey (run .turn) (small .turn))
+      (rule-length rule)
+      (number-length filesKey F F-small)
+      (omega (arith, pairs-length fileKey (run .starts) (run .lengths) (omega arith) (small .starts) (small .lengths), small .files))
+      (number-length wantsKey W W-small)
+      (omega (arith, pairs-length wantKey (run .numbers) (run .counts) (omega arith) (small .numbers) (small .counts), small .wants))
+
+-- What reading a run's sheet gives: 12 and 11 accept it, and it holds the run, the rule and the name.
+pub record ReadsBack (name : List ℕ) (rule : Rule) (run : Run) : Type 0 where
+  pub short : length (sheetText name rule run) ≤ longestSheet
+  pub accepts : sheetVerdict (sheetText name rule run) ≡ accepted
+  pub same-run : runIn (sheetText name rule run) ≡ run
+  pub same-rule : ruleOf (sheetText name rule run) ≡ rule
+  pub same-name : readName (sheetText name rule run) ≡ name
+
+-- For every accepted run within the sheet's limits.
+pub round-trip : (name : List ℕ) (rule : Rule) (run : Run) → judgeOf run ≡ accepted → length (run .starts) ≤ mostSheetFiles → isName name ≡ true → ReadsBack name rule run
+unfolding text sheetVerdict readName
+round-trip name rule run e few named =
+    let small = small-run run (ap (λ v. isRefusal (v .refusal)) e) few in
+    let long = short-enough name rule run named small in
+    let good : sheetVerdict (sheetText name rule run) ≡ accepted = rw (le-ltb longestSheet (length (sheetText name rule run)) long, all-described name rule run named small) in
+    record {
+      short = long;
+      accepts = good;
+      same-run = run-back name rule run named small;
+      same-rule = rule-back name rule run named small;
+      same-name = rw good (names-back name rule run named small);
+    }

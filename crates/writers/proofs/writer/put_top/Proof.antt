@@ -1,0 +1,62 @@
+-- `writers::writer::put_top` meets its contract: the first five lines, one behind the other.
+-- Assumes nothing.
+use native.Mathlib.Omega.{arith}
+use Rattle.writers.specs.Writing.{topText}
+use Rattle.writers.proofs.Pages.{wrote-both, wrote-within}
+use borrow.Author.Needs.{needs}
+use Rattle.writers.proofs.writer.put_top.Statement.{statement}
+use Rattle.writers.proofs.writer.put_top.Tie as tie
+
+slice-aggregate-put-line : tie.Need-slice-aggregate-put-line
+slice-aggregate-put-line c = search needs
+
+put-line-requires : tie.Need-put-line-requires
+put-line-requires c κs = search needs
+
+slice-aggregate-put-number-line : tie.Need-slice-aggregate-put-number-line
+slice-aggregate-put-number-line c = search needs
+
+put-number-line-requires : tie.Need-put-number-line-requires
+put-number-line-requires c κs = search needs
+
+slice-aggregate-put-number-line-2 : tie.Need-slice-aggregate-put-number-line-2
+slice-aggregate-put-number-line-2 c = search needs
+
+put-number-line-requires-2 : tie.Need-put-number-line-requires-2
+put-number-line-requires-2 c κs = search needs
+
+put-rule-requires : tie.Need-put-rule-requires
+put-rule-requires c κs = search needs
+
+slice-aggregate-put-number-line-3 : tie.Need-slice-aggregate-put-number-line-3
+slice-aggregate-put-number-line-3 c = search needs
+
+put-number-line-requires-3 : tie.Need-put-number-line-requires-3
+put-number-line-requires-3 c κs = search needs
+
+same-length : tie.Need-same-length
+same-length c = search needs
+
+returns : tie.Need-returns
+unfolding topText
+returns c =
+    let two = wrote-both _ _ _ _ _ _ _ _ _ _ (c .before .before .before .before .before .before .before .before .before .before .before .before .before .before .before .before .before .before .before .before .before .put-line .ensures) (c .before .before .before .before .before .before .before .before .before .before .before .before .before .before .before .before .put-number-line .ensures) in
+    let three = wrote-both _ _ _ _ _ _ _ _ _ _ two (c .before .before .before .before .before .before .before .before .before .before .before .put-number-line2 .ensures) in
+    let four = wrote-both _ _ _ _ _ _ _ _ _ _ three (c .before .before .before .before .before .before .before .put-rule .ensures) in
+    wrote-within _ _ _ _ _ _ _ (omega (arith, c .before .before .before .before .before .before .before .before .before .before .before .before .before .before .before .before .before .before .before .before .before .before .before .before .before .before .pre .0)) (wrote-both _ _ _ _ _ _ _ _ _ _ four (c .before .before .put-number-line3 .ensures))
+
+pub put-top-spec : {M : Type 1} → statement M
+put-top-spec =
+    tie.close
+    (tie.spec
+    slice-aggregate-put-line
+    put-line-requires
+    slice-aggregate-put-number-line
+    put-number-line-requires
+    slice-aggregate-put-number-line-2
+    put-number-line-requires-2
+    put-rule-requires
+    slice-aggregate-put-number-line-3
+    put-number-line-requires-3
+    same-length
+    returns)

@@ -1,0 +1,67 @@
+-- The text of a plan sheet, what the plan sheet writer answers, for every input, and the row that it leaves (with Writing's `writtenAnswer` and `writtenRow`).
+use Prim.Native.Nat.{ℕ}
+use mathlib.Core.Bool.{not}
+use mathlib.Core.List.{List, [], _∷_, _++_}
+use Rattle.runs.specs.declared.Refusal.the-variants.{BadName}
+use Rattle.runs.specs.declared.Verdict.{Verdict}
+use Rattle.walk.specs.declared.Answer.{Answer}
+use Rattle.runs.specs.Refusals.{refuseIf, firstOf}
+use Rattle.runs.specs.Run.{Run, total, stopsOf}
+use Rattle.runs.specs.Judging.{judgeOf}
+use Rattle.runs.specs.Lists.{listOf, listVerdict}
+use Rattle.walk.specs.Price.{pricedAnswer, pricedTimes}
+use Rattle.texts.specs.Text.{isName}
+use Rattle.sheets.specs.Lines.{tapeKey}
+use Rattle.writers.specs.Writing.{line, numberLine, pairLines, rowVerdict}
+
+-- The keys, `sum=` to `time=`.
+abbrev pub sumKey : List ℕ
+sumKey = 115 ∷ 117 ∷ 109 ∷ 61 ∷ []
+
+abbrev pub readsKey : List ℕ
+readsKey = 114 ∷ 101 ∷ 97 ∷ 100 ∷ 115 ∷ 61 ∷ []
+
+abbrev pub finishKey : List ℕ
+finishKey = 102 ∷ 105 ∷ 110 ∷ 105 ∷ 115 ∷ 104 ∷ 61 ∷ []
+
+abbrev pub endKey : List ℕ
+endKey = 101 ∷ 110 ∷ 100 ∷ 61 ∷ []
+
+abbrev pub detoursKey : List ℕ
+detoursKey = 100 ∷ 101 ∷ 116 ∷ 111 ∷ 117 ∷ 114 ∷ 115 ∷ 61 ∷ []
+
+abbrev pub detourKey : List ℕ
+detourKey = 100 ∷ 101 ∷ 116 ∷ 111 ∷ 117 ∷ 114 ∷ 61 ∷ []
+
+abbrev pub timeKey : List ℕ
+timeKey = 116 ∷ 105 ∷ 109 ∷ 101 ∷ 61 ∷ []
+
+-- The first six lines, for the pricer's answer: `finish` is the clock and `end` the place at the end of the last sweep.
+unfoldable pub planTop : List ℕ → ℕ → Answer → List ℕ
+planTop name reads answer =
+    line tapeKey name
+    ++ numberLine sumKey (answer .sum)
+    ++ numberLine readsKey reads
+    ++ numberLine finishKey (answer .finish)
+    ++ numberLine endKey (answer .end)
+    ++ numberLine detoursKey (answer .detours)
+
+-- The whole sheet: `detour` is start file and end file, in the order done; `time` is file number and time, ascending.
+unfoldable pub planLines : List ℕ → ℕ → Answer → List ℕ → List ℕ → List ℕ → List ℕ → List ℕ
+planLines name reads answer froms tos numbers times =
+    planTop name reads answer ++ pairLines detourKey froms tos ++ pairLines timeKey numbers times
+
+-- The plan sheet of a run and a list: what the pricer gives for them.
+unfoldable pub planText : List ℕ → Run → List ℕ → List ℕ → List ℕ
+planText name run froms tos =
+    planLines name (total (run .counts)) (pricedAnswer run (listOf froms tos)) froms tos (run .numbers) (pricedTimes run (listOf froms tos))
+
+-- 1 to 7, then 13, then 10, then 8.
+unfoldable pub planSheetVerdict : List ℕ → Run → List ℕ → List ℕ → List ℕ → Verdict
+planSheetVerdict name run froms tos row =
+    firstOf
+    (judgeOf run
+    ∷ refuseIf (not (isName name)) BadName
+    ∷ listVerdict (stopsOf run) froms tos
+    ∷ rowVerdict (planText name run froms tos) row
+    ∷ [])

@@ -1,0 +1,77 @@
+-- The text of a run sheet, what the run sheet writer answers, for every input, and the row that it leaves.
+use Prim.Native.Nat.{ℕ}
+use mathlib.Core.Bool.{cond, not, _||_}
+use mathlib.Core.List.{List, [], _∷_, _++_}
+use lib.ListN.{length, drop}
+use lib.Dec.{ltb}
+use Rattle.runs.specs.declared.Refusal.the-variants.{Accepted, BadName, ShortRow}
+use Rattle.runs.specs.declared.Verdict.{Verdict}
+use Rattle.runs.specs.Refusals.{isRefusal, refuseIf, firstOf}
+use Rattle.runs.specs.Run.{Run}
+use Rattle.runs.specs.Judging.{judgeOf}
+use Rattle.runs.specs.declared.Rule.{Rule}
+use Rattle.writers.specs.declared.Written.{Written}
+use Rattle.texts.specs.Text.{lineFeed, comma, isName, decimal}
+use Rattle.sheets.specs.Lines.{tapeKey, headKey, turnKey, ruleKey, ruleText, filesKey, fileKey, wantsKey, wantKey}
+use Rattle.sheets.specs.Sheet.{mostSheetFiles}
+
+-- A line with its LF: a key and a text, a key and a number, a key and a pair of numbers.
+abbrev pub line : List ℕ → List ℕ → List ℕ
+line key text = key ++ text ++ (lineFeed ∷ [])
+
+abbrev pub numberLine : List ℕ → ℕ → List ℕ
+numberLine key n = line key (decimal n)
+
+abbrev pub pairText : ℕ → ℕ → List ℕ
+pairText first second = decimal first ++ (comma ∷ []) ++ decimal second
+
+abbrev pub pairLine : List ℕ → ℕ → ℕ → List ℕ
+pairLine key first second = line key (pairText first second)
+
+-- A line for each pair of two rows.
+unfoldable pub pairLines : List ℕ → List ℕ → List ℕ → List ℕ
+pairLines key [] seconds = []
+pairLines key (a ∷ firsts) [] = []
+pairLines key (a ∷ firsts) (b ∷ seconds) = pairLine key a b ++ pairLines key firsts seconds
+
+-- The first five lines, and the whole sheet. A number always stands after `turn=`.
+unfoldable pub topText : List ℕ → ℕ → ℕ → Rule → ℕ → List ℕ
+topText name head turn rule files =
+    line tapeKey name
+    ++ numberLine headKey head
+    ++ numberLine turnKey turn
+    ++ line ruleKey (ruleText rule)
+    ++ numberLine filesKey files
+
+unfoldable pub sheetText : List ℕ → Rule → Run → List ℕ
+sheetText name rule run =
+    topText name (run .head) (run .turn) rule (length (run .starts))
+    ++ pairLines fileKey (run .starts) (run .lengths)
+    ++ numberLine wantsKey (length (run .numbers))
+    ++ pairLines wantKey (run .numbers) (run .counts)
+
+-- 8: a row shorter than the sheet.
+unfoldable pub rowVerdict : List ℕ → List ℕ → Verdict
+rowVerdict text row = refuseIf (ltb (length row) (length text)) ShortRow
+
+-- 1 to 7, then 13, then 8.
+unfoldable pub writeVerdict : List ℕ → Rule → Run → List ℕ → Verdict
+writeVerdict name rule run row =
+    firstOf
+    (judgeOf run
+    ∷ refuseIf (ltb mostSheetFiles (length (run .starts)) || not (isName name)) BadName
+    ∷ rowVerdict (sheetText name rule run) row
+    ∷ [])
+
+-- A refusal's answer: kind and place, and 0 bytes.
+abbrev pub refusedWriting : Verdict → Written
+refusedWriting v = record { refusal = v .refusal; place = v .place; bytes = 0 }
+
+-- The answer to a verdict and a text: the number of bytes, unless it is a refusal.
+unfoldable pub writtenAnswer : Verdict → List ℕ → Written
+writtenAnswer v text =
+    cond (isRefusal (v .refusal)) (refusedWriting v) (record { refusal = Accepted; place = 0; bytes = length text })
+
+-- The row afterwards: the text, then the later bytes as they were; on a refusal the whole row as it was.
+unfoldable pub writtenRow : Verdict → List ℕ → List ℕ → List ℕ
+writtenRow v text row = cond (isRefusal (v .refusal)) row (text ++ drop (length text) row)

@@ -1,0 +1,16 @@
+// writers: the run sheet writer and the plan sheet writer.
+// For the program and the tools, which see only these contracts. What the words mean stands in specs/; each public function
+// answers every input, and its contract gives the answer and the lent row by a definition there.
+mod page;
+mod plan;
+mod writer;
+
+pub use plan::write_plan;
+pub use writer::write_sheet;
+
+// What a writer answers: the number of bytes of the sheet, 0 on a refusal.
+pub struct Written {
+    pub refusal: runs::Refusal,
+    pub place: u64,
+    pub bytes: u64,
+}

@@ -1,0 +1,114 @@
+// A page: texts put one behind the other. A sheet is put together on a page of its own, so that a row too short for it is left alone.
+ghost use mathlib.Core.Path.{_≡_};
+ghost use Prim.Native.Nat.{_+_, _*_, _≤_};
+ghost use lib.ListN.{length, drop};
+ghost use Rattle.texts.specs.Text.{decimal};
+ghost use Rattle.writers.specs.Writing.{line, numberLine, pairLine, pairLines, refusedWriting, rowVerdict, writtenAnswer, writtenRow};
+ghost use Rattle.writers.specs.Private.{Wrote};
+use crate::Written;
+use runs::Refusal;
+use runs::Verdict;
+
+fn put(page: &mut [u8], at: usize, text: &[u8]) -> usize
+    requires { ⌜ at + length (now text) ≤ length (now page) ⌝ }
+    ensures { λ r. ⌜ Wrote (now (page .entry)) at (now (text .entry)) (length (now (text .entry))) (now (page .exit)) r ⌝ }
+    ensures { λ r. ⌜ drop r (now (page .exit)) ≡ drop r (now (page .entry)) ⌝ }
+{
+    let mut i: usize = 0;
+    while i < text.len() {
+        page[at + i] = text[i];
+        i += 1;
+    }
+    at + text.len()
+}
+
+fn put_number(page: &mut [u8], at: usize, number: u64) -> usize
+    requires { ⌜ at + 20 ≤ length (now page) ⌝ }
+    ensures { λ r. ⌜ Wrote (now (page .entry)) at (decimal number) 20 (now (page .exit)) r ⌝ }
+{
+    let mut digits = [0u8; 20];
+    let places = io::decimal(number, &mut digits);
+    put(page, at, &digits[..places])
+}
+
+pub(crate) fn put_line(page: &mut [u8], at: usize, key: &[u8], text: &[u8]) -> usize
+    requires { ⌜ at + (length (now key) + length (now text) + 1) ≤ length (now page) ⌝ }
+    ensures { λ r. ⌜ Wrote (now (page .entry)) at (line (now (key .entry)) (now (text .entry))) (length (now (key .entry)) + length (now (text .entry)) + 1) (now (page .exit)) r ⌝ }
+{
+    let value = put(page, at, key);
+    let end = put(page, value, text);
+    put(page, end, b"\n")
+}
+
+pub(crate) fn put_number_line(page: &mut [u8], at: usize, key: &[u8], number: u64) -> usize
+    requires { ⌜ at + (length (now key) + 21) ≤ length (now page) ⌝ }
+    ensures { λ r. ⌜ Wrote (now (page .entry)) at (numberLine (now (key .entry)) number) (length (now (key .entry)) + 21) (now (page .exit)) r ⌝ }
+{
+    let value = put(page, at, key);
+    let end = put_number(page, value, number);
+    put(page, end, b"\n")
+}
+
+fn put_pair_line(page: &mut [u8], at: usize, key: &[u8], first: u64, second: u64) -> usize
+    requires { ⌜ at + (length (now key) + 42) ≤ length (now page) ⌝ }
+    ensures { λ r. ⌜ Wrote (now (page .entry)) at (pairLine (now (key .entry)) first second) (length (now (key .entry)) + 42) (now (page .exit)) r ⌝ }
+{
+    let value = put(page, at, key);
+    let comma = put_number(page, value, first);
+    let after = put(page, comma, b",");
+    let end = put_number(page, after, second);
+    put(page, end, b"\n")
+}
+
+// A line for each pair of two rows. No key is longer than 7 bytes, so no such line is longer than 49.
+pub(crate) fn put_pairs(
+    page: &mut [u8],
+    at: usize,
+    key: &[u8],
+    firsts: &[u64],
+    seconds: &[u64],
+) -> usize
+    requires { ⌜ length (now key) ≤ 7 ⌝ }
+    requires { ⌜ length (now firsts) ≡ length (now seconds) ⌝ }
+    requires { ⌜ at + length (now firsts) * 49 ≤ length (now page) ⌝ }
+    ensures { λ r. ⌜ Wrote (now (page .entry)) at (pairLines (now (key .entry)) (now (firsts .entry)) (now (seconds .entry))) (length (now (firsts .entry)) * 49) (now (page .exit)) r ⌝ }
+{
+    let mut next = at;
+    let mut i: usize = 0;
+    while i < firsts.len() {
+        next = put_pair_line(page, next, key, firsts[i], seconds[i]);
+        i += 1;
+    }
+    next
+}
+
+// The answer of a refusal: kind and place, and 0 bytes.
+pub(crate) fn refused_writing(v: Verdict) -> Written
+    ensures { λ r. ⌜ r ≡ refusedWriting v ⌝ }
+{
+    let refusal = v.refusal;
+    Written {
+        refusal,
+        place: v.place,
+        bytes: 0,
+    }
+}
+
+// The text as a sheet in the first bytes of a row, unless the row is too short for it.
+pub(crate) fn hand_out(text: &[u8], out: &mut [u8]) -> Written
+    ensures { λ r. ⌜ r ≡ writtenAnswer (rowVerdict (now (text .entry)) (now (out .entry))) (now (text .entry)) ⌝ }
+    ensures { λ _. ⌜ now (out .exit) ≡ writtenRow (rowVerdict (now (text .entry)) (now (out .entry))) (now (text .entry)) (now (out .entry)) ⌝ }
+{
+    if out.len() < text.len() {
+        return refused_writing(Verdict {
+            refusal: Refusal::ShortRow,
+            place: 0,
+        });
+    }
+    let bytes = put(out, 0, text);
+    Written {
+        refusal: Refusal::Accepted,
+        place: 0,
+        bytes: bytes as u64,
+    }
+}

@@ -1,0 +1,123 @@
+// The plan sheet writer: it prices the list that it is given, and writes what the pricer answers.
+ghost use mathlib.Core.Path.{_≡_};
+ghost use Prim.Native.Nat.{_≤_};
+ghost use lib.ListN.{length};
+ghost use Rattle.runs.specs.Run.{runOf, total, mostReads};
+ghost use Rattle.writers.specs.PlanSheet.{planTop, planLines, planText, planSheetVerdict};
+ghost use Rattle.writers.specs.Writing.{writtenAnswer, writtenRow};
+ghost use Rattle.writers.specs.Private.{Wrote, planMost, PlanFits};
+use crate::Written;
+use crate::page::hand_out;
+use crate::page::put_line;
+use crate::page::put_number_line;
+use crate::page::put_pairs;
+use crate::page::refused_writing;
+use runs::Refusal;
+use runs::Verdict;
+use texts::is_name;
+use walk::Answer;
+
+// The number of reads of an accepted run.
+fn reads_of(counts: &[u64]) -> u64
+    requires { ⌜ total (now counts) ≤ mostReads ⌝ }
+    ensures { λ r. ⌜ r ≡ total (now (counts .entry)) ⌝ }
+{
+    let mut reads: u64 = 0;
+    let mut i: usize = 0;
+    while i < counts.len() {
+        reads += counts[i];
+        i += 1;
+    }
+    reads
+}
+
+fn put_plan_top(page: &mut [u8], name: &[u8], reads: u64, answer: Answer) -> usize
+    requires { ⌜ length (now name) ≤ 16 ⌝ }
+    requires { ⌜ 156 ≤ length (now page) ⌝ }
+    ensures { λ r. ⌜ Wrote (now (page .entry)) 0 (planTop (now (name .entry)) reads answer) 156 (now (page .exit)) r ⌝ }
+{
+    let sum_at = put_line(page, 0, b"tape=", name);
+    let reads_at = put_number_line(page, sum_at, b"sum=", answer.sum);
+    let finish_at = put_number_line(page, reads_at, b"reads=", reads);
+    let end_at = put_number_line(page, finish_at, b"finish=", answer.finish);
+    let detours_at = put_number_line(page, end_at, b"end=", answer.end);
+    put_number_line(page, detours_at, b"detours=", answer.detours)
+}
+
+fn put_plan(
+    page: &mut [u8],
+    name: &[u8],
+    reads: u64,
+    answer: Answer,
+    froms: &[u64],
+    tos: &[u64],
+    numbers: &[u64],
+    times: &[u64],
+) -> usize
+    requires { ⌜ PlanFits (now page) (now name) (now froms) (now tos) (now numbers) (now times) ⌝ }
+    ensures { λ r. ⌜ Wrote (now (page .entry)) 0 (planLines (now (name .entry)) reads answer (now (froms .entry)) (now (tos .entry)) (now (numbers .entry)) (now (times .entry))) planMost (now (page .exit)) r ⌝ }
+{
+    let detour_at = put_plan_top(page, name, reads, answer);
+    let time_at = put_pairs(page, detour_at, b"detour=", froms, tos);
+    put_pairs(page, time_at, b"time=", numbers, times)
+}
+
+pub fn write_plan(
+    name: &[u8],
+    starts: &[u64],
+    lengths: &[u64],
+    numbers: &[u64],
+    counts: &[u64],
+    head: u64,
+    turn: u64,
+    froms: &[u64],
+    tos: &[u64],
+    out: &mut [u8],
+) -> Written
+    ensures { λ r. ⌜ r ≡ writtenAnswer (planSheetVerdict (now (name .entry)) (runOf (now (starts .entry)) (now (lengths .entry)) (now (numbers .entry)) (now (counts .entry)) head turn) (now (froms .entry)) (now (tos .entry)) (now (out .entry))) (planText (now (name .entry)) (runOf (now (starts .entry)) (now (lengths .entry)) (now (numbers .entry)) (now (counts .entry)) head turn) (now (froms .entry)) (now (tos .entry))) ⌝ }
+    ensures { λ _. ⌜ now (out .exit) ≡ writtenRow (planSheetVerdict (now (name .entry)) (runOf (now (starts .entry)) (now (lengths .entry)) (now (numbers .entry)) (now (counts .entry)) head turn) (now (froms .entry)) (now (tos .entry)) (now (out .entry))) (planText (now (name .entry)) (runOf (now (starts .entry)) (now (lengths .entry)) (now (numbers .entry)) (now (counts .entry)) head turn) (now (froms .entry)) (now (tos .entry))) (now (out .entry)) ⌝ }
+{
+    let run = runs::judge(starts, lengths, numbers, counts, head, turn);
+    if runs::refused(run) {
+        return refused_writing(run);
+    }
+    if !is_name(name) {
+        return refused_writing(Verdict {
+            refusal: Refusal::BadName,
+            place: 0,
+        });
+    }
+    let mut times = [0u64; 64];
+    let answer = walk::price(
+        starts,
+        lengths,
+        numbers,
+        counts,
+        head,
+        turn,
+        froms,
+        tos,
+        &mut times,
+    );
+    let refusal = answer.refusal;
+    let list = Verdict {
+        refusal,
+        place: answer.place,
+    };
+    if runs::refused(list) {
+        return refused_writing(list);
+    }
+    let wants = numbers.len();
+    let mut page = [0u8; 6428];
+    let bytes = put_plan(
+        &mut page,
+        name,
+        reads_of(counts),
+        answer,
+        froms,
+        tos,
+        numbers,
+        &times[..wants],
+    );
+    hand_out(&page[..bytes], out)
+}

@@ -1,0 +1,107 @@
+// The run sheet writer.
+ghost use mathlib.Core.Path.{_≡_};
+ghost use Prim.Native.Nat.{_+_, _≤_};
+ghost use lib.ListN.{length};
+ghost use Rattle.runs.specs.Run.{runOf};
+ghost use Rattle.sheets.specs.Lines.{ruleKey, ruleText};
+ghost use Rattle.sheets.specs.Sheet.{longestSheet};
+ghost use Rattle.writers.specs.Writing.{line, topText, sheetText, writeVerdict, writtenAnswer, writtenRow};
+ghost use Rattle.writers.specs.Private.{Wrote, SheetFits};
+use crate::Written;
+use crate::page::hand_out;
+use crate::page::put_line;
+use crate::page::put_number_line;
+use crate::page::put_pairs;
+use crate::page::refused_writing;
+use runs::Refusal;
+use runs::Rule;
+use runs::Verdict;
+use sheets::MOST_SHEET_FILES;
+use texts::is_name;
+
+fn put_rule(page: &mut [u8], at: usize, rule: Rule) -> usize
+    requires { ⌜ at + 11 ≤ length (now page) ⌝ }
+    ensures { λ r. ⌜ Wrote (now (page .entry)) at (line ruleKey (ruleText rule)) 11 (now (page .exit)) r ⌝ }
+{
+    match rule {
+        Rule::Sweep => put_line(page, at, b"rule=", b"sweep"),
+        Rule::Least => put_line(page, at, b"rule=", b"least"),
+    }
+}
+
+fn put_top(page: &mut [u8], name: &[u8], head: u64, turn: u64, rule: Rule, files: u64) -> usize
+    requires { ⌜ length (now name) ≤ 16 ⌝ }
+    requires { ⌜ 112 ≤ length (now page) ⌝ }
+    ensures { λ r. ⌜ Wrote (now (page .entry)) 0 (topText (now (name .entry)) head turn rule files) 112 (now (page .exit)) r ⌝ }
+{
+    let head_at = put_line(page, 0, b"tape=", name);
+    let turn_at = put_number_line(page, head_at, b"head=", head);
+    let rule_at = put_number_line(page, turn_at, b"turn=", turn);
+    let files_at = put_rule(page, rule_at, rule);
+    put_number_line(page, files_at, b"files=", files)
+}
+
+fn put_sheet(
+    page: &mut [u8],
+    name: &[u8],
+    rule: Rule,
+    starts: &[u64],
+    lengths: &[u64],
+    numbers: &[u64],
+    counts: &[u64],
+    head: u64,
+    turn: u64,
+) -> usize
+    requires { ⌜ SheetFits (now page) (now name) (now starts) (now lengths) (now numbers) (now counts) ⌝ }
+    ensures { λ r. ⌜ Wrote (now (page .entry)) 0 (sheetText (now (name .entry)) rule (runOf (now (starts .entry)) (now (lengths .entry)) (now (numbers .entry)) (now (counts .entry)) head turn)) longestSheet (now (page .exit)) r ⌝ }
+{
+    let file_at = put_top(page, name, head, turn, rule, starts.len() as u64);
+    let wants_at = put_pairs(page, file_at, b"file=", starts, lengths);
+    let want_at = put_number_line(page, wants_at, b"wants=", numbers.len() as u64);
+    put_pairs(page, want_at, b"want=", numbers, counts)
+}
+
+pub fn write_sheet(
+    name: &[u8],
+    rule: Rule,
+    starts: &[u64],
+    lengths: &[u64],
+    numbers: &[u64],
+    counts: &[u64],
+    head: u64,
+    turn: u64,
+    out: &mut [u8],
+) -> Written
+    ensures { λ r. ⌜ r ≡ writtenAnswer (writeVerdict (now (name .entry)) rule (runOf (now (starts .entry)) (now (lengths .entry)) (now (numbers .entry)) (now (counts .entry)) head turn) (now (out .entry))) (sheetText (now (name .entry)) rule (runOf (now (starts .entry)) (now (lengths .entry)) (now (numbers .entry)) (now (counts .entry)) head turn)) ⌝ }
+    ensures { λ _. ⌜ now (out .exit) ≡ writtenRow (writeVerdict (now (name .entry)) rule (runOf (now (starts .entry)) (now (lengths .entry)) (now (numbers .entry)) (now (counts .entry)) head turn) (now (out .entry))) (sheetText (now (name .entry)) rule (runOf (now (starts .entry)) (now (lengths .entry)) (now (numbers .entry)) (now (counts .entry)) head turn)) (now (out .entry)) ⌝ }
+{
+    let v = runs::judge(starts, lengths, numbers, counts, head, turn);
+    if runs::refused(v) {
+        return refused_writing(v);
+    }
+    if MOST_SHEET_FILES < starts.len() as u64 {
+        return refused_writing(Verdict {
+            refusal: Refusal::BadName,
+            place: 0,
+        });
+    }
+    if !is_name(name) {
+        return refused_writing(Verdict {
+            refusal: Refusal::BadName,
+            place: 0,
+        });
+    }
+    let mut page = [0u8; 16384];
+    let bytes = put_sheet(
+        &mut page,
+        name,
+        rule,
+        starts,
+        lengths,
+        numbers,
+        counts,
+        head,
+        turn,
+    );
+    hand_out(&page[..bytes], out)
+}
