@@ -1,9 +1,17 @@
 -- Texts are lists of bytes. What a number and a tape name are, and a number's own text.
 use Prim.Native.Nat.{ℕ, suc, zero, _+_, _-_, _*_, _/_, _%_, _^_}
+use Prim.Native.Char.{code}
+use Prim.Native.String.{String}
+use Prim.Native.String as Letters
 use mathlib.Core.Bool.{Bool, true, false, cond, not, _&&_, _||_}
 use mathlib.Core.List.{List, [], _∷_, _++_}
 use lib.ListN.{length}
 use lib.Dec.{leb, ltb, eqb}
+
+-- The bytes of a text that is written in letters, as "tape=". Every letter of a sheet is below 128, so it is one byte: its code.
+abbrev pub bytes : String → List ℕ
+bytes Letters.[] = []
+bytes (Letters._∷_ letter letters) = code letter ∷ bytes letters
 
 abbrev pub lineFeed : ℕ
 lineFeed = 10
