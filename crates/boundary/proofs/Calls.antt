@@ -8,17 +8,17 @@ use native.Mathlib.Omega.{arith}
 use lib.ListN.{length, drop, set}
 use lib.Dec.{ltb}
 use borrow.Author.Tests.{lt-ltb, le-ltb, eq-eqb}
-use Rattle.runs.specs.declared.Refusal.{Refusal}
-use Rattle.runs.specs.declared.Refusal.the-variants.{Accepted, FileRows, BadFile, WantRows, BadWant, TooManyReads, TurnPrice, HeadPlace, ShortRow, ShortRoom, BadEntry, BadLine, LongSheet, BadName, BadRule, BadText, ManyExtents, Overlap, FarFile}
-use Rattle.runs.specs.declared.Verdict.{Verdict}
+use Rattle.refusals.specs.declared.Refusal.{Refusal}
+use Rattle.refusals.specs.declared.Refusal.the-variants.{Accepted, FileRows, BadFile, WantRows, BadWant, TooManyReads, TurnPrice, HeadPlace, ShortRow, ShortRoom, BadEntry, BadLine, LongSheet, BadName, BadRule, BadText, ManyExtents, Overlap, FarFile}
+use Rattle.refusals.specs.declared.Verdict.{Verdict}
 use Rattle.walk.specs.declared.Answer.{Answer}
-use Rattle.runs.specs.Refusals.{numberOf, refuseIf, firstOf, accepted}
+use Rattle.refusals.specs.Refusals.{numberOf, refuseIf, firstOf, accepted}
 use Rattle.runs.specs.Run.{Run, stopsOf}
 use Rattle.runs.specs.Judging.{judgeOf}
 use Rattle.runs.specs.Lists.{listOf, listVerdict}
 use Rattle.walk.specs.Price.{refusalAnswer, pricedAnswer, priceVerdict, priceAnswer, priceRow}
 use Rattle.runs.proofs.Search.{true-or-false}
-use Rattle.runs.proofs.Verdicts.{refuses}
+use Rattle.refusals.proofs.Verdicts.{refuses}
 use Rattle.walk.proofs.Priced.{price-accepted}
 use Rattle.walk.proofs.Places.{placeMost, price-near}
 use Rattle.boundary.specs.Boundary.{codeOf, sumsWith, priceCall, priceTimes, priceSums}

@@ -8,15 +8,15 @@ use native.Mathlib.Omega.{arith}
 use lib.ListN.{length}
 use lib.Dec.{ltb}
 use borrow.Author.Tests.{lt-ltb, le-ltb, ne-eqb}
-use Rattle.runs.specs.declared.Refusal.the-variants.{ShortRow, ShortRoom, BadRule}
-use Rattle.runs.specs.declared.Verdict.{Verdict}
+use Rattle.refusals.specs.declared.Refusal.the-variants.{ShortRow, ShortRoom, BadRule}
+use Rattle.refusals.specs.declared.Verdict.{Verdict}
 use Rattle.walk.specs.declared.Answer.{Answer}
-use Rattle.runs.specs.Refusals.{numberOf, isRefusal, refuseIf}
+use Rattle.refusals.specs.Refusals.{numberOf, isRefusal, refuseIf}
 use Rattle.runs.specs.Run.{Run}
 use Rattle.runs.specs.Judging.{judgeOf}
 use Rattle.walk.specs.Price.{refusalAnswer, pricedAnswer}
 use Rattle.runs.proofs.Search.{true-or-false}
-use Rattle.runs.proofs.Verdicts.{refuses, test-says}
+use Rattle.refusals.proofs.Verdicts.{refuses, test-says}
 use Rattle.walk.proofs.Places.{placeMost, judge-near, first-near, if-near}
 use Rattle.planner.proofs.Determined.{planned-once}
 use Rattle.planner.specs.Plan.{Rows, Plans, planVerdict, shortRows, roomSize}

@@ -4,7 +4,7 @@ ghost use mathlib.Core.Path.{_≡_};
 ghost use mathlib.Core.List.{List};
 ghost use Prim.Native.Nat.{ℕ, _+_, _*_, _≤_, _<_};
 ghost use lib.ListN.{length};
-ghost use Rattle.runs.specs.Refusals.{numberOf};
+ghost use Rattle.refusals.specs.Refusals.{numberOf};
 ghost use Rattle.runs.specs.Run.{runOf};
 ghost use Rattle.planner.specs.Plan.{rowsOf};
 ghost use Rattle.boundary.specs.Boundary.{codeOf, sumsWith, priceCall, ruleNumbered, PriceCalled, PlanCalled};
@@ -17,7 +17,7 @@ fn code(a: Answer) -> u64
     ensures { λ r. ⌜ r ≡ numberOf (a .refusal) + 256 * a .place ⌝ }
 {
     let kind = a.refusal;
-    runs::number(kind) + 256 * a.place
+    refusals::number(kind) + 256 * a.place
 }
 
 // The four words of an accepted answer.
@@ -134,7 +134,7 @@ pub extern "C" fn violstream_plan(
     ensures { λ r. ⌜ PlanCalled (runOf (now (starts .entry)) (now (lengths .entry)) (now (numbers .entry)) (now (counts .entry)) head turn) rule (rowsOf (now («detour_starts» .entry)) (now («detour_ends» .entry)) (now (times .entry)) (now (room .entry))) (now (sums .entry)) r (rowsOf (now («detour_starts» .exit)) (now («detour_ends» .exit)) (now (times .exit)) (now (room .exit))) (now (sums .exit)) ⌝ }
 {
     let run = runs::judge(starts, lengths, numbers, counts, head, turn);
-    if runs::refused(run) {
+    if refusals::refused(run) {
         return code(walk::refuse(run));
     }
     if 1 < rule {

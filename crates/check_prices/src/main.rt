@@ -29,7 +29,7 @@ fn times_line(times: &[u64], wants: usize) {
 
 fn answer_line(a: Answer, times: &[u64], wants: usize) {
     let kind = a.refusal;
-    let number = runs::number(kind);
+    let number = refusals::number(kind);
     if number != 0 {
         field(b": refused=", number);
         field(b" place=", a.place);

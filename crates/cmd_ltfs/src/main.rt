@@ -6,7 +6,7 @@ ghost use lib.ListN.{length};
 use libc::STDERR_FILENO;
 use libc::STDIN_FILENO;
 use libc::STDOUT_FILENO;
-use runs::Refusal;
+use refusals::Refusal;
 
 // A part of the input: from one position to another.
 enum Part {
@@ -27,7 +27,7 @@ fn line(fd: i32, key: &[u8], value: u64) {
 }
 
 fn refused(kind: Refusal, place: u64) {
-    line(STDOUT_FILENO, b"refused=", runs::number(kind));
+    line(STDOUT_FILENO, b"refused=", refusals::number(kind));
     line(STDOUT_FILENO, b"place=", place);
 }
 
@@ -120,7 +120,7 @@ fn print_sheet(name: &[u8], label: &[u8], index: &[u8]) {
     let mut out = [0u8; 16384];
     let report = ltfs::table_sheet(name, label, index, &mut out);
     let kind = report.refusal;
-    if runs::number(kind) != 0 {
+    if refusals::number(kind) != 0 {
         refused(kind, report.place);
         return;
     }

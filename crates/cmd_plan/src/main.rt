@@ -60,7 +60,7 @@ fn print_plan(
         &mut out,
     );
     let kind = w.refusal;
-    let number = runs::number(kind);
+    let number = refusals::number(kind);
     if number != 0 {
         refused(number, w.place);
         return;
@@ -98,7 +98,7 @@ fn plan_run(
         &mut room,
     );
     let kind = a.refusal;
-    let number = runs::number(kind);
+    let number = refusals::number(kind);
     if number != 0 {
         refused(number, a.place);
         return;
@@ -124,7 +124,7 @@ fn answer(sheet: &[u8]) {
     let mut counts = [0u64; 64];
     let r = sheets::read_sheet(sheet, &mut starts, &mut lengths, &mut numbers, &mut counts);
     let kind = r.refusal;
-    let number = runs::number(kind);
+    let number = refusals::number(kind);
     if number != 0 {
         refused(number, r.place);
         return;

@@ -8,14 +8,14 @@ use mathlib.Core.List.{List, [], _∷_}
 use native.Mathlib.Omega.{arith}
 use lib.ListN.{length}
 use lib.Dec.{ltb, eqb}
-use Rattle.runs.specs.declared.Refusal.{Refusal}
-use Rattle.runs.specs.declared.Refusal.the-variants.{Accepted, BadEntry, ShortRow, ShortRoom, BadRule}
-use Rattle.runs.specs.Refusals.{numberOf, accepted, refuseIf, firstOf}
+use Rattle.refusals.specs.declared.Refusal.{Refusal}
+use Rattle.refusals.specs.declared.Refusal.the-variants.{Accepted, BadEntry, ShortRow, ShortRoom, BadRule}
+use Rattle.refusals.specs.Refusals.{numberOf, accepted, refuseIf, firstOf}
 use Rattle.runs.specs.Run.{Run, stopsOf}
 use Rattle.runs.specs.Judging.{judgeOf}
 use Rattle.runs.specs.Lists.{listVerdict}
 use Rattle.walk.specs.Price.{priceVerdict}
-use Rattle.runs.proofs.Verdicts.{none-refuses, refuses}
+use Rattle.refusals.proofs.Verdicts.{none-refuses, refuses}
 use Rattle.runs.proofs.Judged.{accepted-run}
 use Rattle.planner.specs.Plan.{Rows, roomSize, shortRows}
 use Rattle.boundary.specs.Boundary.{shortSums, priceCall, priceTimes, priceSums, PriceCalled, badRule, planCall, PlanCalled}

@@ -6,7 +6,7 @@ use mathlib.Core.Logic.{_↔_}
 use mathlib.Core.List.{List, [], _∷_}
 use lib.Dec.{eqb}
 use borrow.Author.Tests.{eqb-true, eq-eqb, not-true}
-use Rattle.runs.specs.Refusals.{isRefusal, firstWhere}
+use Rattle.refusals.specs.Refusals.{isRefusal, firstWhere}
 use Rattle.runs.specs.Run.{Run, stopsOf, stopsFrom, rightEnd}
 use Rattle.runs.specs.Judging.{judgeOf}
 use Rattle.walk.specs.Walk.{headAt, timeOf, timesOf, sumOf}

@@ -6,12 +6,12 @@ use mathlib.Core.Bool.{Bool, true, false, true≢false}
 use mathlib.Core.Logic.{_↔_, inl, inr, ⊎-elim}
 use mathlib.Core.List.{List, [], _∷_, _++_}
 use native.Mathlib.Omega.{arith}
-use Rattle.runs.specs.declared.Refusal.{Refusal}
-use Rattle.runs.specs.declared.Refusal.the-variants.{Accepted}
-use Rattle.runs.specs.declared.Verdict.{Verdict}
-use Rattle.runs.specs.Refusals.{isRefusal, accepted, refuseIf, refuseAt, firstOf, firstWhere}
+use Rattle.refusals.specs.declared.Refusal.{Refusal}
+use Rattle.refusals.specs.declared.Refusal.the-variants.{Accepted}
+use Rattle.refusals.specs.declared.Verdict.{Verdict}
+use Rattle.refusals.specs.Refusals.{isRefusal, accepted, refuseIf, refuseAt, firstOf, firstWhere}
 use Rattle.runs.proofs.Search.{first-zero}
-use Rattle.runs.proofs.Verdicts.{refuses}
+use Rattle.refusals.proofs.Verdicts.{refuses}
 use Rattle.demands.specs.Table.{FirstBad, FirstThatApplies, none, here, later, SomeApplies}
 use Rattle.demands.proofs.Tests.{Tells}
 

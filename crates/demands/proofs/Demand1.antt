@@ -8,17 +8,17 @@ use mathlib.Core.List.{List, [], _∷_}
 use native.Mathlib.Omega.{arith}
 use lib.ListN.{length}
 use lib.Dec.{ltb}
-use Rattle.runs.specs.declared.Refusal.{Refusal}
-use Rattle.runs.specs.declared.Refusal.the-variants.{BadEntry, ShortRow, ShortRoom}
-use Rattle.runs.specs.declared.Verdict.{Verdict}
+use Rattle.refusals.specs.declared.Refusal.{Refusal}
+use Rattle.refusals.specs.declared.Refusal.the-variants.{BadEntry, ShortRow, ShortRoom}
+use Rattle.refusals.specs.declared.Verdict.{Verdict}
 use Rattle.walk.specs.declared.Answer.{Answer}
 use Rattle.runs.specs.declared.Rule.{Rule}
-use Rattle.runs.specs.Refusals.{numberOf, accepted, refuseIf}
+use Rattle.refusals.specs.Refusals.{numberOf, accepted, refuseIf}
 use Rattle.runs.specs.Run.{Run, stopsOf}
 use Rattle.runs.specs.Judging.{judgeOf}
 use Rattle.runs.specs.Lists.{listVerdict}
 use Rattle.walk.specs.Price.{refusalAnswer, pricedAnswer, priceVerdict, priceAnswer, priceRow}
-use Rattle.runs.proofs.Verdicts.{none-refuses, refuses}
+use Rattle.refusals.proofs.Verdicts.{none-refuses, refuses}
 use Rattle.runs.proofs.Judged.{accepted-run}
 use Rattle.walk.proofs.Priced.{price-accepted}
 use Rattle.planner.specs.Plan.{Rows, Plans, roomSize, shortRows, planVerdict}

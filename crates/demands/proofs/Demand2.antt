@@ -6,7 +6,7 @@ use lib.Seq.{take-at}
 use Rattle.walk.specs.declared.Answer.{Answer}
 use Rattle.runs.specs.declared.Rule.{Rule}
 use Rattle.runs.specs.declared.Rule.the-variants.{Sweep, Least}
-use Rattle.runs.specs.Refusals.{firstWhere}
+use Rattle.refusals.specs.Refusals.{firstWhere}
 use Rattle.runs.specs.Run.{Run, stopsOf}
 use Rattle.runs.specs.Lists.{Detour, WellFormed, firstBadEntry}
 use Rattle.walk.specs.Price.{pricedAnswer, pricedTimes}

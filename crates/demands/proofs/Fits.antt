@@ -10,7 +10,7 @@ use Rattle.runs.specs.Run.{Run, stopsOf}
 use Rattle.runs.specs.Judging.{judgeOf}
 use Rattle.runs.specs.Lists.{Detour}
 use Rattle.walk.specs.Price.{refusalAnswer, pricedAnswer}
-use Rattle.runs.proofs.Verdicts.{refuses}
+use Rattle.refusals.proofs.Verdicts.{refuses}
 use Rattle.walk.proofs.Laws.{accepted-sound}
 use Rattle.least.proofs.LeastList.{leastList, least-list}
 use Rattle.planner.specs.Plan.{Rows, rowsWith, ByRule, Plans, planVerdict}

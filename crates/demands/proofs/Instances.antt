@@ -7,18 +7,18 @@ use mathlib.Core.List.{List, [], _∷_, _++_, map}
 use native.Mathlib.Omega.{arith}
 use lib.ListN.{replicate}
 use lib.Dec.{eqb}
-use Rattle.runs.specs.declared.Refusal.the-variants.{Accepted, BadEntry, ShortRoom}
+use Rattle.refusals.specs.declared.Refusal.the-variants.{Accepted, BadEntry, ShortRoom}
 use Rattle.walk.specs.declared.Answer.{Answer}
 use Rattle.walk.specs.declared.Leg.{Leg}
 use Rattle.runs.specs.declared.Rule.the-variants.{Sweep, Least}
-use Rattle.runs.specs.Refusals.{isRefusal, firstWhere}
+use Rattle.refusals.specs.Refusals.{isRefusal, firstWhere}
 use Rattle.runs.specs.Run.{Run, runOf, stopsFrom, stopsOf, rightEnd}
 use Rattle.runs.specs.Judging.{judgeOf}
 use Rattle.walk.specs.Walk.{headAt, Moves, served, ServesAll, timeOf, sumOf}
 use Rattle.runs.specs.Lists.{Detour, wanted, anyBelow, firstBadEntry, listVerdict, listOf}
 use Rattle.walk.specs.Detours.{startOf, endOf, legOf, lastSweep, legsOf}
 use Rattle.walk.specs.Price.{refusalAnswer, pricedAnswer, priceVerdict, priceAnswer, priceRow}
-use Rattle.runs.proofs.Verdicts.{refuses}
+use Rattle.refusals.proofs.Verdicts.{refuses}
 use Rattle.least.specs.Wants.{readsOf}
 use Rattle.least.proofs.Plan.{listed}
 use Rattle.least.proofs.Sums.{W}

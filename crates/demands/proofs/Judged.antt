@@ -7,13 +7,13 @@ use mathlib.Core.List.{List, [], _∷_}
 use native.Mathlib.Omega.{arith}
 use lib.ListN.{length}
 use lib.Dec.{ltb, eqb}
-use Rattle.runs.specs.declared.Refusal.{Refusal}
-use Rattle.runs.specs.declared.Refusal.the-variants.{FileRows, BadFile, WantRows, BadWant, TooManyReads, TurnPrice, HeadPlace}
-use Rattle.runs.specs.declared.Verdict.{Verdict}
-use Rattle.runs.specs.Refusals.{numberOf, refuseIf, refuseAt, firstOf, firstWhere}
+use Rattle.refusals.specs.declared.Refusal.{Refusal}
+use Rattle.refusals.specs.declared.Refusal.the-variants.{FileRows, BadFile, WantRows, BadWant, TooManyReads, TurnPrice, HeadPlace}
+use Rattle.refusals.specs.declared.Verdict.{Verdict}
+use Rattle.refusals.specs.Refusals.{numberOf, refuseIf, refuseAt, firstOf, firstWhere}
 use Rattle.runs.specs.Run.{Run, mostFiles, mostWants, mostReads, lastPlace, highestTurn, total, stopsOf, rightEnd}
 use Rattle.runs.specs.Judging.{badFile, badWant, tableChecks, wantsChecks, headChecks, judgeOf}
-use Rattle.runs.proofs.Verdicts.{refuses}
+use Rattle.refusals.proofs.Verdicts.{refuses}
 use Rattle.runs.proofs.Judged.{GoodTable, GoodWants, accepted-table, accepted-wants}
 use Rattle.demands.specs.Table.{FileIsBad, WantIsBad, RunApplies}
 use Rattle.demands.proofs.Tests.{tells-below, tells-either}

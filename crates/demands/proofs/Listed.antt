@@ -8,8 +8,8 @@ use native.Mathlib.Omega.{arith}
 use lib.ListN.{length, getD}
 use lib.Dec.{leb, ltb, eqb}
 use borrow.Author.Tests.{eqb-true, eqb-false, eq-eqb}
-use Rattle.runs.specs.declared.Refusal.the-variants.{BadEntry}
-use Rattle.runs.specs.Refusals.{refuseAt, firstOf}
+use Rattle.refusals.specs.declared.Refusal.the-variants.{BadEntry}
+use Rattle.refusals.specs.Refusals.{refuseAt, firstOf}
 use Rattle.runs.specs.Run.{Run, stopsOf}
 use Rattle.runs.specs.Lists.{listOf, badAfter, firstBadEntry, listVerdict}
 use Rattle.runs.specs.Private.{listed, rowEntry, rowAlone, rowClash, rowBad}

@@ -5,15 +5,15 @@ use mathlib.Core.List.{List, [], _∷_, map}
 use lib.ListN.{length, drop, length-map}
 use lib.Seq.{take-at}
 use lib.Dec.{ltb}
-use Rattle.runs.specs.declared.Refusal.the-variants.{Accepted, ShortRow, ShortRoom}
+use Rattle.refusals.specs.declared.Refusal.the-variants.{Accepted, ShortRow, ShortRoom}
 use Rattle.walk.specs.declared.Answer.{Answer}
 use Rattle.runs.specs.declared.Rule.{Rule}
-use Rattle.runs.specs.Refusals.{isRefusal, refuseIf}
+use Rattle.refusals.specs.Refusals.{isRefusal, refuseIf}
 use Rattle.runs.specs.Run.{Run, stopsOf}
 use Rattle.runs.specs.Judging.{judgeOf}
 use Rattle.runs.specs.Lists.{Detour, listOf}
 use Rattle.walk.specs.Price.{pricedAnswer}
-use Rattle.runs.proofs.Verdicts.{refuses, all-accept}
+use Rattle.refusals.proofs.Verdicts.{refuses, all-accept}
 use Rattle.least.specs.Least.{listSum}
 use Rattle.planner.specs.Plan.{Rows, Plans, Planned, planVerdict, roomSize, shortRows, rowsWith}
 use Rattle.demands.specs.Demand2.{listIn}

@@ -10,15 +10,15 @@ use lib.ListN.{length, take, drop}
 use lib.Seq.{take-append-seam}
 use lib.Dec.{ltb}
 use borrow.Author.Tests.{le-ltb}
-use Rattle.runs.specs.declared.Refusal.{Refusal}
-use Rattle.runs.specs.declared.Refusal.the-variants.{Accepted, BadEntry, BadName, BadLine, LongSheet, ShortRow}
+use Rattle.refusals.specs.declared.Refusal.{Refusal}
+use Rattle.refusals.specs.declared.Refusal.the-variants.{Accepted, BadEntry, BadName, BadLine, LongSheet, ShortRow}
 use Rattle.runs.specs.declared.Rule.{Rule}
-use Rattle.runs.specs.declared.Verdict.{Verdict}
-use Rattle.runs.specs.Refusals.{numberOf, isRefusal, accepted, refuseIf, refuseAt, firstOf}
+use Rattle.refusals.specs.declared.Verdict.{Verdict}
+use Rattle.refusals.specs.Refusals.{numberOf, isRefusal, accepted, refuseIf, refuseAt, firstOf}
 use Rattle.runs.specs.Run.{Run, stopsOf, rightEnd}
 use Rattle.runs.specs.Judging.{tableChecks, wantsChecks, headChecks, judgeOf}
 use Rattle.runs.specs.Lists.{listVerdict}
-use Rattle.runs.proofs.Verdicts.{none-refuses, refuses}
+use Rattle.refusals.proofs.Verdicts.{none-refuses, refuses}
 use Rattle.runs.proofs.Judged.{accepted-run}
 use Rattle.texts.specs.Text.{isName}
 use Rattle.sheets.specs.Sheet.{longestSheet, mostSheetFiles, firstBadLine, filesOf, wantsOf, headOf, turnOf, runIn}

@@ -6,12 +6,12 @@ use mathlib.Core.Logic.{_⊎_, inl, inr, ⊎-elim}
 use mathlib.Core.List.{List, [], _∷_}
 use lib.ListN.{length}
 use lib.Dec.{ltb}
-use Rattle.runs.specs.declared.Refusal.{Refusal}
-use Rattle.runs.specs.declared.Refusal.the-variants.{ShortRow, BadName, BadText, ManyExtents, Overlap, FarFile}
-use Rattle.runs.specs.declared.Verdict.{Verdict}
-use Rattle.runs.specs.Refusals.{accepted, refuseIf}
+use Rattle.refusals.specs.declared.Refusal.{Refusal}
+use Rattle.refusals.specs.declared.Refusal.the-variants.{ShortRow, BadName, BadText, ManyExtents, Overlap, FarFile}
+use Rattle.refusals.specs.declared.Verdict.{Verdict}
+use Rattle.refusals.specs.Refusals.{accepted, refuseIf}
 use Rattle.runs.specs.Run.{lastPlace}
-use Rattle.runs.proofs.Verdicts.{none-refuses, refuses}
+use Rattle.refusals.proofs.Verdicts.{none-refuses, refuses}
 use Rattle.texts.specs.Text.{isName}
 use Rattle.sheets.specs.Sheet.{mostSheetFiles}
 use Rattle.writers.specs.Writing.{rowVerdict, writtenRow}

@@ -5,7 +5,7 @@ use mathlib.Core.Path.{_≡_}
 use mathlib.Core.Logic.{_⊎_}
 use mathlib.Core.List.{List, []}
 use lib.ListN.{length, take}
-use Rattle.runs.specs.declared.Refusal.the-variants.{Accepted}
+use Rattle.refusals.specs.declared.Refusal.the-variants.{Accepted}
 use Rattle.walk.specs.declared.Answer.{Answer}
 use Rattle.runs.specs.declared.Rule.{Rule}
 use Rattle.runs.specs.declared.Rule.the-variants.{Sweep, Least}

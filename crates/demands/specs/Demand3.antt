@@ -3,11 +3,11 @@ use Prim.Native.Nat.{ℕ, _≤_}
 use mathlib.Core.Path.{_≡_}
 use mathlib.Core.Bool.{false}
 use mathlib.Core.List.{List}
-use Rattle.runs.specs.declared.Refusal.the-variants.{Accepted}
+use Rattle.refusals.specs.declared.Refusal.the-variants.{Accepted}
 use Rattle.walk.specs.declared.Answer.{Answer}
 use Rattle.walk.specs.declared.Leg.{Leg}
 use Rattle.runs.specs.declared.Rule.the-variants.{Least}
-use Rattle.runs.specs.Refusals.{isRefusal}
+use Rattle.refusals.specs.Refusals.{isRefusal}
 use Rattle.runs.specs.Run.{Run, stopsOf}
 use Rattle.runs.specs.Judging.{judgeOf}
 use Rattle.walk.specs.Walk.{headAt, Moves, ServesAll, sumOf}

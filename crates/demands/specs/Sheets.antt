@@ -5,11 +5,11 @@ use mathlib.Core.Path.{_≡_}
 use mathlib.Core.Bool.{true, false}
 use mathlib.Core.List.{List, [], _∷_, _++_}
 use lib.ListN.{length, take, drop}
-use Rattle.runs.specs.declared.Refusal.{Refusal}
-use Rattle.runs.specs.declared.Refusal.the-variants.{Accepted, FileRows, BadFile, WantRows, BadWant, TooManyReads, TurnPrice, HeadPlace, ShortRow, BadEntry, BadLine, LongSheet, BadName}
+use Rattle.refusals.specs.declared.Refusal.{Refusal}
+use Rattle.refusals.specs.declared.Refusal.the-variants.{Accepted, FileRows, BadFile, WantRows, BadWant, TooManyReads, TurnPrice, HeadPlace, ShortRow, BadEntry, BadLine, LongSheet, BadName}
 use Rattle.runs.specs.declared.Rule.{Rule}
 use Rattle.runs.specs.declared.Rule.the-variants.{Least}
-use Rattle.runs.specs.Refusals.{isRefusal}
+use Rattle.refusals.specs.Refusals.{isRefusal}
 use Rattle.runs.specs.Run.{Run}
 use Rattle.runs.specs.Judging.{judgeOf}
 use Rattle.sheets.specs.declared.Reading.{Reading}

@@ -6,8 +6,8 @@ use mathlib.Core.Bool.{true, false}
 use mathlib.Core.List.{List, [], _∷_}
 use lib.ListN.{length}
 use lib.Dec.{ltb}
-use Rattle.runs.specs.declared.Refusal.{Refusal}
-use Rattle.runs.specs.declared.Refusal.the-variants.{Accepted, ShortRow, BadName, BadText, ManyExtents, Overlap, FarFile}
+use Rattle.refusals.specs.declared.Refusal.{Refusal}
+use Rattle.refusals.specs.declared.Refusal.the-variants.{Accepted, ShortRow, BadName, BadText, ManyExtents, Overlap, FarFile}
 use Rattle.runs.specs.Run.{lastPlace}
 use Rattle.texts.specs.Text.{isName}
 use Rattle.sheets.specs.Sheet.{mostSheetFiles}

@@ -7,7 +7,7 @@ use mathlib.Core.Logic.{_⊎_, inl, inr, ⊎-elim, by-cases}
 use mathlib.Core.Bool.{true≢false}
 use mathlib.Core.List.{List, [], _∷_}
 use lib.ListN.{length}
-use Rattle.runs.specs.Refusals.{firstWhere}
+use Rattle.refusals.specs.Refusals.{firstWhere}
 use Rattle.runs.specs.Run.{Stop}
 use Rattle.walk.specs.Walk.{sumOf}
 use Rattle.runs.specs.Lists.{Detour, wanted, firstBadEntry, WellFormed}

@@ -7,12 +7,12 @@ use native.Mathlib.Omega.{arith}
 use lib.ListN.{length, take, length-map}
 use lib.Dec.{ltb}
 use borrow.Author.Tests.{ltb-false, le-ltb, ne-eqb}
-use Rattle.runs.specs.declared.Refusal.{Refusal}
-use Rattle.runs.specs.declared.Refusal.the-variants.{Accepted, BadName, BadText, ManyExtents, Overlap, FarFile, ShortRow}
+use Rattle.refusals.specs.declared.Refusal.{Refusal}
+use Rattle.refusals.specs.declared.Refusal.the-variants.{Accepted, BadName, BadText, ManyExtents, Overlap, FarFile, ShortRow}
 use Rattle.runs.specs.declared.Rule.{Rule}
 use Rattle.runs.specs.declared.Rule.the-variants.{Least}
-use Rattle.runs.specs.declared.Verdict.{Verdict}
-use Rattle.runs.specs.Refusals.{isRefusal, accepted, refuseIf, firstOf}
+use Rattle.refusals.specs.declared.Verdict.{Verdict}
+use Rattle.refusals.specs.Refusals.{isRefusal, accepted, refuseIf, firstOf}
 use Rattle.runs.specs.Run.{Run, runOf}
 use Rattle.runs.specs.Judging.{judgeOf}
 use Rattle.runs.proofs.Search.{or-false-both}

@@ -8,10 +8,10 @@ use lib.ListN.{length, getD, take, length-map, List·getD-map}
 use lib.Seq.{length-take-le, getD-take}
 use lib.Dec.{eqb, ltb, leb}
 use borrow.Author.Tests.{ltb-false, leb-true, eqb-false, lt-ltb, le-ltb, eq-eqb, not-true}
-use Rattle.runs.specs.Refusals.{accepted}
+use Rattle.refusals.specs.Refusals.{accepted}
 use Rattle.runs.specs.Run.{lastPlace, mostFiles, stopsFrom, rightEnd}
 use Rattle.runs.specs.Judging.{badFile, endBefore, judgeOf}
-use Rattle.runs.specs.Refusals.{firstWhere}
+use Rattle.refusals.specs.Refusals.{firstWhere}
 use Rattle.runs.proofs.Search.{or-false-both, first-all}
 use Rattle.texts.proofs.Bytes.{and-true-both}
 use Rattle.ltfs.specs.Tree.{Forest}

@@ -7,12 +7,12 @@ use native.Mathlib.Omega.{arith}
 use lib.ListN.{length, length-map}
 use lib.Dec.{eqb}
 use borrow.Author.Tests.{not-false}
-use Rattle.runs.specs.declared.Refusal.the-variants.{BadName, BadText, ManyExtents, Overlap, FarFile}
+use Rattle.refusals.specs.declared.Refusal.the-variants.{BadName, BadText, ManyExtents, Overlap, FarFile}
 use Rattle.runs.specs.declared.Rule.the-variants.{Least}
-use Rattle.runs.specs.Refusals.{refuseIf}
+use Rattle.refusals.specs.Refusals.{refuseIf}
 use Rattle.runs.specs.Run.{Run}
 use Rattle.runs.specs.Judging.{judgeOf}
-use Rattle.runs.proofs.Verdicts.{all-accept, accepts-if}
+use Rattle.refusals.proofs.Verdicts.{all-accept, accepts-if}
 use Rattle.texts.specs.Text.{isName}
 use Rattle.writers.specs.Writing.{rowVerdict}
 use Rattle.writers.proofs.RoundTrip.{round-trip}

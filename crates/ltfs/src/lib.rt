@@ -18,7 +18,7 @@ pub const MOST_OPEN: usize = 32;
 
 // What is answered: the size of the sheet, and how many files were left out. Every number is 0 on a refusal.
 pub struct Report {
-    pub refusal: runs::Refusal,
+    pub refusal: refusals::Refusal,
     pub place: u64,
     pub bytes: u64,
     pub empty: u64,

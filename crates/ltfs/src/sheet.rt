@@ -22,7 +22,7 @@ use crate::values::is_value;
 use crate::values::value_in;
 use ranges::Tally;
 use ranges::neighbours_overlap;
-use runs::Refusal;
+use refusals::Refusal;
 use runs::Rule;
 use writers::Written;
 

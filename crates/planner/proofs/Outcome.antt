@@ -10,12 +10,12 @@ use lib.ListN.{length, getD, take, drop, replicate, length-append, length-replic
 use lib.Seq.{ext-getD, getD-append-add, getD-drop, length-take-le}
 use borrow.Author.Tests.{le-ltb, eq-eqb}
 use Rattle.walk.specs.declared.Answer.{Answer}
-use Rattle.runs.specs.Refusals.{isRefusal, firstWhere}
+use Rattle.refusals.specs.Refusals.{isRefusal, firstWhere}
 use Rattle.runs.specs.Run.{Run, Stop, runOf, stopsFrom, stopsOf, total, mostReads}
 use Rattle.runs.specs.Judging.{judgeOf}
 use Rattle.runs.specs.Lists.{Detour, listOf, listVerdict, firstBadEntry, WellFormed}
 use Rattle.walk.specs.Price.{priceVerdict, priceAnswer, priceRow, pricedTimes}
-use Rattle.runs.proofs.Verdicts.{refuses}
+use Rattle.refusals.proofs.Verdicts.{refuses}
 use Rattle.runs.proofs.Entries.{length-list}
 use Rattle.runs.proofs.Judged.{accepted-run}
 use Rattle.walk.proofs.Laws.{accepted-sound}

@@ -7,15 +7,15 @@ use native.Mathlib.Omega.{arith}
 use lib.ListN.{length}
 use lib.Dec.{ltb}
 use borrow.Author.Tests.{ltb-false}
-use Rattle.runs.specs.declared.Refusal.the-variants.{ShortRow, ShortRoom}
-use Rattle.runs.specs.declared.Verdict.{Verdict}
+use Rattle.refusals.specs.declared.Refusal.the-variants.{ShortRow, ShortRoom}
+use Rattle.refusals.specs.declared.Verdict.{Verdict}
 use Rattle.walk.specs.declared.Answer.{Answer}
-use Rattle.runs.specs.Refusals.{isRefusal, refuseIf, firstOf}
+use Rattle.refusals.specs.Refusals.{isRefusal, refuseIf, firstOf}
 use Rattle.runs.specs.Run.{Run, total}
 use Rattle.runs.specs.Judging.{judgeOf}
 use Rattle.walk.specs.Price.{refusalAnswer}
 use Rattle.runs.proofs.Search.{or-false-both}
-use Rattle.runs.proofs.Verdicts.{refuses, first-refuses, first-passes, test-says}
+use Rattle.refusals.proofs.Verdicts.{refuses, first-refuses, first-passes, test-says}
 use Rattle.runs.specs.declared.Rule.{Rule}
 use Rattle.planner.specs.Plan.{Rows, Plans, Planned, planVerdict, shortRows, roomSize}
 use Rattle.planner.specs.Private.{LongRows, tableSize, rowsVerdict}

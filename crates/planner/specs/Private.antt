@@ -6,9 +6,9 @@ use mathlib.Core.Logic.{_⊎_}
 use mathlib.Core.List.{List, [], _∷_}
 use lib.ListN.{length, getD, take, drop}
 use lib.Dec.{ltb}
-use Rattle.runs.specs.declared.Refusal.the-variants.{ShortRow, ShortRoom}
-use Rattle.runs.specs.declared.Verdict.{Verdict}
-use Rattle.runs.specs.Refusals.{isRefusal, refuseIf, firstOf}
+use Rattle.refusals.specs.declared.Refusal.the-variants.{ShortRow, ShortRoom}
+use Rattle.refusals.specs.declared.Verdict.{Verdict}
+use Rattle.refusals.specs.Refusals.{isRefusal, refuseIf, firstOf}
 use Rattle.runs.specs.Run.{Stop, runOf, stopsFrom, total, endAt, lastPlace, highestTurn, mostReads}
 use Rattle.runs.specs.Judging.{judgeOf}
 use Rattle.runs.specs.Private.{InTable}

@@ -4,7 +4,7 @@ ghost use mathlib.Core.Bool.{false, _||_};
 ghost use Prim.Native.Nat.{_+_, _-_, _≤_, _<_};
 ghost use lib.ListN.{length};
 ghost use lib.Dec.{ltb};
-ghost use Rattle.runs.specs.Refusals.{isRefusal};
+ghost use Rattle.refusals.specs.Refusals.{isRefusal};
 ghost use Rattle.runs.specs.Run.{runOf, stopsFrom, total, mostReads};
 ghost use Rattle.runs.specs.Judging.{judgeOf};
 ghost use Rattle.least.proofs.LeastList.{leastList};
@@ -14,9 +14,9 @@ use crate::filling::clear;
 use crate::filling::fill;
 use crate::reading::read_off;
 use crate::stops::reads_before;
-use runs::Refusal;
+use refusals::Refusal;
+use refusals::Verdict;
 use runs::Rule;
-use runs::Verdict;
 use walk::Answer;
 
 // Whether a row is too short for so many wants. The rows for a list hold one entry less, and none where nothing is wanted.
@@ -214,7 +214,7 @@ pub fn plan(
     ensures { λ r. ⌜ Plans (runOf (now (starts .entry)) (now (lengths .entry)) (now (numbers .entry)) (now (counts .entry)) head turn) rule (rowsOf (now (froms .entry)) (now (tos .entry)) (now (times .entry)) (now (room .entry))) r (rowsOf (now (froms .exit)) (now (tos .exit)) (now (times .exit)) (now (room .exit))) ⌝ }
 {
     let run = runs::judge(starts, lengths, numbers, counts, head, turn);
-    if runs::refused(run) {
+    if refusals::refused(run) {
         return walk::refuse(run);
     }
     let reads = reads_before(counts, counts.len()) as usize;
@@ -226,7 +226,7 @@ pub fn plan(
         times.len(),
         room.len(),
     );
-    if runs::refused(rows) {
+    if refusals::refused(rows) {
         return walk::refuse(rows);
     }
     planned(

@@ -9,7 +9,7 @@ use lib.ListN.{length, getD, drop, drop-of-length-le}
 use lib.Seq.{drop-cons}
 use lib.Dec.{ltb, leb, eqb}
 use borrow.Author.Tests.{eqb-false, ltb-false, leb-false, lt-ltb, le-ltb}
-use Rattle.runs.specs.Refusals.{firstWhere}
+use Rattle.refusals.specs.Refusals.{firstWhere}
 use Rattle.runs.specs.Run.{endAt, lastPlace, mostReads, total}
 use Rattle.runs.specs.Judging.{badFile, badWant, endBefore, numberBefore}
 use Rattle.runs.proofs.Search.{first-more, first-here, or-false-both}

@@ -9,8 +9,8 @@ use lib.ListN.{length, getD, drop, drop-of-length-le}
 use lib.Seq.{drop-cons}
 use lib.Dec.{eqb}
 use borrow.Author.Tests.{eq-eqb, ne-eqb}
-use Rattle.runs.specs.declared.Verdict.{Verdict}
-use Rattle.runs.specs.Refusals.{firstWhere}
+use Rattle.refusals.specs.declared.Verdict.{Verdict}
+use Rattle.refusals.specs.Refusals.{firstWhere}
 use Rattle.runs.specs.Run.{stopsFrom}
 use Rattle.runs.specs.Lists.{listOf, wanted, leftmost, badAfter, badEntry, anyBelow, entryOf, firstBadEntry, listVerdict}
 use Rattle.runs.specs.Private.{listed, rowEntry, rowAlone, rowClash, rowBad}

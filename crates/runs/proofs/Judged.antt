@@ -6,18 +6,18 @@ use mathlib.Core.List.{List, [], _∷_}
 use lib.ListN.{length, getD}
 use lib.Dec.{ltb, eqb}
 use borrow.Author.Tests.{eqb-true, ltb-false, not-false}
-use Rattle.runs.specs.declared.Refusal.the-variants.{FileRows, BadFile, WantRows, BadWant, TooManyReads, TurnPrice, HeadPlace}
-use Rattle.runs.specs.declared.Verdict.{Verdict}
-use Rattle.runs.specs.Refusals.{isRefusal, firstOf}
+use Rattle.refusals.specs.declared.Refusal.the-variants.{FileRows, BadFile, WantRows, BadWant, TooManyReads, TurnPrice, HeadPlace}
+use Rattle.refusals.specs.declared.Verdict.{Verdict}
+use Rattle.refusals.specs.Refusals.{isRefusal, firstOf}
 use Rattle.runs.specs.Run.{Run, runOf, stopsOf, rightEnd, total, mostFiles, mostWants, mostReads, lastPlace, highestTurn}
 use Rattle.runs.specs.Judging.{badWant, tableChecks, wantsChecks, headChecks, judgeOf}
 use Rattle.runs.specs.Private.{SoundTable, InTable}
 use Rattle.runs.proofs.Search.{first-zero, or-false-both}
-use Rattle.runs.proofs.Verdicts.{refuses, first-refuses, first-passes, first-alone, all-accept, accepts-if, accepts-at}
+use Rattle.refusals.proofs.Verdicts.{refuses, first-refuses, first-passes, first-alone, all-accept, accepts-if, accepts-at}
 use Rattle.runs.proofs.Accepted.{GoodWant, good-want}
 
 -- Two rows of one length, at most so many.
-rows-fit : (most n m : ℕ) → (ltb most n || not (eqb n m)) ≡ false → (n ≤ most) × (n ≡ m)
+pub rows-fit : (most n m : ℕ) → (ltb most n || not (eqb n m)) ≡ false → (n ≤ most) × (n ≡ m)
 rows-fit most n m e =
     let both = or-false-both _ _ e in
     (ltb-false most n (both .0), eqb-true n m (not-false (eqb n m) (both .1)))

@@ -1,6 +1,5 @@
 -- Laws that this crate's proofs share, and those that other crates cite.
 pub mod Search
-pub mod Verdicts
 pub mod Accepted
 pub mod Table
 pub mod Judged

@@ -9,7 +9,7 @@ use native.Mathlib.Numerals.{add-one}
 use native.Mathlib.Decide.{decLt}
 use lib.Dec.{ltb, leb}
 use borrow.Author.Tests.{lt-ltb, le-ltb, lt-leb, le-leb}
-use Rattle.runs.specs.Refusals.{firstWhere, oneMore}
+use Rattle.refusals.specs.Refusals.{firstWhere, oneMore}
 use Rattle.runs.specs.Lists.{anyBelow}
 
 -- Two tests of order agree where each order gives the other.

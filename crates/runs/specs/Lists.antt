@@ -5,9 +5,9 @@ use mathlib.Core.Bool.{Bool, false, not, _||_}
 use mathlib.Core.List.{List, [], _∷_}
 use lib.ListN.{length, getD}
 use lib.Dec.{leb, ltb, eqb}
-use Rattle.runs.specs.declared.Refusal.the-variants.{BadEntry}
-use Rattle.runs.specs.declared.Verdict.{Verdict}
-use Rattle.runs.specs.Refusals.{refuseIf, refuseAt, firstOf, firstWhere}
+use Rattle.refusals.specs.declared.Refusal.the-variants.{BadEntry}
+use Rattle.refusals.specs.declared.Verdict.{Verdict}
+use Rattle.refusals.specs.Refusals.{refuseIf, refuseAt, firstOf, firstWhere}
 use Rattle.runs.specs.Run.{Stop}
 
 -- A detour (from, to): on first reaching the start of file `from` the head goes right to the end of file `to` and comes back.

@@ -1,11 +1,11 @@
 // Judging a run: refusals 1 to 7, in the order of the table.
 ghost use mathlib.Core.Path.{_≡_};
-ghost use mathlib.Core.Bool.{_||_};
+ghost use mathlib.Core.Bool.{not, _||_};
 ghost use Prim.Native.Nat.{ℕ, _+_, _-_, _≤_, _<_};
 ghost use mathlib.Core.List.{List};
 ghost use lib.ListN.{length, getD};
 ghost use lib.Dec.{eqb, ltb, leb};
-ghost use Rattle.runs.specs.Refusals.{firstWhere, firstOf};
+ghost use Rattle.refusals.specs.Refusals.{firstWhere, firstOf};
 ghost use Rattle.runs.specs.Run.{runOf, total, lastPlace, mostReads, rightEnd, stopsFrom};
 ghost use Rattle.runs.specs.Private.{SoundTable, InTable};
 ghost use Rattle.runs.specs.Judging.{badFile, badWant, tableChecks, wantsChecks, headChecks, judgeOf};
@@ -14,9 +14,11 @@ use crate::LAST_PLACE;
 use crate::MOST_FILES;
 use crate::MOST_READS;
 use crate::MOST_WANTS;
-use crate::Refusal;
-use crate::Verdict;
-use crate::refused;
+use refusals::Refusal;
+use refusals::Verdict;
+use refusals::refuse_at;
+use refusals::refuse_if;
+use refusals::refused;
 
 // How much tape lies right of a place on it.
 fn tape_right_of(place: u64) -> u64
@@ -127,96 +129,67 @@ fn right_end(starts: &[u64], lengths: &[u64], numbers: &[u64]) -> u64
     starts[at] + lengths[at]
 }
 
+// Whether two rows differ in length, or the first is longer than a limit.
+fn uneven(first: usize, second: usize, most: usize) -> bool
+    ensures { λ r. ⌜ r ≡ (ltb most first || not (eqb first second)) ⌝ }
+{
+    if most < first {
+        return true;
+    }
+    first != second
+}
+
 // 1 and 2.
 fn judge_table(starts: &[u64], lengths: &[u64]) -> Verdict
     ensures { λ r. ⌜ r ≡ firstOf (tableChecks (now (starts .entry)) (now (lengths .entry))) ⌝ }
 {
-    if MOST_FILES < starts.len() {
-        return Verdict {
-            refusal: Refusal::FileRows,
-            place: 0,
-        };
+    let rows = refuse_if(
+        uneven(starts.len(), lengths.len(), MOST_FILES),
+        Refusal::FileRows,
+    );
+    if refused(rows) {
+        return rows;
     }
-    if starts.len() != lengths.len() {
-        return Verdict {
-            refusal: Refusal::FileRows,
-            place: 0,
-        };
-    }
-    let file = first_bad_file(starts, lengths);
-    if file != 0 {
-        return Verdict {
-            refusal: Refusal::BadFile,
-            place: file,
-        };
-    }
-    Verdict {
-        refusal: Refusal::Accepted,
-        place: 0,
-    }
+    refuse_at(first_bad_file(starts, lengths), Refusal::BadFile)
 }
 
 // 3, 4 and 5.
 fn judge_wants(files: u64, numbers: &[u64], counts: &[u64]) -> Verdict
     ensures { λ r. ⌜ r ≡ firstOf (wantsChecks files (now (numbers .entry)) (now (counts .entry))) ⌝ }
 {
-    if MOST_WANTS < numbers.len() {
-        return Verdict {
-            refusal: Refusal::WantRows,
-            place: 0,
-        };
+    let rows = refuse_if(
+        uneven(numbers.len(), counts.len(), MOST_WANTS),
+        Refusal::WantRows,
+    );
+    if refused(rows) {
+        return rows;
     }
-    if numbers.len() != counts.len() {
-        return Verdict {
-            refusal: Refusal::WantRows,
-            place: 0,
-        };
+    let want = refuse_at(first_bad_want(files, numbers, counts), Refusal::BadWant);
+    if refused(want) {
+        return want;
     }
-    let want = first_bad_want(files, numbers, counts);
-    if want != 0 {
-        return Verdict {
-            refusal: Refusal::BadWant,
-            place: want,
-        };
+    refuse_if(too_many(counts), Refusal::TooManyReads)
+}
+
+// Whether the head stands off the tape, or left of the rightmost wanted end.
+fn head_misplaced(head: u64, rightmost: u64) -> bool
+    ensures { λ r. ⌜ r ≡ (ltb lastPlace head || ltb head rightmost) ⌝ }
+{
+    if LAST_PLACE < head {
+        return true;
     }
-    if too_many(counts) {
-        return Verdict {
-            refusal: Refusal::TooManyReads,
-            place: 0,
-        };
-    }
-    Verdict {
-        refusal: Refusal::Accepted,
-        place: 0,
-    }
+    head < rightmost
 }
 
 // 6 and 7.
 fn judge_head(turn: u64, head: u64, rightmost: u64) -> Verdict
     ensures { λ r. ⌜ r ≡ firstOf (headChecks turn head rightmost) ⌝ }
 {
-    if HIGHEST_TURN < turn {
-        return Verdict {
-            refusal: Refusal::TurnPrice,
-            place: 0,
-        };
+    let price = refuse_if(HIGHEST_TURN < turn, Refusal::TurnPrice);
+    if refused(price) {
+        return price;
     }
-    if LAST_PLACE < head {
-        return Verdict {
-            refusal: Refusal::HeadPlace, // off the tape
-            place: 0,
-        };
-    }
-    if head < rightmost {
-        return Verdict {
-            refusal: Refusal::HeadPlace, // left of a wanted file's end
-            place: 0,
-        };
-    }
-    Verdict {
-        refusal: Refusal::Accepted,
-        place: 0,
-    }
+    refuse_if(head_misplaced(head, rightmost), Refusal::HeadPlace)
 }
 
 // The first refusal of 1 to 7 that applies to a run, or acceptance.

@@ -3,12 +3,15 @@ ghost use mathlib.Core.Path.{_≡_};
 ghost use mathlib.Core.List.{List};
 ghost use Prim.Native.Nat.{ℕ, _<_};
 ghost use lib.ListN.{length};
-ghost use Rattle.runs.specs.Refusals.{firstWhere};
+ghost use Rattle.refusals.specs.Refusals.{firstWhere};
 ghost use Rattle.runs.specs.Run.{stopsFrom};
 ghost use Rattle.runs.specs.Lists.{badAfter, listVerdict};
 ghost use Rattle.runs.specs.Private.{listed, rowAlone, rowClash, rowBad};
-use crate::Refusal;
-use crate::Verdict;
+use refusals::Refusal;
+use refusals::Verdict;
+use refusals::refuse_at;
+use refusals::refuse_if;
+use refusals::refused;
 
 // Whether a file number stands in the row of wanted numbers.
 fn is_listed(numbers: &[u64], file: u64) -> bool
@@ -93,21 +96,9 @@ fn first_bad_entry(numbers: &[u64], froms: &[u64], tos: &[u64]) -> u64
 pub fn judge_list(numbers: &[u64], froms: &[u64], tos: &[u64]) -> Verdict
     ensures { λ r. ⌜ ((s l cs : List ℕ) → length cs ≡ length (now (numbers .entry)) → r ≡ listVerdict (stopsFrom s l (now (numbers .entry)) cs) (now (froms .entry)) (now (tos .entry))) ⌝ }
 {
-    if froms.len() != tos.len() {
-        return Verdict {
-            refusal: Refusal::BadEntry,
-            place: 0,
-        };
+    let halves = refuse_if(froms.len() != tos.len(), Refusal::BadEntry);
+    if refused(halves) {
+        return halves;
     }
-    let entry = first_bad_entry(numbers, froms, tos);
-    if entry != 0 {
-        return Verdict {
-            refusal: Refusal::BadEntry,
-            place: entry,
-        };
-    }
-    Verdict {
-        refusal: Refusal::Accepted,
-        place: 0,
-    }
+    refuse_at(first_bad_entry(numbers, froms, tos), Refusal::BadEntry)
 }

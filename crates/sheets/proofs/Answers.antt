@@ -8,9 +8,9 @@ use native.Mathlib.Nat.{zero-add}
 use lib.ListN.{length, take, drop}
 use lib.Dec.{ltb}
 use borrow.Author.Tests.{not-true, not-false, ltb-false}
-use Rattle.runs.specs.declared.Refusal.the-variants.{Accepted, ShortRow}
-use Rattle.runs.specs.declared.Verdict.{Verdict}
-use Rattle.runs.specs.Refusals.{isRefusal, accepted}
+use Rattle.refusals.specs.declared.Refusal.the-variants.{Accepted, ShortRow}
+use Rattle.refusals.specs.declared.Verdict.{Verdict}
+use Rattle.refusals.specs.Refusals.{isRefusal, accepted}
 use Rattle.runs.proofs.Search.{or-false-both}
 use Rattle.sheets.specs.declared.reader.Top.{Top}
 use Rattle.sheets.specs.Lines.{fileKey, wantKey, lineAfter, firstIn, secondIn, afterLines}

@@ -8,10 +8,10 @@ use lib.ListN.{length, drop, drop-of-length-le}
 use lib.Seq.{drop-cons}
 use lib.Dec.{leb}
 use borrow.Author.Tests.{leb-true, lt-ltb, le-ltb}
-use Rattle.runs.specs.declared.Refusal.the-variants.{LongSheet, BadLine}
-use Rattle.runs.specs.declared.Verdict.{Verdict}
+use Rattle.refusals.specs.declared.Refusal.the-variants.{LongSheet, BadLine}
+use Rattle.refusals.specs.declared.Verdict.{Verdict}
 use Rattle.runs.specs.Run.{mostWants}
-use Rattle.runs.proofs.Verdicts.{refuse-at}
+use Rattle.refusals.proofs.Verdicts.{refuse-at}
 use Rattle.runs.specs.declared.Rule.{Rule}
 use Rattle.sheets.specs.declared.lines.NameLine.{NameLine}
 use Rattle.sheets.specs.declared.lines.NumberLine.{NumberLine}

@@ -17,7 +17,7 @@ use Rattle.sheets.specs.declared.lines.NumberLine.{NumberLine}
 use Rattle.sheets.specs.declared.lines.Pair.{Pair}
 use Rattle.sheets.specs.declared.lines.PairLine.{PairLine}
 use Rattle.sheets.specs.declared.lines.PairLines.{PairLines}
-use Rattle.runs.specs.Refusals.{firstWhere}
+use Rattle.refusals.specs.Refusals.{firstWhere}
 use Rattle.runs.proofs.Search.{first-more, first-here, or-false-both}
 use Rattle.texts.specs.Text.{lineFeed, comma, isEmpty, has, behind, startsWith, isText, isNumber, isName}
 use Rattle.sheets.specs.Lines.{lineOf, afterLines, lineAfter, tapeKey, turnKey, ruleKey, leastText, sweepText, valueText, isTapeLine, isNumberLine, numberIn, isCountLine, emptyTurn, isTurnLine, turnIn, isRuleLine, ruleIn, isPair, isPairLine}

@@ -4,9 +4,9 @@ use mathlib.Core.Bool.{Bool, cond, _||_}
 use mathlib.Core.List.{List, [], _∷_, _++_}
 use lib.ListN.{length, drop}
 use lib.Dec.{ltb}
-use Rattle.runs.specs.declared.Refusal.the-variants.{Accepted, BadLine, LongSheet, ShortRow}
-use Rattle.runs.specs.declared.Verdict.{Verdict}
-use Rattle.runs.specs.Refusals.{isRefusal, refuseIf, refuseAt, firstOf}
+use Rattle.refusals.specs.declared.Refusal.the-variants.{Accepted, BadLine, LongSheet, ShortRow}
+use Rattle.refusals.specs.declared.Verdict.{Verdict}
+use Rattle.refusals.specs.Refusals.{isRefusal, refuseIf, refuseAt, firstOf}
 use Rattle.runs.specs.declared.Rule.the-variants.{Least}
 use Rattle.sheets.specs.declared.Reading.{Reading}
 use Rattle.sheets.specs.Lines.{tapeKey}

@@ -2,7 +2,7 @@
 use Prim.Native.Nat.{ℕ, suc, zero, _+_}
 use mathlib.Core.Bool.{Bool, true, false, not}
 use mathlib.Core.List.{List, [], _∷_, _++_}
-use Rattle.runs.specs.Refusals.{firstWhere}
+use Rattle.refusals.specs.Refusals.{firstWhere}
 use Rattle.runs.specs.Run.{Run, mostWants}
 use Rattle.runs.specs.declared.Rule.{Rule}
 use Rattle.texts.specs.Text.{isEmpty}

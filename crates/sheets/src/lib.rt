@@ -17,7 +17,7 @@ pub const EMPTY_TURN: u64 = 0;
 
 // What the reader answers: on a refusal every number but the place is 0 and the rule is least.
 pub struct Reading {
-    pub refusal: runs::Refusal,
+    pub refusal: refusals::Refusal,
     pub place: u64,
     pub head: u64,
     pub turn: u64,

@@ -20,9 +20,9 @@ use crate::lines::pair_lines;
 use crate::lines::rule_line;
 use crate::lines::tape_line;
 use crate::lines::turn_line;
-use runs::Refusal;
+use refusals::Refusal;
+use refusals::Verdict;
 use runs::Rule;
-use runs::Verdict;
 
 // The first five lines: their values, where the name ends and where the next line starts.
 struct Top {

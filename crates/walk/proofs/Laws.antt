@@ -17,7 +17,7 @@ use Rattle.walk.specs.Detours.{legOf, lastSweep, legsOf}
 use Rattle.walk.specs.Price.{pricedAnswer}
 use Rattle.runs.specs.Private.{InTable}
 use Rattle.walk.specs.Private.{rowLegs, Walkable}
-use Rattle.runs.proofs.Verdicts.{refuses}
+use Rattle.refusals.proofs.Verdicts.{refuses}
 use Rattle.walk.proofs.Sound.{Sound, stopAt}
 use Rattle.runs.proofs.Judged.{GoodRun, accepted-run}
 use Rattle.runs.proofs.Table.{named-file, ends-rise, end-before-start, right-end-row}

@@ -9,17 +9,17 @@ use native.Mathlib.Decide.{decLt}
 use lib.ListN.{length}
 use lib.Dec.{ltb, eqb}
 use borrow.Author.Tests.{ltb-false, eqb-true, not-false}
-use Rattle.runs.specs.declared.Refusal.{Refusal}
-use Rattle.runs.specs.declared.Refusal.the-variants.{FileRows, BadFile, WantRows, BadWant, TooManyReads, TurnPrice, HeadPlace, ShortRow, BadEntry}
-use Rattle.runs.specs.declared.Verdict.{Verdict}
-use Rattle.runs.specs.Refusals.{refuseIf, refuseAt, firstOf, firstWhere}
+use Rattle.refusals.specs.declared.Refusal.{Refusal}
+use Rattle.refusals.specs.declared.Refusal.the-variants.{FileRows, BadFile, WantRows, BadWant, TooManyReads, TurnPrice, HeadPlace, ShortRow, BadEntry}
+use Rattle.refusals.specs.declared.Verdict.{Verdict}
+use Rattle.refusals.specs.Refusals.{refuseIf, refuseAt, firstOf, firstWhere}
 use Rattle.runs.specs.Run.{Run, stopsOf, rightEnd, total, mostFiles, mostWants, mostReads, lastPlace, highestTurn}
 use Rattle.runs.specs.Judging.{badFile, badWant, tableChecks, wantsChecks, headChecks, judgeOf}
 use Rattle.runs.specs.Lists.{listOf, listVerdict, firstBadEntry}
 use Rattle.walk.specs.Price.{priceVerdict}
 use Rattle.runs.specs.Private.{rowBad}
 use Rattle.runs.proofs.Search.{true-or-false, or-false-both, first-within, first-before}
-use Rattle.runs.proofs.Verdicts.{refuses, accepts-if}
+use Rattle.refusals.proofs.Verdicts.{refuses, accepts-if}
 use Rattle.runs.proofs.Judged.{GoodRun, accepted-run}
 use Rattle.runs.proofs.Entries.{first-bad-row}
 use Rattle.walk.proofs.Walks.{GoodEntry, good-entry, entries-few, entries-none}

@@ -6,18 +6,18 @@ use mathlib.Core.List.{List, [], _∷_, _++_}
 use lib.ListN.{length, drop}
 use lib.Dec.{ltb}
 use borrow.Author.Tests.{lt-ltb, le-ltb}
-use Rattle.runs.specs.declared.Refusal.the-variants.{Accepted, ShortRow}
-use Rattle.runs.specs.declared.Verdict.{Verdict}
+use Rattle.refusals.specs.declared.Refusal.the-variants.{Accepted, ShortRow}
+use Rattle.refusals.specs.declared.Verdict.{Verdict}
 use Rattle.walk.specs.declared.Answer.{Answer}
 use Rattle.walk.specs.declared.Head.{Head}
-use Rattle.runs.specs.Refusals.{isRefusal, accepted, refuseIf, firstOf}
+use Rattle.refusals.specs.Refusals.{isRefusal, accepted, refuseIf, firstOf}
 use Rattle.runs.specs.Run.{Run, stopsOf}
 use Rattle.runs.specs.Judging.{judgeOf}
 use Rattle.walk.specs.Walk.{headAt, walked, timesOf, sumOf}
 use Rattle.runs.specs.Lists.{listVerdict}
 use Rattle.walk.specs.Price.{refusalAnswer, pricedAnswer, pricedTimes, priceVerdict, priceAnswer, priceRow}
 use Rattle.walk.specs.Private.{rowLegs}
-use Rattle.runs.proofs.Verdicts.{refuses, first-refuses, first-passes, none-refuses, test-says}
+use Rattle.refusals.proofs.Verdicts.{refuses, first-refuses, first-passes, none-refuses, test-says}
 use Rattle.runs.proofs.Judged.{GoodRun, accepted-run}
 use Rattle.runs.proofs.Entries.{length-list}
 use Rattle.walk.proofs.Walks.{GoodList, accepted-list, legs-in-rows}

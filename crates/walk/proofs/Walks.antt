@@ -11,8 +11,8 @@ use lib.ListN.{length, getD}
 use lib.Dec.{eqb}
 use borrow.Author.Tests.{eqb-true, eq-eqb, ltb-false, leb-false, not-false}
 use Rattle.walk.specs.declared.Leg.{Leg}
-use Rattle.runs.specs.declared.Refusal.the-variants.{BadEntry}
-use Rattle.runs.specs.Refusals.{refuseIf, refuseAt}
+use Rattle.refusals.specs.declared.Refusal.the-variants.{BadEntry}
+use Rattle.refusals.specs.Refusals.{refuseIf, refuseAt}
 use Rattle.runs.specs.Run.{Run, stopsFrom, stopsOf, rightEnd, endAt, lastPlace, mostWants}
 use Rattle.walk.specs.Walk.{Moves}
 use Rattle.runs.specs.Lists.{Detour, listOf, badAfter, firstBadEntry, listVerdict}
@@ -20,7 +20,7 @@ use Rattle.walk.specs.Detours.{startOf, endOf, legOf, lastSweep, legsOf}
 use Rattle.runs.specs.Private.{InTable, listed, rowEntry, rowBad}
 use Rattle.walk.specs.Private.{detourLegs, sweepLegs, rowLegs, legAt, RowsFit, Walkable}
 use Rattle.runs.proofs.Search.{first-zero, any-zero, or-false-both, true-or-false}
-use Rattle.runs.proofs.Verdicts.{refuses, all-accept, accepts-if, accepts-at}
+use Rattle.refusals.proofs.Verdicts.{refuses, all-accept, accepts-if, accepts-at}
 use Rattle.runs.proofs.Judged.{GoodWants, GoodRun}
 use Rattle.runs.proofs.Table.{named-file, start-to-end, right-end-last, right-end-row}
 use Rattle.runs.proofs.Entries.{first-bad-row, listed-some}

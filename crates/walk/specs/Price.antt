@@ -4,10 +4,10 @@ use mathlib.Core.Bool.{cond}
 use mathlib.Core.List.{List, [], _∷_, _++_}
 use lib.ListN.{length, drop}
 use lib.Dec.{ltb}
-use Rattle.runs.specs.declared.Refusal.the-variants.{Accepted, ShortRow}
-use Rattle.runs.specs.declared.Verdict.{Verdict}
+use Rattle.refusals.specs.declared.Refusal.the-variants.{Accepted, ShortRow}
+use Rattle.refusals.specs.declared.Verdict.{Verdict}
 use Rattle.walk.specs.declared.Answer.{Answer}
-use Rattle.runs.specs.Refusals.{isRefusal, refuseIf, firstOf}
+use Rattle.refusals.specs.Refusals.{isRefusal, refuseIf, firstOf}
 use Rattle.runs.specs.Run.{Run, stopsOf}
 use Rattle.runs.specs.Judging.{judgeOf}
 use Rattle.walk.specs.Walk.{headAt, walked, timesOf, sumOf}

@@ -12,7 +12,7 @@ pub use pricing::refuse;
 
 // The one answer record: on a refusal every number but the place is 0.
 pub struct Answer {
-    pub refusal: runs::Refusal,
+    pub refusal: refusals::Refusal,
     pub place: u64,
     pub sum: u64,
     pub finish: u64,

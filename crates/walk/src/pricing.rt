@@ -14,11 +14,11 @@ ghost use Rattle.walk.specs.Private.{RowsFit, Walkable, rowLegs, legAt};
 use crate::Answer;
 use crate::Head;
 use crate::Leg;
-use runs::Refusal;
-use runs::Verdict;
+use refusals::Refusal;
+use refusals::Verdict;
+use refusals::refused;
 use runs::judge;
 use runs::judge_list;
-use runs::refused;
 
 // Where a file of the table starts and ends.
 fn file_start(starts: &[u64], file: u64) -> u64

@@ -8,10 +8,10 @@ use native.Mathlib.Omega.{arith}
 use lib.ListN.{length, take, drop}
 use lib.Seq.{take-at}
 use borrow.Author.Tests.{le-ltb}
-use Rattle.runs.specs.declared.Refusal.the-variants.{BadName}
-use Rattle.runs.specs.declared.Verdict.{Verdict}
+use Rattle.refusals.specs.declared.Refusal.the-variants.{BadName}
+use Rattle.refusals.specs.declared.Verdict.{Verdict}
 use Rattle.walk.specs.declared.Answer.{Answer}
-use Rattle.runs.specs.Refusals.{isRefusal, firstOf, accepted}
+use Rattle.refusals.specs.Refusals.{isRefusal, firstOf, accepted}
 use Rattle.runs.specs.Run.{Run, stopsOf, total, mostWants}
 use Rattle.runs.specs.Judging.{judgeOf}
 use Rattle.runs.specs.Lists.{listOf, listVerdict}
@@ -20,7 +20,7 @@ use Rattle.runs.proofs.Search.{true-or-false}
 use Rattle.runs.proofs.Judged.{GoodRun, accepted-run}
 use Rattle.walk.proofs.Walks.{GoodList, accepted-list, list-fits}
 use Rattle.walk.proofs.Filling.{one-time-each, stops-length}
-use Rattle.runs.proofs.Verdicts.{test-says}
+use Rattle.refusals.proofs.Verdicts.{test-says}
 use Rattle.texts.specs.Text.{isName}
 use Rattle.writers.specs.Writing.{rowVerdict}
 use Rattle.writers.specs.PlanSheet.{planLines, planText, planSheetVerdict}

@@ -7,7 +7,7 @@ use mathlib.Core.List.{List, [], _∷_, _++_, append-assoc, append-nil}
 use native.Mathlib.Omega.{arith}
 use lib.ListN.{length, getD, length-append}
 use borrow.Author.Tests.{le-ltb}
-use Rattle.runs.specs.Refusals.{isRefusal, accepted}
+use Rattle.refusals.specs.Refusals.{isRefusal, accepted}
 use Rattle.runs.specs.Run.{Run, total, mostWants}
 use Rattle.runs.specs.Judging.{judgeOf, badFile}
 use Rattle.runs.proofs.Search.{first-zero}

@@ -7,14 +7,14 @@ use native.Mathlib.Omega.{arith}
 use lib.ListN.{length, take, drop, take-append-drop}
 use lib.Dec.{ltb, leb}
 use borrow.Author.Tests.{lt-ltb, le-ltb, leb-true}
-use Rattle.runs.specs.declared.Refusal.the-variants.{Accepted, BadName, ShortRow}
-use Rattle.runs.specs.declared.Verdict.{Verdict}
-use Rattle.runs.specs.Refusals.{isRefusal, refuseIf, firstOf, accepted}
+use Rattle.refusals.specs.declared.Refusal.the-variants.{Accepted, BadName, ShortRow}
+use Rattle.refusals.specs.declared.Verdict.{Verdict}
+use Rattle.refusals.specs.Refusals.{isRefusal, refuseIf, firstOf, accepted}
 use Rattle.runs.specs.Run.{Run}
 use Rattle.runs.specs.Judging.{judgeOf}
 use Rattle.runs.proofs.Judged.{accepted-run}
 use Rattle.runs.specs.declared.Rule.{Rule}
-use Rattle.runs.proofs.Verdicts.{test-says}
+use Rattle.refusals.proofs.Verdicts.{test-says}
 use Rattle.writers.specs.declared.Written.{Written}
 use Rattle.texts.specs.Text.{isName, isNameByte, allOf, between}
 use Rattle.sheets.specs.Sheet.{longestSheet, mostSheetFiles}

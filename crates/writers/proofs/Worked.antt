@@ -4,7 +4,7 @@ use mathlib.Core.Path.{_≡_, refl}
 use mathlib.Core.List.{List, [], _∷_}
 use Rattle.runs.specs.declared.Rule.the-variants.{Least}
 use Rattle.runs.specs.Run.{Run, runOf, stopsFrom, rightEnd}
-use Rattle.runs.specs.Refusals.{firstWhere}
+use Rattle.refusals.specs.Refusals.{firstWhere}
 use Rattle.walk.specs.Walk.{walked, timeOf, timesOf, sumOf}
 use Rattle.runs.specs.Lists.{listOf}
 use Rattle.walk.specs.Detours.{startOf, endOf, legsOf, lastSweep}

@@ -2,10 +2,10 @@
 use Prim.Native.Nat.{ℕ}
 use mathlib.Core.Bool.{not}
 use mathlib.Core.List.{List, [], _∷_, _++_}
-use Rattle.runs.specs.declared.Refusal.the-variants.{BadName}
-use Rattle.runs.specs.declared.Verdict.{Verdict}
+use Rattle.refusals.specs.declared.Refusal.the-variants.{BadName}
+use Rattle.refusals.specs.declared.Verdict.{Verdict}
 use Rattle.walk.specs.declared.Answer.{Answer}
-use Rattle.runs.specs.Refusals.{refuseIf, firstOf}
+use Rattle.refusals.specs.Refusals.{refuseIf, firstOf}
 use Rattle.runs.specs.Run.{Run, total, stopsOf}
 use Rattle.runs.specs.Judging.{judgeOf}
 use Rattle.runs.specs.Lists.{listOf, listVerdict}

@@ -4,9 +4,9 @@ use mathlib.Core.Bool.{cond, not, _||_}
 use mathlib.Core.List.{List, [], _∷_, _++_}
 use lib.ListN.{length, drop}
 use lib.Dec.{ltb}
-use Rattle.runs.specs.declared.Refusal.the-variants.{Accepted, BadName, ShortRow}
-use Rattle.runs.specs.declared.Verdict.{Verdict}
-use Rattle.runs.specs.Refusals.{isRefusal, refuseIf, firstOf}
+use Rattle.refusals.specs.declared.Refusal.the-variants.{Accepted, BadName, ShortRow}
+use Rattle.refusals.specs.declared.Verdict.{Verdict}
+use Rattle.refusals.specs.Refusals.{isRefusal, refuseIf, firstOf}
 use Rattle.runs.specs.Run.{Run}
 use Rattle.runs.specs.Judging.{judgeOf}
 use Rattle.runs.specs.declared.Rule.{Rule}

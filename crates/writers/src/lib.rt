@@ -10,7 +10,7 @@ pub use writer::write_sheet;
 
 // What a writer answers: the number of bytes of the sheet, 0 on a refusal.
 pub struct Written {
-    pub refusal: runs::Refusal,
+    pub refusal: refusals::Refusal,
     pub place: u64,
     pub bytes: u64,
 }

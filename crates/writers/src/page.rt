@@ -6,8 +6,8 @@ ghost use Rattle.texts.specs.Text.{decimal};
 ghost use Rattle.writers.specs.Writing.{line, numberLine, pairLine, pairLines, refusedWriting, rowVerdict, writtenAnswer, writtenRow};
 ghost use Rattle.writers.specs.Private.{Wrote};
 use crate::Written;
-use runs::Refusal;
-use runs::Verdict;
+use refusals::Refusal;
+use refusals::Verdict;
 
 fn put(page: &mut [u8], at: usize, text: &[u8]) -> usize
     requires { ⌜ at + length (now text) ≤ length (now page) ⌝ }

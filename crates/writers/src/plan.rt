@@ -12,8 +12,8 @@ use crate::page::put_line;
 use crate::page::put_number_line;
 use crate::page::put_pairs;
 use crate::page::refused_writing;
-use runs::Refusal;
-use runs::Verdict;
+use refusals::Refusal;
+use refusals::Verdict;
 use texts::is_name;
 use walk::Answer;
 
@@ -78,7 +78,7 @@ pub fn write_plan(
     ensures { λ _. ⌜ now (out .exit) ≡ writtenRow (planSheetVerdict (now (name .entry)) (runOf (now (starts .entry)) (now (lengths .entry)) (now (numbers .entry)) (now (counts .entry)) head turn) (now (froms .entry)) (now (tos .entry)) (now (out .entry))) (planText (now (name .entry)) (runOf (now (starts .entry)) (now (lengths .entry)) (now (numbers .entry)) (now (counts .entry)) head turn) (now (froms .entry)) (now (tos .entry))) (now (out .entry)) ⌝ }
 {
     let run = runs::judge(starts, lengths, numbers, counts, head, turn);
-    if runs::refused(run) {
+    if refusals::refused(run) {
         return refused_writing(run);
     }
     if !is_name(name) {
@@ -104,7 +104,7 @@ pub fn write_plan(
         refusal,
         place: answer.place,
     };
-    if runs::refused(list) {
+    if refusals::refused(list) {
         return refused_writing(list);
     }
     let wants = numbers.len();

@@ -13,9 +13,9 @@ use crate::page::put_line;
 use crate::page::put_number_line;
 use crate::page::put_pairs;
 use crate::page::refused_writing;
-use runs::Refusal;
+use refusals::Refusal;
+use refusals::Verdict;
 use runs::Rule;
-use runs::Verdict;
 use sheets::MOST_SHEET_FILES;
 use texts::is_name;
 
@@ -76,7 +76,7 @@ pub fn write_sheet(
     ensures { λ _. ⌜ now (out .exit) ≡ writtenRow (writeVerdict (now (name .entry)) rule (runOf (now (starts .entry)) (now (lengths .entry)) (now (numbers .entry)) (now (counts .entry)) head turn) (now (out .entry))) (sheetText (now (name .entry)) rule (runOf (now (starts .entry)) (now (lengths .entry)) (now (numbers .entry)) (now (counts .entry)) head turn)) (now (out .entry)) ⌝ }
 {
     let v = runs::judge(starts, lengths, numbers, counts, head, turn);
-    if runs::refused(v) {
+    if refusals::refused(v) {
         return refused_writing(v);
     }
     if MOST_SHEET_FILES < starts.len() as u64 {

@@ -5,11 +5,11 @@ use mathlib.Core.Bool.{true, false, cond, not}
 use mathlib.Core.List.{List, [], _∷_, _++_, map}
 use lib.ListN.{length, take, getD}
 use lib.Dec.{eqb}
-use Rattle.runs.specs.declared.Refusal.{Refusal}
-use Rattle.runs.specs.declared.Refusal.the-variants.{BadText, ManyExtents, Overlap, FarFile}
+use Rattle.refusals.specs.declared.Refusal.{Refusal}
+use Rattle.refusals.specs.declared.Refusal.the-variants.{BadText, ManyExtents, Overlap, FarFile}
 use Rattle.runs.specs.declared.Rule.the-variants.{Least}
-use Rattle.runs.specs.declared.Verdict.{Verdict}
-use Rattle.runs.specs.Refusals.{isRefusal, refuseIf, firstOf}
+use Rattle.refusals.specs.declared.Verdict.{Verdict}
+use Rattle.refusals.specs.Refusals.{isRefusal, refuseIf, firstOf}
 use Rattle.runs.specs.Run.{lastPlace}
 use Rattle.writers.specs.declared.Written.{Written}
 use Rattle.writers.specs.Writing.{sheetText, rowVerdict, writtenRow}

@@ -1,7 +1,7 @@
 -- `runs::judging::judge` meets its contract: the three parts in turn, the first that refuses being the verdict.
 -- Assumes nothing.
 use mathlib.Core.Path.{_∙_, ap}
-use Rattle.runs.specs.Refusals.{firstOf}
+use Rattle.refusals.specs.Refusals.{firstOf}
 use Rattle.runs.specs.Judging.{headChecks}
 use Rattle.runs.proofs.Judged.{table-decides, table-sound, wants-decide, wants-equal, wants-named, head-decides}
 use borrow.Author.Needs.{needs}

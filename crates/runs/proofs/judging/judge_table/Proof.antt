@@ -1,30 +1,46 @@
--- `runs::judging::judge_table` meets its contract: each return is one of the table's rows.
+-- `runs::judging::judge_table` meets its contract: the table's two rows in turn.
 -- Assumes nothing.
-use borrow.Author.Tests.{lt-ltb, le-ltb, eq-eqb, ne-eqb}
-use mathlib.Core.Path.{sym, _∙_}
-use Rattle.runs.specs.declared.Refusal.the-variants.{BadFile}
-use Rattle.runs.proofs.Verdicts.{refuse-at}
+use mathlib.Core.Path.{refl, ap, _∙_}
+use Rattle.refusals.specs.declared.Refusal.the-variants.{FileRows, BadFile}
+use Rattle.refusals.specs.Refusals.{refuseIf, refuseAt}
+use Rattle.refusals.proofs.Verdicts.{test-says, accepts-if, last-at}
+use Rattle.runs.proofs.Judged.{rows-fit}
 use borrow.Author.Needs.{needs}
 use Rattle.runs.proofs.judging.judge_table.Statement.{statement}
 use Rattle.runs.proofs.judging.judge_table.Tie as tie
 
-returns : tie.Need-returns
-returns c = simp (lt-ltb _ _ (c .if1 .taken))
+uneven-requires : tie.Need-uneven-requires
+uneven-requires c κs = search needs
 
-returns-2 : tie.Need-returns-2
-returns-2 c = simp (le-ltb _ _ (c .before .if1 .left), ne-eqb _ _ (c .if2 .taken))
+refuse-if-requires : tie.Need-refuse-if-requires
+refuse-if-requires c κs = search needs
+
+refused-requires : tie.Need-refused-requires
+refused-requires c κs = search needs
+
+returns : tie.Need-returns
+returns c =
+    let rows = c .before .before in
+    let is = rows .refuse-if .ensures ∙ ap (λ b. refuseIf b FileRows) (rows .before .uneven .ensures) in
+    rw (test-says is (c .before .refused .ensures) (c .if1 .taken)) is
 
 first-bad-file-requires : tie.Need-first-bad-file-requires
-first-bad-file-requires c κs = search needs
+first-bad-file-requires c κs =
+    let rows = c .before .before in
+    let is = rows .refuse-if .ensures ∙ ap (λ b. refuseIf b FileRows) (rows .before .uneven .ensures) in
+    rows-fit _ _ _ (accepts-if _ FileRows refl (test-says is (c .before .refused .ensures) (c .if1 .left))) .1
 
-returns-3 : tie.Need-returns-3
-returns-3 c =
-    simp (le-ltb _ _ (c .before .before .before .if1 .left), eq-eqb _ _ (c .before .before .if2 .left), ← (c .before .first-bad-file .ensures), refuse-at (c .before .first-bad-file .result) BadFile (c .if3 .taken))
+refuse-at-requires : tie.Need-refuse-at-requires
+refuse-at-requires c κs = search needs
 
-returns-4 : tie.Need-returns-4
-returns-4 c =
-    simp (le-ltb _ _ (c .before .before .before .if1 .left), eq-eqb _ _ (c .before .before .if2 .left), sym (c .before .first-bad-file .ensures) ∙ c .if3 .left)
+returns-2 : tie.Need-returns-2
+returns-2 c =
+    let passed = c .before .before in
+    let rows = passed .before .before in
+    let is = rows .refuse-if .ensures ∙ ap (λ b. refuseIf b FileRows) (rows .before .uneven .ensures) in
+    rw (test-says is (passed .before .refused .ensures) (passed .if1 .left))
+    (last-at BadFile refl (c .refuse-at .ensures) (c .before .first-bad-file .ensures))
 
 pub judge-table-spec : {M : Type 1} → statement M
 judge-table-spec =
-    tie.close (tie.spec returns returns-2 first-bad-file-requires returns-3 returns-4)
+    tie.close (tie.spec uneven-requires refuse-if-requires refused-requires returns first-bad-file-requires refuse-at-requires returns-2)

@@ -3,9 +3,9 @@ use Prim.Native.Nat.{ℕ, zero, suc}
 use mathlib.Core.Path.{_≡_, refl, sym, _∙_}
 use mathlib.Core.Bool.{Bool, true, false, true≢false}
 use mathlib.Core.List.{List, [], _∷_}
-use Rattle.runs.specs.declared.Refusal.{Refusal}
-use Rattle.runs.specs.declared.Verdict.{Verdict}
-use Rattle.runs.specs.Refusals.{isRefusal, accepted, refuseIf, refuseAt, firstOf}
+use Rattle.refusals.specs.declared.Refusal.{Refusal}
+use Rattle.refusals.specs.declared.Verdict.{Verdict}
+use Rattle.refusals.specs.Refusals.{isRefusal, accepted, refuseIf, refuseAt, firstOf}
 
 -- A verdict is a refusal or not.
 abbrev pub refuses : Verdict → Bool
@@ -25,6 +25,15 @@ first-refuses v vs e = rw e
 
 pub first-passes : (v : Verdict) (vs : List Verdict) → refuses v ≡ false → firstOf (v ∷ vs) ≡ firstOf vs
 first-passes v vs e = rw e
+
+-- The last check decides.
+pub last-if : {v : Verdict} {x b : Bool} (k : Refusal) → isRefusal k ≡ true → v ≡ refuseIf x k → x ≡ b → v ≡ firstOf (refuseIf b k ∷ [])
+last-if {b = true} k e is same = rw e (rw same at is)
+last-if {b = false} k e is same = rw same at is
+
+pub last-at : {v : Verdict} {x p : ℕ} (k : Refusal) → isRefusal k ≡ true → v ≡ refuseAt x k → x ≡ p → v ≡ firstOf (refuseAt p k ∷ [])
+last-at {p = zero} k e is same = rw same at is
+last-at {p = suc p} k e is same = rw e (rw same at is)
 
 -- A row within a row says the same.
 pub first-alone : (vs : List Verdict) → firstOf (firstOf vs ∷ []) ≡ firstOf vs

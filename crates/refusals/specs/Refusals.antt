@@ -3,9 +3,9 @@ use Prim.Native.Nat.{ℕ, suc, zero}
 use mathlib.Core.Bool.{Bool, true, false, not, cond}
 use mathlib.Core.List.{List, [], _∷_}
 use lib.Dec.{eqb}
-use Rattle.runs.specs.declared.Refusal.{Refusal}
-use Rattle.runs.specs.declared.Refusal.the-variants.{Accepted, FileRows, BadFile, WantRows, BadWant, TooManyReads, TurnPrice, HeadPlace, ShortRow, ShortRoom, BadEntry, BadLine, LongSheet, BadName, BadRule, BadText, ManyExtents, Overlap, FarFile}
-use Rattle.runs.specs.declared.Verdict.{Verdict}
+use Rattle.refusals.specs.declared.Refusal.{Refusal}
+use Rattle.refusals.specs.declared.Refusal.the-variants.{Accepted, FileRows, BadFile, WantRows, BadWant, TooManyReads, TurnPrice, HeadPlace, ShortRow, ShortRoom, BadEntry, BadLine, LongSheet, BadName, BadRule, BadTicket, OfficeFull, NotWaiting, NumbersSpent, RetiredRule, BadText, ManyExtents, Overlap, FarFile, OverEightWants, BadSheetCount, BadRecord}
+use Rattle.refusals.specs.declared.Verdict.{Verdict}
 
 -- The number that the paper gives each kind; 0 where nothing is refused.
 abbrev pub numberOf : Refusal → ℕ
@@ -24,10 +24,18 @@ numberOf BadLine = 11
 numberOf LongSheet = 12
 numberOf BadName = 13
 numberOf BadRule = 14
+numberOf BadTicket = 15
+numberOf OfficeFull = 16
+numberOf NotWaiting = 17
+numberOf NumbersSpent = 18
+numberOf RetiredRule = 19
 numberOf BadText = 20
 numberOf ManyExtents = 21
 numberOf Overlap = 22
 numberOf FarFile = 23
+numberOf OverEightWants = 24
+numberOf BadSheetCount = 25
+numberOf BadRecord = 26
 
 abbrev pub isRefusal : Refusal → Bool
 isRefusal kind = not (eqb (numberOf kind) 0)

@@ -1,8 +1,8 @@
--- `runs::refused` meets its contract: a kind refuses when its number is not 0.
+-- `refusals::refused` meets its contract: a kind refuses when its number is not 0.
 -- Assumes nothing.
 use borrow.Author.Needs.{needs}
-use Rattle.runs.proofs.refused.Statement.{statement}
-use Rattle.runs.proofs.refused.Tie as tie
+use Rattle.refusals.proofs.refused.Statement.{statement}
+use Rattle.refusals.proofs.refused.Tie as tie
 
 number-requires : tie.Need-number-requires
 number-requires c κs = search needs

@@ -1,0 +1,2 @@
+-- Laws of verdicts, which every crate that judges cites.
+pub mod Verdicts
