@@ -5,7 +5,7 @@ ghost use mathlib.Core.List.{List};
 ghost use Prim.Native.Nat.{ℕ, _+_, _*_, _≤_, _<_};
 ghost use lib.ListN.{length};
 ghost use Rattle.refusals.specs.Refusals.{numberOf};
-ghost use Rattle.runs.specs.Run.{runOf};
+ghost use Rattle.runs.specs.Run.{runAt};
 ghost use Rattle.planner.specs.Plan.{rowsOf};
 ghost use Rattle.boundary.specs.Boundary.{codeOf, sumsWith, priceCall, ruleNumbered, PriceCalled, PlanCalled};
 use runs::Rule;
@@ -42,7 +42,7 @@ fn short_price(
     froms: &[u64],
     tos: &[u64],
 ) -> u64
-    ensures { λ r. ⌜ ((times sums : List ℕ) → length sums < 4 → r ≡ codeOf (priceCall (runOf (now (starts .entry)) (now (lengths .entry)) (now (numbers .entry)) (now (counts .entry)) head turn) (now (froms .entry)) (now (tos .entry)) times sums)) ⌝ }
+    ensures { λ r. ⌜ ((times sums : List ℕ) → length sums < 4 → r ≡ codeOf (priceCall (runAt starts lengths numbers counts head turn) (now (froms .entry)) (now (tos .entry)) times sums)) ⌝ }
 {
     let mut none = [0u64; 0];
     let a = walk::price(
@@ -76,7 +76,7 @@ pub extern "C" fn violstream_price(
     times: &mut [u64],
     sums: &mut [u64],
 ) -> u64
-    ensures { λ r. ⌜ PriceCalled (runOf (now (starts .entry)) (now (lengths .entry)) (now (numbers .entry)) (now (counts .entry)) head turn) (now («detour_starts» .entry)) (now («detour_ends» .entry)) (now (times .entry)) (now (sums .entry)) r (now (times .exit)) (now (sums .exit)) ⌝ }
+    ensures { λ r. ⌜ PriceCalled (runAt starts lengths numbers counts head turn) (now («detour_starts» .entry)) (now («detour_ends» .entry)) (now (times .entry)) (now (sums .entry)) r (now (times .exit)) (now (sums .exit)) ⌝ }
 {
     if sums.len() < 4 {
         return short_price(
@@ -131,7 +131,7 @@ pub extern "C" fn violstream_plan(
     sums: &mut [u64],
     room: &mut [u64],
 ) -> u64
-    ensures { λ r. ⌜ PlanCalled (runOf (now (starts .entry)) (now (lengths .entry)) (now (numbers .entry)) (now (counts .entry)) head turn) rule (rowsOf (now («detour_starts» .entry)) (now («detour_ends» .entry)) (now (times .entry)) (now (room .entry))) (now (sums .entry)) r (rowsOf (now («detour_starts» .exit)) (now («detour_ends» .exit)) (now (times .exit)) (now (room .exit))) (now (sums .exit)) ⌝ }
+    ensures { λ r. ⌜ PlanCalled (runAt starts lengths numbers counts head turn) rule (rowsBefore «detour_starts» «detour_ends» times room) (now (sums .entry)) r (rowsAfter «detour_starts» «detour_ends» times room) (now (sums .exit)) ⌝ }
 {
     let run = runs::judge(starts, lengths, numbers, counts, head, turn);
     if refusals::refused(run) {

@@ -5,7 +5,7 @@ ghost use Prim.Native.Nat.{_+_, _-_, _≤_, _<_};
 ghost use lib.ListN.{length};
 ghost use lib.Dec.{ltb};
 ghost use Rattle.refusals.specs.Refusals.{isRefusal};
-ghost use Rattle.runs.specs.Run.{runOf, stopsFrom, total, mostReads};
+ghost use Rattle.runs.specs.Run.{runIn, runAt, stopsFrom, total, mostReads};
 ghost use Rattle.runs.specs.Judging.{judgeOf};
 ghost use Rattle.least.proofs.LeastList.{leastList};
 ghost use Rattle.planner.specs.Plan.{Plans, Planned, rowsOf};
@@ -93,7 +93,7 @@ fn least_list(
     requires { ⌜ length (now numbers) ≤ length (now froms) + 1 ⌝ }
     requires { ⌜ length (now numbers) ≤ length (now tos) + 1 ⌝ }
     requires { ⌜ tableSize (length (now numbers)) reads ≤ length (now room) ⌝ }
-    ensures { λ r. ⌜ ListWritten (leastList turn (stopsFrom (now (starts .entry)) (now (lengths .entry)) (now (numbers .entry)) (now (counts .entry)))) r (now (froms .entry)) (now (tos .entry)) (now (froms .exit)) (now (tos .exit)) ⌝ }
+    ensures { λ r. ⌜ ListWritten (leastList turn (stopsAt starts lengths numbers counts)) r (now (froms .entry)) (now (tos .entry)) (now (froms .exit)) (now (tos .exit)) ⌝ }
     ensures { λ r. ⌜ Beyond (tableSize (length (now (numbers .entry))) reads) (now (room .entry)) (now (room .exit)) ⌝ }
 {
     if numbers.len() == 0 {
@@ -130,7 +130,7 @@ fn list_by(
     requires { ⌜ length (now numbers) ≤ length (now froms) + 1 ⌝ }
     requires { ⌜ length (now numbers) ≤ length (now tos) + 1 ⌝ }
     requires { ⌜ tableSize (length (now numbers)) reads ≤ length (now room) ⌝ }
-    ensures { λ r. ⌜ ListWritten (ruleList rule turn (stopsFrom (now (starts .entry)) (now (lengths .entry)) (now (numbers .entry)) (now (counts .entry)))) r (now (froms .entry)) (now (tos .entry)) (now (froms .exit)) (now (tos .exit)) ⌝ }
+    ensures { λ r. ⌜ ListWritten (ruleList rule turn (stopsAt starts lengths numbers counts)) r (now (froms .entry)) (now (tos .entry)) (now (froms .exit)) (now (tos .exit)) ⌝ }
     ensures { λ r. ⌜ Beyond (tableSize (length (now (numbers .entry))) reads) (now (room .entry)) (now (room .exit)) ⌝ }
 {
     match rule {
@@ -164,11 +164,11 @@ fn planned(
     times: &mut [u64],
     room: &mut [u64],
 ) -> Answer
-    requires { ⌜ isRefusal (judgeOf (runOf (now starts) (now lengths) (now numbers) (now counts) head turn) .refusal) ≡ false ⌝ }
+    requires { ⌜ isRefusal (judgeOf (runIn starts lengths numbers counts head turn) .refusal) ≡ false ⌝ }
     requires { ⌜ reads ≡ total (now counts) ⌝ }
     requires { ⌜ LongRows (length (now numbers)) (length (now froms)) (length (now tos)) (length (now times)) ⌝ }
     requires { ⌜ tableSize (length (now numbers)) reads ≤ length (now room) ⌝ }
-    ensures { λ r. ⌜ Planned (runOf (now (starts .entry)) (now (lengths .entry)) (now (numbers .entry)) (now (counts .entry)) head turn) rule (rowsOf (now (froms .entry)) (now (tos .entry)) (now (times .entry)) (now (room .entry))) r (rowsOf (now (froms .exit)) (now (tos .exit)) (now (times .exit)) (now (room .exit))) ⌝ }
+    ensures { λ r. ⌜ Planned (runAt starts lengths numbers counts head turn) rule (rowsBefore froms tos times room) r (rowsAfter froms tos times room) ⌝ }
 {
     let n = list_by(
         rule,
@@ -211,7 +211,7 @@ pub fn plan(
     times: &mut [u64],
     room: &mut [u64],
 ) -> Answer
-    ensures { λ r. ⌜ Plans (runOf (now (starts .entry)) (now (lengths .entry)) (now (numbers .entry)) (now (counts .entry)) head turn) rule (rowsOf (now (froms .entry)) (now (tos .entry)) (now (times .entry)) (now (room .entry))) r (rowsOf (now (froms .exit)) (now (tos .exit)) (now (times .exit)) (now (room .exit))) ⌝ }
+    ensures { λ r. ⌜ Plans (runAt starts lengths numbers counts head turn) rule (rowsBefore froms tos times room) r (rowsAfter froms tos times room) ⌝ }
 {
     let run = runs::judge(starts, lengths, numbers, counts, head, turn);
     if refusals::refused(run) {

@@ -2,6 +2,8 @@
 use Prim.Native.Nat.{ℕ, _+_, _-_}
 use mathlib.Core.List.{List, [], _∷_}
 use lib.ListN.{getD}
+use denote.Ref.{RefT, now}
+use denote.Triple.Both.{Both}
 
 -- What is handed in. File f (from 1) starts at entry f - 1 of `starts` and is that long in `lengths`; want i names a file and how often.
 pub record Run : Type 0 where
@@ -15,6 +17,19 @@ pub record Run : Type 0 where
 abbrev pub runOf : List ℕ → List ℕ → List ℕ → List ℕ → ℕ → ℕ → Run
 runOf starts lengths numbers counts head turn =
     record { starts = starts; lengths = lengths; numbers = numbers; counts = counts; head = head; turn = turn }
+
+-- The run that a function's parameters hold: in a `requires`, and in an `ensures`, which speaks of them as they were handed in.
+abbrev pub Row : Type 0
+Row = RefT (List ℕ)
+
+abbrev pub runIn : Row → Row → Row → Row → ℕ → ℕ → Run
+runIn starts lengths numbers counts head turn = runOf (now starts) (now lengths) (now numbers) (now counts) head turn
+
+abbrev pub Lent : Type 0 → Type 0
+Lent X = Both Row X
+
+abbrev pub runAt : {S L N C : Type 0} → Lent S → Lent L → Lent N → Lent C → ℕ → ℕ → Run
+runAt starts lengths numbers counts head turn = runIn (starts .entry) (lengths .entry) (numbers .entry) (counts .entry) head turn
 
 -- The limits of 01, "The tape and the run". All of them are inclusive.
 abbrev pub mostFiles : ℕ
@@ -60,6 +75,9 @@ stopsFrom starts lengths (f ∷ fs) (c ∷ cs) = stopOf starts lengths f c ∷ s
 -- The stops of a run. Unwanted files and gaps disappear here and nowhere else.
 abbrev pub stopsOf : Run → List Stop
 stopsOf r = stopsFrom (r .starts) (r .lengths) (r .numbers) (r .counts)
+
+abbrev pub stopsAt : {S L N C : Type 0} → Lent S → Lent L → Lent N → Lent C → List Stop
+stopsAt starts lengths numbers counts = stopsFrom (starts .entry .now) (lengths .entry .now) (numbers .entry .now) (counts .entry .now)
 
 -- The end of the rightmost stop; 0 where there is none.
 unfoldable pub rightEnd : List Stop → ℕ

@@ -6,7 +6,7 @@ ghost use mathlib.Core.List.{List};
 ghost use lib.ListN.{length, getD};
 ghost use lib.Dec.{eqb, ltb, leb};
 ghost use Rattle.refusals.specs.Refusals.{firstWhere, firstOf};
-ghost use Rattle.runs.specs.Run.{runOf, total, lastPlace, mostReads, rightEnd, stopsFrom};
+ghost use Rattle.runs.specs.Run.{runAt, total, lastPlace, mostReads, rightEnd, stopsFrom};
 ghost use Rattle.runs.specs.Private.{SoundTable, InTable};
 ghost use Rattle.runs.specs.Judging.{badFile, badWant, tableChecks, wantsChecks, headChecks, judgeOf};
 use crate::HIGHEST_TURN;
@@ -201,7 +201,7 @@ pub fn judge(
     head: u64,
     turn: u64,
 ) -> Verdict
-    ensures { λ r. ⌜ r ≡ judgeOf (runOf (now (starts .entry)) (now (lengths .entry)) (now (numbers .entry)) (now (counts .entry)) head turn) ⌝ }
+    ensures { λ r. ⌜ r ≡ judgeOf (runAt starts lengths numbers counts head turn) ⌝ }
 {
     let table = judge_table(starts, lengths);
     if refused(table) {

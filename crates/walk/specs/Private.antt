@@ -6,6 +6,7 @@ use lib.ListN.{length, getD}
 use Rattle.walk.specs.declared.Leg.{Leg}
 use Rattle.runs.specs.Run.{endAt, mostWants, lastPlace, highestTurn}
 use Rattle.walk.specs.Walk.{Moves}
+use Rattle.runs.specs.Run.{Row, Lent}
 use Rattle.runs.specs.Private.{SoundTable, InTable}
 
 -- The legs of a list, read off the rows.
@@ -22,6 +23,13 @@ sweepLegs starts lengths (n ∷ ns) =
 
 unfoldable pub rowLegs : List ℕ → List ℕ → List ℕ → List ℕ → List ℕ → List Leg
 rowLegs starts lengths numbers froms tos = detourLegs starts lengths froms tos ++ sweepLegs starts lengths numbers
+
+-- The same, of the parameters that hold the rows: in a `requires`, and in an `ensures`.
+abbrev pub legsIn : Row → Row → Row → Row → Row → List Leg
+legsIn starts lengths numbers froms tos = rowLegs (starts .now) (lengths .now) (numbers .now) (froms .now) (tos .now)
+
+abbrev pub legsAt : {S L N F E : Type 0} → Lent S → Lent L → Lent N → Lent F → Lent E → List Leg
+legsAt starts lengths numbers froms tos = legsIn (starts .entry) (lengths .entry) (numbers .entry) (froms .entry) (tos .entry)
 
 abbrev pub legAt : List Leg → ℕ → Leg
 legAt gs i = getD gs i (record { left = 0; right = 0 })
@@ -41,3 +49,9 @@ pub record Walkable (gs : List Leg) (head turn : ℕ) : Type 0 where
   pub onTape : (i : ℕ) → i < length gs → legAt gs i .right ≤ lastPlace
   pub near : head ≤ lastPlace
   pub cheap : turn ≤ highestTurn
+
+-- What walking a list asks of the rows: numbers that name files, legs within the limits, and their number.
+pub record WalkFits (starts lengths numbers froms tos : List ℕ) (head turn legs : ℕ) : Type 0 where
+  pub fit : RowsFit starts lengths numbers froms tos
+  pub within : Walkable (rowLegs starts lengths numbers froms tos) head turn
+  pub all : legs ≡ length (rowLegs starts lengths numbers froms tos)

@@ -6,11 +6,11 @@ ghost use Prim.Native.Nat.{ℕ, _-_, _≤_, _<_};
 ghost use mathlib.Core.Bool.{_&&_};
 ghost use lib.ListN.{length, getD, drop};
 ghost use lib.Dec.{leb};
-ghost use Rattle.runs.specs.Run.{runOf, total, endAt, stopOf, stopsFrom, mostReads};
+ghost use Rattle.runs.specs.Run.{runAt, stopsAt, total, endAt, stopOf, mostReads};
 ghost use Rattle.walk.specs.Walk.{headAt, walked, timeOf, timesOf, sumOf};
 ghost use Rattle.walk.specs.Price.{refusalAnswer, priceAnswer, priceRow};
 ghost use Rattle.runs.specs.Private.{SoundTable, InTable};
-ghost use Rattle.walk.specs.Private.{RowsFit, Walkable, rowLegs, legAt};
+ghost use Rattle.walk.specs.Private.{RowsFit, WalkFits, rowLegs, legsIn, legsAt, legAt};
 use crate::Answer;
 use crate::Head;
 use crate::Leg;
@@ -81,8 +81,8 @@ fn leg_at(
     i: usize,
 ) -> Leg
     requires { ⌜ RowsFit (now starts) (now lengths) (now numbers) (now froms) (now tos) ⌝ }
-    requires { ⌜ i < length (rowLegs (now starts) (now lengths) (now numbers) (now froms) (now tos)) ⌝ }
-    ensures { λ r. ⌜ r ≡ legAt (rowLegs (now (starts .entry)) (now (lengths .entry)) (now (numbers .entry)) (now (froms .entry)) (now (tos .entry))) i ⌝ }
+    requires { ⌜ i < length (legsIn starts lengths numbers froms tos) ⌝ }
+    ensures { λ r. ⌜ r ≡ legAt (legsAt starts lengths numbers froms tos) i ⌝ }
 {
     if i < froms.len() {
         return detour_leg(starts, lengths, froms[i], tos[i]);
@@ -114,11 +114,9 @@ fn time_of(
     file: u64,
     legs: usize,
 ) -> u64
-    requires { ⌜ RowsFit (now starts) (now lengths) (now numbers) (now froms) (now tos) ⌝ }
-    requires { ⌜ Walkable (rowLegs (now starts) (now lengths) (now numbers) (now froms) (now tos)) head turn ⌝ }
+    requires { ⌜ WalkFits (now starts) (now lengths) (now numbers) (now froms) (now tos) head turn legs ⌝ }
     requires { ⌜ InTable (now starts) file ⌝ }
-    requires { ⌜ legs ≡ length (rowLegs (now starts) (now lengths) (now numbers) (now froms) (now tos)) ⌝ }
-    ensures { λ r. ⌜ r ≡ timeOf turn (headAt head) (rowLegs (now (starts .entry)) (now (lengths .entry)) (now (numbers .entry)) (now (froms .entry)) (now (tos .entry))) (stopOf (now (starts .entry)) (now (lengths .entry)) file 0) ⌝ }
+    ensures { λ r. ⌜ r ≡ timeOf turn (headAt head) (legsAt starts lengths numbers froms tos) (stopOf (now (starts .entry)) (now (lengths .entry)) file 0) ⌝ }
 {
     let start = file_start(starts, file);
     let end = file_end(starts, lengths, file);
@@ -149,10 +147,8 @@ fn walk_end(
     turn: u64,
     legs: usize,
 ) -> Head
-    requires { ⌜ RowsFit (now starts) (now lengths) (now numbers) (now froms) (now tos) ⌝ }
-    requires { ⌜ Walkable (rowLegs (now starts) (now lengths) (now numbers) (now froms) (now tos)) head turn ⌝ }
-    requires { ⌜ legs ≡ length (rowLegs (now starts) (now lengths) (now numbers) (now froms) (now tos)) ⌝ }
-    ensures { λ r. ⌜ r ≡ walked turn (headAt head) (rowLegs (now (starts .entry)) (now (lengths .entry)) (now (numbers .entry)) (now (froms .entry)) (now (tos .entry))) ⌝ }
+    requires { ⌜ WalkFits (now starts) (now lengths) (now numbers) (now froms) (now tos) head turn legs ⌝ }
+    ensures { λ r. ⌜ r ≡ walked turn (headAt head) (legsAt starts lengths numbers froms tos) ⌝ }
 {
     let mut h = Head::at(head);
     let mut i: usize = 0;
@@ -178,13 +174,11 @@ fn fill_times(
     legs: usize,
     times: &mut [u64],
 ) -> u64
-    requires { ⌜ RowsFit (now starts) (now lengths) (now numbers) (now froms) (now tos) ⌝ }
-    requires { ⌜ Walkable (rowLegs (now starts) (now lengths) (now numbers) (now froms) (now tos)) head turn ⌝ }
-    requires { ⌜ legs ≡ length (rowLegs (now starts) (now lengths) (now numbers) (now froms) (now tos)) ⌝ }
+    requires { ⌜ WalkFits (now starts) (now lengths) (now numbers) (now froms) (now tos) head turn legs ⌝ }
     requires { ⌜ (length (now counts) ≡ length (now numbers)) × (total (now counts) ≤ mostReads) ⌝ }
     requires { ⌜ length (now numbers) ≤ length (now times) ⌝ }
-    ensures { λ r. ⌜ r ≡ sumOf turn (headAt head) (rowLegs (now (starts .entry)) (now (lengths .entry)) (now (numbers .entry)) (now (froms .entry)) (now (tos .entry))) (stopsFrom (now (starts .entry)) (now (lengths .entry)) (now (numbers .entry)) (now (counts .entry))) ⌝ }
-    ensures { λ r. ⌜ now (times .exit) ≡ timesOf turn (headAt head) (rowLegs (now (starts .entry)) (now (lengths .entry)) (now (numbers .entry)) (now (froms .entry)) (now (tos .entry))) (stopsFrom (now (starts .entry)) (now (lengths .entry)) (now (numbers .entry)) (now (counts .entry))) ++ drop (length (now (numbers .entry))) (now (times .entry)) ⌝ }
+    ensures { λ r. ⌜ r ≡ sumOf turn (headAt head) (legsAt starts lengths numbers froms tos) (stopsAt starts lengths numbers counts) ⌝ }
+    ensures { λ r. ⌜ now (times .exit) ≡ timesOf turn (headAt head) (legsAt starts lengths numbers froms tos) (stopsAt starts lengths numbers counts) ++ drop (length (now (numbers .entry))) (now (times .entry)) ⌝ }
 {
     let mut sum: u64 = 0;
     let mut i: usize = 0;
@@ -234,8 +228,8 @@ pub fn price(
     tos: &[u64],
     times: &mut [u64],
 ) -> Answer
-    ensures { λ r. ⌜ r ≡ priceAnswer (runOf (now (starts .entry)) (now (lengths .entry)) (now (numbers .entry)) (now (counts .entry)) head turn) (now (froms .entry)) (now (tos .entry)) (now (times .entry)) ⌝ }
-    ensures { λ r. ⌜ now (times .exit) ≡ priceRow (runOf (now (starts .entry)) (now (lengths .entry)) (now (numbers .entry)) (now (counts .entry)) head turn) (now (froms .entry)) (now (tos .entry)) (now (times .entry)) ⌝ }
+    ensures { λ r. ⌜ r ≡ priceAnswer (runAt starts lengths numbers counts head turn) (now (froms .entry)) (now (tos .entry)) (now (times .entry)) ⌝ }
+    ensures { λ r. ⌜ now (times .exit) ≡ priceRow (runAt starts lengths numbers counts head turn) (now (froms .entry)) (now (tos .entry)) (now (times .entry)) ⌝ }
 {
     let run = judge(starts, lengths, numbers, counts, head, turn);
     if refused(run) {

@@ -30,7 +30,7 @@ shared-slice-read-time-of c = search needs
 time-of-requires : tie.Need-time-of-requires Inv-loop μ-loop
 time-of-requires c κs =
     let s = c .before .before .before .before .before .before .before .before .before .before in
-    (s .pre .0, (s .pre .1 .0, (s .pre .0 .wants _ (search needs), s .pre .1 .1 .0)))
+    (s .pre .0, s .pre .0 .fit .wants _ (search needs))
 
 mul-times : tie.Need-mul-times Inv-loop μ-loop
 mul-times c = search needs
@@ -38,7 +38,7 @@ mul-times c = search needs
 slice-write-times : tie.Need-slice-write-times Inv-loop μ-loop
 slice-write-times c =
     let s = c .before .before .before .before .before .before .before .before .before .before .before in
-    omega (arith, s .pre .1 .1 .1 .1, c .before .before .before .loop .inv .same, c .before .before .loop-test .taken)
+    omega (arith, s .pre .1 .1, c .before .before .before .loop .inv .same, c .before .before .loop-test .taken)
 
 mul-sum : tie.Need-mul-sum Inv-loop μ-loop
 mul-sum c = search needs
@@ -46,17 +46,17 @@ mul-sum c = search needs
 shared-slice-read-sum : tie.Need-shared-slice-read-sum Inv-loop μ-loop
 shared-slice-read-sum c =
     let s = c .before .before .before .before .before .before .before .before .before .before .before .before in
-    omega (arith, s .pre .1 .1 .1 .0 .0, c .before .before .before .loop-test .taken)
+    omega (arith, s .pre .1 .0 .0, c .before .before .before .loop-test .taken)
 
 mul-sum-2 : tie.Need-mul-sum-2 Inv-loop μ-loop
 mul-sum-2 c =
     let s = c .before .before .before .before .before .before .before .before .before .before .before .before in
-    record { fits = product-fits _ _ _ _ (s .pre .1 .1 .1 .0 .0) _ _ _ _ _ _ _ (c .before .before .before .before .loop .inv) (s .pre .1 .0) (c .before .before .before .loop-test .taken) _ (c .before .time-of .ensures) (s .pre .1 .1 .1 .0 .1) }
+    record { fits = product-fits _ _ _ _ (s .pre .1 .0 .0) _ _ _ _ _ _ _ (c .before .before .before .before .loop .inv) (s .pre .0 .within) (c .before .before .before .loop-test .taken) _ (c .before .time-of .ensures) (s .pre .1 .0 .1) }
 
 add-sum : tie.Need-add-sum Inv-loop μ-loop
 add-sum c =
     let s = c .before .before .before .before .before .before .before .before .before .before .before .before in
-    record { fits = sum-fits _ _ _ _ (s .pre .1 .1 .1 .0 .0) _ _ _ _ _ _ _ (c .before .before .before .before .loop .inv) (s .pre .1 .0) (c .before .before .before .loop-test .taken) _ (c .before .time-of .ensures) (s .pre .1 .1 .1 .0 .1) }
+    record { fits = sum-fits _ _ _ _ (s .pre .1 .0 .0) _ _ _ _ _ _ _ (c .before .before .before .before .loop .inv) (s .pre .0 .within) (c .before .before .before .loop-test .taken) _ (c .before .time-of .ensures) (s .pre .1 .0 .1) }
 
 add-i : tie.Need-add-i Inv-loop μ-loop
 add-i c = search needs
@@ -67,8 +67,8 @@ loop-less c = search needs
 loop-again : tie.Need-loop-again Inv-loop μ-loop
 loop-again c =
     let s = c .before .before .before .before .before .before .before .before .before .before .before .before in
-    filled-one _ _ _ _ (s .pre .1 .1 .1 .0 .0) _ _ _ _ _ _ _ (c .before .before .before .before .loop .inv) (s .pre .1 .0) (c .before .before .before .loop-test .taken) _ (c .before .time-of .ensures)
-    (omega (arith, s .pre .1 .1 .1 .1, c .before .before .before .before .loop .inv .same, c .before .before .before .loop-test .taken))
+    filled-one _ _ _ _ (s .pre .1 .0 .0) _ _ _ _ _ _ _ (c .before .before .before .before .loop .inv) (s .pre .0 .within) (c .before .before .before .loop-test .taken) _ (c .before .time-of .ensures)
+    (omega (arith, s .pre .1 .1, c .before .before .before .before .loop .inv .same, c .before .before .before .loop-test .taken))
 
 same-length : tie.Need-same-length Inv-loop μ-loop
 same-length c = c .before .loop .inv .same
@@ -76,8 +76,8 @@ same-length c = c .before .loop .inv .same
 returns : tie.Need-returns Inv-loop μ-loop
 returns c =
     let s = c .before .before .before .before .before .before .before .before .before in (
-      filled-sum _ _ _ _ (s .pre .1 .1 .1 .0 .0) _ _ _ _ _ _ _ (c .before .loop .inv) (c .loop-test .left),
-      filled-row _ _ _ _ (s .pre .1 .1 .1 .0 .0) _ _ _ _ _ _ _ (c .before .loop .inv) (c .loop-test .left),
+      filled-sum _ _ _ _ (s .pre .1 .0 .0) _ _ _ _ _ _ _ (c .before .loop .inv) (c .loop-test .left),
+      filled-row _ _ _ _ (s .pre .1 .0 .0) _ _ _ _ _ _ _ (c .before .loop .inv) (c .loop-test .left),
     )
 
 pub fill-times-spec : {M : Type 1} → statement M

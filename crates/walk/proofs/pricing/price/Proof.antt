@@ -5,6 +5,7 @@ use mathlib.Core.Path.{_≡_, sym}
 use Rattle.runs.specs.Run.{Run, runOf, stopsOf}
 use Rattle.runs.specs.Lists.{listVerdict}
 use Rattle.runs.proofs.Judged.{GoodRun}
+use Rattle.walk.specs.Private.{WalkFits}
 use Rattle.walk.proofs.Walks.{GoodList, rows-fit, walkable, list-fits}
 use Rattle.walk.proofs.Priced.{run-refused, run-good, list-refused, list-good, row-refused, priced}
 use Rattle.walk.proofs.pricing.price.Statement.{statement}
@@ -88,37 +89,32 @@ leg-count-requires c κs =
     let s = start e in
     list-fits (run s) (good-run e) (s .args .froms .now) (s .args .tos .now) (good-list d)
 
+-- So its legs can be walked.
+walk-fits : (n : tie.After-leg-count) → let s = start (n .before .before .before .before .before) in
+    WalkFits (s .args .starts .now) (s .args .lengths .now) (s .args .numbers .now) (s .args .froms .now) (s .args .tos .now) (s .args .head) (s .args .turn) (n .leg-count .result)
+walk-fits n =
+    let d = n .before .before in
+    let e = d .before .before .before in
+    let s = start e in
+    let r = good-run e in
+    let g = good-list d in
+    record {
+      fit = rows-fit (run s) r (s .args .froms .now) (s .args .tos .now) g;
+      within = walkable (run s) r (s .args .froms .now) (s .args .tos .now) g;
+      all = n .leg-count .ensures (s .args .starts .now) (s .args .lengths .now) (s .args .tos .now) (g .even);
+    }
+
 fill-times-requires : tie.Need-fill-times-requires
 fill-times-requires c κs =
     let d = c .before .before .before in
     let e = d .before .before .before in
     let s = start e in
     let r = good-run e in
-    let g = good-list d in (
-      rows-fit (run s) r (s .args .froms .now) (s .args .tos .now) g,
-      (
-        walkable (run s) r (s .args .froms .now) (s .args .tos .now) g,
-        (
-          c .before .leg-count .ensures (s .args .starts .now) (s .args .lengths .now) (s .args .tos .now) (g .even),
-          ((sym (r .wants .equal), r .wants .reads), c .before .before .if3 .left),
-        ),
-      ),
-    )
+    (walk-fits (c .before), ((sym (r .wants .equal), r .wants .reads), c .before .before .if3 .left))
 
 walk-end-requires : tie.Need-walk-end-requires
 walk-end-requires c κs =
-    let n = c .before .before .before .before in
-    let d = n .before .before in
-    let e = d .before .before .before in
-    let s = start e in
-    let r = good-run e in
-    let g = good-list d in (
-      rows-fit (run s) r (s .args .froms .now) (s .args .tos .now) g,
-      (
-        walkable (run s) r (s .args .froms .now) (s .args .tos .now) g,
-        n .leg-count .ensures (s .args .starts .now) (s .args .lengths .now) (s .args .tos .now) (g .even),
-      ),
-    )
+    walk-fits (c .before .before .before .before)
 
 same-length : tie.Need-same-length
 same-length c = search needs

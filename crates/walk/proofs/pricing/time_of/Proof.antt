@@ -25,7 +25,7 @@ file-start-requires c κs = search needs
 file-end-requires : tie.Need-file-end-requires Inv-loop μ-loop
 file-end-requires c κs =
     let s = c .before .before .before .before .before .before in
-    (s .pre .0 .table, s .pre .1 .1 .0)
+    (s .pre .0 .fit .table, s .pre .1)
 
 at-requires : tie.Need-at-requires Inv-loop μ-loop
 at-requires c κs = search needs
@@ -33,12 +33,12 @@ at-requires c κs = search needs
 loop-holds : tie.Need-loop-holds Inv-loop μ-loop
 loop-holds c =
     let s = c .before .before .before .before .before .before .before .before in
-    rw (c .at .ensures) (timing-start _ _ _ _ (s .pre .1 .0))
+    rw (c .at .ensures) (timing-start _ _ _ _ (s .pre .0 .within))
 
 leg-at-requires : tie.Need-leg-at-requires Inv-loop μ-loop
 leg-at-requires c κs =
     let s = c .before .before .before .before .before .before .before .before .before .before in
-    (s .pre .0, omega (arith, s .pre .1 .1 .1, c .loop-test .taken))
+    (s .pre .0 .fit, omega (arith, s .pre .0 .all, c .loop-test .taken))
 
 -- The leg that was looked up is the walk's next.
 next : (c : tie.After-leg-at Inv-loop μ-loop)
@@ -46,7 +46,7 @@ next : (c : tie.After-leg-at Inv-loop μ-loop)
     NextLeg (rowLegs (a .starts .now) (a .lengths .now) (a .numbers .now) (a .froms .now) (a .tos .now)) (c .before .before .loop .h) (c .before .before .loop .i) (a .turn) (c .leg-at .result)
 next c =
     let s = c .before .before .before .before .before .before .before .before .before .before .before in
-    next-leg _ _ _ (s .pre .1 .0) _ _ (c .before .before .loop .inv .walking) (omega (arith, s .pre .1 .1 .1, c .before .loop-test .taken)) _ (c .leg-at .ensures)
+    next-leg _ _ _ (s .pre .0 .within) _ _ (c .before .before .loop .inv .walking) (omega (arith, s .pre .0 .all, c .before .loop-test .taken)) _ (c .leg-at .ensures)
 
 set-off-requires : tie.Need-set-off-requires Inv-loop μ-loop
 set-off-requires c κs = (next c .back, next c .room)
@@ -93,12 +93,12 @@ loop-again c =
     let b = c .before .before in
     let s = b .before .before .before .before .before .before .before .before .before .before .before .before .before in
     rw (c .run-right2 .ensures, b .before .set-off .ensures)
-    (timing-on _ _ _ _ _ _ (b .before .before .before .before .loop .inv) _ (next (b .before .before)) _ (test b) (s .pre .1 .0) (omega (arith, s .pre .1 .1 .1, b .before .before .before .loop-test .taken)) (c .before .if1 .left))
+    (timing-on _ _ _ _ _ _ (b .before .before .before .before .loop .inv) _ (next (b .before .before)) _ (test b) (s .pre .0 .within) (omega (arith, s .pre .0 .all, b .before .before .before .loop-test .taken)) (c .before .if1 .left))
 
 returns-2 : tie.Need-returns-2 Inv-loop μ-loop
 returns-2 c =
     let s = c .before .before .before .before .before .before .before .before .before .before in
-    never-read _ _ _ _ _ _ (c .before .loop .inv) (omega (arith, s .pre .1 .1 .1, c .loop-test .left))
+    never-read _ _ _ _ _ _ (c .before .loop .inv) (omega (arith, s .pre .0 .all, c .loop-test .left))
 
 pub time-of-spec : {M : Type 1} → statement M
 time-of-spec =

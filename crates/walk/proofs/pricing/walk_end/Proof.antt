@@ -20,12 +20,12 @@ at-requires c κs = search needs
 loop-holds : tie.Need-loop-holds Inv-loop μ-loop
 loop-holds c =
     let s = c .before .before .before .before .before .before in
-    rw (c .at .ensures) (ending-start _ _ _ (s .pre .1 .0))
+    rw (c .at .ensures) (ending-start _ _ _ (s .pre .within))
 
 leg-at-requires : tie.Need-leg-at-requires Inv-loop μ-loop
 leg-at-requires c κs =
     let s = c .before .before .before .before .before .before .before .before in
-    (s .pre .0, omega (arith, s .pre .1 .1, c .loop-test .taken))
+    (s .pre .fit, omega (arith, s .pre .all, c .loop-test .taken))
 
 -- The leg that was looked up is the walk's next.
 next : (c : tie.After-leg-at Inv-loop μ-loop)
@@ -33,7 +33,7 @@ next : (c : tie.After-leg-at Inv-loop μ-loop)
     NextLeg (rowLegs (a .starts .now) (a .lengths .now) (a .numbers .now) (a .froms .now) (a .tos .now)) (c .before .before .loop .h) (c .before .before .loop .i) (a .turn) (c .leg-at .result)
 next c =
     let s = c .before .before .before .before .before .before .before .before .before in
-    next-leg _ _ _ (s .pre .1 .0) _ _ (c .before .before .loop .inv .walking) (omega (arith, s .pre .1 .1, c .before .loop-test .taken)) _ (c .leg-at .ensures)
+    next-leg _ _ _ (s .pre .within) _ _ (c .before .before .loop .inv .walking) (omega (arith, s .pre .all, c .before .loop-test .taken)) _ (c .leg-at .ensures)
 
 set-off-requires : tie.Need-set-off-requires Inv-loop μ-loop
 set-off-requires c κs = (next c .back, next c .room)
@@ -51,12 +51,12 @@ loop-again : tie.Need-loop-again Inv-loop μ-loop
 loop-again c =
     let s = c .before .before .before .before .before .before .before .before .before .before .before in
     rw (c .run-right .ensures, c .before .set-off .ensures)
-    (ending-on _ _ _ _ _ (c .before .before .before .before .loop .inv) (s .pre .1 .0) (omega (arith, s .pre .1 .1, c .before .before .before .loop-test .taken)) _ (next (c .before .before)))
+    (ending-on _ _ _ _ _ (c .before .before .before .before .loop .inv) (s .pre .within) (omega (arith, s .pre .all, c .before .before .before .loop-test .taken)) _ (next (c .before .before)))
 
 returns : tie.Need-returns Inv-loop μ-loop
 returns c =
     let s = c .before .before .before .before .before .before .before .before in
-    ended _ _ _ _ _ (c .before .loop .inv) (omega (arith, s .pre .1 .1, c .loop-test .left))
+    ended _ _ _ _ _ (c .before .loop .inv) (omega (arith, s .pre .all, c .loop-test .left))
 
 pub walk-end-spec : {M : Type 1} → statement M
 walk-end-spec =
