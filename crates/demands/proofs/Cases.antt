@@ -15,13 +15,8 @@ use Rattle.walk.specs.Detours.{startOf, endOf, lastSweep, legsOf}
 use Rattle.walk.proofs.Laws.{accepted-sound}
 use Rattle.texts.proofs.Bytes.{and-true-both}
 use Rattle.least.specs.Least.{Least}
-use Rattle.least.proofs.Plan.{listed}
-use Rattle.least.proofs.Sums.{W}
-use Rattle.least.proofs.Scan.{lowest, scan}
-use Rattle.least.proofs.Columns.{filledTo, filled}
-use Rattle.least.proofs.Value.{candidate, next, value, choice}
-use Rattle.least.proofs.Best.{built, nextPlan, best}
-use Rattle.least.proofs.LeastList.{leastList, least-list, least-unique}
+use Rattle.least.specs.Recurrence.{planDetours, W, lowest, scan, filledTo, filled, candidate, next, value, choice, built, nextPlan, best, leastList}
+use Rattle.least.proofs.LeastList.{least-list, least-unique}
 use Rattle.demands.specs.Cases.{Case, Holds, AllHold, cases, CasesHold}
 
 -- Whether two rows, and whether two lists, are equal.
@@ -111,7 +106,7 @@ all-hold [] e = tt
 all-hold (c ∷ cs) e = let both = and-true-both _ _ e in (holds-if-passes c (both .0), all-hold cs (both .1))
 
 cases-pass : allPass cases ≡ true
-unfolding allPass passes alike sameRow sameList judgeOf firstWhere stopsFrom rightEnd firstBadEntry wanted anyBelow startOf endOf lastSweep legsOf timeOf timesOf sumOf leastList listed W lowest scan filledTo filled candidate next value choice built nextPlan best
+unfolding allPass passes alike sameRow sameList judgeOf firstWhere stopsFrom rightEnd firstBadEntry wanted anyBelow startOf endOf lastSweep legsOf timeOf timesOf sumOf leastList planDetours W lowest scan filledTo filled candidate next value choice built nextPlan best
 cases-pass = refl
 
 pub cases-hold : CasesHold

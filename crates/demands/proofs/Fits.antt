@@ -12,9 +12,10 @@ use Rattle.runs.specs.Lists.{Detour}
 use Rattle.walk.specs.Price.{refusalAnswer, pricedAnswer}
 use Rattle.refusals.proofs.Verdicts.{refuses}
 use Rattle.walk.proofs.Laws.{accepted-sound}
-use Rattle.least.proofs.LeastList.{leastList, least-list}
+use Rattle.least.proofs.LeastList.{least-list}
 use Rattle.planner.specs.Plan.{Rows, rowsWith, ByRule, Plans, planVerdict}
 use Rattle.demands.proofs.Planned.{verdict-accepts-run}
+use Rattle.least.specs.Recurrence.{leastList}
 
 unfoldable pub ruleList : Rule → Run → List Detour
 ruleList Sweep r = []

@@ -20,13 +20,7 @@ use Rattle.walk.specs.Detours.{startOf, endOf, legOf, lastSweep, legsOf}
 use Rattle.walk.specs.Price.{refusalAnswer, pricedAnswer, priceVerdict, priceAnswer, priceRow}
 use Rattle.refusals.proofs.Verdicts.{refuses}
 use Rattle.least.specs.Wants.{readsOf}
-use Rattle.least.proofs.Plan.{listed}
-use Rattle.least.proofs.Sums.{W}
-use Rattle.least.proofs.Scan.{lowest, scan}
-use Rattle.least.proofs.Columns.{filledTo, filled}
-use Rattle.least.proofs.Value.{candidate, next, value, choice}
-use Rattle.least.proofs.Best.{built, nextPlan, best}
-use Rattle.least.proofs.LeastList.{leastList}
+use Rattle.least.specs.Recurrence.{planDetours, W, lowest, scan, filledTo, filled, candidate, next, value, choice, built, nextPlan, best, leastList}
 use Rattle.planner.specs.Plan.{Rows, rowsOf, Plans, planVerdict}
 use Rattle.texts.specs.Text.{allOf, isName}
 use Rattle.demands.specs.Sheets.{GivesBack}
@@ -58,7 +52,7 @@ unfolding planAnswer planVerdict judgeOf firstWhere stopsFrom rightEnd pricedAns
 sweep-accepted = refl
 
 pub sheet-reports : sheetAnswer 54 .sum ≡ 367
-unfolding planAnswer ruleList planVerdict judgeOf firstWhere stopsFrom rightEnd pricedAnswer startOf endOf lastSweep legsOf timeOf sumOf leastList listed W lowest scan filledTo filled candidate next value choice built nextPlan best
+unfolding planAnswer ruleList planVerdict judgeOf firstWhere stopsFrom rightEnd pricedAnswer startOf endOf lastSweep legsOf timeOf sumOf leastList planDetours W lowest scan filledTo filled candidate next value choice built nextPlan best
 sheet-reports = refl
 
 -- One word less, and it refuses by 9; the pricer refuses (3,4)(2,4) at entry 2.

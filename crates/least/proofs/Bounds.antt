@@ -5,9 +5,9 @@ use native.Mathlib.Decide.{decLe}
 use native.Mathlib.Nat.{mul-le-mul, mul-le-mul-left, le-refl}
 use mathlib.Core.Path.{_≡_}
 use mathlib.Core.Logic.{by-cases}
-use Rattle.least.proofs.Sums.{W, W-suc, W-rises, win, win-step, win-within, win-most}
-use Rattle.least.proofs.Cost.{early, wait}
-use Rattle.least.proofs.Value.{value, candidate, value-none, value-least-skip}
+use Rattle.least.proofs.Sums.{W-suc, W-rises, win, win-step, win-within, win-most}
+use Rattle.least.specs.Recurrence.{W, early, wait, value, candidate}
+use Rattle.least.proofs.Value.{value-none, value-least-skip}
 
 bound-step : (v e v′ B w c w′ : ℕ) → v ≤ e + v′ → e ≤ 2 * B * c → v′ ≤ 2 * B * w → w′ ≡ w + c → v ≤ 2 * B * w′
 bound-step v e v′ B w c w′ h i j k = rw k (omega arith)

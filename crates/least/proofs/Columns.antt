@@ -5,31 +5,20 @@ use native.Mathlib.Decide.{decLe}
 use native.Mathlib.Nat.{le-refl}
 use mathlib.Core.Path.{_≡_, refl, _∙_}
 use mathlib.Core.Logic.{by-cases}
-
--- A table: from a, b and s to what stands there.
-abbrev pub TableOf : Type 0 → Type 0
-TableOf A = ℕ → ℕ → ℕ → A
+use Rattle.least.specs.Recurrence.{TableOf, filledTo, filled}
 
 -- Two tables agree in the columns up to n.
 abbrev pub Agree : {A : Type 0} → TableOf A → TableOf A → ℕ → Type 0
 Agree E F n = (a b s : ℕ) → b ≤ n → E a b s ≡ F a b s
 
 module _ {A : Type 0} (blank : A) (next : TableOf A → TableOf A) where
-  -- The table with the columns up to f filled, and the whole.
-  unfoldable pub filledTo : ℕ → TableOf A
-  filledTo zero = λ a b s. blank
-  filledTo (suc f) = next (filledTo f)
-
-  unfoldable pub filled : TableOf A
-  filled a b s = filledTo b a b s
-
   module _ (first : (E : TableOf A) (a s : ℕ) → next E a 0 s ≡ blank) (same : (E F : TableOf A) (n : ℕ) → Agree E F n → Agree (next E) (next F) (suc n)) where
-    filled-stays : (f : ℕ) → Agree (filledTo (suc f)) (filledTo f) f
+    filled-stays : (f : ℕ) → Agree (filledTo blank next (suc f)) (filledTo blank next f) f
     unfolding filledTo
     filled-stays zero a b s h = let e : b ≡ 0 = omega arith in rw e (first (λ a b s. blank) a s)
-    filled-stays (suc f) a b s h = same (filledTo (suc f)) (filledTo f) f (filled-stays f) a b s h
+    filled-stays (suc f) a b s h = same (filledTo blank next (suc f)) (filledTo blank next f) f (filled-stays f) a b s h
 
-    pub filled-all : (f : ℕ) → Agree (filledTo f) filled f
+    pub filled-all : (f : ℕ) → Agree (filledTo blank next f) (filled blank next) f
     unfolding filled
     filled-all zero a b s h = let e : b ≡ 0 = omega arith in rw e
     filled-all (suc f) a b s h =
@@ -38,10 +27,10 @@ module _ {A : Type 0} (blank : A) (next : TableOf A → TableOf A) where
         (λ l. filled-stays f a b s l ∙ filled-all f a b s l)
         (λ n. let e : b ≡ suc f = omega arith in rw e)
 
-    pub filled-first : (a s : ℕ) → filled a 0 s ≡ blank
+    pub filled-first : (a s : ℕ) → filled blank next a 0 s ≡ blank
     unfolding filled filledTo
     filled-first a s = refl
 
-    pub filled-next : (a b s : ℕ) → filled a (suc b) s ≡ next filled a (suc b) s
+    pub filled-next : (a b s : ℕ) → filled blank next a (suc b) s ≡ next (filled blank next) a (suc b) s
     unfolding filled filledTo
-    filled-next a b s = same (filledTo b) filled b (filled-all b) a (suc b) s (le-refl (suc b))
+    filled-next a b s = same (filledTo blank next b) (filled blank next) b (filled-all b) a (suc b) s (le-refl (suc b))

@@ -10,10 +10,11 @@ use lib.Dec.{T}
 use Rattle.runs.specs.Run.{Stop}
 use Rattle.walk.specs.declared.Leg.{Leg}
 use Rattle.walk.specs.Walk.{headAt, Moves, served, timeOf}
-use Rattle.least.proofs.Plan.{Plan, empty, skip, detour, Over, trip, lagAfter, legTime, timeIn}
+use Rattle.least.proofs.Plan.{Over, lagAfter, legTime, timeIn}
 use Rattle.least.proofs.Rising.{Rises}
 use Rattle.least.proofs.Times.{Spaced, starts-rise, planTime, unread-outside, time-in-inner, time-in-rest}
 use Rattle.least.proofs.Movements.{PairLaw, floor-of-movement, pair-of-movement}
+use Rattle.least.specs.Recurrence.{Plan, empty, skip, detour, trip}
 
 -- A time for each of the stops 0 … n that obeys the floor and pair laws.
 pub record Feasible (m U : ℕ) (L R : ℕ → ℕ) (n : ℕ) (t : ℕ → ℕ) : Type 0 where

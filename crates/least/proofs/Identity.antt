@@ -6,11 +6,12 @@ use native.Mathlib.Decide.{decLe}
 use native.Mathlib.Nat.{le-refl}
 use mathlib.Core.Path.{_≡_, ap, _∙_}
 use mathlib.Core.Logic.{by-cases}
-use Rattle.least.proofs.Plan.{Plan, empty, skip, detour, Over, trip, lagAfter, legTime, timeIn}
-use Rattle.least.proofs.Sums.{W, W-zero, W-suc, win, win-none, win-step, win-split, win-first, win-same, win-shift, W-win, W-first}
-use Rattle.least.proofs.Cost.{early, cost}
+use Rattle.least.proofs.Plan.{Over, lagAfter, legTime, timeIn}
+use Rattle.least.proofs.Sums.{W-zero, W-suc, win, win-none, win-step, win-split, win-first, win-same, win-shift, W-win, W-first}
+use Rattle.least.proofs.Cost.{cost}
 use Rattle.least.proofs.Times.{Spaced, starts-rise, legTime-exact, planTime, lag-grows, time-in-inner, time-in-rest, unread-right, unread-left}
 use Rattle.least.proofs.Ties.{over-none}
+use Rattle.least.specs.Recurrence.{Plan, empty, skip, detour, trip, W, early}
 
 -- The algebra, over plain numbers.
 leg-shift : (c t t′ y y′ l u : ℕ) → t + l ≡ y + u → t′ + l ≡ y′ + u → c * t′ + y * c ≡ c * t + y′ * c

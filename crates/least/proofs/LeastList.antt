@@ -14,29 +14,21 @@ use Rattle.runs.specs.Lists.{Detour, wanted, firstBadEntry, WellFormed}
 use Rattle.runs.proofs.Search.{true-or-false}
 use Rattle.walk.proofs.Sound.{Sound}
 use Rattle.least.specs.Least.{startFor, Sooner, ComesFirst, listSum, LeastFor}
-use Rattle.least.proofs.Plan.{Plan, Over, listed, startIn}
+use Rattle.least.proofs.Plan.{Over, startIn}
 use Rattle.least.proofs.Rising.{Rises, index-order}
-use Rattle.least.proofs.Best.{best, best-over}
+use Rattle.least.proofs.Best.{best-over}
 use Rattle.least.proofs.Ties.{PlanFirst, NotBefore, start-bounds}
 use Rattle.least.proofs.Identity.{runSum}
 use Rattle.least.proofs.LeastPlan.{best-sum-least, best-sum-first}
-use Rattle.least.proofs.Walks.{fileAt, leftAt, rightAt, countAt, sound-spaced, walk-sum}
+use Rattle.least.proofs.Walks.{sound-spaced, walk-sum}
 use Rattle.least.proofs.Lists.{wanted-at, wanted-index, none-wanted, PlanOf, parse, numbers-rise, listed-formed, numbered, numbered-some, table-at-stop, table-off-stops}
-
--- The plan of the table for stops 0 … n, the last leg starting at stop 0.
-abbrev pub bestPlan : ℕ → List Stop → ℕ → Plan
-bestPlan price stops n = best (leftAt stops) (rightAt stops) (countAt stops) price 0 n 0
-
--- The least list, of whatever head place.
-unfoldable pub leastList : ℕ → List Stop → List Detour
-leastList price [] = []
-leastList price (s ∷ ss) = listed (fileAt (s ∷ ss)) (bestPlan price (s ∷ ss) (length ss)) (length ss)
+use Rattle.least.specs.Recurrence.{Plan, planDetours, best, fileAt, leftAt, rightAt, countAt, bestPlan, leastList}
 
 pub least-list-none : (price : ℕ) → leastList price [] ≡ []
 unfolding leastList
 least-list-none price = refl
 
-pub least-list-some : (price n : ℕ) (stops : List Stop) → length stops ≡ suc n → leastList price stops ≡ listed (fileAt stops) (bestPlan price stops n) n
+pub least-list-some : (price n : ℕ) (stops : List Stop) → length stops ≡ suc n → leastList price stops ≡ planDetours (fileAt stops) (bestPlan price stops n) n
 unfolding leastList
 least-list-some price n [] e = absurd (omega arith)
 least-list-some price n (s ∷ ss) e = let q : length ss ≡ n = omega arith in rw q
@@ -55,7 +47,7 @@ start-within p n j o h = by-cases (decLt 0 (startIn p n j)) (λ l. omega (arith,
 module _ (m n : ℕ) (stops : List Stop) (ok : Sound stops m) (size : length stops ≡ suc n) where
   module _ (p q : Plan) (op : Over p 0 n) (oq : Over q 0 n) (f : PlanFirst p q 0 n) where
     -- Right of the stop that tells the plans apart their lists agree, at the stops' numbers and at all others.
-    agree-beyond : (g : ℕ) → fileAt stops (f .stop) < g → startFor (listed (fileAt stops) p n) g ≡ startFor (listed (fileAt stops) q n) g
+    agree-beyond : (g : ℕ) → fileAt stops (f .stop) < g → startFor (planDetours (fileAt stops) p n) g ≡ startFor (planDetours (fileAt stops) q n) g
     agree-beyond g h =
         ⊎-elim
         (λ e.
@@ -68,7 +60,7 @@ module _ (m n : ℕ) (stops : List Stop) (ok : Sound stops m) (size : length sto
         (true-or-false (wanted stops g))
 
     -- The tie rule on plans is the tie rule on their lists.
-    lists-come-first : ComesFirst (listed (fileAt stops) p n) (listed (fileAt stops) q n)
+    lists-come-first : ComesFirst (planDetours (fileAt stops) p n) (planDetours (fileAt stops) q n)
     lists-come-first =
         record {
           file = fileAt stops (f .stop);
@@ -80,13 +72,13 @@ module _ (m n : ℕ) (stops : List Stop) (ok : Sound stops m) (size : length sto
               (start-within p n (f .stop) op (f .within)) (start-within q n (f .stop) oq (f .within)) (f .sooner));
         }
 
-  list-not-before : (q p : Plan) → Over q 0 n → Over p 0 n → NotBefore q p 0 n → (listed (fileAt stops) q n ≡ listed (fileAt stops) p n) ⊎ ComesFirst (listed (fileAt stops) p n) (listed (fileAt stops) q n)
-  list-not-before q p oq op (inl e) = inl (ap (λ x. listed (fileAt stops) x n) e)
+  list-not-before : (q p : Plan) → Over q 0 n → Over p 0 n → NotBefore q p 0 n → (planDetours (fileAt stops) q n ≡ planDetours (fileAt stops) p n) ⊎ ComesFirst (planDetours (fileAt stops) p n) (planDetours (fileAt stops) q n)
+  list-not-before q p oq op (inl e) = inl (ap (λ x. planDetours (fileAt stops) x n) e)
   list-not-before q p oq op (inr f) = inr (lists-come-first p q op oq f)
 
   module _ (price : ℕ) where
     abbrev chosen : List Detour
-    chosen = listed (fileAt stops) (bestPlan price stops n) n
+    chosen = planDetours (fileAt stops) (bestPlan price stops n) n
 
     best-over-run : Over (bestPlan price stops n) 0 n
     best-over-run = best-over (leftAt stops) (rightAt stops) (countAt stops) price 0 n 0
@@ -94,7 +86,7 @@ module _ (m n : ℕ) (stops : List Stop) (ok : Sound stops m) (size : length sto
     reached : (i : ℕ) → i ≤ n → rightAt stops i ≤ m
     reached i h = ok .reached i (omega arith)
 
-    sum-of-plan : (p : Plan) → Over p 0 n → listSum price m stops (listed (fileAt stops) p n) ≡ runSum (leftAt stops) (rightAt stops) (countAt stops) price p n m
+    sum-of-plan : (p : Plan) → Over p 0 n → listSum price m stops (planDetours (fileAt stops) p n) ≡ runSum (leftAt stops) (rightAt stops) (countAt stops) price p n m
     sum-of-plan p o = walk-sum m n stops ok size p o price
 
     chosen-smallest : (other : List Detour) → WellFormed stops other → listSum price m stops chosen ≤ listSum price m stops other

@@ -3,9 +3,9 @@
 use Prim.Native.Nat.{ℕ, _+_, _≤_}
 use native.Mathlib.Omega.{arith}
 use mathlib.Core.Path.{_≡_}
-use Rattle.least.proofs.Plan.{Plan, Over}
-use Rattle.least.proofs.Value.{value}
-use Rattle.least.proofs.Best.{best, best-over, best-cost, best-least}
+use Rattle.least.proofs.Plan.{Over}
+use Rattle.least.specs.Recurrence.{Plan, value, best}
+use Rattle.least.proofs.Best.{best-over, best-cost, best-least}
 use Rattle.least.proofs.Ties.{NotBefore, best-first}
 use Rattle.least.proofs.Times.{Spaced}
 use Rattle.least.proofs.Identity.{runSum, floorSum, cost-identity}

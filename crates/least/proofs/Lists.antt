@@ -15,20 +15,21 @@ use Rattle.runs.specs.Lists.{Detour, wanted, leftmost, WellFormed}
 use Rattle.runs.proofs.Search.{or-false-both}
 use Rattle.walk.proofs.Sound.{Sound}
 use Rattle.least.specs.Least.{startFor}
-use Rattle.least.proofs.Plan.{Plan, empty, skip, detour, Over, listed, startIn}
+use Rattle.least.proofs.Plan.{Over, startIn}
 use Rattle.least.proofs.Rising.{Rises, rises-not-strictly, index-order, index-same}
-use Rattle.least.proofs.Walks.{fileAt, files-rise}
+use Rattle.least.proofs.Walks.{files-rise}
 use Rattle.least.proofs.Rules.{All, After, Ordered, all-of, all-of-two, all-append, all-split, ordered-append, ordered-split, Alone, rules-of-formed, formed-of-rules}
+use Rattle.least.specs.Recurrence.{Plan, empty, skip, detour, planDetours, fileAt}
 
 -- Entries as pairs of stops: the list of a plan with the stops' indices for numbers.
 abbrev pub indices : Plan → ℕ → List Detour
-indices p b = listed (λ i. i) p b
+indices p b = planDetours (λ i. i) p b
 
 abbrev pub Within : ℕ → ℕ → Detour → Type 0
 Within a b d = (a < d .from) × (d .from ≤ d .to) × (d .to ≤ b)
 
 pub within-plan : (p : Plan) (a b : ℕ) → Over p a b → All (Within a b) (indices p b)
-unfolding listed
+unfolding planDetours
 within-plan empty a b o = tt
 within-plan (skip p) a zero o = absurd o
 within-plan (skip p) a (suc b) o = all-of (Within a b) (Within a (suc b)) (indices p b) (λ d v. omega arith) (within-plan p a b (o .1))
@@ -39,7 +40,7 @@ within-plan (detour d inner rest) a (suc b) o =
     (omega arith, all-of (Within a d) (Within a (suc b)) (indices rest d) (λ x v. omega arith) (within-plan rest a d (o .3)))
 
 pub ordered-plan : (p : Plan) (a b : ℕ) → Over p a b → Ordered (indices p b)
-unfolding listed
+unfolding planDetours
 ordered-plan empty a b o = tt
 ordered-plan (skip p) a zero o = absurd o
 ordered-plan (skip p) a (suc b) o = ordered-plan p a b (o .1)
@@ -79,17 +80,17 @@ record Parsed (a b : ℕ) (list : List Detour) : Type 0 where
 
 -- No entry fits an empty window.
 parse-none : (a b : ℕ) (list : List Detour) → b ≤ a → All (Within a b) list → Parsed a b list
-unfolding listed
+unfolding planDetours
 parse-none a b [] h v = record { plan = empty; over = h; lists = refl }
 parse-none a b (x ∷ list) h v = absurd (omega arith)
 
 parse-skip : (a b : ℕ) (list : List Detour) → a ≤ b → Parsed a b list → Parsed a (suc b) list
-unfolding listed
+unfolding planDetours
 parse-skip a b list h w = record { plan = skip (w .plan); over = (h, w .over); lists = w .lists }
 
 parse-detour : (a b d : ℕ) (xs ys : List Detour) (e : Detour) → a ≤ d → d ≤ b → e .from ≡ suc d → e .to ≡ suc b
     → Parsed (suc d) b xs → Parsed a d ys → Parsed a (suc b) (xs ++ e ∷ ys)
-unfolding listed
+unfolding planDetours
 parse-detour a b d xs ys e ha hd f t w v =
     record {
       plan = detour d (w .plan) (v .plan);
@@ -138,8 +139,8 @@ parse-indices (suc k) a b list hk v o = parse-step k a b list (parse-indices k) 
 abbrev pub named : (ℕ → ℕ) → Detour → Detour
 named F d = record { from = F (d .from); to = F (d .to) }
 
-pub listed-by-index : (F : ℕ → ℕ) (p : Plan) (b : ℕ) → listed F p b ≡ map (named F) (indices p b)
-unfolding listed
+pub listed-by-index : (F : ℕ → ℕ) (p : Plan) (b : ℕ) → planDetours F p b ≡ map (named F) (indices p b)
+unfolding planDetours
 listed-by-index F empty b = refl
 listed-by-index F (skip p) zero = refl
 listed-by-index F (skip p) (suc b) = listed-by-index F p b
@@ -214,7 +215,7 @@ none-wanted (d ∷ list) v = absurd (true≢false (rules-of-formed [] (d ∷ lis
 pub record PlanOf (stops : List Stop) (n : ℕ) (list : List Detour) : Type 0 where
   pub plan : Plan
   pub over : Over plan 0 n
-  pub lists : listed (fileAt stops) plan n ≡ list
+  pub lists : planDetours (fileAt stops) plan n ≡ list
 
 module _ (m n : ℕ) (stops : List Stop) (ok : Sound stops m) (size : length stops ≡ suc n) where
   pub numbers-rise : Rises (fileAt stops) n
@@ -230,7 +231,7 @@ module _ (m n : ℕ) (stops : List Stop) (ok : Sound stops m) (size : length sto
         lt-leb (fileAt stops (d .from)) (fileAt stops 0) (numbers-rise 0 (d .from) (v .0) (omega arith)),
       )
 
-  pub listed-formed : (p : Plan) → Over p 0 n → WellFormed stops (listed (fileAt stops) p n)
+  pub listed-formed : (p : Plan) → Over p 0 n → WellFormed stops (planDetours (fileAt stops) p n)
   listed-formed p o =
       rw (listed-by-index (fileAt stops) p n)
       (formed-of-rules stops (map (named (fileAt stops)) (indices p n))
@@ -303,7 +304,7 @@ module _ (j : ℕ) where
   elsewhere p a b o h = all-of (Within a b) Elsewhere (indices p b) (λ d v. ⊎-elim (λ l. omega arith) (λ l. omega arith) h) (within-plan p a b o)
 
   table-of-plan : (p : Plan) (a b : ℕ) → Over p a b → startFor (indices p b) j ≡ startIn p b j
-  unfolding listed startIn startFor
+  unfolding planDetours startIn startFor
   table-of-plan empty a b o = refl
   table-of-plan (skip p) a zero o = absurd o
   table-of-plan (skip p) a (suc b) o = table-of-plan p a b (o .1)
@@ -348,14 +349,14 @@ module _ (F : ℕ → ℕ) (n : ℕ) (rises : Rises F n) where
 
 module _ (m n : ℕ) (stops : List Stop) (ok : Sound stops m) (size : length stops ≡ suc n) (p : Plan) (over : Over p 0 n) where
   -- The list's table at a stop's number is the plan's at that stop.
-  pub table-at-stop : (j : ℕ) → j ≤ n → startFor (listed (fileAt stops) p n) (fileAt stops j) ≡ numbered (fileAt stops) (startIn p n j)
+  pub table-at-stop : (j : ℕ) → j ≤ n → startFor (planDetours (fileAt stops) p n) (fileAt stops j) ≡ numbered (fileAt stops) (startIn p n j)
   table-at-stop j h =
       rw (listed-by-index (fileAt stops) p n)
       (table-named (fileAt stops) n (numbers-rise m n stops ok size) (indices p n) j h (within-plan p 0 n over)
       ∙ ap (numbered (fileAt stops)) (table-of-plan j p 0 n over))
 
   -- At a number that is no stop's it is 0.
-  pub table-off-stops : (f : ℕ) → ((j : ℕ) → j ≤ n → fileAt stops j ≢ f) → startFor (listed (fileAt stops) p n) f ≡ 0
+  pub table-off-stops : (f : ℕ) → ((j : ℕ) → j ≤ n → fileAt stops j ≢ f) → startFor (planDetours (fileAt stops) p n) f ≡ 0
   table-off-stops f h =
       rw (listed-by-index (fileAt stops) p n)
       (table-none f (map (named (fileAt stops)) (indices p n))

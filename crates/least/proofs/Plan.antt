@@ -4,13 +4,7 @@ use Prim.Native.Nat.{ℕ, zero, suc, _+_, _-_, _*_, _≤_}
 use mathlib.Core.Bool.{cond}
 use mathlib.Core.List.{List, [], _∷_, _++_}
 use lib.Dec.{leb}
-use Rattle.runs.specs.Lists.{Detour}
-
--- Nothing; no detour ends at the window's last stop; or a detour from stop suc d to the last stop, what is done inside it before, and the rest.
-pub data Plan : Type 0 where
-  empty : Plan
-  skip : Plan → Plan
-  detour : ℕ → Plan → Plan → Plan
+use Rattle.least.specs.Recurrence.{Plan, empty, skip, detour, trip}
 
 -- The plan fits the window (a, b].
 abbrev pub Over : Plan → ℕ → ℕ → Type 0
@@ -19,14 +13,6 @@ Over (skip p) a zero = ⊥
 Over (skip p) a (suc b) = (a ≤ b) × Over p a b
 Over (detour d inner rest) a zero = ⊥
 Over (detour d inner rest) a (suc b) = (a ≤ d) × (d ≤ b) × Over inner (suc d) b × Over rest a d
-
--- The detours of a plan over (a, b] in the order done, F i being the file number of stop i.
-unfoldable pub listed : (ℕ → ℕ) → Plan → ℕ → List Detour
-listed F empty b = []
-listed F (skip p) zero = []
-listed F (skip p) (suc b) = listed F p b
-listed F (detour d inner rest) zero = []
-listed F (detour d inner rest) (suc b) = listed F inner b ++ record { from = F (suc d); to = F (suc b) } ∷ listed F rest d
 
 -- The start, as a stop, of the plan's detour that ends at stop j; 0 where none does.
 unfoldable pub startIn : Plan → ℕ → ℕ → ℕ
@@ -37,17 +23,13 @@ startIn (detour d inner rest) zero j = 0
 startIn (detour d inner rest) (suc b) j = cond (leb j d) (startIn rest d j) (cond (leb j b) (startIn inner b j) (cond (leb j (suc b)) (suc d) 0))
 
 module _ (L R : ℕ → ℕ) (U : ℕ) where
-  -- A head that moves left with lag y is at x at clock y - x. A detour from c to b adds this to the lag of all that follows.
-  abbrev pub trip : ℕ → ℕ → ℕ
-  trip c b = 2 * (U + (R b - L c))
-
-  -- The lag after the plan's detours, for a head that arrives with lag y.
+  -- A head that moves left with lag y is at x at clock y - x. The lag after the plan's detours, for a head that arrives with lag y.
   unfoldable pub lagAfter : Plan → ℕ → ℕ → ℕ
   lagAfter empty b y = y
   lagAfter (skip p) zero y = y
   lagAfter (skip p) (suc b) y = lagAfter p b y
   lagAfter (detour d inner rest) zero y = y
-  lagAfter (detour d inner rest) (suc b) y = lagAfter rest d (lagAfter inner b y + trip (suc d) (suc b))
+  lagAfter (detour d inner rest) (suc b) y = lagAfter rest d (lagAfter inner b y + trip L R U (suc d) (suc b))
 
   -- When a leg that starts at stop c with lag y reads stop j.
   abbrev pub legTime : ℕ → ℕ → ℕ → ℕ
@@ -61,5 +43,5 @@ module _ (L R : ℕ → ℕ) (U : ℕ) where
   timeIn (detour d inner rest) zero y j e = e
   timeIn (detour d inner rest) (suc b) y j e =
       cond (leb j d)
-      (timeIn rest d (lagAfter inner b y + trip (suc d) (suc b)) j e)
+      (timeIn rest d (lagAfter inner b y + trip L R U (suc d) (suc b)) j e)
       (cond (leb j (suc b)) (timeIn inner b y j (legTime (lagAfter inner b y) (suc d) j)) e)

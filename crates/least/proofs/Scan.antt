@@ -9,17 +9,7 @@ use mathlib.Core.Bool.{cond}
 use mathlib.Core.Logic.{by-cases}
 use lib.Dec.{leb, ltb}
 use borrow.Author.Tests.{le-leb, lt-leb, lt-ltb, le-ltb}
-
-abbrev pub lower : ℕ → ℕ → ℕ
-lower x y = cond (ltb y x) y x
-
-unfoldable pub lowest : (ℕ → ℕ) → ℕ → ℕ → ℕ → ℕ
-lowest f a zero x = x
-lowest f a (suc d) x = cond (leb a d) (lowest f a d (lower x (f (suc d)))) x
-
-unfoldable pub scan : (ℕ → ℕ) → ℕ → ℕ → ℕ → ℕ
-scan f a zero k = k
-scan f a (suc d) k = cond (leb a d) (scan f a d (cond (ltb (f (suc d)) (f k)) (suc d) k)) k
+use Rattle.least.specs.Recurrence.{lower, lowest, scan}
 
 pub lowest-end : (f : ℕ → ℕ) (a c x : ℕ) → c ≤ a → lowest f a c x ≡ x
 unfolding lowest

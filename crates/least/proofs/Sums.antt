@@ -8,10 +8,7 @@ use mathlib.Core.Bool.{cond}
 use mathlib.Core.Logic.{by-cases}
 use lib.Dec.{leb}
 use borrow.Author.Tests.{le-leb, lt-leb}
-
-unfoldable pub W : (ℕ → ℕ) → ℕ → ℕ
-W f zero = 0
-W f (suc n) = W f n + f n
+use Rattle.least.specs.Recurrence.{W}
 
 pub W-zero : (f : ℕ → ℕ) → W f 0 ≡ 0
 unfolding W

@@ -8,10 +8,11 @@ use mathlib.Core.Path.{_≡_, refl, ap, sym, _∙_}
 use mathlib.Core.Logic.{by-cases, _⊎_, inl, inr}
 use borrow.Author.Tests.{le-leb, lt-leb}
 use Rattle.least.specs.Least.{Sooner}
-use Rattle.least.proofs.Plan.{Plan, empty, skip, detour, Over, startIn}
+use Rattle.least.proofs.Plan.{Over, startIn}
 use Rattle.least.proofs.Cost.{cost}
-use Rattle.least.proofs.Value.{value, candidate, choice, choice-first, choice-value, choice-skip, value-least-skip, value-least}
-use Rattle.least.proofs.Best.{best, best-none, best-skip, best-detour, best-over, best-least}
+use Rattle.least.proofs.Value.{choice-first, choice-value, choice-skip, value-least-skip, value-least}
+use Rattle.least.proofs.Best.{best-none, best-skip, best-detour, best-over, best-least}
+use Rattle.least.specs.Recurrence.{Plan, empty, skip, detour, value, candidate, choice, best}
 
 -- The tie rule on plans over the window (a, b].
 pub record PlanFirst (p q : Plan) (a b : ℕ) : Type 0 where

@@ -5,8 +5,9 @@ use native.Mathlib.Omega.{arith}
 use mathlib.Core.Path.{_≡_, refl}
 use mathlib.Core.Logic.{_⊎_, inl, inr}
 use borrow.Author.Tests.{le-leb, lt-leb}
-use Rattle.least.proofs.Plan.{Plan, empty, skip, detour, Over, trip, lagAfter, legTime, timeIn}
+use Rattle.least.proofs.Plan.{Over, lagAfter, legTime, timeIn}
 use Rattle.least.proofs.Rising.{rises-by-steps, rises-not-strictly}
+use Rattle.least.specs.Recurrence.{Plan, empty, skip, detour, trip}
 
 -- Stops 0 … n have a length and do not overlap.
 pub record Spaced (L R : ℕ → ℕ) (n : ℕ) : Type 0 where

@@ -10,19 +10,19 @@ use native.Mathlib.Decide.{ℕ-discrete}
 use lib.Dec.{eqb}
 use lib.ListN.{length, getD}
 use borrow.Author.Tests.{eq-eqb, ne-eqb}
-use Rattle.runs.specs.Run.{Stop, endAt, stopsFrom}
+use Rattle.runs.specs.Run.{Stop, endAt, stopsFrom, stopAt}
 use Rattle.walk.specs.declared.Leg.{Leg}
 use Rattle.walk.specs.Walk.{headAt, Moves, ServesAll, timeOf, sumOf}
 use Rattle.runs.specs.Lists.{Detour, WellFormed}
 use Rattle.walk.specs.Detours.{legsOf}
-use Rattle.walk.proofs.Sound.{Sound, stopAt}
+use Rattle.walk.proofs.Sound.{Sound}
 use Rattle.least.specs.Least.{listSum, LeastFor}
 use Rattle.least.specs.Wants.{readsOf}
-use Rattle.least.proofs.Plan.{listed}
+use Rattle.least.specs.Recurrence.{planDetours, fileAt, leftAt, rightAt, countAt}
 use Rattle.least.proofs.Rising.{Rises, index-order}
 use Rattle.least.proofs.Sums.{W-below, W-part}
 use Rattle.least.proofs.Feasible.{Feasible, InTime, plan-in-time, feasible-of-movement, feasible-part, feasible-below}
-use Rattle.least.proofs.Walks.{fileAt, leftAt, rightAt, countAt, sound-spaced, walk-times, by-file, sum-by-index, serves-each}
+use Rattle.least.proofs.Walks.{sound-spaced, walk-times, by-file, sum-by-index, serves-each}
 use Rattle.least.proofs.Lists.{numbers-rise, listed-formed}
 
 -- For any feasible times the walk of some well-formed list reads every stop no later.
@@ -35,7 +35,7 @@ pub list-in-time : (U m n : ℕ) (stops : List Stop) (t : ℕ → ℕ) → Sound
 list-in-time U m n stops t ok size v =
     let w : InTime m U (leftAt stops) (rightAt stops) n t = plan-in-time m U (leftAt stops) (rightAt stops) n t (sound-spaced stops m n ok size) v in
     record {
-      list = listed (fileAt stops) (w .plan) n;
+      list = planDetours (fileAt stops) (w .plan) n;
       formed = listed-formed m n stops ok size (w .plan) (w .over);
       timely = λ i h. rw (walk-times m n stops ok size (w .plan) (w .over) U i h) (w .timely i h);
     }

@@ -12,34 +12,22 @@ use lib.Dec.{T, eqb}
 use lib.ListN.{length}
 use borrow.Author.Tests.{le-leb, lt-leb, eq-eqb, ne-eqb}
 use Rattle.walk.specs.declared.Head.{Head}
-use Rattle.runs.specs.Run.{Stop, rightEnd}
+use Rattle.runs.specs.Run.{Stop, rightEnd, stopAt}
 use Rattle.walk.specs.declared.Leg.{Leg}
 use Rattle.walk.specs.Walk.{headAt, afterLeg, Moves, reads, served, ServesAll, timeOf, sumOf}
 use Rattle.runs.specs.Lists.{Detour}
 use Rattle.walk.specs.Detours.{startOf, endOf, legOf, lastSweep, legsOf}
 use Rattle.runs.proofs.Search.{true-or-false}
-use Rattle.walk.proofs.Sound.{Sound, stopAt}
+use Rattle.walk.proofs.Sound.{Sound}
 use Rattle.least.specs.Wants.{readsOf}
-use Rattle.least.proofs.Plan.{Plan, empty, skip, detour, Over, listed, trip, lagAfter, timeIn}
+use Rattle.least.proofs.Plan.{Over, lagAfter, timeIn}
 use Rattle.least.proofs.Identity.{runSum}
 use Rattle.walk.proofs.Steps.{lagOf, read-inside, lag-after-leg, time-in-leg}
 use Rattle.least.proofs.Movements.{time-when-read, time-when-not}
 use Rattle.least.proofs.Rising.{rises-by-steps}
-use Rattle.least.proofs.Sums.{W, W-front, W-same}
+use Rattle.least.proofs.Sums.{W-front, W-same}
 use Rattle.least.proofs.Times.{Spaced, starts-rise, ends-before, planTime, unread-left, unread-right, time-in-inner, time-in-rest}
-
--- The stops' numbers, starts, ends and counts by index.
-abbrev pub fileAt : List Stop → ℕ → ℕ
-fileAt stops i = stopAt stops i .file
-
-abbrev pub leftAt : List Stop → ℕ → ℕ
-leftAt stops i = stopAt stops i .start
-
-abbrev pub rightAt : List Stop → ℕ → ℕ
-rightAt stops i = stopAt stops i .end
-
-abbrev pub countAt : List Stop → ℕ → ℕ
-countAt stops i = stopAt stops i .count
+use Rattle.least.specs.Recurrence.{Plan, empty, skip, detour, planDetours, trip, W, fileAt, leftAt, rightAt, countAt}
 
 pub sound-spaced : (stops : List Stop) (m n : ℕ) → Sound stops m → length stops ≡ suc n → Spaced (leftAt stops) (rightAt stops) n
 sound-spaced stops m n ok e =
@@ -201,20 +189,20 @@ last-sweep-at (s ∷ ss) list n e =
 
 -- The legs of a plan's list are the plan's legs.
 module _ (stops : List Stop) (up : Ascends stops) where
-  detours-legs : (p : Plan) (a b : ℕ) → Over p a b → b < length stops → map (legOf stops) (listed (fileAt stops) p b) ≡ legsIn (leftAt stops) (rightAt stops) p b
-  unfolding listed legsIn
+  detours-legs : (p : Plan) (a b : ℕ) → Over p a b → b < length stops → map (legOf stops) (planDetours (fileAt stops) p b) ≡ legsIn (leftAt stops) (rightAt stops) p b
+  unfolding planDetours legsIn
   detours-legs empty a b o h = refl
   detours-legs (skip p) a zero o h = absurd o
   detours-legs (skip p) a (suc b) o h = detours-legs p a b (o .1) (omega arith)
   detours-legs (detour d inner rest) a zero o h = absurd o
   detours-legs (detour d inner rest) a (suc b) o h =
-      map-append (legOf stops) (listed (fileAt stops) inner b) _
+      map-append (legOf stops) (planDetours (fileAt stops) inner b) _
       ∙ rw (detours-legs inner (suc d) b (o .2) (omega arith), detours-legs rest a d (o .3) (omega arith), by-file stops up (suc d) (omega arith) .start, by-file stops up (suc b) h .end)
 
   pub legs-of-plan : (p : Plan) (n : ℕ) → Over p 0 n → length stops ≡ suc n
-      → legsOf stops (listed (fileAt stops) p n) ≡ legsIn (leftAt stops) (rightAt stops) p n ++ record { left = leftAt stops 0; right = rightAt stops n } ∷ []
+      → legsOf stops (planDetours (fileAt stops) p n) ≡ legsIn (leftAt stops) (rightAt stops) p n ++ record { left = leftAt stops 0; right = rightAt stops n } ∷ []
   unfolding legsOf
-  legs-of-plan p n o e = rw (detours-legs p 0 n o (omega arith), last-sweep-at stops (listed (fileAt stops) p n) n e)
+  legs-of-plan p n o e = rw (detours-legs p 0 n o (omega arith), last-sweep-at stops (planDetours (fileAt stops) p n) n e)
 
 module _ (m n : ℕ) (stops : List Stop) (ok : Sound stops m) (size : length stops ≡ suc n) where
   spaced : Spaced (leftAt stops) (rightAt stops) n
@@ -229,11 +217,11 @@ module _ (m n : ℕ) (stops : List Stop) (ok : Sound stops m) (size : length sto
   sweep-reads i h = leg-reads 0 (leftAt stops) (rightAt stops) n spaced (stopAt stops i) i h refl refl 0 n (omega arith) h (omega arith)
 
   module _ (p : Plan) (over : Over p 0 n) where
-    legs : legsOf stops (listed (fileAt stops) p n) ≡ legsIn (leftAt stops) (rightAt stops) p n ++ sweep ∷ []
+    legs : legsOf stops (planDetours (fileAt stops) p n) ≡ legsIn (leftAt stops) (rightAt stops) p n ++ sweep ∷ []
     unfolding sweep
     legs = legs-of-plan stops (ok .ascends) p n over size
 
-    pub walk-moves : Moves m (legsOf stops (listed (fileAt stops) p n))
+    pub walk-moves : Moves m (legsOf stops (planDetours (fileAt stops) p n))
     unfolding sweep
     walk-moves =
         let top : leftAt stops n < rightAt stops n = ok .extends n (omega arith) in
@@ -243,12 +231,12 @@ module _ (m n : ℕ) (stops : List Stop) (ok : Sound stops m) (size : length sto
 
     -- The walk reads each stop when the plan says; the stops that the plan leaves are read by the last sweep.
     pub walk-times : (U i : ℕ) → i ≤ n
-        → timeOf U (headAt m) (legsOf stops (listed (fileAt stops) p n)) (stopAt stops i)
+        → timeOf U (headAt m) (legsOf stops (planDetours (fileAt stops) p n)) (stopAt stops i)
         ≡ planTime (leftAt stops) (rightAt stops) U p 0 n m i
     unfolding sweep
     walk-times U i h =
         let o : leftAt stops i < rightAt stops i = ok .extends i (omega arith) in
-        time-by-lag U (stopAt stops i) (omega arith) (headAt m) (legsOf stops (listed (fileAt stops) p n)) walk-moves
+        time-by-lag U (stopAt stops i) (omega arith) (headAt m) (legsOf stops (planDetours (fileAt stops) p n)) walk-moves
         ∙ rw (zero-add m, legs)
         (time-of-plan U (leftAt stops) (rightAt stops) n spaced (stopAt stops i) i h refl refl p 0 n m (sweep ∷ []) over (omega arith)
         ∙ ap (λ e. timeIn (leftAt stops) (rightAt stops) U p n m i e) (by-lag-read U _ sweep [] (stopAt stops i) (sweep-reads i h)))
@@ -268,9 +256,9 @@ serves-each gs (s ∷ ss) v (suc i) h = serves-each gs ss (v .1) i (omega arith)
 module _ (m n : ℕ) (stops : List Stop) (ok : Sound stops m) (size : length stops ≡ suc n) (p : Plan) (over : Over p 0 n) where
   -- The sum of the walk of a plan's list, by the plan's times.
   pub walk-sum : (U : ℕ)
-      → sumOf U (headAt m) (legsOf stops (listed (fileAt stops) p n)) stops ≡ runSum (leftAt stops) (rightAt stops) (countAt stops) U p n m
+      → sumOf U (headAt m) (legsOf stops (planDetours (fileAt stops) p n)) stops ≡ runSum (leftAt stops) (rightAt stops) (countAt stops) U p n m
   walk-sum U =
-      let gs : List Leg = legsOf stops (listed (fileAt stops) p n) in
+      let gs : List Leg = legsOf stops (planDetours (fileAt stops) p n) in
       sum-by-index U (headAt m) gs stops
       ∙ ap (W (λ i. countAt stops i * timeOf U (headAt m) gs (stopAt stops i))) size
       ∙ W-same _ _ (suc n) (λ i h. ap (λ t. countAt stops i * t) (walk-times m n stops ok size p over U i (omega arith)))

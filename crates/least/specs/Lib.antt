@@ -1,3 +1,4 @@
--- What "least" means, and how often a file is wanted. The laws about both are in proofs/.
+-- What "least" means, and how often a file is wanted; Recurrence is a tool of the table engine. The laws about them are in proofs/.
 pub mod Least
 pub mod Wants
+pub mod Recurrence

@@ -2,9 +2,8 @@
 use Prim.Native.Nat.{ℕ, zero, suc, _+_, _-_, _<_}
 use mathlib.Core.Path.{_≡_, refl}
 use native.Mathlib.Omega.{arith}
-use Rattle.least.proofs.Cost.{early, wait}
-use Rattle.least.proofs.Scan.{lower, lowest, lowest-turn}
-use Rattle.least.proofs.Value.{Table, candidate}
+use Rattle.least.specs.Recurrence.{early, wait, lower, lowest, Table, candidate}
+use Rattle.least.proofs.Scan.{lowest-turn}
 
 -- One choice more of a loop that goes down to a + 1.
 pub lowest-one-more : (f : ℕ → ℕ) (a c x : ℕ) → a < c → lowest f a c x ≡ lowest f a (c - 1) (lower x (f c))

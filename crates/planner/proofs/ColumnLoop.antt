@@ -10,7 +10,7 @@ use native.Mathlib.Nat.{mul-le-mul-right}
 use lib.ListN.{length, getD}
 use Rattle.runs.specs.Run.{Stop, stopsFrom}
 use Rattle.least.proofs.Value.{value-none}
-use Rattle.least.proofs.Walks.{leftAt, rightAt, countAt}
+use Rattle.least.specs.Recurrence.{leftAt, rightAt, countAt}
 use Rattle.planner.specs.Private.{Judged, Written, RowTask, ColumnTask, DoneUpTo, Filled, Holds, Columns, Done, Beyond, rowAt, tableSize, readsIn, readsFirst, worth}
 use Rattle.planner.proofs.Sizes.{reads-none, reads-more}
 use Rattle.planner.proofs.Facts.{reads-at, reads-up-to}

@@ -7,15 +7,14 @@ use native.Mathlib.Omega.{arith}
 use native.Mathlib.Decide.{decLt}
 use native.Mathlib.Numerals.{add-one}
 use lib.ListN.{length, getD}
-use Rattle.runs.specs.Run.{runOf, stopOf, stopsFrom, lastPlace, highestTurn, mostReads}
-use Rattle.walk.proofs.Sound.{stopAt}
+use Rattle.runs.specs.Run.{runOf, stopOf, stopsFrom, lastPlace, highestTurn, mostReads, stopAt}
 use Rattle.runs.proofs.Accepted.{GoodFile, GoodWant}
 use Rattle.runs.proofs.Judged.{GoodRun, accepted-run}
 use Rattle.runs.proofs.Table.{table-file, end-before-start}
 use Rattle.walk.proofs.Walks.{numbers-rise}
 use Rattle.walk.proofs.Filling as filling
 use Rattle.least.proofs.Sums.{W-zero, W-suc}
-use Rattle.least.proofs.Walks.{fileAt, leftAt, rightAt, countAt}
+use Rattle.least.specs.Recurrence.{fileAt, leftAt, rightAt, countAt}
 use Rattle.planner.specs.Private.{Judged, IsStop, TripFits, EarlyFits, RowFits, rowAt, startAt, stopEnd, readsIn, readsFirst}
 use Rattle.planner.proofs.Sizes.{row-small, reads-none, reads-more, reads-within}
 

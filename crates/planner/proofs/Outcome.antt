@@ -19,12 +19,13 @@ use Rattle.refusals.proofs.Verdicts.{refuses}
 use Rattle.runs.proofs.Entries.{length-list}
 use Rattle.runs.proofs.Judged.{accepted-run}
 use Rattle.walk.proofs.Laws.{accepted-sound}
-use Rattle.least.proofs.LeastList.{leastList, least-list-none, least-list-some, least-list}
+use Rattle.least.proofs.LeastList.{least-list-none, least-list-some, least-list}
 use Rattle.runs.specs.declared.Rule.{Rule}
 use Rattle.runs.specs.declared.Rule.the-variants.{Sweep, Least}
 use Rattle.planner.specs.Plan.{ByRule, Planned, rowsOf, roomSize}
 use Rattle.planner.specs.Private.{Judged, Written, Beyond, ListWritten, listAt, ruleList, tableSize}
 use Rattle.planner.proofs.Facts.{stops-length}
+use Rattle.least.specs.Recurrence.{leastList}
 
 -- Nothing is written.
 pub list-none-written : (list : List Detour) (froms tos : List ℕ) → list ≡ [] → ListWritten list 0 froms tos froms tos

@@ -10,7 +10,7 @@ use Rattle.runs.specs.Run.{Stop, stopsFrom}
 use Rattle.runs.specs.Lists.{Detour, listOf}
 use Rattle.runs.proofs.Entries.{length-list}
 use Rattle.least.proofs.Value.{choice-first}
-use Rattle.least.proofs.Walks.{fileAt, leftAt, rightAt, countAt}
+use Rattle.least.specs.Recurrence.{fileAt, leftAt, rightAt, countAt}
 use Rattle.planner.specs.Private.{Judged, Filled, Asked, ListWritten, readsIn, chosen, listAt}
 use Rattle.planner.proofs.Sizes.{reads-more, reads-rise}
 use Rattle.planner.proofs.Facts.{count-at, file-at, reads-up-to, few-stops, few-reads}

@@ -7,9 +7,9 @@ use native.Mathlib.Numerals.{add-one}
 use native.Mathlib.Nat.{le-refl}
 use lib.ListN.{length, getD}
 use Rattle.runs.specs.Run.{Stop, stopsFrom}
-use Rattle.least.proofs.Scan.{lower, lowest, lowest-end}
+use Rattle.least.proofs.Scan.{lowest-end}
 use Rattle.least.proofs.Value.{value-step}
-use Rattle.least.proofs.Walks.{leftAt, rightAt, countAt}
+use Rattle.least.specs.Recurrence.{lower, lowest, leftAt, rightAt, countAt}
 use Rattle.planner.specs.Private.{Kept, Written, SkipFits, RowTask, DetourFrom, rowAt, readsIn, startAt, worth, choiceWorth}
 use Rattle.planner.proofs.Sizes.{reads-more}
 use Rattle.planner.proofs.Words.{kept-none, kept-more, kept-on}

@@ -8,20 +8,20 @@ use lib.ListN.{length, getD, set, take, length-append}
 use lib.Seq.{getD-set-other, take-suc-set, length-take-le}
 use Rattle.runs.specs.Run.{Stop}
 use Rattle.runs.specs.Lists.{Detour, listOf}
-use Rattle.least.proofs.Plan.{Plan, empty, skip, detour, Over, listed}
-use Rattle.least.proofs.Best.{best, best-none, best-skip, best-detour, best-over}
-use Rattle.least.proofs.Walks.{fileAt, leftAt, rightAt, countAt}
+use Rattle.least.proofs.Plan.{Over}
+use Rattle.least.proofs.Best.{best-none, best-skip, best-detour, best-over}
+use Rattle.least.specs.Recurrence.{Plan, empty, skip, detour, planDetours, best, fileAt, leftAt, rightAt, countAt}
 use Rattle.planner.specs.Private.{readsIn, chosen, listAt}
 
 -- A plan over (a, b] lists at most b - a detours.
-listed-few : (F : ℕ → ℕ) (p : Plan) (a b : ℕ) → Over p a b → length (listed F p b) ≤ b - a
-unfolding listed
+listed-few : (F : ℕ → ℕ) (p : Plan) (a b : ℕ) → Over p a b → length (planDetours F p b) ≤ b - a
+unfolding planDetours
 listed-few F empty a b o = omega arith
 listed-few F (skip p) a zero o = absurd o
 listed-few F (skip p) a (suc b) o = omega (arith, listed-few F p a b (o .1))
 listed-few F (detour d inner rest) a zero o = absurd o
 listed-few F (detour d inner rest) a (suc b) o =
-    omega (arith, length-append (listed F inner b) (record { from = F (suc d); to = F (suc b) } ∷ listed F rest d), listed-few F inner (suc d) b (o .2), listed-few F rest a d (o .3), o .0, o .1)
+    omega (arith, length-append (planDetours F inner b) (record { from = F (suc d); to = F (suc b) } ∷ planDetours F rest d), listed-few F inner (suc d) b (o .2), listed-few F rest a d (o .3), o .0, o .1)
 
 -- One entry more at the end of two rows.
 list-more : (xs ys : List ℕ) (x y : ℕ) → length xs ≡ length ys → listOf (xs ++ (x ∷ [])) (ys ++ (y ∷ [])) ≡ listOf xs ys ++ (record { from = x; to = y } ∷ [])
@@ -40,16 +40,16 @@ list-set froms tos n x y h l =
 
 module _ (stops : List Stop) (turn : ℕ) where
   pub list-none : (a b s : ℕ) → b ≤ a → listAt stops turn a b s ≡ []
-  unfolding listed
+  unfolding planDetours
   list-none a b s h = rw (best-none (leftAt stops) (rightAt stops) (countAt stops) turn a b s h)
 
   pub list-skip : (a b s : ℕ) → a ≤ b → chosen stops turn a b s ≡ 0 → listAt stops turn a (suc b) s ≡ listAt stops turn a b (s + countAt stops (suc b))
-  unfolding listed
+  unfolding planDetours
   list-skip a b s h e = rw (best-skip (leftAt stops) (rightAt stops) (countAt stops) turn a b s h e)
 
   pub list-detour : (a b s d : ℕ) → a ≤ b → chosen stops turn a b s ≡ suc d
       → listAt stops turn a (suc b) s ≡ listAt stops turn (suc d) b (s + countAt stops (suc b)) ++ record { from = fileAt stops (suc d); to = fileAt stops (suc b) } ∷ listAt stops turn a d s
-  unfolding listed
+  unfolding planDetours
   list-detour a b s d h e = rw (best-detour (leftAt stops) (rightAt stops) (countAt stops) turn a b s d h e)
 
   pub list-few : (a b s : ℕ) → length (listAt stops turn a b s) ≤ b - a

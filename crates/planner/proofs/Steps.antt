@@ -7,12 +7,9 @@ use native.Mathlib.Numerals.{add-one}
 use native.Mathlib.Nat.{mul-le-mul, le-refl, add-zero}
 use lib.ListN.{length, getD}
 use Rattle.runs.specs.Run.{Stop, stopsFrom, lastPlace, highestTurn, mostReads}
-use Rattle.least.proofs.Plan.{trip}
-use Rattle.least.proofs.Cost.{early}
-use Rattle.least.proofs.Sums.{W, W-suc, W-rises}
-use Rattle.least.proofs.Scan.{lower}
+use Rattle.least.specs.Recurrence.{trip, early, W, lower, leftAt, rightAt, countAt}
+use Rattle.least.proofs.Sums.{W-suc, W-rises}
 use Rattle.least.proofs.Bounds.{candidate-bound}
-use Rattle.least.proofs.Walks.{leftAt, rightAt, countAt}
 use Rattle.planner.specs.Private.{Judged, Written, Apart, LowerFits, lowered, RowTask, DetourFrom, rowAt, readsIn, readsFirst, startAt, stopEnd, worth, choiceWorth}
 use Rattle.planner.proofs.Words.{written-same}
 use Rattle.planner.proofs.Facts.{left-at, right-at, count-at, reads-at, few-reads, cheap-turn, ends-near, reads-up-to, count-few}

@@ -7,7 +7,7 @@ use native.Mathlib.Omega.{arith}
 use native.Mathlib.Decide.{decLt}
 use lib.ListN.{length, getD, set, length-set}
 use lib.Seq.{getD-set-same, getD-set-other}
-use Rattle.least.proofs.Scan.{lower}
+use Rattle.least.specs.Recurrence.{lower}
 use Rattle.planner.specs.Private.{Kept, Written, Apart, SkipFits, LowerFits, lowered}
 
 pub kept-none : (at : ℕ) (xs : List ℕ) → Kept at 0 xs xs

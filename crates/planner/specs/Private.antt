@@ -13,13 +13,7 @@ use Rattle.runs.specs.Run.{Stop, runOf, stopsFrom, total, endAt, lastPlace, hig
 use Rattle.runs.specs.Judging.{judgeOf}
 use Rattle.runs.specs.Private.{InTable}
 use Rattle.runs.specs.Lists.{Detour, listOf}
-use Rattle.least.proofs.Sums.{W}
-use Rattle.least.proofs.Scan.{lower}
-use Rattle.least.proofs.Value.{value, candidate, choice}
-use Rattle.least.proofs.Plan.{listed}
-use Rattle.least.proofs.Best.{best}
-use Rattle.least.proofs.LeastList.{leastList}
-use Rattle.least.proofs.Walks.{fileAt, leftAt, rightAt, countAt}
+use Rattle.least.specs.Recurrence.{W, lower, value, candidate, choice, planDetours, best, leastList, fileAt, leftAt, rightAt, countAt}
 use Rattle.runs.specs.declared.Rule.{Rule}
 use Rattle.runs.specs.declared.Rule.the-variants.{Sweep, Least}
 
@@ -183,7 +177,7 @@ abbrev pub chosen : List Stop → ℕ → ℕ → ℕ → ℕ → ℕ
 chosen stops turn a b s = choice (leftAt stops) (rightAt stops) (countAt stops) turn a b s
 
 abbrev pub listAt : List Stop → ℕ → ℕ → ℕ → ℕ → List Detour
-listAt stops turn a b s = listed (fileAt stops) (best (leftAt stops) (rightAt stops) (countAt stops) turn a b s) b
+listAt stops turn a b s = planDetours (fileAt stops) (best (leftAt stops) (rightAt stops) (countAt stops) turn a b s) b
 
 -- The first n entries of two rows hold a list, and the later ones are as they were.
 pub record ListWritten (list : List Detour) (n : ℕ) (froms tos froms′ tos′ : List ℕ) : Type 0 where

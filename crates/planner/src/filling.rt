@@ -3,7 +3,7 @@ ghost use mathlib.Core.Path.{_≡_};
 ghost use Prim.Native.Nat.{suc, _+_, _-_, _*_, _≤_, _<_};
 ghost use lib.ListN.{length, getD};
 ghost use Rattle.runs.specs.Run.{stopsFrom};
-ghost use Rattle.least.proofs.Scan.{lower};
+ghost use Rattle.least.specs.Recurrence.{lower};
 ghost use Rattle.planner.specs.Private.{Written, SkipFits, LowerFits, lowered, RowTask, DetourFrom, ColumnTask, DoneUpTo, Judged, Filled, Beyond, tableSize, rowAt, readsIn, worth, choiceWorth};
 use crate::stops::early_of;
 use crate::stops::row;

@@ -7,7 +7,7 @@ ghost use lib.Dec.{ltb};
 ghost use Rattle.refusals.specs.Refusals.{isRefusal};
 ghost use Rattle.runs.specs.Run.{runIn, runAt, stopsFrom, total, mostReads};
 ghost use Rattle.runs.specs.Judging.{judgeOf};
-ghost use Rattle.least.proofs.LeastList.{leastList};
+ghost use Rattle.least.specs.Recurrence.{leastList};
 ghost use Rattle.planner.specs.Plan.{Plans, Planned, rowsOf};
 ghost use Rattle.planner.specs.Private.{Judged, ListWritten, Beyond, tableSize, ruleList, LongRows, rowsVerdict};
 use crate::filling::clear;

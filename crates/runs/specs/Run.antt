@@ -79,6 +79,10 @@ stopsOf r = stopsFrom (r .starts) (r .lengths) (r .numbers) (r .counts)
 abbrev pub stopsAt : {S L N C : Type 0} → Lent S → Lent L → Lent N → Lent C → List Stop
 stopsAt starts lengths numbers counts = stopsFrom (starts .entry .now) (lengths .entry .now) (numbers .entry .now) (counts .entry .now)
 
+-- A stop by its index, from 0.
+abbrev pub stopAt : List Stop → ℕ → Stop
+stopAt stops i = getD stops i (record { file = 0; start = 0; end = 0; count = 0 })
+
 -- The end of the rightmost stop; 0 where there is none.
 unfoldable pub rightEnd : List Stop → ℕ
 rightEnd [] = 0

@@ -9,7 +9,7 @@ use native.Mathlib.Nat.{mul-le-mul-left}
 use lib.ListN.{length, getD}
 use borrow.Author.Tests.{le-leb}
 use Rattle.walk.specs.declared.Leg.{Leg}
-use Rattle.runs.specs.Run.{Run, Stop, stopOf, stopsFrom, stopsOf, rightEnd, endAt, total}
+use Rattle.runs.specs.Run.{Run, Stop, stopOf, stopsFrom, stopsOf, rightEnd, endAt, total, stopAt}
 use Rattle.runs.specs.Judging.{judgeOf}
 use Rattle.walk.specs.Walk.{headAt, reads, served, ServesAll, timeOf, sumOf}
 use Rattle.runs.specs.Lists.{Detour, listOf, listVerdict}
@@ -18,7 +18,7 @@ use Rattle.walk.specs.Price.{pricedAnswer}
 use Rattle.runs.specs.Private.{InTable}
 use Rattle.walk.specs.Private.{rowLegs, Walkable}
 use Rattle.refusals.proofs.Verdicts.{refuses}
-use Rattle.walk.proofs.Sound.{Sound, stopAt}
+use Rattle.walk.proofs.Sound.{Sound}
 use Rattle.runs.proofs.Judged.{GoodRun, accepted-run}
 use Rattle.runs.proofs.Table.{named-file, ends-rise, end-before-start, right-end-row}
 use Rattle.walk.proofs.Walks.{GoodList, accepted-list, legs-in-rows, walkable, numbers-rise, not-past-last, in-table}

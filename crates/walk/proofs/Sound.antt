@@ -2,11 +2,7 @@
 use Prim.Native.Nat.{ℕ, suc, _≤_, _<_}
 use mathlib.Core.List.{List}
 use lib.ListN.{length, getD}
-use Rattle.runs.specs.Run.{Stop}
-
--- The stop at an index, from 0.
-abbrev pub stopAt : List Stop → ℕ → Stop
-stopAt stops i = getD stops i (record { file = 0; start = 0; end = 0; count = 0 })
+use Rattle.runs.specs.Run.{Stop, stopAt}
 
 pub record Sound (stops : List Stop) (m : ℕ) : Type 0 where
   pub named : (i : ℕ) → i < length stops → 0 < stopAt stops i .file
