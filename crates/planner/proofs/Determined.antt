@@ -7,10 +7,11 @@ use Rattle.refusals.specs.Refusals.{isRefusal}
 use Rattle.runs.specs.Run.{Run, stopsOf}
 use Rattle.runs.specs.Lists.{Detour}
 use Rattle.walk.specs.Price.{pricedAnswer}
+use Rattle.least.specs.Least.{ByRule}
 use Rattle.least.proofs.LeastList.{least-unique}
 use Rattle.runs.specs.declared.Rule.{Rule}
 use Rattle.runs.specs.declared.Rule.the-variants.{Sweep, Least}
-use Rattle.planner.specs.Plan.{Rows, Plans, Planned, Refused, ByRule, planVerdict, rowsWith}
+use Rattle.planner.specs.Plan.{Rows, Plans, Planned, Refused, planVerdict, rowsWith}
 
 rule-unique : (rule : Rule) (r : Run) (l l′ : List Detour) → ByRule rule r l → ByRule rule r l′ → l ≡ l′
 rule-unique Sweep r l l′ h h′ = h ∙ sym h′

@@ -1,15 +1,4 @@
 -- Laws that this crate's proofs share.
-pub mod Words
-pub mod Sizes
-pub mod Facts
-pub mod Cells
-pub mod Choices
-pub mod Steps
-pub mod RowLoop
-pub mod ColumnLoop
-pub mod Asking
-pub mod Stack
-pub mod ReadLoop
-pub mod Outcome
+pub mod Priced
 pub mod Refusals
 pub mod Determined

@@ -1,85 +1,107 @@
--- The planner's refusals in the order of the checks, as the code makes them: the run, then the rows, then the room.
-use Prim.Native.Nat.{ℕ, _+_, _-_, _≤_}
-use mathlib.Core.Path.{_≡_, refl, sym, _∙_}
+-- The planner's refusals in the order of the checks, as the code makes them: the run, the row for times, then what the engine refuses.
+use Prim.Native.Nat.{ℕ, _≤_, _<_}
+use mathlib.Core.Path.{_≡_, refl, sym, ap, _∙_}
 use mathlib.Core.Bool.{Bool, true, false, true≢false}
 use mathlib.Core.List.{List, [], _∷_}
-use native.Mathlib.Omega.{arith}
 use lib.ListN.{length}
 use lib.Dec.{ltb}
-use borrow.Author.Tests.{ltb-false}
+use borrow.Author.Tests.{lt-ltb, le-ltb}
 use Rattle.refusals.specs.declared.Refusal.the-variants.{ShortRow, ShortRoom}
 use Rattle.refusals.specs.declared.Verdict.{Verdict}
-use Rattle.walk.specs.declared.Answer.{Answer}
 use Rattle.refusals.specs.Refusals.{isRefusal, refuseIf, firstOf}
-use Rattle.runs.specs.Run.{Run, total}
-use Rattle.runs.specs.Judging.{judgeOf}
-use Rattle.walk.specs.Price.{refusalAnswer}
-use Rattle.runs.proofs.Search.{or-false-both}
 use Rattle.refusals.proofs.Verdicts.{refuses, first-refuses, first-passes, test-says}
 use Rattle.runs.specs.declared.Rule.{Rule}
-use Rattle.planner.specs.Plan.{Rows, Plans, Planned, planVerdict, shortRows, roomSize}
-use Rattle.planner.specs.Private.{LongRows, tableSize, rowsVerdict}
+use Rattle.runs.specs.Run.{Run}
+use Rattle.runs.specs.Judging.{judgeOf}
+use Rattle.walk.specs.declared.Answer.{Answer}
+use Rattle.walk.specs.Price.{refusalAnswer}
+use Rattle.tables.specs.declared.Listed.{Listed}
+use Rattle.tables.specs.Listing.{ListRows, listRows, Lists, IsListed, listingVerdict, shortListRows, roomSize}
+use Rattle.planner.specs.Plan.{Rows, rowsOf, Plans, Planned, planVerdict, shortRows}
 
-one-more : (k n : ℕ) → k - 1 ≤ n → k ≤ n + 1
-one-more k n h = omega arith
-
--- Where the two checks of the rows refuse nothing, neither holds.
-both-pass : (b c : Bool) → refuses (firstOf (refuseIf b ShortRow ∷ refuseIf c ShortRoom ∷ [])) ≡ false → (b ≡ false) × (c ≡ false)
-both-pass true c e = absurd (true≢false e)
-both-pass false true e = absurd (true≢false e)
-both-pass false false e = (refl, refl)
+-- The rows that the engine is lent.
+abbrev pub engineRows : Rows → ListRows
+engineRows rows = listRows (rows .froms) (rows .tos) (rows .room)
 
 module _ (r : Run) (rule : Rule) (rows : Rows) where
-  refused-so : (v : Verdict) → v ≡ planVerdict r rows → refuses v ≡ true → (a : Answer) → a ≡ refusalAnswer v → Plans r rule rows a rows
-  refused-so v e h a s =
+  refused-so : (v : Verdict) → v ≡ planVerdict r rows → refuses v ≡ true → (a : Answer) → a ≡ refusalAnswer v → (after : Rows) → after ≡ rows → Plans r rule rows a after
+  refused-so v e h a s after kept =
       record {
-        refused = λ q. record { says = rw e at s; kept = refl };
+        refused = λ q. record { says = rw e at s; kept = kept };
         planned = λ q. absurd (true≢false (sym h ∙ (rw (← e) at q)));
       }
 
-  after-run : List Verdict
-  after-run = refuseIf (shortRows (length (r .numbers)) rows) ShortRow ∷ refuseIf (ltb (length (rows .room)) (roomSize r)) ShortRoom ∷ []
+  later : List Verdict
+  later = refuseIf (shortRows (length (r .numbers)) rows) ShortRow ∷ refuseIf (ltb (length (rows .room)) (roomSize r)) ShortRoom ∷ []
 
   module _ (v : Verdict) (f : Bool) (v-is : v ≡ judgeOf r) (f-is : f ≡ isRefusal (v .refusal)) where
     pub run-refused : f ≡ true → (a : Answer) → a ≡ refusalAnswer v → Plans r rule rows a rows
-    unfolding planVerdict after-run
-    run-refused e a s = refused-so v (v-is ∙ first-refuses (judgeOf r) after-run (test-says v-is f-is e)) (sym f-is ∙ e) a s
+    unfolding planVerdict later
+    run-refused e a s = refused-so v (v-is ∙ first-refuses (judgeOf r) later (test-says v-is f-is e)) (sym f-is ∙ e) a s rows refl
 
     pub run-accepted : f ≡ false → isRefusal (judgeOf r .refusal) ≡ false
     run-accepted e = test-says v-is f-is e
 
-    passes-run : f ≡ false → planVerdict r rows ≡ firstOf after-run
-    unfolding planVerdict after-run
-    passes-run e = first-passes (judgeOf r) after-run (test-says v-is f-is e)
+    passes-run : f ≡ false → planVerdict r rows ≡ firstOf later
+    unfolding planVerdict later
+    passes-run e = first-passes (judgeOf r) later (test-says v-is f-is e)
 
-    module _ (reads : ℕ) (reads-is : reads ≡ total (r .counts)) (u : Verdict) (u-is : u ≡ rowsVerdict (length (r .numbers)) reads (length (rows .froms)) (length (rows .tos)) (length (rows .times)) (length (rows .room))) (g : Bool) (g-is : g ≡ isRefusal (u .refusal)) (passed : f ≡ false) where
-      rows-decide : u ≡ planVerdict r rows
-      unfolding after-run rowsVerdict
-      rows-decide = rw (u-is, reads-is) (sym (passes-run passed))
+    pub times-refused : f ≡ false → length (rows .times) < length (r .numbers) → (a : Answer) → a ≡ refusalAnswer (record { refusal = ShortRow; place = 0 }) → Plans r rule rows a rows
+    unfolding later
+    times-refused e short a s =
+        refused-so (record { refusal = ShortRow; place = 0 })
+        (sym (passes-run e ∙ rw (lt-ltb (length (rows .times)) (length (r .numbers)) short)))
+        refl a s rows refl
 
-      pub rows-refused : g ≡ true → (a : Answer) → a ≡ refusalAnswer u → Plans r rule rows a rows
-      rows-refused e a s = refused-so u rows-decide (sym g-is ∙ e) a s
+    module _ (passed : f ≡ false) (long : length (r .numbers) ≤ length (rows .times)) where
+      engine-later : List Verdict
+      engine-later = refuseIf (shortListRows (length (r .numbers)) (engineRows rows)) ShortRow ∷ refuseIf (ltb (length (rows .room)) (roomSize r)) ShortRoom ∷ []
 
-      rows-pass : g ≡ false → (shortRows (length (r .numbers)) rows ≡ false) × (ltb (length (rows .room)) (tableSize (length (r .numbers)) reads) ≡ false)
-      unfolding rowsVerdict
-      rows-pass e = both-pass _ _ (rw (← u-is, ← g-is) e)
+      same-later : firstOf engine-later ≡ firstOf later
+      unfolding later engine-later
+      same-later = rw (le-ltb (length (rows .times)) (length (r .numbers)) long)
 
-      pub rows-long : g ≡ false → LongRows (length (r .numbers)) (length (rows .froms)) (length (rows .tos)) (length (rows .times))
-      rows-long e =
-          let all = or-false-both _ _ (rows-pass e .0) in
-          let two = or-false-both _ _ (all .0) in
-          let starts : length (r .numbers) - 1 ≤ length (rows .froms) = ltb-false (length (rows .froms)) (length (r .numbers) - 1) (two .1) in
-          let ends : length (r .numbers) - 1 ≤ length (rows .tos) = ltb-false (length (rows .tos)) (length (r .numbers) - 1) (all .1) in
-          record {
-            for-starts = one-more (length (r .numbers)) (length (rows .froms)) starts;
-            for-ends = one-more (length (r .numbers)) (length (rows .tos)) ends;
-            for-times = ltb-false (length (rows .times)) (length (r .numbers)) (two .0);
-          }
+      -- What the engine judges is what is left to judge.
+      engine-decides : listingVerdict r (engineRows rows) ≡ planVerdict r rows
+      unfolding listingVerdict engine-later
+      engine-decides = first-passes (judgeOf r) engine-later (test-says v-is f-is passed) ∙ same-later ∙ sym (passes-run passed)
 
-      pub room-big : g ≡ false → tableSize (length (r .numbers)) reads ≤ length (rows .room)
-      room-big e = ltb-false (length (rows .room)) (tableSize (length (r .numbers)) reads) (rows-pass e .1)
+      module _ (l : Listed) (after : ListRows) (lists : Lists r rule (engineRows rows) l after) (g : Bool) (g-is : g ≡ isRefusal (l .verdict .refusal)) where
+        -- The engine's answer refuses just where its verdict does.
+        says-verdict : (b : Bool) → isRefusal (listingVerdict r (engineRows rows) .refusal) ≡ b → g ≡ b
+        says-verdict true e = g-is ∙ ap (λ x. isRefusal (x .verdict .refusal)) (lists .refused e .says) ∙ e
+        says-verdict false e = g-is ∙ ap (λ x. isRefusal (x .verdict .refusal)) (lists .listed e .says)
 
-      pub run-planned : g ≡ false → (a : Answer) (after : Rows) → Planned r rule rows a after → Plans r rule rows a after
-      run-planned e a after p =
-          let accepts : refuses (planVerdict r rows) ≡ false = rw (← rows-decide, ← g-is) e in
-          record { refused = λ q. absurd (true≢false (sym q ∙ accepts)); planned = λ q. p }
+        engine-refuses : g ≡ true → isRefusal (listingVerdict r (engineRows rows) .refusal) ≡ true
+        engine-refuses e = go (isRefusal (listingVerdict r (engineRows rows) .refusal)) refl
+          where
+            go : (b : Bool) → isRefusal (listingVerdict r (engineRows rows) .refusal) ≡ b → isRefusal (listingVerdict r (engineRows rows) .refusal) ≡ true
+            go true is = is
+            go false is = absurd (true≢false (sym e ∙ says-verdict false is))
+
+        engine-passes : g ≡ false → isRefusal (listingVerdict r (engineRows rows) .refusal) ≡ false
+        engine-passes e = go (isRefusal (listingVerdict r (engineRows rows) .refusal)) refl
+          where
+            go : (b : Bool) → isRefusal (listingVerdict r (engineRows rows) .refusal) ≡ b → isRefusal (listingVerdict r (engineRows rows) .refusal) ≡ false
+            go true is = absurd (true≢false (sym (says-verdict true is) ∙ e))
+            go false is = is
+
+        pub engine-refused : g ≡ true → (a : Answer) → a ≡ refusalAnswer (l .verdict) → (froms tos room : List ℕ) → after ≡ listRows froms tos room
+            → Plans r rule rows a (rowsOf froms tos (rows .times) room)
+        engine-refused e a s froms tos room is =
+            let no = lists .refused (engine-refuses e) in
+            let v-says = ap (λ x. x .verdict) (no .says) ∙ engine-decides in
+            let same = sym is ∙ no .kept in
+            refused-so (l .verdict) v-says (sym g-is ∙ e) a s _
+            (rows-are (ap (λ x. x .froms) same) (ap (λ x. x .tos) same) (ap (λ x. x .room) same))
+          where
+            rows-are : {x y z : List ℕ} → x ≡ rows .froms → y ≡ rows .tos → z ≡ rows .room → rowsOf x y (rows .times) z ≡ rows
+            rows-are e f g = rw (e, f, g)
+
+        pub engine-listed : g ≡ false → IsListed r rule (engineRows rows) l after
+        engine-listed e = lists .listed (engine-passes e)
+
+        pub run-planned : g ≡ false → (a : Answer) (end : Rows) → Planned r rule rows a end → Plans r rule rows a end
+        run-planned e a end p =
+            let accepts : refuses (planVerdict r rows) ≡ false = rw (← engine-decides) (engine-passes e) in
+            record { refused = λ q. absurd (true≢false (sym q ∙ accepts)); planned = λ q. p }

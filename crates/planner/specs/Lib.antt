@@ -1,3 +1,2 @@
--- What a reader of the planner must believe stands in Plan; Private is for the contracts of private functions.
+-- What a reader of the planner must believe.
 pub mod Plan
-pub mod Private

@@ -1,21 +1,22 @@
 -- What the planner answers, for every input: the first refusal that applies and nothing changed, or the list of the rule with its walk's numbers, and every row afterwards.
-use Prim.Native.Nat.{ℕ, _+_, _-_, _*_}
+use Prim.Native.Nat.{ℕ, _-_}
 use mathlib.Core.Path.{_≡_}
 use mathlib.Core.Bool.{Bool, true, false, _||_}
 use mathlib.Core.List.{List, [], _∷_, _++_, map}
 use lib.ListN.{length, drop, replicate}
 use lib.Dec.{ltb}
+use denote.Triple.Both.{Both}
 use Rattle.refusals.specs.declared.Refusal.the-variants.{ShortRow, ShortRoom}
 use Rattle.refusals.specs.declared.Verdict.{Verdict}
 use Rattle.walk.specs.declared.Answer.{Answer}
 use Rattle.refusals.specs.Refusals.{isRefusal, refuseIf, firstOf}
-use Rattle.runs.specs.Run.{Run, stopsOf, total}
+use Rattle.runs.specs.Run.{Run, Row}
 use Rattle.runs.specs.Judging.{judgeOf}
 use Rattle.runs.specs.Lists.{Detour}
 use Rattle.walk.specs.Price.{refusalAnswer, pricedAnswer, pricedTimes}
-use Rattle.least.specs.Least.{LeastFor}
+use Rattle.least.specs.Least.{ByRule}
+use Rattle.tables.specs.Listing.{roomSize}
 use Rattle.runs.specs.declared.Rule.{Rule}
-use Rattle.runs.specs.declared.Rule.the-variants.{Sweep, Least}
 
 -- The lent rows: for starts, ends and times, and the working room.
 pub record Rows : Type 0 where
@@ -27,9 +28,12 @@ pub record Rows : Type 0 where
 abbrev pub rowsOf : List ℕ → List ℕ → List ℕ → List ℕ → Rows
 rowsOf froms tos times room = record { froms = froms; tos = tos; times = times; room = room }
 
--- The words of working room that a run asks for, k·k·(R + 1).
-abbrev pub roomSize : Run → ℕ
-roomSize r = length (r .numbers) * length (r .numbers) * (total (r .counts) + 1)
+-- The rows that four parameters of a function hold, when it is called and when it returns.
+abbrev pub rowsBefore : Both Row Row → Both Row Row → Both Row Row → Both Row Row → Rows
+rowsBefore froms tos times room = rowsOf (froms .entry .now) (tos .entry .now) (times .entry .now) (room .entry .now)
+
+abbrev pub rowsAfter : Both Row Row → Both Row Row → Both Row Row → Both Row Row → Rows
+rowsAfter froms tos times room = rowsOf (froms .exit .now) (tos .exit .now) (times .exit .now) (room .exit .now)
 
 -- 8: a row for times shorter than k, or one for starts or ends shorter than k - 1 (0 when k is 0).
 abbrev pub shortRows : ℕ → Rows → Bool
@@ -43,11 +47,6 @@ planVerdict r rows =
     ∷ refuseIf (shortRows (length (r .numbers)) rows) ShortRow
     ∷ refuseIf (ltb (length (rows .room)) (roomSize r)) ShortRoom
     ∷ [])
-
--- The list that a rule asks for: the empty one, or the least.
-abbrev pub ByRule : Rule → Run → List Detour → Type 0
-ByRule Sweep r list = list ≡ []
-ByRule Least r list = LeastFor (r .turn) (r .head) (stopsOf r) list
 
 -- The rows afterwards: the list and the times in the first entries, zero in the words of the working room; later entries as they were.
 abbrev pub rowsWith : Run → List Detour → Rows → Rows

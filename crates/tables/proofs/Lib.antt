@@ -1,0 +1,14 @@
+-- Laws that this crate's proofs share; ListRules for the planner, which prices the list.
+pub mod Words
+pub mod Sizes
+pub mod Facts
+pub mod Cells
+pub mod Choices
+pub mod Steps
+pub mod RowLoop
+pub mod ColumnLoop
+pub mod Asking
+pub mod Stack
+pub mod ReadLoop
+pub mod Outcome
+pub mod Refusals

@@ -1,0 +1,13 @@
+// tables: the list of a run by its rule, on a table that the caller lends. It stands on the judging alone; what "least" means is said in `least`.
+mod filling;
+mod listing;
+mod reading;
+mod stops;
+
+pub use listing::list;
+
+// What is found: a refusal, or acceptance and the number of detours that were written.
+pub struct Listed {
+    pub verdict: refusals::Verdict,
+    pub detours: u64,
+}
