@@ -9,8 +9,8 @@ use lib.ListN.{length, drop, set}
 use lib.Dec.{ltb}
 use borrow.Author.Tests.{lt-ltb, le-ltb, eq-eqb}
 use Rattle.refusals.specs.declared.Refusal.{Refusal}
-use Rattle.refusals.specs.declared.Refusal.the-variants.{Accepted, FileRows, BadFile, WantRows, BadWant, TooManyReads, TurnPrice, HeadPlace, ShortRow, ShortRoom, BadEntry, BadLine, LongSheet, BadName, BadRule, BadText, ManyExtents, Overlap, FarFile}
 use Rattle.refusals.specs.declared.Verdict.{Verdict}
+use Rattle.refusals.specs.declared.Refusal.the-variants.{ShortRow}
 use Rattle.walk.specs.declared.Answer.{Answer}
 use Rattle.refusals.specs.Refusals.{numberOf, refuseIf, firstOf, accepted}
 use Rattle.runs.specs.Run.{Run, stopsOf}
@@ -22,28 +22,6 @@ use Rattle.refusals.proofs.Verdicts.{refuses}
 use Rattle.walk.proofs.Priced.{price-accepted}
 use Rattle.walk.proofs.Places.{placeMost, price-near}
 use Rattle.boundary.specs.Boundary.{codeOf, sumsWith, priceCall, priceTimes, priceSums}
-
--- No number is over 23.
-pub number-small : (kind : Refusal) → numberOf kind ≤ 23
-number-small Accepted = omega arith
-number-small FileRows = omega arith
-number-small BadFile = omega arith
-number-small WantRows = omega arith
-number-small BadWant = omega arith
-number-small TooManyReads = omega arith
-number-small TurnPrice = omega arith
-number-small HeadPlace = omega arith
-number-small ShortRow = omega arith
-number-small ShortRoom = omega arith
-number-small BadEntry = omega arith
-number-small BadLine = omega arith
-number-small LongSheet = omega arith
-number-small BadName = omega arith
-number-small BadRule = omega arith
-number-small BadText = omega arith
-number-small ManyExtents = omega arith
-number-small Overlap = omega arith
-number-small FarFile = omega arith
 
 -- Four stores are the four numbers before the rest.
 pub four-set : (w x y z : ℕ) (row : List ℕ) → 4 ≤ length row → set (set (set (set row 0 w) 1 x) 2 y) 3 z ≡ w ∷ x ∷ y ∷ z ∷ drop 4 row

@@ -19,7 +19,8 @@ use Rattle.runs.proofs.Search.{true-or-false}
 use Rattle.refusals.proofs.Verdicts.{refuses, test-says}
 use Rattle.walk.proofs.Places.{placeMost, judge-near, first-near, if-near}
 use Rattle.planner.proofs.Determined.{planned-once}
-use Rattle.planner.specs.Plan.{Rows, Plans, planVerdict, shortRows, roomSize}
+use Rattle.planner.specs.Plan.{Rows, Plans, planVerdict, shortRows}
+use Rattle.tables.specs.Listing.{roomSize}
 use Rattle.boundary.proofs.Calls.{code-accepts}
 use Rattle.boundary.specs.Boundary.{codeOf, sumsWith, badRule, ruleNumbered, planCall, PlanCalled}
 

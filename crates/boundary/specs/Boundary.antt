@@ -16,7 +16,8 @@ use Rattle.runs.specs.Run.{Run}
 use Rattle.runs.specs.Judging.{judgeOf}
 use Rattle.runs.specs.Lists.{listOf}
 use Rattle.walk.specs.Price.{priceVerdict, pricedAnswer, pricedTimes}
-use Rattle.planner.specs.Plan.{Rows, roomSize, shortRows, Planned}
+use Rattle.planner.specs.Plan.{Rows, shortRows, Planned}
+use Rattle.tables.specs.Listing.{roomSize}
 
 -- What a verdict gives back.
 abbrev pub codeOf : Verdict → ℕ

@@ -17,7 +17,8 @@ use Rattle.runs.specs.Lists.{listVerdict}
 use Rattle.walk.specs.Price.{priceVerdict}
 use Rattle.refusals.proofs.Verdicts.{none-refuses, refuses}
 use Rattle.runs.proofs.Judged.{accepted-run}
-use Rattle.planner.specs.Plan.{Rows, roomSize, shortRows}
+use Rattle.planner.specs.Plan.{Rows, shortRows}
+use Rattle.tables.specs.Listing.{roomSize}
 use Rattle.boundary.specs.Boundary.{shortSums, priceCall, priceTimes, priceSums, PriceCalled, badRule, planCall, PlanCalled}
 use Rattle.demands.specs.Table.{RunApplies, ListIsBad}
 use Rattle.demands.specs.Demand1.{PriceApplies, PlanApplies, priceOrder}

@@ -14,7 +14,7 @@ use Rattle.runs.specs.Lists.{Detour, firstBadEntry, wanted, anyBelow}
 use Rattle.walk.specs.Detours.{startOf, endOf, lastSweep, legsOf}
 use Rattle.walk.proofs.Laws.{accepted-sound}
 use Rattle.texts.proofs.Bytes.{and-true-both}
-use Rattle.least.specs.Least.{Least}
+use Rattle.least.specs.Least.{LeastForRun}
 use Rattle.least.specs.Recurrence.{planDetours, W, lowest, scan, filledTo, filled, candidate, next, value, choice, built, nextPlan, best, leastList}
 use Rattle.least.proofs.LeastList.{least-list, least-unique}
 use Rattle.demands.specs.Cases.{Case, Holds, AllHold, cases, CasesHold}
@@ -77,7 +77,7 @@ allPass [] = true
 allPass (c ∷ cs) = passes c && allPass cs
 
 -- An accepted run's least list is the one that the table of plans gives, and no other.
-least-if-same : (r : Run) (list : List Detour) (b : Bool) → isRefusal (judgeOf r .refusal) ≡ false → b ≡ sameList list (leastList (r .turn) (stopsOf r)) → (b ≡ true) ↔ Least r list
+least-if-same : (r : Run) (list : List Detour) (b : Bool) → isRefusal (judgeOf r .refusal) ≡ false → b ≡ sameList list (leastList (r .turn) (stopsOf r)) → (b ≡ true) ↔ LeastForRun r list
 least-if-same r list b accepted same =
     let least = least-list (r .turn) (r .head) (stopsOf r) (accepted-sound r accepted) in (
       λ e. rw (same-list list (leastList (r .turn) (stopsOf r)) (sym same ∙ e)) least,

@@ -21,7 +21,8 @@ use Rattle.walk.specs.Price.{refusalAnswer, pricedAnswer, priceVerdict, priceAn
 use Rattle.refusals.proofs.Verdicts.{none-refuses, refuses}
 use Rattle.runs.proofs.Judged.{accepted-run}
 use Rattle.walk.proofs.Priced.{price-accepted}
-use Rattle.planner.specs.Plan.{Rows, Plans, roomSize, shortRows, planVerdict}
+use Rattle.planner.specs.Plan.{Rows, Plans, shortRows, planVerdict}
+use Rattle.tables.specs.Listing.{roomSize}
 use Rattle.demands.specs.Table.{RunApplies, ListIsBad}
 use Rattle.demands.specs.Demand1.{OnlyPlace, PriceApplies, PlanApplies, priceOrder, planOrder, PriceAnswers, PlanAnswers, Demand1Price, Demand1Plan, Demand1PriceIff, Demand1PlanIff}
 use Rattle.demands.proofs.Tests.{Tells, tells-below, tells-either, tells-regrouped}

@@ -13,7 +13,8 @@ use Rattle.walk.specs.Price.{pricedAnswer, pricedTimes}
 use Rattle.runs.proofs.Judged.{accepted-run}
 use Rattle.walk.proofs.Filling.{one-time-each, stops-length}
 use Rattle.least.specs.Least.{listSum, LeastFor}
-use Rattle.planner.specs.Plan.{Rows, ByRule, rowsWith}
+use Rattle.planner.specs.Plan.{Rows, rowsWith}
+use Rattle.least.specs.Least.{ByRule}
 use Rattle.planner.proofs.Determined.{plan-determined}
 use Rattle.demands.specs.Demand2.{listIn, IsTheWalk, IsLeast, Demand2Walk, Demand2Least, Demand2Sweep, Demand2One}
 use Rattle.demands.proofs.Planned.{plan-in-rows, run-accepted, list-in-rows, reported-sum}

@@ -13,7 +13,8 @@ use Rattle.walk.specs.Price.{refusalAnswer, pricedAnswer}
 use Rattle.refusals.proofs.Verdicts.{refuses}
 use Rattle.walk.proofs.Laws.{accepted-sound}
 use Rattle.least.proofs.LeastList.{least-list}
-use Rattle.planner.specs.Plan.{Rows, rowsWith, ByRule, Plans, planVerdict}
+use Rattle.planner.specs.Plan.{Rows, rowsWith, Plans, planVerdict}
+use Rattle.least.specs.Least.{ByRule}
 use Rattle.demands.proofs.Planned.{verdict-accepts-run}
 use Rattle.least.specs.Recurrence.{leastList}
 

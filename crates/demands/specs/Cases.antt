@@ -10,7 +10,7 @@ use Rattle.runs.specs.Judging.{judgeOf}
 use Rattle.walk.specs.Walk.{headAt, timesOf, sumOf}
 use Rattle.runs.specs.Lists.{Detour, WellFormed}
 use Rattle.walk.specs.Detours.{legsOf}
-use Rattle.least.specs.Least.{Least}
+use Rattle.least.specs.Least.{LeastForRun}
 
 -- A run and a detour list, the sum and the times (one for each want) of its walk, and whether the list is the least rule's answer.
 pub record Case : Type 0 where
@@ -25,7 +25,7 @@ pub record Holds (c : Case) : Type 0 where
   pub formed : WellFormed (stopsOf (c .run)) (c .list)
   pub sum : sumOf (c .run .turn) (headAt (c .run .head)) (legsOf (stopsOf (c .run)) (c .list)) (stopsOf (c .run)) ≡ c .sum
   pub times : timesOf (c .run .turn) (headAt (c .run .head)) (legsOf (stopsOf (c .run)) (c .list)) (stopsOf (c .run)) ≡ c .times
-  pub least : (c .least ≡ true) ↔ Least (c .run) (c .list)
+  pub least : (c .least ≡ true) ↔ LeastForRun (c .run) (c .list)
 
 abbrev pub AllHold : List Case → Type 0
 AllHold [] = Unit {0}

@@ -10,7 +10,8 @@ use Rattle.walk.specs.declared.Answer.{Answer}
 use Rattle.runs.specs.declared.Rule.{Rule}
 use Rattle.runs.specs.Run.{Run}
 use Rattle.walk.specs.Price.{priceAnswer, priceRow}
-use Rattle.planner.specs.Plan.{Rows, Plans, roomSize}
+use Rattle.planner.specs.Plan.{Rows, Plans}
+use Rattle.tables.specs.Listing.{roomSize}
 use Rattle.demands.specs.Table.{RunApplies, ListIsBad, FirstThatApplies, SomeApplies}
 
 -- A refusal's answer: every number but the place is 0.

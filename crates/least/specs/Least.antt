@@ -37,10 +37,10 @@ pub record LeastFor (price m : ℕ) (stops : List Stop) (list : List Detour) : T
   pub smallest : (other : List Detour) → WellFormed stops other → listSum price m stops list ≤ listSum price m stops other
   pub first : (other : List Detour) → WellFormed stops other → listSum price m stops other ≡ listSum price m stops list → (other ≡ list) ⊎ ComesFirst list other
 
-abbrev pub Least : Run → List Detour → Type 0
-Least r list = LeastFor (r .turn) (r .head) (stopsOf r) list
+abbrev pub LeastForRun : Run → List Detour → Type 0
+LeastForRun r list = LeastFor (r .turn) (r .head) (stopsOf r) list
 
 -- The list that a rule asks for: the empty one, or the least.
 abbrev pub ByRule : Rule → Run → List Detour → Type 0
 ByRule Rule.Sweep r list = list ≡ []
-ByRule Rule.Least r list = Least r list
+ByRule Rule.Least r list = LeastForRun r list

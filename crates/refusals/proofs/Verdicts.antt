@@ -1,11 +1,13 @@
 -- A row of checks: what the first refusal is, step by step, and what acceptance says of each check.
-use Prim.Native.Nat.{ℕ, zero, suc}
+use Prim.Native.Nat.{ℕ, zero, suc, _≤_}
+use native.Mathlib.Omega.{arith}
 use mathlib.Core.Path.{_≡_, refl, sym, _∙_}
 use mathlib.Core.Bool.{Bool, true, false, true≢false}
 use mathlib.Core.List.{List, [], _∷_}
 use Rattle.refusals.specs.declared.Refusal.{Refusal}
+use Rattle.refusals.specs.declared.Refusal.the-variants.{Accepted, FileRows, BadFile, WantRows, BadWant, TooManyReads, TurnPrice, HeadPlace, ShortRow, ShortRoom, BadEntry, BadLine, LongSheet, BadName, BadRule, BadTicket, OfficeFull, NotWaiting, NumbersSpent, RetiredRule, BadText, ManyExtents, Overlap, FarFile, OverEightWants, BadSheetCount, BadRecord}
 use Rattle.refusals.specs.declared.Verdict.{Verdict}
-use Rattle.refusals.specs.Refusals.{isRefusal, accepted, refuseIf, refuseAt, firstOf}
+use Rattle.refusals.specs.Refusals.{numberOf, isRefusal, accepted, refuseIf, refuseAt, firstOf}
 
 -- A verdict is a refusal or not.
 abbrev pub refuses : Verdict → Bool
@@ -73,3 +75,33 @@ accepts-if false k r e = refl
 pub accepts-at : (p : ℕ) (k : Refusal) → isRefusal k ≡ true → refuses (refuseAt p k) ≡ false → p ≡ 0
 accepts-at zero k r e = refl
 accepts-at (suc p) k r e = absurd (true≢false (sym r ∙ e))
+
+-- No number is over 26.
+pub number-small : (kind : Refusal) → numberOf kind ≤ 26
+number-small Accepted = omega arith
+number-small FileRows = omega arith
+number-small BadFile = omega arith
+number-small WantRows = omega arith
+number-small BadWant = omega arith
+number-small TooManyReads = omega arith
+number-small TurnPrice = omega arith
+number-small HeadPlace = omega arith
+number-small ShortRow = omega arith
+number-small ShortRoom = omega arith
+number-small BadEntry = omega arith
+number-small BadLine = omega arith
+number-small LongSheet = omega arith
+number-small BadName = omega arith
+number-small BadRule = omega arith
+number-small BadTicket = omega arith
+number-small OfficeFull = omega arith
+number-small NotWaiting = omega arith
+number-small NumbersSpent = omega arith
+number-small RetiredRule = omega arith
+number-small BadText = omega arith
+number-small ManyExtents = omega arith
+number-small Overlap = omega arith
+number-small FarFile = omega arith
+number-small OverEightWants = omega arith
+number-small BadSheetCount = omega arith
+number-small BadRecord = omega arith

@@ -1,7 +1,7 @@
 -- `boundary::code` meets its contract: a number of the table and a small place fit one word.
 -- Assumes nothing.
 use native.Mathlib.Omega.{arith}
-use Rattle.boundary.proofs.Calls.{number-small}
+use Rattle.refusals.proofs.Verdicts.{number-small}
 use borrow.Author.Needs.{needs}
 use Rattle.boundary.proofs.code.Statement.{statement}
 use Rattle.boundary.proofs.code.Tie as tie
