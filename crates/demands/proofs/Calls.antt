@@ -25,7 +25,7 @@ use Rattle.demands.specs.Demand1.{PriceApplies, PlanApplies, priceOrder}
 use Rattle.demands.specs.Calls.{PriceCallApplies, PlanCallApplies, planCallOrder, PlanCallAnswers, Demand1PriceCall, Demand1PlanCall}
 use Rattle.demands.proofs.Tests.{tells-equal, tells-below, tells-not, tells-either}
 use Rattle.demands.proofs.Checks.{decides-if, decides-reworded, Finds, finds-none, finds-first, first-of-joined}
-use Rattle.demands.proofs.Judged.{run-finds}
+use Rattle.demands.proofs.Judged.{run-finds, run-small}
 use Rattle.demands.proofs.Listed.{decides-list}
 use Rattle.demands.proofs.Demand1.{price-of-run, price-list, price-row, plan-of-run, IsShort, short-row, row-short, room-short, tells-short}
 
@@ -41,7 +41,7 @@ module _ (r : Run) (froms tos times sums : List ℕ) where
 
   price-call-run : (k : Refusal) (p : ℕ) → numberOf k ≤ 7 → AtPrice k p → RunApplies r k p
   price-call-run k p l (PriceCallApplies.price h) = price-of-run r froms tos times k p l h
-  price-call-run k p l (PriceCallApplies.sums h) = absurd (omega arith)
+  price-call-run k p l (PriceCallApplies.short-sums h) = absurd (omega arith)
 
   price-call-list : (p : ℕ) → AtPrice BadEntry p → ListIsBad r froms tos p
   price-call-list p (PriceCallApplies.price h) = price-list r froms tos times p h
@@ -50,11 +50,11 @@ module _ (r : Run) (froms tos times sums : List ℕ) where
   EitherShort = (length times < length (r .numbers)) ⊎ (length sums < 4)
 
   short-price-call : (p : ℕ) → (p ≡ 0) × EitherShort → AtPrice ShortRow p
-  short-price-call p h = rw (h .0) (⊎-elim (λ s. PriceCallApplies.price (PriceApplies.row s)) PriceCallApplies.sums (h .1))
+  short-price-call p h = rw (h .0) (⊎-elim (λ s. PriceCallApplies.price (PriceApplies.short-row s)) PriceCallApplies.short-sums (h .1))
 
   price-call-short : (p : ℕ) → AtPrice ShortRow p → (p ≡ 0) × EitherShort
   price-call-short p (PriceCallApplies.price h) = let s = price-row r froms tos times p h in (s .0, inl (s .1))
-  price-call-short p (PriceCallApplies.sums h) = (refl, inr h)
+  price-call-short p (PriceCallApplies.short-sums h) = (refl, inr h)
 
   price-call-finds : Finds AtPrice priceOrder (priceCall r froms tos times sums)
   unfolding priceCall priceVerdict
@@ -67,7 +67,7 @@ module _ (r : Run) (froms tos times sums : List ℕ) where
       (first-of-joined (judgeOf r ∷ list ∷ row ∷ []) (four ∷ []))
       (run-finds r AtPrice (λ k p h. PriceCallApplies.price (PriceApplies.run h)) price-call-run (BadEntry ∷ ShortRow ∷ []) (list ∷ row ∷ four ∷ [])
       (λ e. finds-first AtPrice (row ∷ four ∷ []) refl
-      (decides-reworded (λ p h. PriceCallApplies.price (PriceApplies.list h)) price-call-list (decides-list r froms tos (sym (accepted-run r e .wants .equal))))
+      (decides-reworded (λ p h. PriceCallApplies.price (PriceApplies.bad-list h)) price-call-list (decides-list r froms tos (sym (accepted-run r e .wants .equal))))
       (λ b. rw (one-check a (shortSums sums))
       (finds-first AtPrice [] refl
       (decides-reworded short-price-call price-call-short
@@ -103,19 +103,19 @@ module _ (r : Run) (rule : ℕ) (rows : Rows) (sums : List ℕ) where
 
   plan-call-run : (k : Refusal) (p : ℕ) → numberOf k ≤ 7 → AtPlan k p → RunApplies r k p
   plan-call-run k p l (PlanCallApplies.plan h) = plan-of-run r rows k p l h
-  plan-call-run k p l (PlanCallApplies.rule h g) = absurd (omega arith)
-  plan-call-run k p l (PlanCallApplies.sums h) = absurd (omega arith)
+  plan-call-run k p l (PlanCallApplies.bad-rule h g) = absurd (omega arith)
+  plan-call-run k p l (PlanCallApplies.short-sums h) = absurd (omega arith)
 
   plan-call-rule : (p : ℕ) → AtPlan BadRule p → (p ≡ 0) × ((rule ≡ 0) ⊎ (rule ≡ 1) → ⊥)
-  plan-call-rule p (PlanCallApplies.plan (PlanApplies.run h)) = absurd h
-  plan-call-rule p (PlanCallApplies.rule h g) = (refl, ⊎-elim h g)
+  plan-call-rule p (PlanCallApplies.plan (PlanApplies.run h)) = absurd (omega (arith, run-small r h))
+  plan-call-rule p (PlanCallApplies.bad-rule h g) = (refl, ⊎-elim h g)
 
   short-plan-call : (p : ℕ) → (p ≡ 0) × (IsShort r rows ⊎ (length sums < 4)) → AtPlan ShortRow p
-  short-plan-call p h = rw (h .0) (⊎-elim (λ s. PlanCallApplies.plan (short-row r rows 0 (refl, s))) PlanCallApplies.sums (h .1))
+  short-plan-call p h = rw (h .0) (⊎-elim (λ s. PlanCallApplies.plan (short-row r rows 0 (refl, s))) PlanCallApplies.short-sums (h .1))
 
   plan-call-short : (p : ℕ) → AtPlan ShortRow p → (p ≡ 0) × (IsShort r rows ⊎ (length sums < 4))
   plan-call-short p (PlanCallApplies.plan h) = let s = row-short r rows p h in (s .0, inl (s .1))
-  plan-call-short p (PlanCallApplies.sums h) = (refl, inr h)
+  plan-call-short p (PlanCallApplies.short-sums h) = (refl, inr h)
 
   plan-call-room : (p : ℕ) → AtPlan ShortRoom p → (p ≡ 0) × (length (rows .room) < roomSize r)
   plan-call-room p (PlanCallApplies.plan h) = room-short r rows p h
@@ -128,14 +128,14 @@ module _ (r : Run) (rule : ℕ) (rows : Rows) (sums : List ℕ) where
       let room = refuseIf (ltb (length (rows .room)) (roomSize r)) ShortRoom in
       run-finds r AtPlan (λ k p h. PlanCallApplies.plan (PlanApplies.run h)) plan-call-run (BadRule ∷ ShortRow ∷ ShortRoom ∷ []) (refuseIf (badRule rule) BadRule ∷ short ∷ room ∷ [])
       (λ a. finds-first AtPlan (short ∷ room ∷ []) refl
-      (decides-reworded (λ p h. rw (h .0) (PlanCallApplies.rule (λ e. h .1 (inl e)) (λ e. h .1 (inr e)))) plan-call-rule
+      (decides-reworded (λ p h. rw (h .0) (PlanCallApplies.bad-rule (λ e. h .1 (inl e)) (λ e. h .1 (inr e)))) plan-call-rule
       (decides-if (badRule rule) BadRule
       (tells-not (eqb rule 0 || eqb rule 1) (tells-either (eqb rule 0) (eqb rule 1) (tells-equal rule 0) (tells-equal rule 1)))))
       (λ b. finds-first AtPlan (room ∷ []) refl
       (decides-reworded short-plan-call plan-call-short
       (decides-if (rows-short || shortSums sums) ShortRow (tells-either rows-short (shortSums sums) (tells-short r rows) (tells-below (length sums) 4))))
       (λ c. finds-first AtPlan [] refl
-      (decides-reworded (λ p h. rw (h .0) (PlanCallApplies.plan (PlanApplies.room (h .1)))) plan-call-room (decides-if _ ShortRoom (tells-below (length (rows .room)) (roomSize r))))
+      (decides-reworded (λ p h. rw (h .0) (PlanCallApplies.plan (PlanApplies.short-room (h .1)))) plan-call-room (decides-if _ ShortRoom (tells-below (length (rows .room)) (roomSize r))))
       (λ d. finds-none AtPlan))))
 
   plan-call-accepted : refuses (planCall r rule rows sums) ≡ false → planCall r rule rows sums ≡ accepted

@@ -27,7 +27,7 @@ use Rattle.demands.specs.Table.{RunApplies, ListIsBad}
 use Rattle.demands.specs.Demand1.{OnlyPlace, PriceApplies, PlanApplies, priceOrder, planOrder, PriceAnswers, PlanAnswers, Demand1Price, Demand1Plan, Demand1PriceIff, Demand1PlanIff}
 use Rattle.demands.proofs.Tests.{Tells, tells-below, tells-either, tells-regrouped}
 use Rattle.demands.proofs.Checks.{refused-iff, decides-if, decides-reworded, Finds, finds-none, finds-first}
-use Rattle.demands.proofs.Judged.{run-finds}
+use Rattle.demands.proofs.Judged.{run-finds, run-small}
 use Rattle.demands.proofs.Listed.{decides-list}
 
 -- A refusal's answer.
@@ -38,16 +38,16 @@ refusal-only-place v = record { sum = refl; finish = refl; end = refl; detours =
 module _ (r : Run) (froms tos row : List ℕ) where
   pub price-of-run : (k : Refusal) (p : ℕ) → numberOf k ≤ 7 → PriceApplies r froms tos row k p → RunApplies r k p
   price-of-run k p l (PriceApplies.run h) = h
-  price-of-run k p l (PriceApplies.list h) = absurd (omega arith)
-  price-of-run k p l (PriceApplies.row h) = absurd (omega arith)
+  price-of-run k p l (PriceApplies.bad-list h) = absurd (omega arith)
+  price-of-run k p l (PriceApplies.short-row h) = absurd (omega arith)
 
   pub price-list : (p : ℕ) → PriceApplies r froms tos row BadEntry p → ListIsBad r froms tos p
-  price-list p (PriceApplies.run h) = absurd h
-  price-list p (PriceApplies.list h) = h
+  price-list p (PriceApplies.run h) = absurd (omega (arith, run-small r h))
+  price-list p (PriceApplies.bad-list h) = h
 
   pub price-row : (p : ℕ) → PriceApplies r froms tos row ShortRow p → (p ≡ 0) × (length row < length (r .numbers))
-  price-row p (PriceApplies.run h) = absurd h
-  price-row p (PriceApplies.row h) = (refl, h)
+  price-row p (PriceApplies.run h) = absurd (omega (arith, run-small r h))
+  price-row p (PriceApplies.short-row h) = (refl, h)
 
   price-finds : Finds (PriceApplies r froms tos row) priceOrder (priceVerdict r froms tos row)
   unfolding priceVerdict
@@ -55,9 +55,9 @@ module _ (r : Run) (froms tos row : List ℕ) where
       let short = refuseIf (ltb (length row) (length (r .numbers))) ShortRow in
       run-finds r (PriceApplies r froms tos row) (λ k p. PriceApplies.run) price-of-run (BadEntry ∷ ShortRow ∷ []) (listVerdict (stopsOf r) froms tos ∷ short ∷ [])
       (λ a. finds-first (PriceApplies r froms tos row) (short ∷ []) refl
-      (decides-reworded (λ p. PriceApplies.list) price-list (decides-list r froms tos (sym (accepted-run r a .wants .equal))))
+      (decides-reworded (λ p. PriceApplies.bad-list) price-list (decides-list r froms tos (sym (accepted-run r a .wants .equal))))
       (λ b. finds-first (PriceApplies r froms tos row) [] refl
-      (decides-reworded (λ p h. rw (h .0) (PriceApplies.row (h .1))) price-row (decides-if _ ShortRow (tells-below (length row) (length (r .numbers)))))
+      (decides-reworded (λ p h. rw (h .0) (PriceApplies.short-row (h .1))) price-row (decides-if _ ShortRow (tells-below (length row) (length (r .numbers)))))
       (λ c. finds-none (PriceApplies r froms tos row))))
 
   price-says : (b : Bool) → refuses (priceVerdict r froms tos row) ≡ b → PriceAnswers r froms tos row (priceAnswer r froms tos row) (priceRow r froms tos row)
@@ -76,26 +76,26 @@ price-refused-iff r froms tos row answer says =
 module _ (r : Run) (rows : Rows) where
   pub plan-of-run : (k : Refusal) (p : ℕ) → numberOf k ≤ 7 → PlanApplies r rows k p → RunApplies r k p
   plan-of-run k p l (PlanApplies.run h) = h
-  plan-of-run k p l (PlanApplies.times h) = absurd (omega arith)
-  plan-of-run k p l (PlanApplies.froms h) = absurd (omega arith)
-  plan-of-run k p l (PlanApplies.tos h) = absurd (omega arith)
-  plan-of-run k p l (PlanApplies.room h) = absurd (omega arith)
+  plan-of-run k p l (PlanApplies.short-times h) = absurd (omega arith)
+  plan-of-run k p l (PlanApplies.short-starts h) = absurd (omega arith)
+  plan-of-run k p l (PlanApplies.short-ends h) = absurd (omega arith)
+  plan-of-run k p l (PlanApplies.short-room h) = absurd (omega arith)
 
   abbrev pub IsShort : Type 0
   IsShort = (length (rows .times) < length (r .numbers)) ⊎ ((length (rows .froms) < length (r .numbers) - 1) ⊎ (length (rows .tos) < length (r .numbers) - 1))
 
   pub short-row : (p : ℕ) → (p ≡ 0) × IsShort → PlanApplies r rows ShortRow p
-  short-row p h = rw (h .0) (⊎-elim PlanApplies.times (⊎-elim PlanApplies.froms PlanApplies.tos) (h .1))
+  short-row p h = rw (h .0) (⊎-elim PlanApplies.short-times (⊎-elim PlanApplies.short-starts PlanApplies.short-ends) (h .1))
 
   pub row-short : (p : ℕ) → PlanApplies r rows ShortRow p → (p ≡ 0) × IsShort
-  row-short p (PlanApplies.run h) = absurd h
-  row-short p (PlanApplies.times h) = (refl, inl h)
-  row-short p (PlanApplies.froms h) = (refl, inr (inl h))
-  row-short p (PlanApplies.tos h) = (refl, inr (inr h))
+  row-short p (PlanApplies.run h) = absurd (omega (arith, run-small r h))
+  row-short p (PlanApplies.short-times h) = (refl, inl h)
+  row-short p (PlanApplies.short-starts h) = (refl, inr (inl h))
+  row-short p (PlanApplies.short-ends h) = (refl, inr (inr h))
 
   pub room-short : (p : ℕ) → PlanApplies r rows ShortRoom p → (p ≡ 0) × (length (rows .room) < roomSize r)
-  room-short p (PlanApplies.run h) = absurd h
-  room-short p (PlanApplies.room h) = (refl, h)
+  room-short p (PlanApplies.run h) = absurd (omega (arith, run-small r h))
+  room-short p (PlanApplies.short-room h) = (refl, h)
 
   pub tells-short : Tells (shortRows (length (r .numbers)) rows) IsShort
   tells-short =
@@ -116,7 +116,7 @@ module _ (r : Run) (rows : Rows) where
       run-finds r (PlanApplies r rows) (λ k p. PlanApplies.run) plan-of-run (ShortRow ∷ ShortRoom ∷ []) (refuseIf short ShortRow ∷ room ∷ [])
       (λ a. finds-first (PlanApplies r rows) (room ∷ []) refl (decides-reworded short-row row-short (decides-if short ShortRow tells-short))
       (λ b. finds-first (PlanApplies r rows) [] refl
-      (decides-reworded (λ p h. rw (h .0) (PlanApplies.room (h .1))) room-short (decides-if _ ShortRoom (tells-below (length (rows .room)) (roomSize r))))
+      (decides-reworded (λ p h. rw (h .0) (PlanApplies.short-room (h .1))) room-short (decides-if _ ShortRoom (tells-below (length (rows .room)) (roomSize r))))
       (λ c. finds-none (PlanApplies r rows))))
 
   plan-accepted : refuses (planVerdict r rows) ≡ false → planVerdict r rows ≡ accepted

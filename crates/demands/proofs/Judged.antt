@@ -1,7 +1,8 @@
 -- Rows 1 to 7 of the refusal table: the judging of a run finds the first that applies.
 -- The head's condition comes after those of the table and the wants, so these are good by then.
-use Prim.Native.Nat.{ℕ, _≤_}
+use Prim.Native.Nat.{ℕ, _≤_, _<_}
 use mathlib.Core.Path.{_≡_, refl}
+use mathlib.Core.Logic.{_⊎_}
 use mathlib.Core.Bool.{false, not, _||_}
 use mathlib.Core.List.{List, [], _∷_}
 use native.Mathlib.Omega.{arith}
@@ -15,16 +16,50 @@ use Rattle.runs.specs.Run.{Run, mostFiles, mostWants, mostReads, lastPlace, hig
 use Rattle.runs.specs.Judging.{badFile, badWant, tableChecks, wantsChecks, headChecks, judgeOf}
 use Rattle.refusals.proofs.Verdicts.{refuses}
 use Rattle.runs.proofs.Judged.{GoodTable, GoodWants, accepted-table, accepted-wants}
-use Rattle.demands.specs.Table.{FileIsBad, WantIsBad, RunApplies}
+use Rattle.demands.specs.Table.{FirstBad, FileIsBad, WantIsBad, WantedBeyond, RunApplies}
 use Rattle.demands.proofs.Tests.{tells-below, tells-either}
 use Rattle.demands.proofs.Checks.{Decides, decides-if, decides-at, decides-reworded, Finds, finds-first, first-of-joined, both-pass}
 use Rattle.demands.proofs.Conditions.{rows-unfit, file-is-bad, want-is-bad, head-left-of-end}
 
+-- What each row of the table says, taken back from the condition.
+module _ (r : Run) where
+  file-rows-only : (p : ℕ) → RunApplies r FileRows p → (p ≡ 0) × ((mostFiles < length (r .starts)) ⊎ (length (r .starts) ≡ length (r .lengths) → ⊥))
+  file-rows-only p (RunApplies.file-rows h) = (refl, h)
+
+  bad-file-only : (p : ℕ) → RunApplies r BadFile p → FirstBad (FileIsBad r) (length (r .starts)) p
+  bad-file-only p (RunApplies.bad-file h) = h
+
+  want-rows-only : (p : ℕ) → RunApplies r WantRows p → (p ≡ 0) × ((mostWants < length (r .numbers)) ⊎ (length (r .numbers) ≡ length (r .counts) → ⊥))
+  want-rows-only p (RunApplies.want-rows h) = (refl, h)
+
+  bad-want-only : (p : ℕ) → RunApplies r BadWant p → FirstBad (WantIsBad r) (length (r .numbers)) p
+  bad-want-only p (RunApplies.bad-want h) = h
+
+  many-reads-only : (p : ℕ) → RunApplies r TooManyReads p → (p ≡ 0) × (mostReads < total (r .counts))
+  many-reads-only p (RunApplies.many-reads h) = (refl, h)
+
+  turn-price-only : (p : ℕ) → RunApplies r TurnPrice p → (p ≡ 0) × (highestTurn < r .turn)
+  turn-price-only p (RunApplies.turn-price h) = (refl, h)
+
+  head-place-only : (p : ℕ) → RunApplies r HeadPlace p → (p ≡ 0) × ((lastPlace < r .head) ⊎ WantedBeyond r)
+  head-place-only p (RunApplies.head-place h) = (refl, h)
+
+  -- They are the numbers 1 to 7.
+  pub run-small : {k : Refusal} {p : ℕ} → RunApplies r k p → numberOf k ≤ 7
+  run-small (RunApplies.file-rows h) = omega arith
+  run-small (RunApplies.bad-file h) = omega arith
+  run-small (RunApplies.want-rows h) = omega arith
+  run-small (RunApplies.bad-want h) = omega arith
+  run-small (RunApplies.many-reads h) = omega arith
+  run-small (RunApplies.turn-price h) = omega arith
+  run-small (RunApplies.head-place h) = omega arith
+
 -- The checks of a run at the front of a row find the first of 1 to 7 that applies, and then what the others find.
 module _ (r : Run) (applies : Refusal → ℕ → Type 0) (there : (k : Refusal) (p : ℕ) → RunApplies r k p → applies k p)
     (back : (k : Refusal) (p : ℕ) → numberOf k ≤ 7 → applies k p → RunApplies r k p) where
-  of-run : (k : Refusal) {v : Verdict} → numberOf k ≤ 7 → Decides k (RunApplies r k) v → Decides k (applies k) v
-  of-run k l d = decides-reworded (there k) (λ p. back k p l) d
+  of-run : (k : Refusal) {v : Verdict} {A : ℕ → Type 0} → numberOf k ≤ 7 → ((p : ℕ) → A p → RunApplies r k p) → ((p : ℕ) → RunApplies r k p → A p)
+      → Decides k A v → Decides k (applies k) v
+  of-run k l on off d = decides-reworded (λ p h. there k p (on p h)) (λ p h. off p (back k p l h)) d
 
   table-finds : (rest : List Refusal) (vs : List Verdict) → (refuses (firstOf (tableChecks (r .starts) (r .lengths))) ≡ false → Finds applies rest (firstOf vs))
       → Finds applies (FileRows ∷ BadFile ∷ rest) (firstOf (firstOf (tableChecks (r .starts) (r .lengths)) ∷ vs))
@@ -33,8 +68,8 @@ module _ (r : Run) (applies : Refusal → ℕ → Type 0) (there : (k : Refusal)
       let second = refuseAt (firstWhere (badFile (r .starts) (r .lengths)) (length (r .starts))) BadFile in
       rw
       (first-of-joined (tableChecks (r .starts) (r .lengths)) vs)
-      (finds-first applies (second ∷ vs) refl (of-run FileRows (omega arith) (decides-if _ FileRows (rows-unfit mostFiles (length (r .starts)) (length (r .lengths)))))
-      (λ a. finds-first applies vs refl (of-run BadFile (omega arith) (decides-at (badFile (r .starts) (r .lengths)) (FileIsBad r) (length (r .starts)) (file-is-bad r) BadFile))
+      (finds-first applies (second ∷ vs) refl (of-run FileRows (omega arith) (λ p h. rw (h .0) (RunApplies.file-rows (h .1))) (file-rows-only r) (decides-if _ FileRows (rows-unfit mostFiles (length (r .starts)) (length (r .lengths)))))
+      (λ a. finds-first applies vs refl (of-run BadFile (omega arith) (λ p h. RunApplies.bad-file h) (bad-file-only r) (decides-at (badFile (r .starts) (r .lengths)) (FileIsBad r) (length (r .starts)) (file-is-bad r) BadFile))
       (λ b. others (both-pass first (second ∷ []) a (both-pass second [] b refl)))))
 
   wants-find : (rest : List Refusal) (vs : List Verdict) → (refuses (firstOf (wantsChecks (length (r .starts)) (r .numbers) (r .counts))) ≡ false → Finds applies rest (firstOf vs))
@@ -45,10 +80,10 @@ module _ (r : Run) (applies : Refusal → ℕ → Type 0) (there : (k : Refusal)
       let third = refuseIf (ltb mostReads (total (r .counts))) TooManyReads in
       rw
       (first-of-joined (wantsChecks (length (r .starts)) (r .numbers) (r .counts)) vs)
-      (finds-first applies (second ∷ third ∷ vs) refl (of-run WantRows (omega arith) (decides-if _ WantRows (rows-unfit mostWants (length (r .numbers)) (length (r .counts)))))
+      (finds-first applies (second ∷ third ∷ vs) refl (of-run WantRows (omega arith) (λ p h. rw (h .0) (RunApplies.want-rows (h .1))) (want-rows-only r) (decides-if _ WantRows (rows-unfit mostWants (length (r .numbers)) (length (r .counts)))))
       (λ a. finds-first applies (third ∷ vs) refl
-      (of-run BadWant (omega arith) (decides-at (badWant (length (r .starts)) (r .numbers) (r .counts)) (WantIsBad r) (length (r .numbers)) (want-is-bad r) BadWant))
-      (λ b. finds-first applies vs refl (of-run TooManyReads (omega arith) (decides-if _ TooManyReads (tells-below mostReads (total (r .counts)))))
+      (of-run BadWant (omega arith) (λ p h. RunApplies.bad-want h) (bad-want-only r) (decides-at (badWant (length (r .starts)) (r .numbers) (r .counts)) (WantIsBad r) (length (r .numbers)) (want-is-bad r) BadWant))
+      (λ b. finds-first applies vs refl (of-run TooManyReads (omega arith) (λ p h. rw (h .0) (RunApplies.many-reads (h .1))) (many-reads-only r) (decides-if _ TooManyReads (tells-below mostReads (total (r .counts)))))
       (λ c. others (both-pass first (second ∷ third ∷ []) a (both-pass second (third ∷ []) b (both-pass third [] c refl)))))))
 
   head-finds : (rest : List Refusal) (vs : List Verdict) → GoodTable (r .starts) (r .lengths) → GoodWants (length (r .starts)) (r .numbers) (r .counts)
@@ -59,9 +94,9 @@ module _ (r : Run) (applies : Refusal → ℕ → Type 0) (there : (k : Refusal)
       let second = refuseIf (ltb lastPlace (r .head) || ltb (r .head) (rightEnd (stopsOf r))) HeadPlace in
       rw
       (first-of-joined (headChecks (r .turn) (r .head) (rightEnd (stopsOf r))) vs)
-      (finds-first applies (second ∷ vs) refl (of-run TurnPrice (omega arith) (decides-if _ TurnPrice (tells-below highestTurn (r .turn))))
+      (finds-first applies (second ∷ vs) refl (of-run TurnPrice (omega arith) (λ p h. rw (h .0) (RunApplies.turn-price (h .1))) (turn-price-only r) (decides-if _ TurnPrice (tells-below highestTurn (r .turn))))
       (λ a. finds-first applies vs refl
-      (of-run HeadPlace (omega arith) (decides-if _ HeadPlace
+      (of-run HeadPlace (omega arith) (λ p h. rw (h .0) (RunApplies.head-place (h .1))) (head-place-only r) (decides-if _ HeadPlace
       (tells-either (ltb lastPlace (r .head)) (ltb (r .head) (rightEnd (stopsOf r))) (tells-below lastPlace (r .head)) (head-left-of-end r files wants))))
       (λ b. others (both-pass first (second ∷ []) a (both-pass second [] b refl)))))
 

@@ -32,7 +32,7 @@ use Rattle.demands.specs.Table.{RunApplies, ListIsBad}
 use Rattle.demands.specs.Sheets.{readOrder, ReadApplies, ReadAnswers, writeOrder, planSheetOrder, WriteApplies, PlanSheetApplies, WriteAnswers, Demand1Read, Demand1Write, Demand1PlanSheet, Demand2Written, Demand2RoundTrip}
 use Rattle.demands.proofs.Tests.{tells-false, Tells, tells-below, tells-either}
 use Rattle.demands.proofs.Checks.{Decides, refused, passed, decides-if, decides-reworded, Finds, finds-none, finds-first, first-of-joined}
-use Rattle.demands.proofs.Judged.{run-finds}
+use Rattle.demands.proofs.Judged.{run-finds, run-small}
 use Rattle.demands.proofs.Listed.{decides-list}
 
 -- The reader.
@@ -41,29 +41,29 @@ module _ (sheet starts lengths numbers counts : List ℕ) where
   Applies = ReadApplies sheet starts lengths numbers counts
 
   too-long : (p : ℕ) → Applies LongSheet p → (p ≡ 0) × (longestSheet < length sheet)
-  too-long p (ReadApplies.long h) = (refl, h)
+  too-long p (ReadApplies.too-long h) = (refl, h)
 
   no-line : firstBadLine sheet ≡ 0 → (p : ℕ) → Applies BadLine p → ⊥
-  no-line e p (ReadApplies.line f) = omega arith
+  no-line e p (ReadApplies.bad-line f) = omega arith
 
   decides-line : Decides BadLine (Applies BadLine) (refuseAt (firstBadLine sheet) BadLine)
   decides-line = go (firstBadLine sheet) refl
     where
       go : (n : ℕ) → firstBadLine sheet ≡ n → Decides BadLine (Applies BadLine) (refuseAt (firstBadLine sheet) BadLine)
       go zero e = passed (rw e) (no-line e)
-      go (suc n) e = refused (suc n) (rw e) (ReadApplies.line e)
+      go (suc n) e = refused (suc n) (rw e) (ReadApplies.bad-line e)
 
   abbrev IsShort : Type 0
   IsShort = ((length starts < filesOf sheet) ⊎ (length lengths < filesOf sheet)) ⊎ ((length numbers < wantsOf sheet) ⊎ (length counts < wantsOf sheet))
 
   short-row : (p : ℕ) → (p ≡ 0) × IsShort → Applies ShortRow p
-  short-row p h = rw (h .0) (⊎-elim (⊎-elim ReadApplies.starts ReadApplies.lengths) (⊎-elim ReadApplies.numbers ReadApplies.counts) (h .1))
+  short-row p h = rw (h .0) (⊎-elim (⊎-elim ReadApplies.short-starts ReadApplies.short-lengths) (⊎-elim ReadApplies.short-numbers ReadApplies.short-counts) (h .1))
 
   row-short : (p : ℕ) → Applies ShortRow p → (p ≡ 0) × IsShort
-  row-short p (ReadApplies.starts h) = (refl, inl (inl h))
-  row-short p (ReadApplies.lengths h) = (refl, inl (inr h))
-  row-short p (ReadApplies.numbers h) = (refl, inr (inl h))
-  row-short p (ReadApplies.counts h) = (refl, inr (inr h))
+  row-short p (ReadApplies.short-starts h) = (refl, inl (inl h))
+  row-short p (ReadApplies.short-lengths h) = (refl, inl (inr h))
+  row-short p (ReadApplies.short-numbers h) = (refl, inr (inl h))
+  row-short p (ReadApplies.short-counts h) = (refl, inr (inr h))
 
   tells-short : (n : ℕ) (firsts seconds : List ℕ) → Tells (shortPairRows n firsts seconds) ((length firsts < n) ⊎ (length seconds < n))
   tells-short n firsts seconds =
@@ -78,7 +78,7 @@ module _ (sheet starts lengths numbers counts : List ℕ) where
       rw
       (first-of-joined (long ∷ line ∷ []) (short ∷ []))
       (finds-first Applies (line ∷ short ∷ []) refl
-      (decides-reworded (λ p h. rw (h .0) (ReadApplies.long (h .1))) too-long (decides-if _ LongSheet (tells-below longestSheet (length sheet))))
+      (decides-reworded (λ p h. rw (h .0) (ReadApplies.too-long (h .1))) too-long (decides-if _ LongSheet (tells-below longestSheet (length sheet))))
       (λ a. finds-first Applies (short ∷ []) refl decides-line
       (λ b. finds-first Applies [] refl
       (decides-reworded short-row row-short
@@ -119,18 +119,18 @@ module _ (applies : Refusal → ℕ → Type 0) (order : List Refusal) (vs : Lis
 module _ (name : List ℕ) (rule : Rule) (r : Run) (row : List ℕ) where
   write-of-run : (k : Refusal) (p : ℕ) → numberOf k ≤ 7 → WriteApplies name rule r row k p → RunApplies r k p
   write-of-run k p l (WriteApplies.run h) = h
-  write-of-run k p l (WriteApplies.files h) = absurd (omega arith)
-  write-of-run k p l (WriteApplies.name h) = absurd (omega arith)
-  write-of-run k p l (WriteApplies.row h) = absurd (omega arith)
+  write-of-run k p l (WriteApplies.many-files h) = absurd (omega arith)
+  write-of-run k p l (WriteApplies.bad-name h) = absurd (omega arith)
+  write-of-run k p l (WriteApplies.short-row h) = absurd (omega arith)
 
   bad-name : (p : ℕ) → WriteApplies name rule r row BadName p → (p ≡ 0) × ((mostSheetFiles < length (r .starts)) ⊎ (isName name ≡ false))
-  bad-name p (WriteApplies.run h) = absurd h
-  bad-name p (WriteApplies.files h) = (refl, inl h)
-  bad-name p (WriteApplies.name h) = (refl, inr h)
+  bad-name p (WriteApplies.run h) = absurd (omega (arith, run-small r h))
+  bad-name p (WriteApplies.many-files h) = (refl, inl h)
+  bad-name p (WriteApplies.bad-name h) = (refl, inr h)
 
   write-row : (p : ℕ) → WriteApplies name rule r row ShortRow p → (p ≡ 0) × (length row < length (sheetText name rule r))
-  write-row p (WriteApplies.run h) = absurd h
-  write-row p (WriteApplies.row h) = (refl, h)
+  write-row p (WriteApplies.run h) = absurd (omega (arith, run-small r h))
+  write-row p (WriteApplies.short-row h) = (refl, h)
 
   write-finds : Finds (WriteApplies name rule r row) writeOrder (writeVerdict name rule r row)
   unfolding writeVerdict rowVerdict
@@ -139,11 +139,11 @@ module _ (name : List ℕ) (rule : Rule) (r : Run) (row : List ℕ) where
       let short = refuseIf (ltb (length row) (length (sheetText name rule r))) ShortRow in
       run-finds r (WriteApplies name rule r row) (λ k p. WriteApplies.run) write-of-run (BadName ∷ ShortRow ∷ []) (named ∷ short ∷ [])
       (λ a. finds-first (WriteApplies name rule r row) (short ∷ []) refl
-      (decides-reworded (λ p h. rw (h .0) (⊎-elim WriteApplies.files WriteApplies.name (h .1))) bad-name
+      (decides-reworded (λ p h. rw (h .0) (⊎-elim WriteApplies.many-files WriteApplies.bad-name (h .1))) bad-name
       (decides-if _ BadName
       (tells-either (ltb mostSheetFiles (length (r .starts))) (not (isName name)) (tells-below mostSheetFiles (length (r .starts))) (tells-false (isName name)))))
       (λ b. finds-first (WriteApplies name rule r row) [] refl
-      (decides-reworded (λ p h. rw (h .0) (WriteApplies.row (h .1))) write-row (decides-if _ ShortRow (tells-below (length row) (length (sheetText name rule r)))))
+      (decides-reworded (λ p h. rw (h .0) (WriteApplies.short-row (h .1))) write-row (decides-if _ ShortRow (tells-below (length row) (length (sheetText name rule r)))))
       (λ c. finds-none (WriteApplies name rule r row))))
 
   pub write-says : WriteAnswers (WriteApplies name rule r row) writeOrder row
@@ -164,21 +164,21 @@ module _ (name : List ℕ) (r : Run) (froms tos row : List ℕ) where
 
   sheet-of-run : (k : Refusal) (p : ℕ) → numberOf k ≤ 7 → PlanSheet k p → RunApplies r k p
   sheet-of-run k p l (PlanSheetApplies.run h) = h
-  sheet-of-run k p l (PlanSheetApplies.name h) = absurd (omega arith)
-  sheet-of-run k p l (PlanSheetApplies.list h) = absurd (omega arith)
-  sheet-of-run k p l (PlanSheetApplies.row h) = absurd (omega arith)
+  sheet-of-run k p l (PlanSheetApplies.bad-name h) = absurd (omega arith)
+  sheet-of-run k p l (PlanSheetApplies.bad-list h) = absurd (omega arith)
+  sheet-of-run k p l (PlanSheetApplies.short-row h) = absurd (omega arith)
 
   sheet-name : (p : ℕ) → PlanSheet BadName p → (p ≡ 0) × (isName name ≡ false)
-  sheet-name p (PlanSheetApplies.run h) = absurd h
-  sheet-name p (PlanSheetApplies.name h) = (refl, h)
+  sheet-name p (PlanSheetApplies.run h) = absurd (omega (arith, run-small r h))
+  sheet-name p (PlanSheetApplies.bad-name h) = (refl, h)
 
   sheet-list : (p : ℕ) → PlanSheet BadEntry p → ListIsBad r froms tos p
-  sheet-list p (PlanSheetApplies.run h) = absurd h
-  sheet-list p (PlanSheetApplies.list h) = h
+  sheet-list p (PlanSheetApplies.run h) = absurd (omega (arith, run-small r h))
+  sheet-list p (PlanSheetApplies.bad-list h) = h
 
   sheet-row : (p : ℕ) → PlanSheet ShortRow p → (p ≡ 0) × (length row < length (planText name r froms tos))
-  sheet-row p (PlanSheetApplies.run h) = absurd h
-  sheet-row p (PlanSheetApplies.row h) = (refl, h)
+  sheet-row p (PlanSheetApplies.run h) = absurd (omega (arith, run-small r h))
+  sheet-row p (PlanSheetApplies.short-row h) = (refl, h)
 
   sheet-finds : Finds PlanSheet planSheetOrder (planSheetVerdict name r froms tos row)
   unfolding planSheetVerdict rowVerdict
@@ -188,11 +188,11 @@ module _ (name : List ℕ) (r : Run) (froms tos row : List ℕ) where
       let short = refuseIf (ltb (length row) (length (planText name r froms tos))) ShortRow in
       run-finds r PlanSheet (λ k p. PlanSheetApplies.run) sheet-of-run (BadName ∷ BadEntry ∷ ShortRow ∷ []) (named ∷ list ∷ short ∷ [])
       (λ a. finds-first PlanSheet (list ∷ short ∷ []) refl
-      (decides-reworded (λ p h. rw (h .0) (PlanSheetApplies.name (h .1))) sheet-name (decides-if _ BadName (tells-false (isName name))))
+      (decides-reworded (λ p h. rw (h .0) (PlanSheetApplies.bad-name (h .1))) sheet-name (decides-if _ BadName (tells-false (isName name))))
       (λ b. finds-first PlanSheet (short ∷ []) refl
-      (decides-reworded (λ p. PlanSheetApplies.list) sheet-list (decides-list r froms tos (sym (accepted-run r a .wants .equal))))
+      (decides-reworded (λ p. PlanSheetApplies.bad-list) sheet-list (decides-list r froms tos (sym (accepted-run r a .wants .equal))))
       (λ c. finds-first PlanSheet [] refl
-      (decides-reworded (λ p h. rw (h .0) (PlanSheetApplies.row (h .1))) sheet-row (decides-if _ ShortRow (tells-below (length row) (length (planText name r froms tos)))))
+      (decides-reworded (λ p h. rw (h .0) (PlanSheetApplies.short-row (h .1))) sheet-row (decides-if _ ShortRow (tells-below (length row) (length (planText name r froms tos)))))
       (λ d. finds-none PlanSheet))))
 
   pub sheet-says : WriteAnswers PlanSheet planSheetOrder row

@@ -16,7 +16,7 @@ use Rattle.demands.specs.Demand1.{PriceApplies, priceOrder, PlanApplies}
 -- The pricer's call: what the pricer is refused for, in its order; 8 also for a row of sums below 4 words.
 pub data PriceCallApplies (r : Run) (froms tos times sums : List ℕ) : Refusal → ℕ → Type 0 where
   price : {kind : Refusal} {place : ℕ} → PriceApplies r froms tos times kind place → PriceCallApplies r froms tos times sums kind place
-  sums : length sums < 4 → PriceCallApplies r froms tos times sums ShortRow 0
+  short-sums : length sums < 4 → PriceCallApplies r froms tos times sums ShortRow 0
 
 -- Whatever is handed to the call, and whatever code and rows fit its contract:
 pub record PriceCallAnswers (r : Run) (froms tos times sums : List ℕ) (code : ℕ) (timesOut sumsOut : List ℕ) : Type 0 where
@@ -39,8 +39,8 @@ planCallOrder = FileRows ∷ BadFile ∷ WantRows ∷ BadWant ∷ TooManyReads �
 -- 14: a rule number that is neither 0 nor 1. 8 also for a row of sums below 4 words.
 pub data PlanCallApplies (r : Run) (rule : ℕ) (rows : Rows) (sums : List ℕ) : Refusal → ℕ → Type 0 where
   plan : {kind : Refusal} {place : ℕ} → PlanApplies r rows kind place → PlanCallApplies r rule rows sums kind place
-  rule : (rule ≡ 0 → ⊥) → (rule ≡ 1 → ⊥) → PlanCallApplies r rule rows sums BadRule 0
-  sums : length sums < 4 → PlanCallApplies r rule rows sums ShortRow 0
+  bad-rule : (rule ≡ 0 → ⊥) → (rule ≡ 1 → ⊥) → PlanCallApplies r rule rows sums BadRule 0
+  short-sums : length sums < 4 → PlanCallApplies r rule rows sums ShortRow 0
 
 pub record PlanCallAnswers (r : Run) (rule : ℕ) (before : Rows) (sums : List ℕ) (code : ℕ) (after : Rows) (out : List ℕ) : Type 0 where
   pub kind : Refusal

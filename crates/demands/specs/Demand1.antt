@@ -27,8 +27,8 @@ priceOrder = FileRows ∷ BadFile ∷ WantRows ∷ BadWant ∷ TooManyReads ∷ 
 
 pub data PriceApplies (r : Run) (froms tos row : List ℕ) : Refusal → ℕ → Type 0 where
   run : {kind : Refusal} {place : ℕ} → RunApplies r kind place → PriceApplies r froms tos row kind place
-  list : {place : ℕ} → ListIsBad r froms tos place → PriceApplies r froms tos row BadEntry place
-  row : length row < length (r .numbers) → PriceApplies r froms tos row ShortRow 0
+  bad-list : {place : ℕ} → ListIsBad r froms tos place → PriceApplies r froms tos row BadEntry place
+  short-row : length row < length (r .numbers) → PriceApplies r froms tos row ShortRow 0
 
 -- Whatever is handed to the pricer, and whatever answer and row fit its contract:
 pub record PriceAnswers (r : Run) (froms tos row : List ℕ) (answer : Answer) (out : List ℕ) : Type 0 where
@@ -55,10 +55,10 @@ planOrder = FileRows ∷ BadFile ∷ WantRows ∷ BadWant ∷ TooManyReads ∷ T
 
 pub data PlanApplies (r : Run) (rows : Rows) : Refusal → ℕ → Type 0 where
   run : {kind : Refusal} {place : ℕ} → RunApplies r kind place → PlanApplies r rows kind place
-  times : length (rows .times) < length (r .numbers) → PlanApplies r rows ShortRow 0
-  froms : length (rows .froms) < length (r .numbers) - 1 → PlanApplies r rows ShortRow 0
-  tos : length (rows .tos) < length (r .numbers) - 1 → PlanApplies r rows ShortRow 0
-  room : length (rows .room) < roomSize r → PlanApplies r rows ShortRoom 0
+  short-times : length (rows .times) < length (r .numbers) → PlanApplies r rows ShortRow 0
+  short-starts : length (rows .froms) < length (r .numbers) - 1 → PlanApplies r rows ShortRow 0
+  short-ends : length (rows .tos) < length (r .numbers) - 1 → PlanApplies r rows ShortRow 0
+  short-room : length (rows .room) < roomSize r → PlanApplies r rows ShortRoom 0
 
 pub record PlanAnswers (r : Run) (before : Rows) (answer : Answer) (after : Rows) : Type 0 where
   pub first : FirstThatApplies (PlanApplies r before) planOrder (answer .refusal) (answer .place)

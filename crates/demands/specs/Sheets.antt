@@ -26,12 +26,12 @@ abbrev pub readOrder : List Refusal
 readOrder = LongSheet ∷ BadLine ∷ ShortRow ∷ []
 
 pub data ReadApplies (sheet starts lengths numbers counts : List ℕ) : Refusal → ℕ → Type 0 where
-  long : longestSheet < length sheet → ReadApplies sheet starts lengths numbers counts LongSheet 0
-  line : {n : ℕ} → firstBadLine sheet ≡ suc n → ReadApplies sheet starts lengths numbers counts BadLine (suc n)
-  starts : length starts < filesOf sheet → ReadApplies sheet starts lengths numbers counts ShortRow 0
-  lengths : length lengths < filesOf sheet → ReadApplies sheet starts lengths numbers counts ShortRow 0
-  numbers : length numbers < wantsOf sheet → ReadApplies sheet starts lengths numbers counts ShortRow 0
-  counts : length counts < wantsOf sheet → ReadApplies sheet starts lengths numbers counts ShortRow 0
+  too-long : longestSheet < length sheet → ReadApplies sheet starts lengths numbers counts LongSheet 0
+  bad-line : {n : ℕ} → firstBadLine sheet ≡ suc n → ReadApplies sheet starts lengths numbers counts BadLine (suc n)
+  short-starts : length starts < filesOf sheet → ReadApplies sheet starts lengths numbers counts ShortRow 0
+  short-lengths : length lengths < filesOf sheet → ReadApplies sheet starts lengths numbers counts ShortRow 0
+  short-numbers : length numbers < wantsOf sheet → ReadApplies sheet starts lengths numbers counts ShortRow 0
+  short-counts : length counts < wantsOf sheet → ReadApplies sheet starts lengths numbers counts ShortRow 0
 
 -- A refusal of the reader: every other number 0, the rule least, and the four rows as they were.
 pub record ReadKept (sheet starts lengths numbers counts : List ℕ) (answer : Reading) : Type 0 where
@@ -64,15 +64,15 @@ planSheetOrder = FileRows ∷ BadFile ∷ WantRows ∷ BadWant ∷ TooManyReads 
 
 pub data WriteApplies (name : List ℕ) (rule : Rule) (r : Run) (row : List ℕ) : Refusal → ℕ → Type 0 where
   run : {kind : Refusal} {place : ℕ} → RunApplies r kind place → WriteApplies name rule r row kind place
-  files : mostSheetFiles < length (r .starts) → WriteApplies name rule r row BadName 0
-  name : isName name ≡ false → WriteApplies name rule r row BadName 0
-  row : length row < length (sheetText name rule r) → WriteApplies name rule r row ShortRow 0
+  many-files : mostSheetFiles < length (r .starts) → WriteApplies name rule r row BadName 0
+  bad-name : isName name ≡ false → WriteApplies name rule r row BadName 0
+  short-row : length row < length (sheetText name rule r) → WriteApplies name rule r row ShortRow 0
 
 pub data PlanSheetApplies (name : List ℕ) (r : Run) (froms tos row : List ℕ) : Refusal → ℕ → Type 0 where
   run : {kind : Refusal} {place : ℕ} → RunApplies r kind place → PlanSheetApplies name r froms tos row kind place
-  name : isName name ≡ false → PlanSheetApplies name r froms tos row BadName 0
-  list : {place : ℕ} → ListIsBad r froms tos place → PlanSheetApplies name r froms tos row BadEntry place
-  row : length row < length (planText name r froms tos) → PlanSheetApplies name r froms tos row ShortRow 0
+  bad-name : isName name ≡ false → PlanSheetApplies name r froms tos row BadName 0
+  bad-list : {place : ℕ} → ListIsBad r froms tos place → PlanSheetApplies name r froms tos row BadEntry place
+  short-row : length row < length (planText name r froms tos) → PlanSheetApplies name r froms tos row ShortRow 0
 
 -- A writer's refusal: no bytes, and the row as it was.
 pub record WriteAnswers (applies : Refusal → ℕ → Type 0) (order : List Refusal) (row : List ℕ) (answer : Written) (out : List ℕ) : Type 0 where

@@ -6,7 +6,7 @@ use mathlib.Core.Logic.{_⊎_}
 use mathlib.Core.List.{List, [], _∷_}
 use lib.ListN.{length, getD}
 use Rattle.refusals.specs.declared.Refusal.{Refusal}
-use Rattle.refusals.specs.declared.Refusal.the-variants.{Accepted, FileRows, BadFile, WantRows, BadWant, TooManyReads, TurnPrice, HeadPlace, ShortRow, ShortRoom, BadEntry, BadLine, LongSheet, BadName, BadRule, BadText, ManyExtents, Overlap, FarFile}
+use Rattle.refusals.specs.declared.Refusal.the-variants.{Accepted, FileRows, BadFile, WantRows, BadWant, TooManyReads, TurnPrice, HeadPlace}
 use Rattle.runs.specs.Run.{Run, mostFiles, mostWants, mostReads, lastPlace, highestTurn, total}
 
 -- The place of the first of n entries, counted from 1, that is bad.
@@ -67,31 +67,19 @@ ListIsBad r froms tos place =
     ⊎ ((length froms ≡ length tos) × FirstBad (EntryIsBad r froms tos) (length froms) place)
 
 -- Rows 1 to 7 of the table: what a run can be refused for.
-abbrev pub RunApplies : Run → Refusal → ℕ → Type 0
-RunApplies r Accepted p = ⊥
-RunApplies r FileRows p = (p ≡ 0) × ((mostFiles < length (r .starts)) ⊎ (length (r .starts) ≡ length (r .lengths) → ⊥))
-RunApplies r BadFile p = FirstBad (FileIsBad r) (length (r .starts)) p
-RunApplies r WantRows p = (p ≡ 0) × ((mostWants < length (r .numbers)) ⊎ (length (r .numbers) ≡ length (r .counts) → ⊥))
-RunApplies r BadWant p = FirstBad (WantIsBad r) (length (r .numbers)) p
-RunApplies r TooManyReads p = (p ≡ 0) × (mostReads < total (r .counts))
-RunApplies r TurnPrice p = (p ≡ 0) × (highestTurn < r .turn)
-RunApplies r HeadPlace p = (p ≡ 0) × ((lastPlace < r .head) ⊎ WantedBeyond r)
-RunApplies r ShortRow p = ⊥
-RunApplies r ShortRoom p = ⊥
-RunApplies r BadEntry p = ⊥
-RunApplies r BadLine p = ⊥
-RunApplies r LongSheet p = ⊥
-RunApplies r BadName p = ⊥
-RunApplies r BadRule p = ⊥
-RunApplies r BadText p = ⊥
-RunApplies r ManyExtents p = ⊥
-RunApplies r Overlap p = ⊥
-RunApplies r FarFile p = ⊥
+pub data RunApplies (r : Run) : Refusal → ℕ → Type 0 where
+  file-rows : (mostFiles < length (r .starts)) ⊎ (length (r .starts) ≡ length (r .lengths) → ⊥) → RunApplies r FileRows 0
+  bad-file : {place : ℕ} → FirstBad (FileIsBad r) (length (r .starts)) place → RunApplies r BadFile place
+  want-rows : (mostWants < length (r .numbers)) ⊎ (length (r .numbers) ≡ length (r .counts) → ⊥) → RunApplies r WantRows 0
+  bad-want : {place : ℕ} → FirstBad (WantIsBad r) (length (r .numbers)) place → RunApplies r BadWant place
+  many-reads : mostReads < total (r .counts) → RunApplies r TooManyReads 0
+  turn-price : highestTurn < r .turn → RunApplies r TurnPrice 0
+  head-place : (lastPlace < r .head) ⊎ WantedBeyond r → RunApplies r HeadPlace 0
 
 -- The first of an order of checks that applies, with its place; `Accepted` and place 0 where none does.
 pub data FirstThatApplies (applies : Refusal → ℕ → Type 0) : List Refusal → Refusal → ℕ → Type 0 where
   none : FirstThatApplies applies [] Accepted 0
-  here : {kind : Refusal} {place : ℕ} {later : List Refusal} → applies kind place → FirstThatApplies applies (kind ∷ later) kind place
+  here : {kind : Refusal} {place : ℕ} {rest : List Refusal} → applies kind place → FirstThatApplies applies (kind ∷ rest) kind place
   later : {skipped kind : Refusal} {place : ℕ} {rest : List Refusal}
       → ((p : ℕ) → applies skipped p → ⊥) → FirstThatApplies applies rest kind place → FirstThatApplies applies (skipped ∷ rest) kind place
 
