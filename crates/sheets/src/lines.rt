@@ -59,7 +59,7 @@ fn find_value(sheet: &[u8], at: usize, key: &[u8]) -> Keyed
     requires { ⌜ 0 < length (now key) ⌝ }
     ensures { λ r. ⌜ ValueFound (now (key .entry)) (now (sheet .entry)) at r ⌝ }
 {
-    let Found::At(length) = find(&sheet[at..], 10) else {
+    let Found::At(length) = find(&sheet[at..], b'\n') else {
         return Keyed::Bad;
     };
     let end = at + length;
@@ -167,7 +167,7 @@ pub(crate) fn rule_line(sheet: &[u8], at: usize) -> RuleLine
 fn read_pair(text: &[u8]) -> Pair
     ensures { λ r. ⌜ PairFound (now (text .entry)) r ⌝ }
 {
-    let Found::At(length) = find(text, 44) else {
+    let Found::At(length) = find(text, b',') else {
         return Pair::Bad;
     };
     let Number::Value(first) = read_number(&text[..length]) else {
