@@ -1,17 +1,18 @@
 -- The lines of a sheet in turn: what each reader's answer says of the first line that is not as described.
 use Prim.Native.Nat.{ℕ, zero, suc, _+_, _≤_, _<_}
 use mathlib.Core.Path.{_≡_, refl, ap, sym, _∙_, subst}
-use mathlib.Core.Bool.{Bool, true, false}
+use mathlib.Core.Bool.{Bool, true, false, true≢false}
 use mathlib.Core.List.{List, _∷_}
 use native.Mathlib.Omega.{arith}
 use lib.ListN.{length, drop, drop-of-length-le}
 use lib.Seq.{drop-cons}
-use lib.Dec.{leb}
-use borrow.Author.Tests.{leb-true, lt-ltb, le-ltb}
+use lib.Dec.{leb, ltb}
+use borrow.Author.Tests.{leb-true}
 use Rattle.refusals.specs.declared.Refusal.the-variants.{LongSheet, BadLine}
 use Rattle.refusals.specs.declared.Verdict.{Verdict}
+use Rattle.refusals.specs.Refusals.{isRefusal, refuseIf, refuseAt}
+use Rattle.refusals.proofs.Verdicts.{refuse-at, test-says, last-at, accepts-if}
 use Rattle.runs.specs.Run.{mostWants}
-use Rattle.refusals.proofs.Verdicts.{refuse-at}
 use Rattle.runs.specs.declared.Rule.{Rule}
 use Rattle.sheets.specs.declared.lines.NameLine.{NameLine}
 use Rattle.sheets.specs.declared.lines.NumberLine.{NumberLine}
@@ -24,7 +25,7 @@ use Rattle.texts.specs.Text.{lineFeed, behind, isEmpty}
 use Rattle.sheets.specs.Lines.{lineOf, afterLines, lineAfter, headKey, filesKey, fileKey, wantsKey, wantKey, isTapeLine, isNumberLine, numberIn, isCountLine, isTurnLine, turnIn, isRuleLine, ruleIn}
 use Rattle.sheets.specs.Sheet.{longestSheet, mostSheetFiles, headOf, turnOf, ruleOf, filesOf, fileText, wantsText, wantsOf, wantText, endText, shifted, firstSome, firstBadPair, firstBadTop, firstBadBelow, firstBadLine}
 use Rattle.sheets.specs.Reading.{sheetVerdict}
-use Rattle.sheets.specs.Private.{Passed, NamePart, NameLineFound, NumberLineFound, RuleLineFound, PairsPassed, PairBad, TopIs, TopBad, TopFound, FilesAt, WantsAt, BelowIs, BelowBad, BelowFound, LaidOut, LaidRefused, LaidFound}
+use Rattle.sheets.specs.Private.{Passed, NamePart, NameLineFound, NumberLineFound, RuleLineFound, PairsPassed, PairBad, TopIs, TopBad, TopFound, FilesAt, WantsAt, BelowIs, BelowBad, BelowFound, Unread, LaidFound}
 use Rattle.texts.proofs.Bytes.{and-true-both}
 
 -- So many lines passed, and what is left stands at a position.
@@ -242,35 +243,50 @@ module _ (sheet : List ℕ) (at files : ℕ) (p : WantsAt sheet at files) (r : N
           }
 
 -- The whole sheet.
-pub sheet-long : (sheet : List ℕ) → longestSheet < length sheet → LaidRefused sheet (record { refusal = LongSheet; place = 0 })
-unfolding sheetVerdict
-sheet-long sheet l = record { verdict = rw (lt-ltb longestSheet (length sheet) l); refuses = refl }
-
 pub top-found : (sheet : List ℕ) (top : Top) → TopIs sheet top → FilesAt sheet (top .next) (top .files)
 top-found sheet top p = record { count = p .files; few = p .few; within = p .within; rest = p .rest }
 
-module _ (sheet : List ℕ) (short : length sheet ≤ longestSheet) where
-  line-bad : (line : ℕ) → 0 < line → firstBadLine sheet ≡ line → LaidRefused sheet (record { refusal = BadLine; place = line })
+unread-found : (sheet : List ℕ) (v : Verdict) → isRefusal (v .refusal) ≡ true → v ≡ sheetVerdict sheet → (laid : Laid) → Unread v laid → LaidFound sheet laid
+unread-found sheet v refuses is laid u =
+    record {
+      verdict = u .same ∙ is;
+      file-at = omega (arith, u .file-at);
+      want-at = omega (arith, u .want-at);
+      out = λ e. absurd (true≢false (sym refuses ∙ ap (λ w. isRefusal (w .refusal)) (sym (u .same)) ∙ e));
+    }
+
+-- v is the verdict on its length, f whether that refuses.
+module _ (sheet : List ℕ) (v : Verdict) (f : Bool) (v-is : v ≡ refuseIf (ltb longestSheet (length sheet)) LongSheet) (f-is : f ≡ isRefusal (v .refusal)) where
+  pub sheet-long : f ≡ true → (laid : Laid) → Unread v laid → LaidFound sheet laid
   unfolding sheetVerdict
-  line-bad line some e =
-      record {
-        verdict = rw (le-ltb longestSheet (length sheet) short, e, refuse-at line BadLine (λ z. omega arith));
-        refuses = refl;
-      }
+  sheet-long e = unread-found sheet v (sym f-is ∙ e) (v-is ∙ rw (test-says v-is f-is e))
 
-  pub top-refuses : (line : ℕ) → TopBad sheet line → LaidRefused sheet (record { refusal = BadLine; place = line })
-  unfolding firstBadLine
-  top-refuses line b = let l : 0 < line = b .some in line-bad line l (rw (b .first, first-some line))
+  module _ (short : f ≡ false) where
+    line-bad : (line : ℕ) → 0 < line → firstBadLine sheet ≡ line → (w : Verdict) → w ≡ refuseAt line BadLine → (laid : Laid) → Unread w laid → LaidFound sheet laid
+    unfolding sheetVerdict
+    line-bad line some e w w-is =
+        let refuses : isRefusal (w .refusal) ≡ true = rw (w-is, refuse-at line BadLine (λ z. omega arith)) in
+        unread-found sheet w refuses (last-at BadLine refl w-is (sym e) ∙ rw (test-says v-is f-is short))
 
-  module _ (top : Top) (t : TopIs sheet top) where
-    pub below-refuses : (line : ℕ) → BelowBad sheet line → LaidRefused sheet (record { refusal = BadLine; place = line })
+    pub top-refuses : (line : ℕ) → TopBad sheet line → (w : Verdict) → w ≡ refuseAt line BadLine → (laid : Laid) → Unread w laid → LaidFound sheet laid
     unfolding firstBadLine
-    below-refuses line b = let l : 0 < line = b .some in line-bad line l (rw (t .none, b .first, first-skip, first-some line))
+    top-refuses line b = let l : 0 < line = b .some in line-bad line l (rw (b .first, first-some line))
 
-    pub laid-out : (wants at : ℕ) → BelowIs sheet wants at → LaidOut sheet top wants at
-    unfolding sheetVerdict firstBadLine
-    laid-out wants at b =
-        record { accepts = rw (le-ltb longestSheet (length sheet) short, t .none, b .none); upper = t; below = b }
+    module _ (top : Top) (t : TopIs sheet top) where
+      pub below-refuses : (line : ℕ) → BelowBad sheet line → (w : Verdict) → w ≡ refuseAt line BadLine → (laid : Laid) → Unread w laid → LaidFound sheet laid
+      unfolding firstBadLine
+      below-refuses line b = let l : 0 < line = b .some in line-bad line l (rw (t .none, b .first, first-skip, first-some line))
+
+      pub laid-out : (wants at : ℕ) → BelowIs sheet wants at → LaidFound sheet (record { verdict = v; top = top; wants = wants; at = at })
+      unfolding sheetVerdict firstBadLine
+      laid-out wants at b =
+          let fits = accepts-if (ltb longestSheet (length sheet)) LongSheet refl (test-says v-is f-is short) in
+          record {
+            verdict = v-is ∙ rw (fits, t .none, b .none);
+            file-at = t .within;
+            want-at = b .within;
+            out = λ e. record { upper = t; below = b };
+          }
 
 -- What the readers of the parts answered.
 module _ (sheet : List ℕ) (r : TopRead) (found : TopFound sheet r) where
@@ -286,10 +302,3 @@ module _ (sheet : List ℕ) (r : BelowRead) (found : BelowFound sheet r) where
 
   pub below-failed : (line : ℕ) → r ≡ BelowRead.Bad line → BelowBad sheet line
   below-failed line e = subst (λ k. BelowFound sheet k) e found
-
-module _ (sheet : List ℕ) (r : Laid) (found : LaidFound sheet r) where
-  pub laid-read : (top : Top) (wants at : ℕ) → r ≡ Laid.Out top wants at → LaidOut sheet top wants at
-  laid-read top wants at e = subst (λ k. LaidFound sheet k) e found
-
-  pub laid-failed : (v : Verdict) → r ≡ Laid.Refused v → LaidRefused sheet v
-  laid-failed v e = subst (λ k. LaidFound sheet k) e found

@@ -1,5 +1,6 @@
 -- What the sheet reader answers, for every input of bytes, and the rows that it leaves.
 use Prim.Native.Nat.{ℕ, _+_}
+use mathlib.Core.Path.{_≡_}
 use mathlib.Core.Bool.{Bool, cond, _||_}
 use mathlib.Core.List.{List, [], _∷_, _++_}
 use lib.ListN.{length, drop}
@@ -10,7 +11,7 @@ use Rattle.refusals.specs.Refusals.{isRefusal, refuseIf, refuseAt, firstOf}
 use Rattle.runs.specs.declared.Rule.the-variants.{Least}
 use Rattle.sheets.specs.declared.Reading.{Reading}
 use Rattle.sheets.specs.Lines.{tapeKey}
-use Rattle.sheets.specs.Sheet.{longestSheet, headOf, turnOf, ruleOf, filesOf, wantsOf, firstBadLine, nameIn}
+use Rattle.sheets.specs.Sheet.{longestSheet, headOf, turnOf, ruleOf, filesOf, wantsOf, firstBadLine, runIn, nameIn}
 
 -- 12, then 11 with its line.
 unfoldable pub sheetVerdict : List ℕ → Verdict
@@ -50,6 +51,28 @@ readAnswer v sheet =
 -- A row afterwards: the values read, then the later entries as they were; on a refusal the whole row as it was.
 unfoldable pub readRow : Verdict → List ℕ → List ℕ → List ℕ
 readRow v values row = cond (isRefusal (v .refusal)) row (values ++ drop (length values) row)
+
+-- The rows that the reader is lent: starts and lengths of the files, numbers and counts of the wants.
+pub record RunRows : Type 0 where
+  pub starts : List ℕ
+  pub lengths : List ℕ
+  pub numbers : List ℕ
+  pub counts : List ℕ
+
+abbrev pub runRows : List ℕ → List ℕ → List ℕ → List ℕ → RunRows
+runRows starts lengths numbers counts =
+    record { starts = starts; lengths = lengths; numbers = numbers; counts = counts }
+
+abbrev pub rowsVerdict : List ℕ → RunRows → Verdict
+rowsVerdict sheet rows = readVerdict sheet (rows .starts) (rows .lengths) (rows .numbers) (rows .counts)
+
+-- What the reader answers, and the rows that it leaves.
+pub record SheetRead (sheet : List ℕ) (rows : RunRows) (r : Reading) (rows′ : RunRows) : Type 0 where
+  pub answer : r ≡ readAnswer (rowsVerdict sheet rows) sheet
+  pub starts : rows′ .starts ≡ readRow (rowsVerdict sheet rows) (runIn sheet .starts) (rows .starts)
+  pub lengths : rows′ .lengths ≡ readRow (rowsVerdict sheet rows) (runIn sheet .lengths) (rows .lengths)
+  pub numbers : rows′ .numbers ≡ readRow (rowsVerdict sheet rows) (runIn sheet .numbers) (rows .numbers)
+  pub counts : rows′ .counts ≡ readRow (rowsVerdict sheet rows) (runIn sheet .counts) (rows .counts)
 
 -- The name: an empty part where 12 or 11 applies.
 unfoldable pub readName : List ℕ → List ℕ
