@@ -16,7 +16,7 @@ use Rattle.runs.proofs.Search.{or-false-both}
 use Rattle.sheets.specs.declared.Reading.{Reading}
 use Rattle.sheets.specs.declared.reader.Laid.{Laid}
 use Rattle.sheets.specs.Lines.{fileKey, wantKey, lineAfter, firstIn, secondIn, afterLines}
-use Rattle.sheets.specs.Sheet.{firstBadPair, eachOf, runIn, nameIn}
+use Rattle.sheets.specs.Sheet.{firstBadPair, eachOf, sheetRun, sheetName}
 use Rattle.sheets.specs.Reading.{sheetVerdict, readVerdict, readAnswer, readRow, RunRows, runRows, SheetRead, readName, readFrom, placeOn, shortPairRows}
 use Rattle.sheets.specs.Private.{LaidOut, LaidFound, PairsReady, leftRow, rightRow, linesFilled, readingOf, NamePart}
 use Rattle.sheets.proofs.Rows.{length-each}
@@ -116,7 +116,7 @@ module _ (sheet : List ℕ) (laid : Laid) (found : LaidFound sheet laid) (starts
           → (starts′ ≡ leftRow fileKey (drop (laid .top .next) sheet) m starts) × (lengths′ ≡ rightRow fileKey (drop (laid .top .next) sheet) m lengths)
           → (numbers′ ≡ leftRow wantKey (drop (laid .at) sheet) n numbers) × (counts′ ≡ rightRow wantKey (drop (laid .at) sheet) n counts)
           → SheetRead sheet (runRows starts lengths numbers counts) r (runRows starts′ lengths′ numbers′ counts′)
-      unfolding runIn
+      unfolding sheetRun
       sheet-read r starts′ lengths′ numbers′ counts′ r-is files wants =
           record {
             answer = rw (← read-verdict) (r-is ∙ answer-read);
@@ -133,7 +133,7 @@ module _ (sheet : List ℕ) (laid : Laid) (found : LaidFound sheet laid) (f : Bo
     name-part = found .out (sym f-is ∙ e) .upper .name
 
     pub name-read : take (laid .top .end - 5) (drop 5 sheet) ≡ readName sheet
-    unfolding readName nameIn afterLines
+    unfolding readName sheetName afterLines
     name-read = rw (← found .verdict, ← f-is, e) (name-part .name)
 
     pub name-from : (place : ℕ × ℕ) → placeOn 5 place ≡ placeOn (readFrom sheet) place

@@ -22,8 +22,8 @@ use Rattle.sheets.specs.declared.reader.TopRead.{TopRead}
 use Rattle.sheets.specs.declared.reader.BelowRead.{BelowRead}
 use Rattle.sheets.specs.declared.reader.Laid.{Laid}
 use Rattle.texts.specs.Text.{lineFeed, behind, isEmpty}
-use Rattle.sheets.specs.Lines.{lineOf, afterLines, lineAfter, headKey, filesKey, fileKey, wantsKey, wantKey, isTapeLine, isNumberLine, numberIn, isCountLine, isTurnLine, turnIn, isRuleLine, ruleIn}
-use Rattle.sheets.specs.Sheet.{longestSheet, mostSheetFiles, headOf, turnOf, ruleOf, filesOf, fileText, wantsText, wantsOf, wantText, endText, shifted, firstSome, firstBadPair, firstBadTop, firstBadBelow, firstBadLine}
+use Rattle.sheets.specs.Lines.{lineOf, afterLines, lineAfter, headKey, filesKey, fileKey, wantsKey, wantKey, isTapeLine, isNumberLine, numberBehind, isCountLine, isTurnLine, turnIn, isRuleLine, ruleIn}
+use Rattle.sheets.specs.Sheet.{longestSheet, mostSheetFiles, sheetHead, sheetTurn, sheetRule, sheetFiles, fileText, wantsText, sheetWants, wantText, endText, shifted, firstSome, firstBadPair, firstBadTop, firstBadBelow, firstBadLine}
 use Rattle.sheets.specs.Reading.{sheetVerdict}
 use Rattle.sheets.specs.Private.{Passed, NamePart, NameLineFound, NumberLineFound, RuleLineFound, PairsPassed, PairBad, TopIs, TopBad, TopFound, FilesAt, WantsAt, BelowIs, BelowBad, BelowFound, Unread, LaidFound}
 use Rattle.texts.proofs.Bytes.{and-true-both}
@@ -45,9 +45,9 @@ module _ (sheet : List ℕ) (lines at : ℕ) (here : Reached sheet lines at) (te
   fails e = rw (← here .rest) e
 
 -- A count line that passed has a number within its limit.
-count-small : (key : List ℕ) (most : ℕ) (line : List ℕ) → isCountLine key most line ≡ true → numberIn key line ≤ most
+count-small : (key : List ℕ) (most : ℕ) (line : List ℕ) → isCountLine key most line ≡ true → numberBehind key line ≤ most
 unfolding isCountLine
-count-small key most line e = leb-true (numberIn key line) most (and-true-both (isNumberLine key line) (leb (numberIn key line) most) e .1)
+count-small key most line e = leb-true (numberBehind key line) most (and-true-both (isNumberLine key line) (leb (numberBehind key line) most) e .1)
 
 module _ (sheet : List ℕ) (r₁ : NameLine) (f₁ : NameLineFound sheet r₁) where
   pub tape-bad : r₁ ≡ NameLine.Bad → TopBad sheet 1
@@ -66,16 +66,16 @@ module _ (sheet : List ℕ) (r₁ : NameLine) (f₁ : NameLineFound sheet r₁) 
     unfolding afterLines
     at-head = record { within = named .0 .within; rest = named .0 .rest }
 
-    module _ (r₂ : NumberLine) (f₂ : NumberLineFound (isNumberLine headKey) (numberIn headKey) sheet at₁ r₂) where
+    module _ (r₂ : NumberLine) (f₂ : NumberLineFound (isNumberLine headKey) (numberBehind headKey) sheet at₁ r₂) where
       pub head-bad : r₂ ≡ NumberLine.Bad → TopBad sheet 2
       unfolding firstBadTop
       head-bad e =
-          let bad = fails sheet 1 at₁ at-head (isNumberLine headKey) (subst (λ r. NumberLineFound (isNumberLine headKey) (numberIn headKey) sheet at₁ r) e f₂) in
+          let bad = fails sheet 1 at₁ at-head (isNumberLine headKey) (subst (λ r. NumberLineFound (isNumberLine headKey) (numberBehind headKey) sheet at₁ r) e f₂) in
           record { first = rw (test₁, bad); some = omega arith }
 
       module _ (head at₂ : ℕ) (e₂ : r₂ ≡ NumberLine.Value head at₂) where
-        head-read : Passed (isNumberLine headKey) sheet at₁ at₂ × (head ≡ numberIn headKey (lineOf (drop at₁ sheet)))
-        head-read = subst (λ r. NumberLineFound (isNumberLine headKey) (numberIn headKey) sheet at₁ r) e₂ f₂
+        head-read : Passed (isNumberLine headKey) sheet at₁ at₂ × (head ≡ numberBehind headKey (lineOf (drop at₁ sheet)))
+        head-read = subst (λ r. NumberLineFound (isNumberLine headKey) (numberBehind headKey) sheet at₁ r) e₂ f₂
 
         test₂ : isNumberLine headKey (lineAfter 1 sheet) ≡ true
         test₂ = passes sheet 1 at₁ at-head (isNumberLine headKey) at₂ (head-read .0)
@@ -117,25 +117,25 @@ module _ (sheet : List ℕ) (r₁ : NameLine) (f₁ : NameLineFound sheet r₁) 
                 pub at-files : Reached sheet 4 at₄
                 at-files = one-more sheet 3 at₃ at-rule isRuleLine at₄ (rule-read .0)
 
-                module _ (r₅ : NumberLine) (f₅ : NumberLineFound (isCountLine filesKey mostSheetFiles) (numberIn filesKey) sheet at₄ r₅) where
+                module _ (r₅ : NumberLine) (f₅ : NumberLineFound (isCountLine filesKey mostSheetFiles) (numberBehind filesKey) sheet at₄ r₅) where
                   pub files-bad : r₅ ≡ NumberLine.Bad → TopBad sheet 5
                   unfolding firstBadTop
                   files-bad e =
-                      let bad = fails sheet 4 at₄ at-files (isCountLine filesKey mostSheetFiles) (subst (λ r. NumberLineFound (isCountLine filesKey mostSheetFiles) (numberIn filesKey) sheet at₄ r) e f₅) in
+                      let bad = fails sheet 4 at₄ at-files (isCountLine filesKey mostSheetFiles) (subst (λ r. NumberLineFound (isCountLine filesKey mostSheetFiles) (numberBehind filesKey) sheet at₄ r) e f₅) in
                       record { first = rw (test₁, test₂, test₃, test₄, bad); some = omega arith }
 
                   pub top-good : (files at₅ : ℕ) → r₅ ≡ NumberLine.Value files at₅
                       → TopIs sheet (record { end = end; head = head; turn = turn; rule = rule; files = files; next = at₅ })
-                  unfolding firstBadTop headOf turnOf ruleOf filesOf fileText
+                  unfolding firstBadTop sheetHead sheetTurn sheetRule sheetFiles fileText
                   top-good files at₅ e₅ =
-                      let read : Passed (isCountLine filesKey mostSheetFiles) sheet at₄ at₅ × (files ≡ numberIn filesKey (lineOf (drop at₄ sheet))) = subst (λ r. NumberLineFound (isCountLine filesKey mostSheetFiles) (numberIn filesKey) sheet at₄ r) e₅ f₅ in
+                      let read : Passed (isCountLine filesKey mostSheetFiles) sheet at₄ at₅ × (files ≡ numberBehind filesKey (lineOf (drop at₄ sheet))) = subst (λ r. NumberLineFound (isCountLine filesKey mostSheetFiles) (numberBehind filesKey) sheet at₄ r) e₅ f₅ in
                       let test₅ = passes sheet 4 at₄ at-files (isCountLine filesKey mostSheetFiles) at₅ (read .0) in
                       let past = one-more sheet 4 at₄ at-files (isCountLine filesKey mostSheetFiles) at₅ (read .0) in
-                      let count : files ≡ numberIn filesKey (lineAfter 4 sheet) = read .1 ∙ ap (λ t. numberIn filesKey (lineOf t)) (at-files .rest) in
+                      let count : files ≡ numberBehind filesKey (lineAfter 4 sheet) = read .1 ∙ ap (λ t. numberBehind filesKey (lineOf t)) (at-files .rest) in
                       record {
                         none = rw (test₁, test₂, test₃, test₄, test₅);
                         name = named .1;
-                        head = head-read .1 ∙ ap (λ t. numberIn headKey (lineOf t)) (at-head .rest);
+                        head = head-read .1 ∙ ap (λ t. numberBehind headKey (lineOf t)) (at-head .rest);
                         turn = turn-read .1 ∙ ap (λ t. turnIn (lineOf t)) (at-turn .rest);
                         rule = rule-read .1 ∙ ap (λ t. ruleIn (lineOf t)) (at-rule .rest);
                         files = count;
@@ -159,7 +159,7 @@ shifted-some lines (suc n) l = refl
 pub files-bad-below : (sheet : List ℕ) (at files line : ℕ) → FilesAt sheet at files → PairBad fileKey sheet at files line → BelowBad sheet (5 + line)
 unfolding firstBadBelow
 files-bad-below sheet at files line p b =
-    let bad : firstBadPair fileKey (filesOf sheet) (fileText sheet) ≡ line = rw (← p .count, ← p .rest) (b .first) in
+    let bad : firstBadPair fileKey (sheetFiles sheet) (fileText sheet) ≡ line = rw (← p .count, ← p .rest) (b .first) in
     let some = b .some in
     let l : 0 < 5 + line = omega arith in
     record { first = rw (bad, shifted-some 5 line some, first-some (5 + line)); some = l }
@@ -177,17 +177,17 @@ files-good-below sheet at files next p b =
 
 -- The `wants` line and the lines below it.
 module _ (sheet : List ℕ) (at files : ℕ) (p : WantsAt sheet at files) (r : NumberLine)
-    (f : NumberLineFound (isCountLine wantsKey mostWants) (numberIn wantsKey) sheet at r) where
+    (f : NumberLineFound (isCountLine wantsKey mostWants) (numberBehind wantsKey) sheet at r) where
   pub wants-bad : r ≡ NumberLine.Bad → BelowBad sheet (files + 6)
   unfolding firstBadBelow
   wants-bad e =
-      let bad : isCountLine wantsKey mostWants (lineOf (wantsText sheet)) ≡ false = rw (← p .rest) (subst (λ k. NumberLineFound (isCountLine wantsKey mostWants) (numberIn wantsKey) sheet at k) e f) in
+      let bad : isCountLine wantsKey mostWants (lineOf (wantsText sheet)) ≡ false = rw (← p .rest) (subst (λ k. NumberLineFound (isCountLine wantsKey mostWants) (numberBehind wantsKey) sheet at k) e f) in
       let l : 0 < files + 6 = omega arith in
       record { first = rw (p .none, bad, ← p .count, first-skip, first-some (files + 6)); some = l }
 
   module _ (wants next : ℕ) (e : r ≡ NumberLine.Value wants next) where
-    wants-read : Passed (isCountLine wantsKey mostWants) sheet at next × (wants ≡ numberIn wantsKey (lineOf (drop at sheet)))
-    wants-read = subst (λ k. NumberLineFound (isCountLine wantsKey mostWants) (numberIn wantsKey) sheet at k) e f
+    wants-read : Passed (isCountLine wantsKey mostWants) sheet at next × (wants ≡ numberBehind wantsKey (lineOf (drop at sheet)))
+    wants-read = subst (λ k. NumberLineFound (isCountLine wantsKey mostWants) (numberBehind wantsKey) sheet at k) e f
 
     pub wants-within : next ≤ length sheet
     wants-within = wants-read .0 .within
@@ -195,9 +195,9 @@ module _ (sheet : List ℕ) (at files : ℕ) (p : WantsAt sheet at files) (r : N
     wants-test : isCountLine wantsKey mostWants (lineOf (wantsText sheet)) ≡ true
     wants-test = rw (← p .rest) (wants-read .0 .good)
 
-    wants-count : wants ≡ wantsOf sheet
-    unfolding wantsOf
-    wants-count = wants-read .1 ∙ ap (λ t. numberIn wantsKey (lineOf t)) (p .rest)
+    wants-count : wants ≡ sheetWants sheet
+    unfolding sheetWants
+    wants-count = wants-read .1 ∙ ap (λ t. numberBehind wantsKey (lineOf t)) (p .rest)
 
     pub wants-few : wants ≤ mostWants
     wants-few = rw (wants-read .1) (count-small wantsKey mostWants (lineOf (drop at sheet)) (wants-read .0 .good))
@@ -209,13 +209,13 @@ module _ (sheet : List ℕ) (at files : ℕ) (p : WantsAt sheet at files) (r : N
     pub want-bad : (line : ℕ) → PairBad wantKey sheet next wants line → BelowBad sheet (files + 6 + line)
     unfolding firstBadBelow
     want-bad line b =
-        let bad : firstBadPair wantKey (wantsOf sheet) (wantText sheet) ≡ line = rw (← wants-count, ← wants-rest) (b .first) in
+        let bad : firstBadPair wantKey (sheetWants sheet) (wantText sheet) ≡ line = rw (← wants-count, ← wants-rest) (b .first) in
         let some = b .some in
         let l : 0 < files + 6 + line = omega arith in
         record { first = rw (p .none, wants-test, bad, ← p .count, shifted-some (files + 6) line some, first-skip, first-skip, first-some (files + 6 + line)); some = l }
 
     module _ (last : ℕ) (b : PairsPassed wantKey sheet next wants last) where
-      wants-none : firstBadPair wantKey (wantsOf sheet) (wantText sheet) ≡ 0
+      wants-none : firstBadPair wantKey (sheetWants sheet) (wantText sheet) ≡ 0
       wants-none = rw (← wants-count, ← wants-rest) (b .none)
 
       end-is : endText sheet ≡ drop last sheet

@@ -68,12 +68,12 @@ isTapeLine line = startsWith tapeKey line && isName (valueText tapeKey line)
 unfoldable pub isNumberLine : List ℕ → List ℕ → Bool
 isNumberLine key line = startsWith key line && isNumber (valueText key line)
 
-abbrev pub numberIn : List ℕ → List ℕ → ℕ
-numberIn key line = valueOf (valueText key line)
+abbrev pub numberBehind : List ℕ → List ℕ → ℕ
+numberBehind key line = valueOf (valueText key line)
 
 -- A key and a number of lines to follow, which is limited.
 unfoldable pub isCountLine : List ℕ → ℕ → List ℕ → Bool
-isCountLine key most line = isNumberLine key line && leb (numberIn key line) most
+isCountLine key most line = isNumberLine key line && leb (numberBehind key line) most
 
 -- `turn=` with nothing after it means this price.
 abbrev pub emptyTurn : ℕ
@@ -84,7 +84,7 @@ unfoldable pub isTurnLine : List ℕ → Bool
 isTurnLine line = startsWith turnKey line && (isEmpty (valueText turnKey line) || isNumber (valueText turnKey line))
 
 unfoldable pub turnIn : List ℕ → ℕ
-turnIn line = cond (isEmpty (valueText turnKey line)) emptyTurn (numberIn turnKey line)
+turnIn line = cond (isEmpty (valueText turnKey line)) emptyTurn (numberBehind turnKey line)
 
 -- `rule=least` or `rule=sweep`.
 unfoldable pub isRuleLine : List ℕ → Bool

@@ -21,7 +21,7 @@ use Rattle.sheets.specs.declared.reader.BelowRead.{BelowRead}
 use Rattle.sheets.specs.declared.reader.Laid.{Laid}
 use Rattle.texts.specs.Text.{lineFeed, comma, before, behind, startsWith, valueOf}
 use Rattle.sheets.specs.Lines.{lineOf, afterLines, lineAfter, tapeKey, fileKey, wantKey, valueText, isTapeLine, isRuleLine, ruleIn, isPair, isPairLine, firstIn, secondIn}
-use Rattle.sheets.specs.Sheet.{mostSheetFiles, headOf, turnOf, ruleOf, filesOf, fileText, wantsText, wantsOf, wantText, firstBadPair, firstBadTop, firstBadBelow, eachOf}
+use Rattle.sheets.specs.Sheet.{mostSheetFiles, sheetHead, sheetTurn, sheetRule, sheetFiles, fileText, wantsText, sheetWants, wantText, firstBadPair, firstBadTop, firstBadBelow, eachOf}
 use Rattle.sheets.specs.Reading.{sheetVerdict, refusedReading}
 
 -- A line that begins with a key: where its value starts and its LF stands.
@@ -99,10 +99,10 @@ PairLinesFound key sheet at count (PairLines.Bad line) = PairBad key sheet at co
 pub record TopIs (sheet : List ℕ) (top : Top) : Type 0 where
   pub none : firstBadTop sheet ≡ 0
   pub name : NamePart sheet (top .end)
-  pub head : top .head ≡ headOf sheet
-  pub turn : top .turn ≡ turnOf sheet
-  pub rule : top .rule ≡ ruleOf sheet
-  pub files : top .files ≡ filesOf sheet
+  pub head : top .head ≡ sheetHead sheet
+  pub turn : top .turn ≡ sheetTurn sheet
+  pub rule : top .rule ≡ sheetRule sheet
+  pub files : top .files ≡ sheetFiles sheet
   pub few : top .files ≤ mostSheetFiles
   pub within : top .next ≤ length sheet
   pub rest : drop (top .next) sheet ≡ fileText sheet
@@ -117,24 +117,24 @@ TopFound sheet (TopRead.Bad line) = TopBad sheet line
 
 -- Where the file lines and the `wants` line start, once what stands above is as described.
 pub record FilesAt (sheet : List ℕ) (at files : ℕ) : Type 0 where
-  pub count : files ≡ filesOf sheet
+  pub count : files ≡ sheetFiles sheet
   pub few : files ≤ mostSheetFiles
   pub within : at ≤ length sheet
   pub rest : drop at sheet ≡ fileText sheet
 
 pub record WantsAt (sheet : List ℕ) (at files : ℕ) : Type 0 where
-  pub count : files ≡ filesOf sheet
+  pub count : files ≡ sheetFiles sheet
   pub few : files ≤ mostSheetFiles
   pub within : at ≤ length sheet
   pub rest : drop at sheet ≡ wantsText sheet
-  pub none : firstBadPair fileKey (filesOf sheet) (fileText sheet) ≡ 0
+  pub none : firstBadPair fileKey (sheetFiles sheet) (fileText sheet) ≡ 0
 
 -- The lines below the first five: the number of wants, and where the want lines start.
 pub record BelowIs (sheet : List ℕ) (wants at : ℕ) : Type 0 where
   pub none : firstBadBelow sheet ≡ 0
-  pub filed : firstBadPair fileKey (filesOf sheet) (fileText sheet) ≡ 0
-  pub wanted : firstBadPair wantKey (wantsOf sheet) (wantText sheet) ≡ 0
-  pub count : wants ≡ wantsOf sheet
+  pub filed : firstBadPair fileKey (sheetFiles sheet) (fileText sheet) ≡ 0
+  pub wanted : firstBadPair wantKey (sheetWants sheet) (wantText sheet) ≡ 0
+  pub count : wants ≡ sheetWants sheet
   pub within : at ≤ length sheet
   pub rest : drop at sheet ≡ wantText sheet
 

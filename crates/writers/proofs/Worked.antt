@@ -11,7 +11,7 @@ use Rattle.walk.specs.Detours.{startOf, endOf, legsOf, lastSweep}
 use Rattle.walk.specs.Price.{pricedAnswer, pricedTimes}
 use Rattle.texts.specs.Text.{bytes, has, before, behind, startsWith, allOf, valueFrom, isNumber, isName, decimalIn}
 use Rattle.sheets.specs.Lines.{lineOf, afterLines, isTapeLine, isNumberLine, isCountLine, isTurnLine, turnIn, isRuleLine, isPair, isPairLine}
-use Rattle.sheets.specs.Sheet.{headOf, turnOf, filesOf, fileText, wantsText, wantsOf, wantText, endText, firstBadPair, firstBadTop, firstBadBelow, firstBadLine, eachOf, runIn}
+use Rattle.sheets.specs.Sheet.{sheetHead, sheetTurn, sheetFiles, fileText, wantsText, sheetWants, wantText, endText, firstBadPair, firstBadTop, firstBadBelow, firstBadLine, eachOf, sheetRun}
 use Rattle.writers.specs.Writing.{pairLines, topText, sheetText}
 use Rattle.writers.specs.PlanSheet.{planTop, planLines, planText}
 
@@ -40,13 +40,13 @@ unfolding planText planLines planTop pairLines decimalIn pricedAnswer pricedTime
 example-planned = refl
 
 pub example-described : firstBadLine sheet ≡ 0
-unfolding firstBadLine firstBadTop firstBadBelow firstBadPair firstWhere endText wantText wantsOf wantsText fileText filesOf isPairLine isPair isRuleLine isTurnLine isCountLine isNumberLine isTapeLine afterLines lineOf isName isNumber valueFrom allOf startsWith behind before has
+unfolding firstBadLine firstBadTop firstBadBelow firstBadPair firstWhere endText wantText sheetWants wantsText fileText sheetFiles isPairLine isPair isRuleLine isTurnLine isCountLine isNumberLine isTapeLine afterLines lineOf isName isNumber valueFrom allOf startsWith behind before has
 example-described = refl
 
 pub damaged-refused : firstBadLine damaged ≡ 7
-unfolding firstBadLine firstBadTop firstBadBelow firstBadPair firstWhere endText wantText wantsOf wantsText fileText filesOf isPairLine isPair isRuleLine isTurnLine isCountLine isNumberLine isTapeLine afterLines lineOf isName isNumber valueFrom allOf startsWith behind before has
+unfolding firstBadLine firstBadTop firstBadBelow firstBadPair firstWhere endText wantText sheetWants wantsText fileText sheetFiles isPairLine isPair isRuleLine isTurnLine isCountLine isNumberLine isTapeLine afterLines lineOf isName isNumber valueFrom allOf startsWith behind before has
 damaged-refused = refl
 
-pub example-read : runIn sheet ≡ run
-unfolding runIn eachOf headOf turnOf turnIn wantText wantsOf wantsText fileText filesOf afterLines lineOf valueFrom behind before has
+pub example-read : sheetRun sheet ≡ run
+unfolding sheetRun eachOf sheetHead sheetTurn turnIn wantText sheetWants wantsText fileText sheetFiles afterLines lineOf valueFrom behind before has
 example-read = refl
