@@ -1,4 +1,4 @@
--- The text of a plan sheet, what the plan sheet writer answers, for every input, and the row that it leaves (with Writing's `writtenAnswer` and `writtenRow`).
+-- The text of a plan sheet, what the plan sheet writer answers, for every input, and the row that it leaves (with Writing's `Handed`).
 use Prim.Native.Nat.{ℕ}
 use mathlib.Core.Bool.{not}
 use mathlib.Core.List.{List, [], _∷_, _++_}
@@ -12,7 +12,8 @@ use Rattle.runs.specs.Lists.{listOf, listVerdict}
 use Rattle.walk.specs.Price.{pricedAnswer, pricedTimes}
 use Rattle.texts.specs.Text.{bytes, isName}
 use Rattle.sheets.specs.Lines.{tapeKey}
-use Rattle.writers.specs.Writing.{line, numberLine, pairLines, rowVerdict}
+use Rattle.writers.specs.declared.Written.{Written}
+use Rattle.writers.specs.Writing.{line, numberLine, pairLines, rowVerdict, Handed}
 
 -- The keys.
 abbrev pub sumKey : List ℕ
@@ -65,3 +66,8 @@ planSheetVerdict name run froms tos row =
     ∷ listVerdict (stopsOf run) froms tos
     ∷ rowVerdict (planText name run froms tos) row
     ∷ [])
+
+-- The plan sheet writer.
+abbrev pub PlanWritten : List ℕ → Run → List ℕ → List ℕ → List ℕ → Written → List ℕ → Type 0
+PlanWritten name run froms tos row r row′ =
+    Handed (planSheetVerdict name run froms tos row) (planText name run froms tos) row r row′
