@@ -1,6 +1,7 @@
 -- `sheets::reader::tape_name` meets its contract: the name's part of the first line, or an empty part.
 -- Assumes nothing.
 use Rattle.sheets.proofs.Answers.{name-part, name-read, no-name, name-from, no-name-from}
+use native.Mathlib.Omega.{arith}
 use borrow.Author.Needs.{needs}
 use Rattle.sheets.proofs.reader.tape_name.Statement.{statement}
 use Rattle.sheets.proofs.reader.tape_name.Tie as tie
@@ -18,13 +19,13 @@ returns : tie.Need-returns
 returns c = (no-name _ _ (c .before .before .before .lay-out .ensures) _ (c .before .before .refused .ensures) (c .before .if1 .taken), no-name-from _ _ (c .before .before .before .lay-out .ensures) _ (c .before .before .refused .ensures) (c .before .if1 .taken) _)
 
 sub-result : tie.Need-sub-result
-sub-result c = name-part _ _ (c .before .before .lay-out .ensures) _ (c .before .refused .ensures) (c .if1 .left) .ordered
+sub-result c = omega (arith, name-part _ _ (c .before .before .lay-out .ensures) _ (c .before .refused .ensures) (c .if1 .left) .ordered)
 
 part-result-start : tie.Need-part-result-start
-part-result-start c = name-part _ _ (c .before .before .lay-out .ensures) _ (c .before .refused .ensures) (c .if1 .left) .ordered
+part-result-start c = omega (arith, name-part _ _ (c .before .before .lay-out .ensures) _ (c .before .refused .ensures) (c .if1 .left) .ordered)
 
 part-result-end : tie.Need-part-result-end
-part-result-end c = name-part _ _ (c .before .before .lay-out .ensures) _ (c .before .refused .ensures) (c .if1 .left) .within
+part-result-end c = omega (arith, name-part _ _ (c .before .before .lay-out .ensures) _ (c .before .refused .ensures) (c .if1 .left) .within)
 
 returns-2 : tie.Need-returns-2
 returns-2 c = (name-read _ _ (c .before .before .before .lay-out .ensures) _ (c .before .before .refused .ensures) (c .before .if1 .left), name-from _ _ (c .before .before .before .lay-out .ensures) _ (c .before .before .refused .ensures) (c .before .if1 .left) _)
