@@ -1,136 +1,150 @@
--- What the reader answers and leaves in the rows, for each verdict.
+-- What the reader answers and leaves in the rows: the lines of an accepted sheet are filled, and none on a refusal.
 use Prim.Native.Nat.{ℕ, _-_, _≤_}
-use mathlib.Core.Path.{_≡_, sym, _∙_, subst}
-use mathlib.Core.Bool.{Bool, true, false, not}
-use mathlib.Core.List.{List, [], _++_}
+use mathlib.Core.Path.{_≡_, refl, ap, sym, _∙_}
+use mathlib.Core.Bool.{Bool, true, false, _||_}
+use mathlib.Core.List.{List, [], _∷_, _++_}
 use native.Mathlib.Omega.{arith}
 use native.Mathlib.Nat.{zero-add}
 use lib.ListN.{length, take, drop}
 use lib.Dec.{ltb}
-use borrow.Author.Tests.{not-true, not-false, ltb-false}
-use Rattle.refusals.specs.declared.Refusal.the-variants.{Accepted, ShortRow}
+use borrow.Author.Tests.{ltb-false}
+use Rattle.refusals.specs.declared.Refusal.the-variants.{ShortRow}
 use Rattle.refusals.specs.declared.Verdict.{Verdict}
-use Rattle.refusals.specs.Refusals.{isRefusal, accepted}
+use Rattle.refusals.specs.Refusals.{isRefusal, refuseIf, firstOf, firstWhere}
+use Rattle.refusals.proofs.Verdicts.{first-refuses, all-accept, accepts-if}
 use Rattle.runs.proofs.Search.{or-false-both}
-use Rattle.sheets.specs.declared.reader.Top.{Top}
+use Rattle.sheets.specs.declared.Reading.{Reading}
+use Rattle.sheets.specs.declared.reader.Laid.{Laid}
 use Rattle.sheets.specs.Lines.{fileKey, wantKey, lineAfter, firstIn, secondIn, afterLines}
-use Rattle.sheets.specs.Sheet.{filesOf, wantsOf, fileText, wantText, eachOf, runIn, nameIn}
-use Rattle.sheets.specs.Reading.{readVerdict, refusedReading, readAnswer, readRow, readName, readFrom, placeOn, shortPairRows}
-use Rattle.sheets.specs.Private.{LaidOut, LaidRefused, PairsReady, leftRow, rightRow}
+use Rattle.sheets.specs.Sheet.{firstBadPair, eachOf, sheetRun, sheetName}
+use Rattle.sheets.specs.Reading.{sheetVerdict, readVerdict, readAnswer, readRow, RunRows, runRows, SheetRead, readName, readFrom, placeOn, shortPairRows}
+use Rattle.sheets.specs.Private.{LaidOut, LaidFound, PairsReady, leftRow, rightRow, linesFilled, readingOf, NamePart}
 use Rattle.sheets.proofs.Rows.{length-each}
 
--- A refusal: the answer is the refusal's, and every row stays.
-module _ (sheet : List ℕ) (verdict v : Verdict) (e : verdict ≡ v) (refuses : isRefusal (v .refusal) ≡ true) where
-  pub refused-answer : refusedReading v ≡ readAnswer verdict sheet
-  unfolding readAnswer
-  refused-answer = rw (e, refuses)
+-- Two pairs of rows judged one after the other are judged together.
+both-judged : (w : Verdict) (a b : Bool) → firstOf (firstOf (w ∷ refuseIf a ShortRow ∷ []) ∷ refuseIf b ShortRow ∷ []) ≡ firstOf (w ∷ refuseIf (a || b) ShortRow ∷ [])
+both-judged w a b = go (isRefusal (w .refusal)) refl a
+  where
+    go : (f : Bool) → isRefusal (w .refusal) ≡ f → (a : Bool) → firstOf (firstOf (w ∷ refuseIf a ShortRow ∷ []) ∷ refuseIf b ShortRow ∷ []) ≡ firstOf (w ∷ refuseIf (a || b) ShortRow ∷ [])
+    go true e a = rw (e, e)
+    go false e true = rw e
+    go false e false = rw e
 
-  pub refused-row : (values row : List ℕ) → row ≡ readRow verdict values row
-  unfolding readRow
-  refused-row values row = rw (e, refuses)
+-- Lines that are filled: all are as described and the rows have room, or there are none.
+pairs-ready : (key sheet : List ℕ) (at count : ℕ) (firsts seconds : List ℕ) (v : Verdict) (n : ℕ) → n ≡ linesFilled v count → 1 ≤ length key → at ≤ length sheet
+    → (isRefusal (v .refusal) ≡ false → (firstBadPair key count (drop at sheet) ≡ 0) × (shortPairRows count firsts seconds ≡ false))
+    → PairsReady key sheet at n firsts seconds
+unfolding firstBadPair firstWhere
+pairs-ready key sheet at count firsts seconds v n n-is keyed within good = go (isRefusal (v .refusal)) refl
+  where
+    go : (f : Bool) → isRefusal (v .refusal) ≡ f → PairsReady key sheet at n firsts seconds
+    go true e =
+        let none : n ≡ 0 = n-is ∙ rw e in
+        record { keyed = omega arith; within = within; none = rw none; room = omega arith; space = omega arith }
+    go false e =
+        let all : n ≡ count = n-is ∙ rw e in
+        let both = or-false-both (ltb (length firsts) count) (ltb (length seconds) count) (good e .1) in
+        record {
+          keyed = omega arith;
+          within = within;
+          none = rw all (good e .0);
+          room = rw all (ltb-false (length firsts) count (both .0));
+          space = rw all (ltb-false (length seconds) count (both .1));
+        }
 
-module _ (sheet starts lengths numbers counts : List ℕ) where
-  -- 12 or 11.
-  pub sheet-refused : (v : Verdict) → LaidRefused sheet v → readVerdict sheet starts lengths numbers counts ≡ v
+-- The row that filling leaves.
+row-read : (v : Verdict) (count n : ℕ) → n ≡ linesFilled v count → (value : ℕ → ℕ) (values row : List ℕ) → (isRefusal (v .refusal) ≡ false → values ≡ eachOf value count)
+    → eachOf value n ++ drop n row ≡ readRow v values row
+unfolding readRow eachOf
+row-read v count n n-is value values row said = go (isRefusal (v .refusal)) refl
+  where
+    go : (f : Bool) → isRefusal (v .refusal) ≡ f → eachOf value n ++ drop n row ≡ readRow v values row
+    go true e = let none : n ≡ 0 = n-is ∙ rw e in rw (e, none)
+    go false e = let all : n ≡ count = n-is ∙ rw e in rw (e, all, said e, length-each value count)
+
+-- t is the verdict after the files' rows, v after all; m and n are how many lines are filled.
+module _ (sheet : List ℕ) (laid : Laid) (found : LaidFound sheet laid) (starts lengths numbers counts : List ℕ) (t v : Verdict)
+    (t-is : t ≡ firstOf (laid .verdict ∷ refuseIf (shortPairRows (laid .top .files) starts lengths) ShortRow ∷ []))
+    (v-is : v ≡ firstOf (t ∷ refuseIf (shortPairRows (laid .wants) numbers counts) ShortRow ∷ [])) where
+  read-verdict : v ≡ readVerdict sheet starts lengths numbers counts
   unfolding readVerdict
-  sheet-refused v p = rw (← p .verdict, p .refuses)
+  read-verdict =
+      v-is ∙ ap (λ x. firstOf (x ∷ refuseIf (shortPairRows (laid .wants) numbers counts) ShortRow ∷ [])) t-is
+      ∙ both-judged (laid .verdict) (shortPairRows (laid .top .files) starts lengths) (shortPairRows (laid .wants) numbers counts)
+      ∙ go (isRefusal (laid .verdict .refusal)) refl
+    where
+      go : (f : Bool) → isRefusal (laid .verdict .refusal) ≡ f
+          → firstOf (laid .verdict ∷ refuseIf (shortPairRows (laid .top .files) starts lengths || shortPairRows (laid .wants) numbers counts) ShortRow ∷ []) ≡ readVerdict sheet starts lengths numbers counts
+      go true e = rw (← found .verdict, e)
+      go false e = let p = found .out e in rw (← found .verdict, ← p .upper .files, ← p .below .count)
 
-  -- 8, for files or for wants: t and w say whether the rows have room.
-  module _ (top : Top) (wants at : ℕ) (p : LaidOut sheet top wants at) (t : Bool)
-      (t-is : t ≡ not (shortPairRows (top .files) starts lengths)) where
-    pub files-short : t ≡ false → readVerdict sheet starts lengths numbers counts ≡ record { refusal = ShortRow; place = 0 }
-    unfolding readVerdict
-    files-short f =
-        let short : shortPairRows (filesOf sheet) starts lengths ≡ true = subst (λ n. shortPairRows n starts lengths ≡ true) (p .upper .files) (not-false (shortPairRows (top .files) starts lengths) (sym t-is ∙ f)) in
-        rw (p .accepts, short)
+  module _ (e : isRefusal (v .refusal) ≡ false) where
+    wants-pass : (isRefusal (t .refusal) ≡ false) × (shortPairRows (laid .wants) numbers counts ≡ false)
+    wants-pass =
+        let all = all-accept (t ∷ refuseIf (shortPairRows (laid .wants) numbers counts) ShortRow ∷ []) (rw (← v-is) e) in
+        (all .0, accepts-if (shortPairRows (laid .wants) numbers counts) ShortRow refl (all .1 .0))
 
-    pub files-room : t ≡ true → (top .files ≤ length starts) × (top .files ≤ length lengths)
-    files-room f =
-        let both = or-false-both (ltb (length starts) (top .files)) (ltb (length lengths) (top .files)) (not-true (shortPairRows (top .files) starts lengths) (sym t-is ∙ f)) in
-        (ltb-false (length starts) (top .files) (both .0), ltb-false (length lengths) (top .files) (both .1))
+    files-pass : (isRefusal (laid .verdict .refusal) ≡ false) × (shortPairRows (laid .top .files) starts lengths ≡ false)
+    files-pass =
+        let all = all-accept (laid .verdict ∷ refuseIf (shortPairRows (laid .top .files) starts lengths) ShortRow ∷ []) (rw (← t-is) (wants-pass .0)) in
+        (all .0, accepts-if (shortPairRows (laid .top .files) starts lengths) ShortRow refl (all .1 .0))
 
-    module _ (f : t ≡ true) (w : Bool) (w-is : w ≡ not (shortPairRows wants numbers counts)) where
-      long : shortPairRows (filesOf sheet) starts lengths ≡ false
-      long = subst (λ n. shortPairRows n starts lengths ≡ false) (p .upper .files) (not-true (shortPairRows (top .files) starts lengths) (sym t-is ∙ f))
+    parts : LaidOut sheet laid
+    parts = found .out (files-pass .0)
 
-      pub wants-short : w ≡ false → readVerdict sheet starts lengths numbers counts ≡ record { refusal = ShortRow; place = 0 }
-      unfolding readVerdict
-      wants-short g =
-          let short : shortPairRows (wantsOf sheet) numbers counts ≡ true = subst (λ n. shortPairRows n numbers counts ≡ true) (p .below .count) (not-false (shortPairRows wants numbers counts) (sym w-is ∙ g)) in
-          rw (p .accepts, long, short)
+  module _ (m : ℕ) (m-is : m ≡ linesFilled v (laid .top .files)) where
+    pub files-ready : PairsReady fileKey sheet (laid .top .next) m starts lengths
+    files-ready =
+        pairs-ready fileKey sheet (laid .top .next) (laid .top .files) starts lengths v m m-is (omega arith) (found .file-at)
+        (λ e. (rw (parts e .upper .files, parts e .upper .rest) (parts e .below .filed), files-pass e .1))
 
-      pub wants-room : w ≡ true → (wants ≤ length numbers) × (wants ≤ length counts)
-      wants-room g =
-          let both = or-false-both (ltb (length numbers) wants) (ltb (length counts) wants) (not-true (shortPairRows wants numbers counts) (sym w-is ∙ g)) in
-          (ltb-false (length numbers) wants (both .0), ltb-false (length counts) wants (both .1))
+    module _ (n : ℕ) (n-is : n ≡ linesFilled v (laid .wants)) where
+      pub wants-ready : PairsReady wantKey sheet (laid .at) n numbers counts
+      wants-ready =
+          pairs-ready wantKey sheet (laid .at) (laid .wants) numbers counts v n n-is (omega arith) (found .want-at)
+          (λ e. (rw (parts e .below .count, parts e .below .rest) (parts e .below .wanted), wants-pass e .1))
 
-      pub all-room : w ≡ true → readVerdict sheet starts lengths numbers counts ≡ accepted
-      unfolding readVerdict
-      all-room g =
-          let wide : shortPairRows (wantsOf sheet) numbers counts ≡ false = subst (λ n. shortPairRows n numbers counts ≡ false) (p .below .count) (not-true (shortPairRows wants numbers counts) (sym w-is ∙ g)) in
-          rw (p .accepts, long, wide)
+      answer-read : readingOf v (laid .top) (laid .wants) ≡ readAnswer v sheet
+      unfolding readAnswer
+      answer-read = go (isRefusal (v .refusal)) refl
+        where
+          go : (f : Bool) → isRefusal (v .refusal) ≡ f → readingOf v (laid .top) (laid .wants) ≡ readAnswer v sheet
+          go true e = rw e
+          go false e = let p = parts e in rw (e, ← p .upper .head, ← p .upper .turn, ← p .upper .rule, ← p .upper .files, ← p .below .count)
 
--- A sheet that is read: the answer, the rows, and what the filling of each pair of rows asks.
-module _ (sheet : List ℕ) (top : Top) (wants at : ℕ) (p : LaidOut sheet top wants at) where
-  pub files-ready : (starts lengths : List ℕ) → (top .files ≤ length starts) × (top .files ≤ length lengths) → PairsReady fileKey sheet (top .next) (top .files) starts lengths
-  files-ready starts lengths room =
-      record {
-        keyed = omega arith;
-        within = p .upper .within;
-        none = rw (p .upper .files, p .upper .rest) (p .below .filed);
-        room = room .0;
-        space = room .1;
-      }
+      pub sheet-read : (r : Reading) (starts′ lengths′ numbers′ counts′ : List ℕ) → r ≡ readingOf v (laid .top) (laid .wants)
+          → (starts′ ≡ leftRow fileKey (drop (laid .top .next) sheet) m starts) × (lengths′ ≡ rightRow fileKey (drop (laid .top .next) sheet) m lengths)
+          → (numbers′ ≡ leftRow wantKey (drop (laid .at) sheet) n numbers) × (counts′ ≡ rightRow wantKey (drop (laid .at) sheet) n counts)
+          → SheetRead sheet (runRows starts lengths numbers counts) r (runRows starts′ lengths′ numbers′ counts′)
+      unfolding sheetRun
+      sheet-read r starts′ lengths′ numbers′ counts′ r-is files wants =
+          record {
+            answer = rw (← read-verdict) (r-is ∙ answer-read);
+            starts = rw (← read-verdict) (files .0 ∙ row-read v (laid .top .files) m m-is _ _ starts (λ e. rw (parts e .upper .files, parts e .upper .rest)));
+            lengths = rw (← read-verdict) (files .1 ∙ row-read v (laid .top .files) m m-is _ _ lengths (λ e. rw (parts e .upper .files, parts e .upper .rest)));
+            numbers = rw (← read-verdict) (wants .0 ∙ row-read v (laid .wants) n n-is _ _ numbers (λ e. rw (parts e .below .count, parts e .below .rest)));
+            counts = rw (← read-verdict) (wants .1 ∙ row-read v (laid .wants) n n-is _ _ counts (λ e. rw (parts e .below .count, parts e .below .rest)));
+          }
 
-  pub wants-ready : (numbers counts : List ℕ) → (wants ≤ length numbers) × (wants ≤ length counts) → PairsReady wantKey sheet at wants numbers counts
-  wants-ready numbers counts room =
-      record {
-        keyed = omega arith;
-        within = p .below .within;
-        none = rw (p .below .count, p .below .rest) (p .below .wanted);
-        room = room .0;
-        space = room .1;
-      }
+-- The name's part, and where it starts; f says whether 12 or 11 applies.
+module _ (sheet : List ℕ) (laid : Laid) (found : LaidFound sheet laid) (f : Bool) (f-is : f ≡ isRefusal (laid .verdict .refusal)) where
+  module _ (e : f ≡ false) where
+    pub name-part : NamePart sheet (laid .top .end)
+    name-part = found .out (sym f-is ∙ e) .upper .name
 
-  module _ (verdict : Verdict) (e : verdict ≡ accepted) where
-    pub read-answer : record { refusal = Accepted; place = 0; head = top .head; turn = top .turn; rule = top .rule; files = top .files; wants = wants } ≡ readAnswer verdict sheet
-    unfolding readAnswer
-    read-answer = rw (e, ← p .upper .head, ← p .upper .turn, ← p .upper .rule, ← p .upper .files, ← p .below .count)
+    pub name-read : take (laid .top .end - 5) (drop 5 sheet) ≡ readName sheet
+    unfolding readName sheetName afterLines
+    name-read = rw (← found .verdict, ← f-is, e) (name-part .name)
 
-    row-read : (value : ℕ → ℕ) (n : ℕ) (row : List ℕ) → eachOf value n ++ drop n row ≡ readRow verdict (eachOf value n) row
-    unfolding readRow
-    row-read value n row = rw (e, length-each value n)
+    pub name-from : (place : ℕ × ℕ) → placeOn 5 place ≡ placeOn (readFrom sheet) place
+    unfolding readFrom
+    name-from place = rw (← found .verdict, ← f-is, e)
 
-    pub starts-read : (row : List ℕ) → leftRow fileKey (drop (top .next) sheet) (top .files) row ≡ readRow verdict (runIn sheet .starts) row
-    unfolding runIn
-    starts-read row = rw (p .upper .files, p .upper .rest) (row-read (λ i. firstIn fileKey (lineAfter i (fileText sheet))) (filesOf sheet) row)
+  module _ (e : f ≡ true) where
+    pub no-name : [] ≡ readName sheet
+    unfolding readName
+    no-name = rw (← found .verdict, ← f-is, e)
 
-    pub lengths-read : (row : List ℕ) → rightRow fileKey (drop (top .next) sheet) (top .files) row ≡ readRow verdict (runIn sheet .lengths) row
-    unfolding runIn
-    lengths-read row = rw (p .upper .files, p .upper .rest) (row-read (λ i. secondIn fileKey (lineAfter i (fileText sheet))) (filesOf sheet) row)
-
-    pub numbers-read : (row : List ℕ) → leftRow wantKey (drop at sheet) wants row ≡ readRow verdict (runIn sheet .numbers) row
-    unfolding runIn
-    numbers-read row = rw (p .below .count, p .below .rest) (row-read (λ i. firstIn wantKey (lineAfter i (wantText sheet))) (wantsOf sheet) row)
-
-    pub counts-read : (row : List ℕ) → rightRow wantKey (drop at sheet) wants row ≡ readRow verdict (runIn sheet .counts) row
-    unfolding runIn
-    counts-read row = rw (p .below .count, p .below .rest) (row-read (λ i. secondIn wantKey (lineAfter i (wantText sheet))) (wantsOf sheet) row)
-
-  -- The name's part.
-  pub name-read : take (top .end - 5) (drop 5 sheet) ≡ readName sheet
-  unfolding readName nameIn afterLines
-  name-read = rw (p .accepts) (p .upper .name .name)
-
-pub no-name : (sheet : List ℕ) (v : Verdict) → LaidRefused sheet v → [] ≡ readName sheet
-unfolding readName
-no-name sheet v p = rw (← p .verdict, p .refuses)
-
--- Where the name's part starts.
-pub name-from : (sheet : List ℕ) (top : Top) (wants at : ℕ) → LaidOut sheet top wants at → (place : ℕ × ℕ) → placeOn 5 place ≡ placeOn (readFrom sheet) place
-unfolding readFrom
-name-from sheet top wants at p place = rw (p .accepts)
-
-pub no-name-from : (sheet : List ℕ) (v : Verdict) → LaidRefused sheet v → (place : ℕ × ℕ) → place ≡ placeOn (readFrom sheet) place
-unfolding readFrom
-no-name-from sheet v p place = rw (← p .verdict, p .refuses, zero-add)
+    pub no-name-from : (place : ℕ × ℕ) → place ≡ placeOn (readFrom sheet) place
+    unfolding readFrom
+    no-name-from place = rw (← found .verdict, ← f-is, e, zero-add)

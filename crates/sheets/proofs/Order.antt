@@ -1,17 +1,18 @@
 -- The lines of a sheet in turn: what each reader's answer says of the first line that is not as described.
 use Prim.Native.Nat.{ℕ, zero, suc, _+_, _≤_, _<_}
 use mathlib.Core.Path.{_≡_, refl, ap, sym, _∙_, subst}
-use mathlib.Core.Bool.{Bool, true, false}
+use mathlib.Core.Bool.{Bool, true, false, true≢false}
 use mathlib.Core.List.{List, _∷_}
 use native.Mathlib.Omega.{arith}
 use lib.ListN.{length, drop, drop-of-length-le}
 use lib.Seq.{drop-cons}
-use lib.Dec.{leb}
-use borrow.Author.Tests.{leb-true, lt-ltb, le-ltb}
+use lib.Dec.{leb, ltb}
+use borrow.Author.Tests.{leb-true}
 use Rattle.refusals.specs.declared.Refusal.the-variants.{LongSheet, BadLine}
 use Rattle.refusals.specs.declared.Verdict.{Verdict}
+use Rattle.refusals.specs.Refusals.{isRefusal, refuseIf, refuseAt}
+use Rattle.refusals.proofs.Verdicts.{refuse-at, test-says, last-at, accepts-if}
 use Rattle.runs.specs.Run.{mostWants}
-use Rattle.refusals.proofs.Verdicts.{refuse-at}
 use Rattle.runs.specs.declared.Rule.{Rule}
 use Rattle.sheets.specs.declared.lines.NameLine.{NameLine}
 use Rattle.sheets.specs.declared.lines.NumberLine.{NumberLine}
@@ -21,10 +22,10 @@ use Rattle.sheets.specs.declared.reader.TopRead.{TopRead}
 use Rattle.sheets.specs.declared.reader.BelowRead.{BelowRead}
 use Rattle.sheets.specs.declared.reader.Laid.{Laid}
 use Rattle.texts.specs.Text.{lineFeed, behind, isEmpty}
-use Rattle.sheets.specs.Lines.{lineOf, afterLines, lineAfter, headKey, filesKey, fileKey, wantsKey, wantKey, isTapeLine, isNumberLine, numberIn, isCountLine, isTurnLine, turnIn, isRuleLine, ruleIn}
-use Rattle.sheets.specs.Sheet.{longestSheet, mostSheetFiles, headOf, turnOf, ruleOf, filesOf, fileText, wantsText, wantsOf, wantText, endText, shifted, firstSome, firstBadPair, firstBadTop, firstBadBelow, firstBadLine}
+use Rattle.sheets.specs.Lines.{lineOf, afterLines, lineAfter, headKey, filesKey, fileKey, wantsKey, wantKey, isTapeLine, isNumberLine, numberBehind, isCountLine, isTurnLine, turnIn, isRuleLine, ruleIn}
+use Rattle.sheets.specs.Sheet.{longestSheet, mostSheetFiles, sheetHead, sheetTurn, sheetRule, sheetFiles, fileText, wantsText, sheetWants, wantText, endText, shifted, firstSome, firstBadPair, firstBadTop, firstBadBelow, firstBadLine}
 use Rattle.sheets.specs.Reading.{sheetVerdict}
-use Rattle.sheets.specs.Private.{Passed, NamePart, NameLineFound, NumberLineFound, RuleLineFound, PairsPassed, PairBad, TopIs, TopBad, TopFound, FilesAt, WantsAt, BelowIs, BelowBad, BelowFound, LaidOut, LaidRefused, LaidFound}
+use Rattle.sheets.specs.Private.{Passed, NamePart, NameLineFound, NumberLineFound, RuleLineFound, PairsPassed, PairBad, TopIs, TopBad, TopFound, FilesAt, WantsAt, BelowIs, BelowBad, BelowFound, Unread, LaidFound}
 use Rattle.texts.proofs.Bytes.{and-true-both}
 
 -- So many lines passed, and what is left stands at a position.
@@ -44,9 +45,9 @@ module _ (sheet : List ℕ) (lines at : ℕ) (here : Reached sheet lines at) (te
   fails e = rw (← here .rest) e
 
 -- A count line that passed has a number within its limit.
-count-small : (key : List ℕ) (most : ℕ) (line : List ℕ) → isCountLine key most line ≡ true → numberIn key line ≤ most
+count-small : (key : List ℕ) (most : ℕ) (line : List ℕ) → isCountLine key most line ≡ true → numberBehind key line ≤ most
 unfolding isCountLine
-count-small key most line e = leb-true (numberIn key line) most (and-true-both (isNumberLine key line) (leb (numberIn key line) most) e .1)
+count-small key most line e = leb-true (numberBehind key line) most (and-true-both (isNumberLine key line) (leb (numberBehind key line) most) e .1)
 
 module _ (sheet : List ℕ) (r₁ : NameLine) (f₁ : NameLineFound sheet r₁) where
   pub tape-bad : r₁ ≡ NameLine.Bad → TopBad sheet 1
@@ -65,16 +66,16 @@ module _ (sheet : List ℕ) (r₁ : NameLine) (f₁ : NameLineFound sheet r₁) 
     unfolding afterLines
     at-head = record { within = named .0 .within; rest = named .0 .rest }
 
-    module _ (r₂ : NumberLine) (f₂ : NumberLineFound (isNumberLine headKey) (numberIn headKey) sheet at₁ r₂) where
+    module _ (r₂ : NumberLine) (f₂ : NumberLineFound (isNumberLine headKey) (numberBehind headKey) sheet at₁ r₂) where
       pub head-bad : r₂ ≡ NumberLine.Bad → TopBad sheet 2
       unfolding firstBadTop
       head-bad e =
-          let bad = fails sheet 1 at₁ at-head (isNumberLine headKey) (subst (λ r. NumberLineFound (isNumberLine headKey) (numberIn headKey) sheet at₁ r) e f₂) in
+          let bad = fails sheet 1 at₁ at-head (isNumberLine headKey) (subst (λ r. NumberLineFound (isNumberLine headKey) (numberBehind headKey) sheet at₁ r) e f₂) in
           record { first = rw (test₁, bad); some = omega arith }
 
       module _ (head at₂ : ℕ) (e₂ : r₂ ≡ NumberLine.Value head at₂) where
-        head-read : Passed (isNumberLine headKey) sheet at₁ at₂ × (head ≡ numberIn headKey (lineOf (drop at₁ sheet)))
-        head-read = subst (λ r. NumberLineFound (isNumberLine headKey) (numberIn headKey) sheet at₁ r) e₂ f₂
+        head-read : Passed (isNumberLine headKey) sheet at₁ at₂ × (head ≡ numberBehind headKey (lineOf (drop at₁ sheet)))
+        head-read = subst (λ r. NumberLineFound (isNumberLine headKey) (numberBehind headKey) sheet at₁ r) e₂ f₂
 
         test₂ : isNumberLine headKey (lineAfter 1 sheet) ≡ true
         test₂ = passes sheet 1 at₁ at-head (isNumberLine headKey) at₂ (head-read .0)
@@ -116,25 +117,25 @@ module _ (sheet : List ℕ) (r₁ : NameLine) (f₁ : NameLineFound sheet r₁) 
                 pub at-files : Reached sheet 4 at₄
                 at-files = one-more sheet 3 at₃ at-rule isRuleLine at₄ (rule-read .0)
 
-                module _ (r₅ : NumberLine) (f₅ : NumberLineFound (isCountLine filesKey mostSheetFiles) (numberIn filesKey) sheet at₄ r₅) where
+                module _ (r₅ : NumberLine) (f₅ : NumberLineFound (isCountLine filesKey mostSheetFiles) (numberBehind filesKey) sheet at₄ r₅) where
                   pub files-bad : r₅ ≡ NumberLine.Bad → TopBad sheet 5
                   unfolding firstBadTop
                   files-bad e =
-                      let bad = fails sheet 4 at₄ at-files (isCountLine filesKey mostSheetFiles) (subst (λ r. NumberLineFound (isCountLine filesKey mostSheetFiles) (numberIn filesKey) sheet at₄ r) e f₅) in
+                      let bad = fails sheet 4 at₄ at-files (isCountLine filesKey mostSheetFiles) (subst (λ r. NumberLineFound (isCountLine filesKey mostSheetFiles) (numberBehind filesKey) sheet at₄ r) e f₅) in
                       record { first = rw (test₁, test₂, test₃, test₄, bad); some = omega arith }
 
                   pub top-good : (files at₅ : ℕ) → r₅ ≡ NumberLine.Value files at₅
                       → TopIs sheet (record { end = end; head = head; turn = turn; rule = rule; files = files; next = at₅ })
-                  unfolding firstBadTop headOf turnOf ruleOf filesOf fileText
+                  unfolding firstBadTop sheetHead sheetTurn sheetRule sheetFiles fileText
                   top-good files at₅ e₅ =
-                      let read : Passed (isCountLine filesKey mostSheetFiles) sheet at₄ at₅ × (files ≡ numberIn filesKey (lineOf (drop at₄ sheet))) = subst (λ r. NumberLineFound (isCountLine filesKey mostSheetFiles) (numberIn filesKey) sheet at₄ r) e₅ f₅ in
+                      let read : Passed (isCountLine filesKey mostSheetFiles) sheet at₄ at₅ × (files ≡ numberBehind filesKey (lineOf (drop at₄ sheet))) = subst (λ r. NumberLineFound (isCountLine filesKey mostSheetFiles) (numberBehind filesKey) sheet at₄ r) e₅ f₅ in
                       let test₅ = passes sheet 4 at₄ at-files (isCountLine filesKey mostSheetFiles) at₅ (read .0) in
                       let past = one-more sheet 4 at₄ at-files (isCountLine filesKey mostSheetFiles) at₅ (read .0) in
-                      let count : files ≡ numberIn filesKey (lineAfter 4 sheet) = read .1 ∙ ap (λ t. numberIn filesKey (lineOf t)) (at-files .rest) in
+                      let count : files ≡ numberBehind filesKey (lineAfter 4 sheet) = read .1 ∙ ap (λ t. numberBehind filesKey (lineOf t)) (at-files .rest) in
                       record {
                         none = rw (test₁, test₂, test₃, test₄, test₅);
                         name = named .1;
-                        head = head-read .1 ∙ ap (λ t. numberIn headKey (lineOf t)) (at-head .rest);
+                        head = head-read .1 ∙ ap (λ t. numberBehind headKey (lineOf t)) (at-head .rest);
                         turn = turn-read .1 ∙ ap (λ t. turnIn (lineOf t)) (at-turn .rest);
                         rule = rule-read .1 ∙ ap (λ t. ruleIn (lineOf t)) (at-rule .rest);
                         files = count;
@@ -158,7 +159,7 @@ shifted-some lines (suc n) l = refl
 pub files-bad-below : (sheet : List ℕ) (at files line : ℕ) → FilesAt sheet at files → PairBad fileKey sheet at files line → BelowBad sheet (5 + line)
 unfolding firstBadBelow
 files-bad-below sheet at files line p b =
-    let bad : firstBadPair fileKey (filesOf sheet) (fileText sheet) ≡ line = rw (← p .count, ← p .rest) (b .first) in
+    let bad : firstBadPair fileKey (sheetFiles sheet) (fileText sheet) ≡ line = rw (← p .count, ← p .rest) (b .first) in
     let some = b .some in
     let l : 0 < 5 + line = omega arith in
     record { first = rw (bad, shifted-some 5 line some, first-some (5 + line)); some = l }
@@ -176,17 +177,17 @@ files-good-below sheet at files next p b =
 
 -- The `wants` line and the lines below it.
 module _ (sheet : List ℕ) (at files : ℕ) (p : WantsAt sheet at files) (r : NumberLine)
-    (f : NumberLineFound (isCountLine wantsKey mostWants) (numberIn wantsKey) sheet at r) where
+    (f : NumberLineFound (isCountLine wantsKey mostWants) (numberBehind wantsKey) sheet at r) where
   pub wants-bad : r ≡ NumberLine.Bad → BelowBad sheet (files + 6)
   unfolding firstBadBelow
   wants-bad e =
-      let bad : isCountLine wantsKey mostWants (lineOf (wantsText sheet)) ≡ false = rw (← p .rest) (subst (λ k. NumberLineFound (isCountLine wantsKey mostWants) (numberIn wantsKey) sheet at k) e f) in
+      let bad : isCountLine wantsKey mostWants (lineOf (wantsText sheet)) ≡ false = rw (← p .rest) (subst (λ k. NumberLineFound (isCountLine wantsKey mostWants) (numberBehind wantsKey) sheet at k) e f) in
       let l : 0 < files + 6 = omega arith in
       record { first = rw (p .none, bad, ← p .count, first-skip, first-some (files + 6)); some = l }
 
   module _ (wants next : ℕ) (e : r ≡ NumberLine.Value wants next) where
-    wants-read : Passed (isCountLine wantsKey mostWants) sheet at next × (wants ≡ numberIn wantsKey (lineOf (drop at sheet)))
-    wants-read = subst (λ k. NumberLineFound (isCountLine wantsKey mostWants) (numberIn wantsKey) sheet at k) e f
+    wants-read : Passed (isCountLine wantsKey mostWants) sheet at next × (wants ≡ numberBehind wantsKey (lineOf (drop at sheet)))
+    wants-read = subst (λ k. NumberLineFound (isCountLine wantsKey mostWants) (numberBehind wantsKey) sheet at k) e f
 
     pub wants-within : next ≤ length sheet
     wants-within = wants-read .0 .within
@@ -194,9 +195,9 @@ module _ (sheet : List ℕ) (at files : ℕ) (p : WantsAt sheet at files) (r : N
     wants-test : isCountLine wantsKey mostWants (lineOf (wantsText sheet)) ≡ true
     wants-test = rw (← p .rest) (wants-read .0 .good)
 
-    wants-count : wants ≡ wantsOf sheet
-    unfolding wantsOf
-    wants-count = wants-read .1 ∙ ap (λ t. numberIn wantsKey (lineOf t)) (p .rest)
+    wants-count : wants ≡ sheetWants sheet
+    unfolding sheetWants
+    wants-count = wants-read .1 ∙ ap (λ t. numberBehind wantsKey (lineOf t)) (p .rest)
 
     pub wants-few : wants ≤ mostWants
     wants-few = rw (wants-read .1) (count-small wantsKey mostWants (lineOf (drop at sheet)) (wants-read .0 .good))
@@ -208,13 +209,13 @@ module _ (sheet : List ℕ) (at files : ℕ) (p : WantsAt sheet at files) (r : N
     pub want-bad : (line : ℕ) → PairBad wantKey sheet next wants line → BelowBad sheet (files + 6 + line)
     unfolding firstBadBelow
     want-bad line b =
-        let bad : firstBadPair wantKey (wantsOf sheet) (wantText sheet) ≡ line = rw (← wants-count, ← wants-rest) (b .first) in
+        let bad : firstBadPair wantKey (sheetWants sheet) (wantText sheet) ≡ line = rw (← wants-count, ← wants-rest) (b .first) in
         let some = b .some in
         let l : 0 < files + 6 + line = omega arith in
         record { first = rw (p .none, wants-test, bad, ← p .count, shifted-some (files + 6) line some, first-skip, first-skip, first-some (files + 6 + line)); some = l }
 
     module _ (last : ℕ) (b : PairsPassed wantKey sheet next wants last) where
-      wants-none : firstBadPair wantKey (wantsOf sheet) (wantText sheet) ≡ 0
+      wants-none : firstBadPair wantKey (sheetWants sheet) (wantText sheet) ≡ 0
       wants-none = rw (← wants-count, ← wants-rest) (b .none)
 
       end-is : endText sheet ≡ drop last sheet
@@ -242,35 +243,50 @@ module _ (sheet : List ℕ) (at files : ℕ) (p : WantsAt sheet at files) (r : N
           }
 
 -- The whole sheet.
-pub sheet-long : (sheet : List ℕ) → longestSheet < length sheet → LaidRefused sheet (record { refusal = LongSheet; place = 0 })
-unfolding sheetVerdict
-sheet-long sheet l = record { verdict = rw (lt-ltb longestSheet (length sheet) l); refuses = refl }
-
 pub top-found : (sheet : List ℕ) (top : Top) → TopIs sheet top → FilesAt sheet (top .next) (top .files)
 top-found sheet top p = record { count = p .files; few = p .few; within = p .within; rest = p .rest }
 
-module _ (sheet : List ℕ) (short : length sheet ≤ longestSheet) where
-  line-bad : (line : ℕ) → 0 < line → firstBadLine sheet ≡ line → LaidRefused sheet (record { refusal = BadLine; place = line })
+unread-found : (sheet : List ℕ) (v : Verdict) → isRefusal (v .refusal) ≡ true → v ≡ sheetVerdict sheet → (laid : Laid) → Unread v laid → LaidFound sheet laid
+unread-found sheet v refuses is laid u =
+    record {
+      verdict = u .same ∙ is;
+      file-at = omega (arith, u .file-at);
+      want-at = omega (arith, u .want-at);
+      out = λ e. absurd (true≢false (sym refuses ∙ ap (λ w. isRefusal (w .refusal)) (sym (u .same)) ∙ e));
+    }
+
+-- v is the verdict on its length, f whether that refuses.
+module _ (sheet : List ℕ) (v : Verdict) (f : Bool) (v-is : v ≡ refuseIf (ltb longestSheet (length sheet)) LongSheet) (f-is : f ≡ isRefusal (v .refusal)) where
+  pub sheet-long : f ≡ true → (laid : Laid) → Unread v laid → LaidFound sheet laid
   unfolding sheetVerdict
-  line-bad line some e =
-      record {
-        verdict = rw (le-ltb longestSheet (length sheet) short, e, refuse-at line BadLine (λ z. omega arith));
-        refuses = refl;
-      }
+  sheet-long e = unread-found sheet v (sym f-is ∙ e) (v-is ∙ rw (test-says v-is f-is e))
 
-  pub top-refuses : (line : ℕ) → TopBad sheet line → LaidRefused sheet (record { refusal = BadLine; place = line })
-  unfolding firstBadLine
-  top-refuses line b = let l : 0 < line = b .some in line-bad line l (rw (b .first, first-some line))
+  module _ (short : f ≡ false) where
+    line-bad : (line : ℕ) → 0 < line → firstBadLine sheet ≡ line → (w : Verdict) → w ≡ refuseAt line BadLine → (laid : Laid) → Unread w laid → LaidFound sheet laid
+    unfolding sheetVerdict
+    line-bad line some e w w-is =
+        let refuses : isRefusal (w .refusal) ≡ true = rw (w-is, refuse-at line BadLine (λ z. omega arith)) in
+        unread-found sheet w refuses (last-at BadLine refl w-is (sym e) ∙ rw (test-says v-is f-is short))
 
-  module _ (top : Top) (t : TopIs sheet top) where
-    pub below-refuses : (line : ℕ) → BelowBad sheet line → LaidRefused sheet (record { refusal = BadLine; place = line })
+    pub top-refuses : (line : ℕ) → TopBad sheet line → (w : Verdict) → w ≡ refuseAt line BadLine → (laid : Laid) → Unread w laid → LaidFound sheet laid
     unfolding firstBadLine
-    below-refuses line b = let l : 0 < line = b .some in line-bad line l (rw (t .none, b .first, first-skip, first-some line))
+    top-refuses line b = let l : 0 < line = b .some in line-bad line l (rw (b .first, first-some line))
 
-    pub laid-out : (wants at : ℕ) → BelowIs sheet wants at → LaidOut sheet top wants at
-    unfolding sheetVerdict firstBadLine
-    laid-out wants at b =
-        record { accepts = rw (le-ltb longestSheet (length sheet) short, t .none, b .none); upper = t; below = b }
+    module _ (top : Top) (t : TopIs sheet top) where
+      pub below-refuses : (line : ℕ) → BelowBad sheet line → (w : Verdict) → w ≡ refuseAt line BadLine → (laid : Laid) → Unread w laid → LaidFound sheet laid
+      unfolding firstBadLine
+      below-refuses line b = let l : 0 < line = b .some in line-bad line l (rw (t .none, b .first, first-skip, first-some line))
+
+      pub laid-out : (wants at : ℕ) → BelowIs sheet wants at → LaidFound sheet (record { verdict = v; top = top; wants = wants; at = at })
+      unfolding sheetVerdict firstBadLine
+      laid-out wants at b =
+          let fits = accepts-if (ltb longestSheet (length sheet)) LongSheet refl (test-says v-is f-is short) in
+          record {
+            verdict = v-is ∙ rw (fits, t .none, b .none);
+            file-at = t .within;
+            want-at = b .within;
+            out = λ e. record { upper = t; below = b };
+          }
 
 -- What the readers of the parts answered.
 module _ (sheet : List ℕ) (r : TopRead) (found : TopFound sheet r) where
@@ -286,10 +302,3 @@ module _ (sheet : List ℕ) (r : BelowRead) (found : BelowFound sheet r) where
 
   pub below-failed : (line : ℕ) → r ≡ BelowRead.Bad line → BelowBad sheet line
   below-failed line e = subst (λ k. BelowFound sheet k) e found
-
-module _ (sheet : List ℕ) (r : Laid) (found : LaidFound sheet r) where
-  pub laid-read : (top : Top) (wants at : ℕ) → r ≡ Laid.Out top wants at → LaidOut sheet top wants at
-  laid-read top wants at e = subst (λ k. LaidFound sheet k) e found
-
-  pub laid-failed : (v : Verdict) → r ≡ Laid.Refused v → LaidRefused sheet v
-  laid-failed v e = subst (λ k. LaidFound sheet k) e found

@@ -20,7 +20,7 @@ use Rattle.sheets.specs.declared.lines.PairLines.{PairLines}
 use Rattle.refusals.specs.Refusals.{firstWhere}
 use Rattle.runs.proofs.Search.{first-more, first-here, or-false-both}
 use Rattle.texts.specs.Text.{lineFeed, comma, isEmpty, has, behind, startsWith, isText, isNumber, isName}
-use Rattle.sheets.specs.Lines.{lineOf, afterLines, lineAfter, tapeKey, turnKey, ruleKey, leastText, sweepText, valueText, isTapeLine, isNumberLine, numberIn, isCountLine, emptyTurn, isTurnLine, turnIn, isRuleLine, ruleIn, isPair, isPairLine}
+use Rattle.sheets.specs.Lines.{lineOf, afterLines, lineAfter, tapeKey, turnKey, ruleKey, leastText, sweepText, valueText, isTapeLine, isNumberLine, numberBehind, isCountLine, emptyTurn, isTurnLine, turnIn, isRuleLine, ruleIn, isPair, isPairLine}
 use Rattle.sheets.specs.Sheet.{firstBadPair}
 use Rattle.texts.specs.Found.{FirstAt, FoundIn, NumberIs, NumberFound}
 use Rattle.sheets.specs.Private.{ValueAt, ValueFound, Passed, NamePart, NumberLineFound, PairIs, PairFound, PairAt, PairLineFound, PairsPassed, PairBad, PairLinesFound}
@@ -120,7 +120,7 @@ module _ (key sheet : List ℕ) (at : ℕ) (r : Keyed) (found : ValueFound key s
       unfolding isNumberLine
       number-line-bad f = rw (no-number f, and-false)
 
-      pub number-line-good : (n : ℕ) → q ≡ Number.Value n → Passed (isNumberLine key) sheet at (end + 1) × (n ≡ numberIn key (lineOf (drop at sheet)))
+      pub number-line-good : (n : ℕ) → q ≡ Number.Value n → Passed (isNumberLine key) sheet at (end + 1) × (n ≡ numberBehind key (lineOf (drop at sheet)))
       unfolding isNumberLine
       number-line-good n f = (line-passed (isNumberLine key) (rw (value-at .begun, number-is n f .good)), number-is n f .value)
 
@@ -206,16 +206,16 @@ unfolding isPairLine
 unkeyed-pair key line e = rw e
 
 -- A number of lines to follow.
-module _ (key : List ℕ) (most : ℕ) (sheet : List ℕ) (at : ℕ) (r : NumberLine) (found : NumberLineFound (isNumberLine key) (numberIn key) sheet at r) where
+module _ (key : List ℕ) (most : ℕ) (sheet : List ℕ) (at : ℕ) (r : NumberLine) (found : NumberLineFound (isNumberLine key) (numberBehind key) sheet at r) where
   pub count-line-bad : r ≡ NumberLine.Bad → isCountLine key most (lineOf (drop at sheet)) ≡ false
   unfolding isCountLine
-  count-line-bad e = rw (subst (λ k. NumberLineFound (isNumberLine key) (numberIn key) sheet at k) e found)
+  count-line-bad e = rw (subst (λ k. NumberLineFound (isNumberLine key) (numberBehind key) sheet at k) e found)
 
   module _ (n next : ℕ) (e : r ≡ NumberLine.Value n next) where
-    counted : Passed (isNumberLine key) sheet at next × (n ≡ numberIn key (lineOf (drop at sheet)))
-    counted = subst (λ k. NumberLineFound (isNumberLine key) (numberIn key) sheet at k) e found
+    counted : Passed (isNumberLine key) sheet at next × (n ≡ numberBehind key (lineOf (drop at sheet)))
+    counted = subst (λ k. NumberLineFound (isNumberLine key) (numberBehind key) sheet at k) e found
 
-    pub count-line-good : n ≤ most → Passed (isCountLine key most) sheet at next × (n ≡ numberIn key (lineOf (drop at sheet)))
+    pub count-line-good : n ≤ most → Passed (isCountLine key most) sheet at next × (n ≡ numberBehind key (lineOf (drop at sheet)))
     unfolding isCountLine
     count-line-good l =
         let p = counted in

@@ -6,7 +6,7 @@ use lib.ListN.{length, drop}
 use lib.Dec.{leb}
 use Rattle.runs.specs.declared.Rule.{Rule}
 use Rattle.runs.specs.declared.Rule.the-variants.{Sweep, Least}
-use Rattle.texts.specs.Text.{lineFeed, comma, isEmpty, has, before, behind, startsWith, isText, isNumber, isName, valueOf}
+use Rattle.texts.specs.Text.{bytes, lineFeed, comma, isEmpty, has, before, behind, startsWith, isText, isNumber, isName, valueOf}
 
 -- The first line of a text. Where no LF ends it there is none, and the empty line that stands for it is as described nowhere:
 -- so a line that is missing and a last line without LF are refused alike.
@@ -21,36 +21,36 @@ afterLines (suc n) text = behind lineFeed (afterLines n text)
 abbrev pub lineAfter : ℕ → List ℕ → List ℕ
 lineAfter n text = lineOf (afterLines n text)
 
--- The keys, `tape=` to `want=`, and the names of the two rules.
+-- The keys, and the names of the two rules.
 abbrev pub tapeKey : List ℕ
-tapeKey = 116 ∷ 97 ∷ 112 ∷ 101 ∷ 61 ∷ []
+tapeKey = bytes "tape="
 
 abbrev pub headKey : List ℕ
-headKey = 104 ∷ 101 ∷ 97 ∷ 100 ∷ 61 ∷ []
+headKey = bytes "head="
 
 abbrev pub turnKey : List ℕ
-turnKey = 116 ∷ 117 ∷ 114 ∷ 110 ∷ 61 ∷ []
+turnKey = bytes "turn="
 
 abbrev pub ruleKey : List ℕ
-ruleKey = 114 ∷ 117 ∷ 108 ∷ 101 ∷ 61 ∷ []
+ruleKey = bytes "rule="
 
 abbrev pub filesKey : List ℕ
-filesKey = 102 ∷ 105 ∷ 108 ∷ 101 ∷ 115 ∷ 61 ∷ []
+filesKey = bytes "files="
 
 abbrev pub fileKey : List ℕ
-fileKey = 102 ∷ 105 ∷ 108 ∷ 101 ∷ 61 ∷ []
+fileKey = bytes "file="
 
 abbrev pub wantsKey : List ℕ
-wantsKey = 119 ∷ 97 ∷ 110 ∷ 116 ∷ 115 ∷ 61 ∷ []
+wantsKey = bytes "wants="
 
 abbrev pub wantKey : List ℕ
-wantKey = 119 ∷ 97 ∷ 110 ∷ 116 ∷ 61 ∷ []
+wantKey = bytes "want="
 
 abbrev pub leastText : List ℕ
-leastText = 108 ∷ 101 ∷ 97 ∷ 115 ∷ 116 ∷ []
+leastText = bytes "least"
 
 abbrev pub sweepText : List ℕ
-sweepText = 115 ∷ 119 ∷ 101 ∷ 101 ∷ 112 ∷ []
+sweepText = bytes "sweep"
 
 abbrev pub ruleText : Rule → List ℕ
 ruleText Sweep = sweepText
@@ -68,12 +68,12 @@ isTapeLine line = startsWith tapeKey line && isName (valueText tapeKey line)
 unfoldable pub isNumberLine : List ℕ → List ℕ → Bool
 isNumberLine key line = startsWith key line && isNumber (valueText key line)
 
-abbrev pub numberIn : List ℕ → List ℕ → ℕ
-numberIn key line = valueOf (valueText key line)
+abbrev pub numberBehind : List ℕ → List ℕ → ℕ
+numberBehind key line = valueOf (valueText key line)
 
 -- A key and a number of lines to follow, which is limited.
 unfoldable pub isCountLine : List ℕ → ℕ → List ℕ → Bool
-isCountLine key most line = isNumberLine key line && leb (numberIn key line) most
+isCountLine key most line = isNumberLine key line && leb (numberBehind key line) most
 
 -- `turn=` with nothing after it means this price.
 abbrev pub emptyTurn : ℕ
@@ -84,7 +84,7 @@ unfoldable pub isTurnLine : List ℕ → Bool
 isTurnLine line = startsWith turnKey line && (isEmpty (valueText turnKey line) || isNumber (valueText turnKey line))
 
 unfoldable pub turnIn : List ℕ → ℕ
-turnIn line = cond (isEmpty (valueText turnKey line)) emptyTurn (numberIn turnKey line)
+turnIn line = cond (isEmpty (valueText turnKey line)) emptyTurn (numberBehind turnKey line)
 
 -- `rule=least` or `rule=sweep`.
 unfoldable pub isRuleLine : List ℕ → Bool

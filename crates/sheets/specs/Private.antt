@@ -1,11 +1,13 @@
 -- What the functions that read parts of a sheet find, by cases of their answers. No public contract cites this file.
 use Prim.Native.Nat.{ℕ, _+_, _-_, _≤_, _<_}
 use mathlib.Core.Path.{_≡_}
-use mathlib.Core.Bool.{Bool, true, false}
+use mathlib.Core.Bool.{Bool, true, false, cond}
 use mathlib.Core.List.{List, _++_}
 use lib.ListN.{length, take, drop}
+use Rattle.refusals.specs.declared.Refusal.the-variants.{Accepted}
 use Rattle.refusals.specs.declared.Verdict.{Verdict}
-use Rattle.refusals.specs.Refusals.{isRefusal, accepted}
+use Rattle.refusals.specs.Refusals.{isRefusal}
+use Rattle.sheets.specs.declared.Reading.{Reading}
 use Rattle.sheets.specs.declared.lines.Keyed.{Keyed}
 use Rattle.sheets.specs.declared.lines.NameLine.{NameLine}
 use Rattle.sheets.specs.declared.lines.NumberLine.{NumberLine}
@@ -19,8 +21,8 @@ use Rattle.sheets.specs.declared.reader.BelowRead.{BelowRead}
 use Rattle.sheets.specs.declared.reader.Laid.{Laid}
 use Rattle.texts.specs.Text.{lineFeed, comma, before, behind, startsWith, valueOf}
 use Rattle.sheets.specs.Lines.{lineOf, afterLines, lineAfter, tapeKey, fileKey, wantKey, valueText, isTapeLine, isRuleLine, ruleIn, isPair, isPairLine, firstIn, secondIn}
-use Rattle.sheets.specs.Sheet.{mostSheetFiles, headOf, turnOf, ruleOf, filesOf, fileText, wantsText, wantsOf, wantText, firstBadPair, firstBadTop, firstBadBelow, eachOf}
-use Rattle.sheets.specs.Reading.{sheetVerdict}
+use Rattle.sheets.specs.Sheet.{mostSheetFiles, sheetHead, sheetTurn, sheetRule, sheetFiles, fileText, wantsText, sheetWants, wantText, firstBadPair, firstBadTop, firstBadBelow, eachOf}
+use Rattle.sheets.specs.Reading.{sheetVerdict, refusedReading}
 
 -- A line that begins with a key: where its value starts and its LF stands.
 pub record ValueAt (key sheet : List ℕ) (at from end : ℕ) : Type 0 where
@@ -97,10 +99,10 @@ PairLinesFound key sheet at count (PairLines.Bad line) = PairBad key sheet at co
 pub record TopIs (sheet : List ℕ) (top : Top) : Type 0 where
   pub none : firstBadTop sheet ≡ 0
   pub name : NamePart sheet (top .end)
-  pub head : top .head ≡ headOf sheet
-  pub turn : top .turn ≡ turnOf sheet
-  pub rule : top .rule ≡ ruleOf sheet
-  pub files : top .files ≡ filesOf sheet
+  pub head : top .head ≡ sheetHead sheet
+  pub turn : top .turn ≡ sheetTurn sheet
+  pub rule : top .rule ≡ sheetRule sheet
+  pub files : top .files ≡ sheetFiles sheet
   pub few : top .files ≤ mostSheetFiles
   pub within : top .next ≤ length sheet
   pub rest : drop (top .next) sheet ≡ fileText sheet
@@ -115,24 +117,24 @@ TopFound sheet (TopRead.Bad line) = TopBad sheet line
 
 -- Where the file lines and the `wants` line start, once what stands above is as described.
 pub record FilesAt (sheet : List ℕ) (at files : ℕ) : Type 0 where
-  pub count : files ≡ filesOf sheet
+  pub count : files ≡ sheetFiles sheet
   pub few : files ≤ mostSheetFiles
   pub within : at ≤ length sheet
   pub rest : drop at sheet ≡ fileText sheet
 
 pub record WantsAt (sheet : List ℕ) (at files : ℕ) : Type 0 where
-  pub count : files ≡ filesOf sheet
+  pub count : files ≡ sheetFiles sheet
   pub few : files ≤ mostSheetFiles
   pub within : at ≤ length sheet
   pub rest : drop at sheet ≡ wantsText sheet
-  pub none : firstBadPair fileKey (filesOf sheet) (fileText sheet) ≡ 0
+  pub none : firstBadPair fileKey (sheetFiles sheet) (fileText sheet) ≡ 0
 
 -- The lines below the first five: the number of wants, and where the want lines start.
 pub record BelowIs (sheet : List ℕ) (wants at : ℕ) : Type 0 where
   pub none : firstBadBelow sheet ≡ 0
-  pub filed : firstBadPair fileKey (filesOf sheet) (fileText sheet) ≡ 0
-  pub wanted : firstBadPair wantKey (wantsOf sheet) (wantText sheet) ≡ 0
-  pub count : wants ≡ wantsOf sheet
+  pub filed : firstBadPair fileKey (sheetFiles sheet) (fileText sheet) ≡ 0
+  pub wanted : firstBadPair wantKey (sheetWants sheet) (wantText sheet) ≡ 0
+  pub count : wants ≡ sheetWants sheet
   pub within : at ≤ length sheet
   pub rest : drop at sheet ≡ wantText sheet
 
@@ -144,19 +146,23 @@ abbrev pub BelowFound : List ℕ → BelowRead → Type 0
 BelowFound sheet (BelowRead.Good wants at) = BelowIs sheet wants at
 BelowFound sheet (BelowRead.Bad line) = BelowBad sheet line
 
--- A sheet that 12 and 11 accept, with its parts; or its refusal.
-pub record LaidOut (sheet : List ℕ) (top : Top) (wants at : ℕ) : Type 0 where
-  pub accepts : sheetVerdict sheet ≡ accepted
-  pub upper : TopIs sheet top
-  pub below : BelowIs sheet wants at
+-- A sheet that 12 or 11 refuses.
+pub record Unread (verdict : Verdict) (laid : Laid) : Type 0 where
+  pub same : laid .verdict ≡ verdict
+  pub file-at : laid .top .next ≡ 0
+  pub want-at : laid .at ≡ 0
 
-pub record LaidRefused (sheet : List ℕ) (v : Verdict) : Type 0 where
-  pub verdict : v ≡ sheetVerdict sheet
-  pub refuses : isRefusal (v .refusal) ≡ true
+-- One that they accept, with its parts.
+pub record LaidOut (sheet : List ℕ) (laid : Laid) : Type 0 where
+  pub upper : TopIs sheet (laid .top)
+  pub below : BelowIs sheet (laid .wants) (laid .at)
 
-abbrev pub LaidFound : List ℕ → Laid → Type 0
-LaidFound sheet (Laid.Out top wants at) = LaidOut sheet top wants at
-LaidFound sheet (Laid.Refused v) = LaidRefused sheet v
+-- What they say of a sheet; the file and want lines start within it, whatever they say.
+pub record LaidFound (sheet : List ℕ) (laid : Laid) : Type 0 where
+  pub verdict : laid .verdict ≡ sheetVerdict sheet
+  pub file-at : laid .top .next ≤ length sheet
+  pub want-at : laid .at ≤ length sheet
+  pub out : isRefusal (laid .verdict .refusal) ≡ false → LaidOut sheet laid
 
 -- Lines of pairs that are all as described, and rows with room for them.
 pub record PairsReady (key sheet : List ℕ) (at count : ℕ) (firsts seconds : List ℕ) : Type 0 where
@@ -172,3 +178,12 @@ leftRow key text count row = eachOf (λ i. firstIn key (lineAfter i text)) count
 
 abbrev pub rightRow : List ℕ → List ℕ → ℕ → List ℕ → List ℕ
 rightRow key text count row = eachOf (λ i. secondIn key (lineAfter i text)) count ++ drop count row
+
+-- How many lines are filled, and what is answered, for a verdict.
+abbrev pub linesFilled : Verdict → ℕ → ℕ
+linesFilled v lines = cond (isRefusal (v .refusal)) 0 lines
+
+abbrev pub readingOf : Verdict → Top → ℕ → Reading
+readingOf v top wants =
+    cond (isRefusal (v .refusal)) (refusedReading v)
+    (record { refusal = Accepted; place = 0; head = top .head; turn = top .turn; rule = top .rule; files = top .files; wants = wants })

@@ -1,5 +1,6 @@
 -- What the sheet reader answers, for every input of bytes, and the rows that it leaves.
 use Prim.Native.Nat.{ℕ, _+_}
+use mathlib.Core.Path.{_≡_}
 use mathlib.Core.Bool.{Bool, cond, _||_}
 use mathlib.Core.List.{List, [], _∷_, _++_}
 use lib.ListN.{length, drop}
@@ -10,7 +11,7 @@ use Rattle.refusals.specs.Refusals.{isRefusal, refuseIf, refuseAt, firstOf}
 use Rattle.runs.specs.declared.Rule.the-variants.{Least}
 use Rattle.sheets.specs.declared.Reading.{Reading}
 use Rattle.sheets.specs.Lines.{tapeKey}
-use Rattle.sheets.specs.Sheet.{longestSheet, headOf, turnOf, ruleOf, filesOf, wantsOf, firstBadLine, nameIn}
+use Rattle.sheets.specs.Sheet.{longestSheet, sheetHead, sheetTurn, sheetRule, sheetFiles, sheetWants, firstBadLine, sheetRun, sheetName}
 
 -- 12, then 11 with its line.
 unfoldable pub sheetVerdict : List ℕ → Verdict
@@ -26,7 +27,7 @@ unfoldable pub readVerdict : List ℕ → List ℕ → List ℕ → List ℕ →
 readVerdict sheet starts lengths numbers counts =
     firstOf
     (sheetVerdict sheet
-    ∷ refuseIf (shortPairRows (filesOf sheet) starts lengths || shortPairRows (wantsOf sheet) numbers counts) ShortRow
+    ∷ refuseIf (shortPairRows (sheetFiles sheet) starts lengths || shortPairRows (sheetWants sheet) numbers counts) ShortRow
     ∷ [])
 
 -- A refusal's answer: kind and place, every other number 0 and the rule least.
@@ -40,20 +41,42 @@ readAnswer v sheet =
     (record {
       refusal = Accepted;
       place = 0;
-      head = headOf sheet;
-      turn = turnOf sheet;
-      rule = ruleOf sheet;
-      files = filesOf sheet;
-      wants = wantsOf sheet;
+      head = sheetHead sheet;
+      turn = sheetTurn sheet;
+      rule = sheetRule sheet;
+      files = sheetFiles sheet;
+      wants = sheetWants sheet;
     })
 
 -- A row afterwards: the values read, then the later entries as they were; on a refusal the whole row as it was.
 unfoldable pub readRow : Verdict → List ℕ → List ℕ → List ℕ
 readRow v values row = cond (isRefusal (v .refusal)) row (values ++ drop (length values) row)
 
+-- The rows that the reader is lent: starts and lengths of the files, numbers and counts of the wants.
+pub record RunRows : Type 0 where
+  pub starts : List ℕ
+  pub lengths : List ℕ
+  pub numbers : List ℕ
+  pub counts : List ℕ
+
+abbrev pub runRows : List ℕ → List ℕ → List ℕ → List ℕ → RunRows
+runRows starts lengths numbers counts =
+    record { starts = starts; lengths = lengths; numbers = numbers; counts = counts }
+
+abbrev pub rowsVerdict : List ℕ → RunRows → Verdict
+rowsVerdict sheet rows = readVerdict sheet (rows .starts) (rows .lengths) (rows .numbers) (rows .counts)
+
+-- What the reader answers, and the rows that it leaves.
+pub record SheetRead (sheet : List ℕ) (rows : RunRows) (r : Reading) (rows′ : RunRows) : Type 0 where
+  pub answer : r ≡ readAnswer (rowsVerdict sheet rows) sheet
+  pub starts : rows′ .starts ≡ readRow (rowsVerdict sheet rows) (sheetRun sheet .starts) (rows .starts)
+  pub lengths : rows′ .lengths ≡ readRow (rowsVerdict sheet rows) (sheetRun sheet .lengths) (rows .lengths)
+  pub numbers : rows′ .numbers ≡ readRow (rowsVerdict sheet rows) (sheetRun sheet .numbers) (rows .numbers)
+  pub counts : rows′ .counts ≡ readRow (rowsVerdict sheet rows) (sheetRun sheet .counts) (rows .counts)
+
 -- The name: an empty part where 12 or 11 applies.
 unfoldable pub readName : List ℕ → List ℕ
-readName sheet = cond (isRefusal ((sheetVerdict sheet) .refusal)) [] (nameIn sheet)
+readName sheet = cond (isRefusal ((sheetVerdict sheet) .refusal)) [] (sheetName sheet)
 
 -- Where the name's part starts in the sheet: behind the key, or at the front where it is empty.
 unfoldable pub readFrom : List ℕ → ℕ

@@ -6,7 +6,7 @@ use Rattle.refusals.specs.Refusals.{firstWhere}
 use Rattle.runs.specs.Run.{Run, mostWants}
 use Rattle.runs.specs.declared.Rule.{Rule}
 use Rattle.texts.specs.Text.{isEmpty}
-use Rattle.sheets.specs.Lines.{lineOf, afterLines, lineAfter, tapeKey, headKey, filesKey, fileKey, wantsKey, wantKey, valueText, isTapeLine, isNumberLine, numberIn, isCountLine, isTurnLine, turnIn, isRuleLine, ruleIn, isPairLine, firstIn, secondIn}
+use Rattle.sheets.specs.Lines.{lineOf, afterLines, lineAfter, tapeKey, headKey, filesKey, fileKey, wantsKey, wantKey, valueText, isTapeLine, isNumberLine, numberBehind, isCountLine, isTurnLine, turnIn, isRuleLine, ruleIn, isPairLine, firstIn, secondIn}
 
 -- The limits of a sheet. `wants` is limited as the run is.
 abbrev pub longestSheet : ℕ
@@ -16,33 +16,33 @@ abbrev pub mostSheetFiles : ℕ
 mostSheetFiles = 256
 
 -- The numbers of the first lines.
-unfoldable pub headOf : List ℕ → ℕ
-headOf sheet = numberIn headKey (lineAfter 1 sheet)
+unfoldable pub sheetHead : List ℕ → ℕ
+sheetHead sheet = numberBehind headKey (lineAfter 1 sheet)
 
-unfoldable pub turnOf : List ℕ → ℕ
-turnOf sheet = turnIn (lineAfter 2 sheet)
+unfoldable pub sheetTurn : List ℕ → ℕ
+sheetTurn sheet = turnIn (lineAfter 2 sheet)
 
-unfoldable pub ruleOf : List ℕ → Rule
-ruleOf sheet = ruleIn (lineAfter 3 sheet)
+unfoldable pub sheetRule : List ℕ → Rule
+sheetRule sheet = ruleIn (lineAfter 3 sheet)
 
-unfoldable pub filesOf : List ℕ → ℕ
-filesOf sheet = numberIn filesKey (lineAfter 4 sheet)
+unfoldable pub sheetFiles : List ℕ → ℕ
+sheetFiles sheet = numberBehind filesKey (lineAfter 4 sheet)
 
 -- The text from the first `file` line on, from the `wants` line on, from the first `want` line on, and behind the last of these.
 unfoldable pub fileText : List ℕ → List ℕ
 fileText sheet = afterLines 5 sheet
 
 unfoldable pub wantsText : List ℕ → List ℕ
-wantsText sheet = afterLines (filesOf sheet) (fileText sheet)
+wantsText sheet = afterLines (sheetFiles sheet) (fileText sheet)
 
-unfoldable pub wantsOf : List ℕ → ℕ
-wantsOf sheet = numberIn wantsKey (lineOf (wantsText sheet))
+unfoldable pub sheetWants : List ℕ → ℕ
+sheetWants sheet = numberBehind wantsKey (lineOf (wantsText sheet))
 
 unfoldable pub wantText : List ℕ → List ℕ
 wantText sheet = afterLines 1 (wantsText sheet)
 
 unfoldable pub endText : List ℕ → List ℕ
-endText sheet = afterLines (wantsOf sheet) (wantText sheet)
+endText sheet = afterLines (sheetWants sheet) (wantText sheet)
 
 -- The number of a line that is not as described, 0 where it is; and of the first such line of many, behind so many lines.
 abbrev pub unless : Bool → ℕ → ℕ
@@ -76,10 +76,10 @@ firstBadTop sheet =
 unfoldable pub firstBadBelow : List ℕ → ℕ
 firstBadBelow sheet =
     firstSome
-    (shifted 5 (firstBadPair fileKey (filesOf sheet) (fileText sheet))
-    ∷ unless (isCountLine wantsKey mostWants (lineOf (wantsText sheet))) (filesOf sheet + 6)
-    ∷ shifted (filesOf sheet + 6) (firstBadPair wantKey (wantsOf sheet) (wantText sheet))
-    ∷ unless (isEmpty (endText sheet)) (filesOf sheet + wantsOf sheet + 7)
+    (shifted 5 (firstBadPair fileKey (sheetFiles sheet) (fileText sheet))
+    ∷ unless (isCountLine wantsKey mostWants (lineOf (wantsText sheet))) (sheetFiles sheet + 6)
+    ∷ shifted (sheetFiles sheet + 6) (firstBadPair wantKey (sheetWants sheet) (wantText sheet))
+    ∷ unless (isEmpty (endText sheet)) (sheetFiles sheet + sheetWants sheet + 7)
     ∷ [])
 
 -- The first line of a sheet that is not as described; 0 where all are.
@@ -92,17 +92,17 @@ eachOf value zero = []
 eachOf value (suc n) = eachOf value n ++ (value n ∷ [])
 
 -- The run that a sheet holds: `file` is start and length, `want` is file number and count.
-unfoldable pub runIn : List ℕ → Run
-runIn sheet =
+unfoldable pub sheetRun : List ℕ → Run
+sheetRun sheet =
     record {
-      starts = eachOf (λ i. firstIn fileKey (lineAfter i (fileText sheet))) (filesOf sheet);
-      lengths = eachOf (λ i. secondIn fileKey (lineAfter i (fileText sheet))) (filesOf sheet);
-      numbers = eachOf (λ i. firstIn wantKey (lineAfter i (wantText sheet))) (wantsOf sheet);
-      counts = eachOf (λ i. secondIn wantKey (lineAfter i (wantText sheet))) (wantsOf sheet);
-      head = headOf sheet;
-      turn = turnOf sheet;
+      starts = eachOf (λ i. firstIn fileKey (lineAfter i (fileText sheet))) (sheetFiles sheet);
+      lengths = eachOf (λ i. secondIn fileKey (lineAfter i (fileText sheet))) (sheetFiles sheet);
+      numbers = eachOf (λ i. firstIn wantKey (lineAfter i (wantText sheet))) (sheetWants sheet);
+      counts = eachOf (λ i. secondIn wantKey (lineAfter i (wantText sheet))) (sheetWants sheet);
+      head = sheetHead sheet;
+      turn = sheetTurn sheet;
     }
 
 -- The tape name that a sheet holds.
-unfoldable pub nameIn : List ℕ → List ℕ
-nameIn sheet = valueText tapeKey (lineAfter 0 sheet)
+unfoldable pub sheetName : List ℕ → List ℕ
+sheetName sheet = valueText tapeKey (lineAfter 0 sheet)

@@ -1,7 +1,7 @@
 // Readers of single lines. Each takes the position at which the line starts, and answers its value and where the next line starts.
 ghost use Prim.Native.Nat.{_≤_, _<_};
 ghost use lib.ListN.{length};
-ghost use Rattle.sheets.specs.Lines.{isNumberLine, numberIn, isCountLine, isTurnLine, turnIn};
+ghost use Rattle.sheets.specs.Lines.{isNumberLine, numberBehind, isCountLine, isTurnLine, turnIn};
 ghost use Rattle.sheets.specs.Private.{ValueFound, NameLineFound, NumberLineFound, RuleLineFound, PairFound, PairLineFound, PairLinesFound};
 use crate::EMPTY_TURN;
 use runs::Rule;
@@ -59,7 +59,7 @@ fn find_value(sheet: &[u8], at: usize, key: &[u8]) -> Keyed
     requires { ⌜ 0 < length (now key) ⌝ }
     ensures { λ r. ⌜ ValueFound (now (key .entry)) (now (sheet .entry)) at r ⌝ }
 {
-    let Found::At(length) = find(&sheet[at..], 10) else {
+    let Found::At(length) = find(&sheet[at..], b'\n') else {
         return Keyed::Bad;
     };
     let end = at + length;
@@ -89,7 +89,7 @@ pub(crate) fn tape_line(sheet: &[u8]) -> NameLine
 pub(crate) fn number_line(sheet: &[u8], at: usize, key: &[u8]) -> NumberLine
     requires { ⌜ at ≤ length (now sheet) ⌝ }
     requires { ⌜ 0 < length (now key) ⌝ }
-    ensures { λ r. ⌜ NumberLineFound (isNumberLine (now (key .entry))) (numberIn (now (key .entry))) (now (sheet .entry)) at r ⌝ }
+    ensures { λ r. ⌜ NumberLineFound (isNumberLine (now (key .entry))) (numberBehind (now (key .entry))) (now (sheet .entry)) at r ⌝ }
 {
     let Keyed::Text { from, end } = find_value(sheet, at, key) else {
         return NumberLine::Bad;
@@ -107,7 +107,7 @@ pub(crate) fn number_line(sheet: &[u8], at: usize, key: &[u8]) -> NumberLine
 pub(crate) fn count_line(sheet: &[u8], at: usize, key: &[u8], most: u64) -> NumberLine
     requires { ⌜ at ≤ length (now sheet) ⌝ }
     requires { ⌜ 0 < length (now key) ⌝ }
-    ensures { λ r. ⌜ NumberLineFound (isCountLine (now (key .entry)) most) (numberIn (now (key .entry))) (now (sheet .entry)) at r ⌝ }
+    ensures { λ r. ⌜ NumberLineFound (isCountLine (now (key .entry)) most) (numberBehind (now (key .entry))) (now (sheet .entry)) at r ⌝ }
 {
     let NumberLine::Value { number, next } = number_line(sheet, at, key) else {
         return NumberLine::Bad;
@@ -167,7 +167,7 @@ pub(crate) fn rule_line(sheet: &[u8], at: usize) -> RuleLine
 fn read_pair(text: &[u8]) -> Pair
     ensures { λ r. ⌜ PairFound (now (text .entry)) r ⌝ }
 {
-    let Found::At(length) = find(text, 44) else {
+    let Found::At(length) = find(text, b',') else {
         return Pair::Bad;
     };
     let Number::Value(first) = read_number(&text[..length]) else {

@@ -1,10 +1,11 @@
 // The sheet reader: the whole sheet is judged first, and the rows are written after that.
 ghost use mathlib.Core.Path.{_≡_};
-ghost use mathlib.Core.Bool.{not};
+ghost use mathlib.Core.List.{[], _∷_};
 ghost use lib.ListN.{drop};
-ghost use Rattle.sheets.specs.Sheet.{runIn};
-ghost use Rattle.sheets.specs.Reading.{shortPairRows, readVerdict, refusedReading, readAnswer, readRow, readName, readFrom, placeOn};
-ghost use Rattle.sheets.specs.Private.{TopFound, FilesAt, WantsAt, BelowFound, LaidFound, PairsReady, leftRow, rightRow};
+ghost use Rattle.refusals.specs.declared.Refusal.the-variants.{ShortRow};
+ghost use Rattle.refusals.specs.Refusals.{refuseIf, firstOf};
+ghost use Rattle.sheets.specs.Reading.{shortPairRows, runRows, SheetRead, readName, readFrom, placeOn};
+ghost use Rattle.sheets.specs.Private.{TopFound, FilesAt, WantsAt, BelowFound, Unread, LaidFound, PairsReady, leftRow, rightRow, linesFilled, readingOf};
 use crate::LONGEST_SHEET;
 use crate::MOST_SHEET_FILES;
 use crate::Reading;
@@ -22,6 +23,9 @@ use crate::lines::tape_line;
 use crate::lines::turn_line;
 use refusals::Refusal;
 use refusals::Verdict;
+use refusals::refuse_at;
+use refusals::refuse_if;
+use refusals::refused;
 use runs::Rule;
 
 // The first five lines: their values, where the name ends and where the next line starts.
@@ -45,14 +49,13 @@ enum BelowRead {
     Bad(u64),
 }
 
-// A sheet that is as described, or why it is refused.
-enum Laid {
-    Out {
-        top: Top,
-        wants: u64,
-        want_at: usize,
-    },
-    Refused(Verdict),
+// What 12 and 11 say of a sheet, its first lines, the number of wants and where the first want line starts.
+// Of a sheet that they refuse every number is 0.
+struct Laid {
+    verdict: Verdict,
+    top: Top,
+    wants: u64,
+    at: usize,
 }
 
 fn read_top(sheet: &[u8]) -> TopRead
@@ -120,29 +123,40 @@ fn read_below(sheet: &[u8], at: usize, files: u64) -> BelowRead
     }
 }
 
+fn unread(verdict: Verdict) -> Laid
+    ensures { λ r. ⌜ Unread verdict r ⌝ }
+{
+    Laid {
+        verdict,
+        top: Top {
+            end: 0,
+            head: 0,
+            turn: 0,
+            rule: Rule::Least,
+            files: 0,
+            next: 0,
+        },
+        wants: 0,
+        at: 0,
+    }
+}
+
 fn lay_out(sheet: &[u8]) -> Laid
     ensures { λ r. ⌜ LaidFound (now (sheet .entry)) r ⌝ }
 {
-    if LONGEST_SHEET < sheet.len() {
-        return Laid::Refused(Verdict {
-            refusal: Refusal::LongSheet,
-            place: 0,
-        });
+    let long = refuse_if(LONGEST_SHEET < sheet.len(), Refusal::LongSheet);
+    if refused(long) {
+        return unread(long);
     }
     match read_top(sheet) {
-        TopRead::Bad(line) => Laid::Refused(Verdict {
-            refusal: Refusal::BadLine,
-            place: line,
-        }),
+        TopRead::Bad(line) => unread(refuse_at(line, Refusal::BadLine)),
         TopRead::Good(top) => match read_below(sheet, top.next, top.files) {
-            BelowRead::Bad(line) => Laid::Refused(Verdict {
-                refusal: Refusal::BadLine,
-                place: line,
-            }),
-            BelowRead::Good { wants, want_at } => Laid::Out {
+            BelowRead::Bad(line) => unread(refuse_at(line, Refusal::BadLine)),
+            BelowRead::Good { wants, want_at } => Laid {
+                verdict: long,
                 top,
                 wants,
-                want_at,
+                at: want_at,
             },
         },
     }
@@ -173,32 +187,61 @@ fn fill(sheet: &[u8], at: usize, key: &[u8], count: u64, firsts: &mut [u64], sec
     }
 }
 
-fn refused_reading(v: Verdict) -> Reading
-    ensures { λ r. ⌜ r ≡ refusedReading v ⌝ }
-{
-    let refusal = v.refusal;
-    Reading {
-        refusal,
-        place: v.place,
-        head: 0,
-        turn: 0,
-        rule: Rule::Least,
-        files: 0,
-        wants: 0,
-    }
-}
-
-// Whether two rows hold so many entries.
-fn room_for(count: u64, firsts: &[u64], seconds: &[u64]) -> bool
-    ensures { λ r. ⌜ r ≡ not (shortPairRows count (now (firsts .entry)) (now (seconds .entry))) ⌝ }
+// Whether one of two rows is shorter than so many entries.
+fn short_rows(count: u64, firsts: &[u64], seconds: &[u64]) -> bool
+    ensures { λ r. ⌜ r ≡ shortPairRows count (now (firsts .entry)) (now (seconds .entry)) ⌝ }
 {
     if (firsts.len() as u64) < count {
-        return false;
+        return true;
     }
-    if (seconds.len() as u64) < count {
-        return false;
+    (seconds.len() as u64) < count
+}
+
+// 8 for two rows, unless what was judged before refuses.
+fn judge_rows(before: Verdict, count: u64, firsts: &[u64], seconds: &[u64]) -> Verdict
+    ensures { λ r. ⌜ r ≡ firstOf (before ∷ refuseIf (shortPairRows count (now (firsts .entry)) (now (seconds .entry))) ShortRow ∷ []) ⌝ }
+{
+    if refused(before) {
+        return before;
     }
-    true
+    refuse_if(short_rows(count, firsts, seconds), Refusal::ShortRow)
+}
+
+// How many lines go into the rows: none on a refusal.
+fn to_fill(verdict: Verdict, lines: u64) -> u64
+    ensures { λ r. ⌜ r ≡ linesFilled verdict lines ⌝ }
+{
+    if refused(verdict) {
+        return 0;
+    }
+    lines
+}
+
+fn reading_of(verdict: Verdict, top: Top, wants: u64) -> Reading
+    ensures { λ r. ⌜ r ≡ readingOf verdict top wants ⌝ }
+{
+    let refusal = verdict.refusal;
+    if refused(verdict) {
+        return Reading {
+            refusal,
+            place: verdict.place,
+            head: 0,
+            turn: 0,
+            rule: Rule::Least,
+            files: 0,
+            wants: 0,
+        };
+    }
+    let rule = top.rule;
+    Reading {
+        refusal: Refusal::Accepted,
+        place: 0,
+        head: top.head,
+        turn: top.turn,
+        rule,
+        files: top.files,
+        wants,
+    }
 }
 
 pub fn read_sheet(
@@ -208,46 +251,17 @@ pub fn read_sheet(
     numbers: &mut [u64],
     counts: &mut [u64],
 ) -> Reading
-    ensures { λ r. ⌜ r ≡ readAnswer (readVerdict (now (sheet .entry)) (now (starts .entry)) (now (lengths .entry)) (now (numbers .entry)) (now (counts .entry))) (now (sheet .entry)) ⌝ }
-    ensures { λ r. ⌜ now (starts .exit) ≡ readRow (readVerdict (now (sheet .entry)) (now (starts .entry)) (now (lengths .entry)) (now (numbers .entry)) (now (counts .entry))) (runIn (now (sheet .entry)) .starts) (now (starts .entry)) ⌝ }
-    ensures { λ r. ⌜ now (lengths .exit) ≡ readRow (readVerdict (now (sheet .entry)) (now (starts .entry)) (now (lengths .entry)) (now (numbers .entry)) (now (counts .entry))) (runIn (now (sheet .entry)) .lengths) (now (lengths .entry)) ⌝ }
-    ensures { λ r. ⌜ now (numbers .exit) ≡ readRow (readVerdict (now (sheet .entry)) (now (starts .entry)) (now (lengths .entry)) (now (numbers .entry)) (now (counts .entry))) (runIn (now (sheet .entry)) .numbers) (now (numbers .entry)) ⌝ }
-    ensures { λ r. ⌜ now (counts .exit) ≡ readRow (readVerdict (now (sheet .entry)) (now (starts .entry)) (now (lengths .entry)) (now (numbers .entry)) (now (counts .entry))) (runIn (now (sheet .entry)) .counts) (now (counts .entry)) ⌝ }
+    ensures { λ r. ⌜ SheetRead (now (sheet .entry)) (runRows (now (starts .entry)) (now (lengths .entry)) (now (numbers .entry)) (now (counts .entry))) r (runRows (now (starts .exit)) (now (lengths .exit)) (now (numbers .exit)) (now (counts .exit))) ⌝ }
 {
-    match lay_out(sheet) {
-        Laid::Refused(v) => refused_reading(v),
-        Laid::Out {
-            top,
-            wants,
-            want_at,
-        } => {
-            let files = top.files;
-            if !room_for(files, starts, lengths) {
-                return refused_reading(Verdict {
-                    refusal: Refusal::ShortRow,
-                    place: 0,
-                });
-            }
-            if !room_for(wants, numbers, counts) {
-                return refused_reading(Verdict {
-                    refusal: Refusal::ShortRow,
-                    place: 0,
-                });
-            }
-            fill(sheet, top.next, b"file=", files, starts, lengths);
-            fill(sheet, want_at, b"want=", wants, numbers, counts);
-            let rule = top.rule;
-            Reading {
-                refusal: Refusal::Accepted,
-                place: 0,
-                head: top.head,
-                turn: top.turn,
-                rule,
-                files,
-                wants,
-            }
-        }
-    }
+    let laid = lay_out(sheet);
+    let top = laid.top;
+    let files = judge_rows(laid.verdict, top.files, starts, lengths);
+    let verdict = judge_rows(files, laid.wants, numbers, counts);
+    let file_lines = to_fill(verdict, top.files);
+    let want_lines = to_fill(verdict, laid.wants);
+    fill(sheet, top.next, b"file=", file_lines, starts, lengths);
+    fill(sheet, laid.at, b"want=", want_lines, numbers, counts);
+    reading_of(verdict, top, laid.wants)
 }
 
 // The part of the sheet that holds the tape name; an empty part where 12 or 11 applies.
@@ -255,15 +269,10 @@ pub fn tape_name(sheet: &[u8]) -> &[u8]
     ensures { λ r. ⌜ now r ≡ readName (now (sheet .entry)) ⌝ }
     ensures { λ r. ⌜ r .ptr ≡ placeOn (readFrom (now (sheet .entry))) (sheet .entry .ptr) ⌝ }
 {
-    match lay_out(sheet) {
-        Laid::Refused(_) => &sheet[..0],
-        Laid::Out {
-            top,
-            wants: _,
-            want_at: _,
-        } => {
-            let end = top.end;
-            &sheet[5..end]
-        }
+    let laid = lay_out(sheet);
+    if refused(laid.verdict) {
+        return &sheet[..0];
     }
+    let end = laid.top.end;
+    &sheet[5..end]
 }

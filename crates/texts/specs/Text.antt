@@ -14,10 +14,10 @@ bytes Letters.[] = []
 bytes (Letters._∷_ letter letters) = code letter ∷ bytes letters
 
 abbrev pub lineFeed : ℕ
-lineFeed = 10
+lineFeed = code "\n"
 
 abbrev pub comma : ℕ
-comma = 44
+comma = code ","
 
 abbrev pub isEmpty : List ℕ → Bool
 isEmpty [] = true
@@ -55,15 +55,15 @@ between least most b = leb least b && leb b most
 
 -- 0 to 9, and A to Z.
 abbrev pub isDigit : ℕ → Bool
-isDigit b = between 48 57 b
+isDigit b = between (code "0") (code "9") b
 
 abbrev pub isLetter : ℕ → Bool
-isLetter b = between 65 90 b
+isLetter b = between (code "A") (code "Z") b
 
 -- The value of decimal digits, behind a number already read.
 unfoldable pub valueFrom : ℕ → List ℕ → ℕ
 valueFrom n [] = n
-valueFrom n (b ∷ text) = valueFrom (n * 10 + (b - 48)) text
+valueFrom n (b ∷ text) = valueFrom (n * 10 + (b - code "0")) text
 
 abbrev pub valueOf : List ℕ → ℕ
 valueOf text = valueFrom 0 text
@@ -71,7 +71,7 @@ valueOf text = valueFrom 0 text
 abbrev pub leadingZero : List ℕ → Bool
 leadingZero [] = false
 leadingZero (b ∷ []) = false
-leadingZero (b ∷ c ∷ text) = eqb b 48
+leadingZero (b ∷ c ∷ text) = eqb b (code "0")
 
 -- A number: decimal digits, at least one, without a leading zero, below 2 to the 64.
 unfoldable pub isNumber : List ℕ → Bool
@@ -86,10 +86,10 @@ isName text = between 1 16 (length text) && allOf isNameByte text
 
 -- A number's text: its decimal digits without leading zeros. (The number itself is more than its digits are many.)
 unfoldable pub decimalIn : ℕ → ℕ → List ℕ
-decimalIn zero n = (48 + n) ∷ []
+decimalIn zero n = (code "0" + n) ∷ []
 decimalIn (suc most) n =
     let more : List ℕ = decimalIn most (n / 10) in
-    cond (ltb n 10) ((48 + n) ∷ []) (more ++ ((48 + n % 10) ∷ []))
+    cond (ltb n 10) ((code "0" + n) ∷ []) (more ++ ((code "0" + n % 10) ∷ []))
 
 abbrev pub decimal : ℕ → List ℕ
 decimal n = decimalIn n n

@@ -66,7 +66,7 @@ fn well_begun(text: &[u8]) -> bool
     if text.len() == 1 {
         return true;
     }
-    text[0] != 48
+    text[0] != b'0'
 }
 
 pub fn is_between(least: u8, most: u8, byte: u8) -> bool
@@ -89,10 +89,10 @@ pub fn read_number(text: &[u8]) -> Number
     let mut i: usize = 0;
     while i < text.len() {
         let byte = text[i];
-        if !is_between(48, 57, byte) {
+        if !is_between(b'0', b'9', byte) {
             return Number::Bad;
         }
-        let digit = (byte - 48) as u64;
+        let digit = (byte - b'0') as u64;
         if (18446744073709551615 - digit) / 10 < value {
             return Number::Bad;
         }
@@ -105,10 +105,10 @@ pub fn read_number(text: &[u8]) -> Number
 fn is_name_byte(byte: u8) -> bool
     ensures { λ r. ⌜ r ≡ isNameByte byte ⌝ }
 {
-    if is_between(48, 57, byte) {
+    if is_between(b'0', b'9', byte) {
         return true;
     }
-    is_between(65, 90, byte)
+    is_between(b'A', b'Z', byte)
 }
 
 // Whether a text is a tape name: 1 to 16 of A-Z and 0-9.

@@ -1,7 +1,7 @@
 -- What the plan sheet writer answers, step by step: the run, the name, the list as the pricer judges it, the row.
 use Prim.Native.Nat.{ℕ, _≤_}
 use mathlib.Core.Path.{_≡_, ap, sym, _∙_}
-use mathlib.Core.Bool.{Bool, true, false}
+use mathlib.Core.Bool.{Bool, true, false, not}
 use mathlib.Core.Logic.{⊎-elim}
 use mathlib.Core.List.{List, [], _∷_, _++_}
 use native.Mathlib.Omega.{arith}
@@ -11,107 +11,106 @@ use borrow.Author.Tests.{le-ltb}
 use Rattle.refusals.specs.declared.Refusal.the-variants.{BadName}
 use Rattle.refusals.specs.declared.Verdict.{Verdict}
 use Rattle.walk.specs.declared.Answer.{Answer}
-use Rattle.refusals.specs.Refusals.{isRefusal, firstOf, accepted}
+use Rattle.refusals.specs.Refusals.{isRefusal, refuseIf, firstOf, accepted}
 use Rattle.runs.specs.Run.{Run, stopsOf, total, mostWants}
 use Rattle.runs.specs.Judging.{judgeOf}
 use Rattle.runs.specs.Lists.{listOf, listVerdict}
 use Rattle.walk.specs.Price.{refusalAnswer, pricedAnswer, pricedTimes, priceVerdict, priceAnswer, priceRow}
 use Rattle.runs.proofs.Search.{true-or-false}
-use Rattle.runs.proofs.Judged.{GoodRun, accepted-run}
+use Rattle.runs.proofs.Judged.{GoodRun}
 use Rattle.walk.proofs.Walks.{GoodList, accepted-list, list-fits}
 use Rattle.walk.proofs.Filling.{one-time-each, stops-length}
-use Rattle.refusals.proofs.Verdicts.{test-says}
 use Rattle.texts.specs.Text.{isName}
 use Rattle.writers.specs.Writing.{rowVerdict}
 use Rattle.writers.specs.PlanSheet.{planLines, planText, planSheetVerdict}
 use Rattle.writers.specs.Private.{Wrote, planMost, PlanFits}
-use Rattle.writers.proofs.Sheets.{name-length, last-verdict}
+use Rattle.writers.proofs.Sheets.{last-verdict, judged-refused, judged-passes, run-passes, good-run, name-short}
 
--- v is the run's verdict, f whether it refuses, t whether the name is one.
-module _ (name : List ℕ) (run : Run) (froms tos row : List ℕ) (v : Verdict) (f : Bool) (v-is : v ≡ judgeOf run) (f-is : f ≡ isRefusal (v .refusal)) where
-  pub plan-run-refused : f ≡ true → planSheetVerdict name run froms tos row ≡ v
+-- v is the run's verdict, w that of the run and the name, f whether w refuses.
+module _ (name : List ℕ) (run : Run) (froms tos row : List ℕ) (v w : Verdict) (v-is : v ≡ judgeOf run) (w-is : w ≡ firstOf (v ∷ refuseIf (not (isName name)) BadName ∷ [])) (f : Bool)
+    (f-is : f ≡ isRefusal (w .refusal)) where
+  pub plan-refused : f ≡ true → planSheetVerdict name run froms tos row ≡ w
   unfolding planSheetVerdict
-  plan-run-refused e = rw (test-says v-is f-is e, v-is)
+  plan-refused e = judged-refused name run false v w v-is w-is f f-is (listVerdict (stopsOf run) froms tos ∷ rowVerdict (planText name run froms tos) row ∷ []) e
 
   module _ (good : f ≡ false) where
-    pub good-run : GoodRun run
-    good-run = accepted-run run (test-says v-is f-is good)
+    pub plan-good : GoodRun run
+    plan-good = good-run name run false v w v-is w-is f f-is good
 
-    module _ (t : Bool) (t-is : t ≡ isName name) where
-      pub plan-name-refused : t ≡ false → planSheetVerdict name run froms tos row ≡ record { refusal = BadName; place = 0 }
-      unfolding planSheetVerdict
-      plan-name-refused e = rw (test-says v-is f-is good, ← t-is, e)
+    plan-passes : planSheetVerdict name run froms tos row ≡ firstOf (listVerdict (stopsOf run) froms tos ∷ rowVerdict (planText name run froms tos) row ∷ [])
+    unfolding planSheetVerdict
+    plan-passes = judged-passes name run false v w v-is w-is f f-is good (listVerdict (stopsOf run) froms tos ∷ rowVerdict (planText name run froms tos) row ∷ [])
 
-      -- a is what the pricer answered with a row for times that is long enough, g whether that refuses.
-      module _ (named : t ≡ true) (times : List ℕ) (room : mostWants ≤ length times) (a : Answer) (a-is : a ≡ priceAnswer run froms tos times)
-          (g : Bool) (g-is : g ≡ isRefusal (a .refusal)) where
-        list : Verdict
-        list = listVerdict (stopsOf run) froms tos
+    -- a is what the pricer answered with a row for times that is long enough, g whether that refuses.
+    module _ (times : List ℕ) (room : mostWants ≤ length times) (a : Answer) (a-is : a ≡ priceAnswer run froms tos times)
+        (g : Bool) (g-is : g ≡ isRefusal (a .refusal)) where
+      list : Verdict
+      list = listVerdict (stopsOf run) froms tos
 
-        price-verdict : priceVerdict run froms tos times ≡ firstOf (list ∷ accepted ∷ [])
-        unfolding priceVerdict list
-        price-verdict = rw (test-says v-is f-is good, le-ltb (length times) (length (run .numbers)) (omega (arith, good-run .wants .few)))
+      price-verdict : priceVerdict run froms tos times ≡ firstOf (list ∷ accepted ∷ [])
+      unfolding priceVerdict list
+      price-verdict = rw (run-passes name run false v w v-is w-is f f-is good, le-ltb (length times) (length (run .numbers)) (omega (arith, plan-good .wants .few)))
 
-        priced-refused : isRefusal (list .refusal) ≡ true → a ≡ refusalAnswer list
-        unfolding priceAnswer
-        priced-refused e = a-is ∙ rw (price-verdict, e, e)
+      priced-refused : isRefusal (list .refusal) ≡ true → a ≡ refusalAnswer list
+      unfolding priceAnswer
+      priced-refused e = a-is ∙ rw (price-verdict, e, e)
 
-        priced-good : isRefusal (list .refusal) ≡ false → a ≡ pricedAnswer run (listOf froms tos)
-        unfolding priceAnswer
-        priced-good e = a-is ∙ rw (price-verdict, e)
+      priced-good : isRefusal (list .refusal) ≡ false → a ≡ pricedAnswer run (listOf froms tos)
+      unfolding priceAnswer
+      priced-good e = a-is ∙ rw (price-verdict, e)
 
-        list-says : isRefusal (list .refusal) ≡ g
-        unfolding pricedAnswer
-        list-says =
-            ⊎-elim
-            (λ e. ap (λ x. isRefusal (x .refusal)) (sym (priced-refused e)) ∙ sym g-is)
-            (λ e. e ∙ sym (g-is ∙ ap (λ x. isRefusal (x .refusal)) (priced-good e)))
-            (true-or-false (isRefusal (list .refusal)))
+      list-says : isRefusal (list .refusal) ≡ g
+      unfolding pricedAnswer
+      list-says =
+          ⊎-elim
+          (λ e. ap (λ x. isRefusal (x .refusal)) (sym (priced-refused e)) ∙ sym g-is)
+          (λ e. e ∙ sym (g-is ∙ ap (λ x. isRefusal (x .refusal)) (priced-good e)))
+          (true-or-false (isRefusal (list .refusal)))
 
-        pub plan-list-refused : g ≡ true → planSheetVerdict name run froms tos row ≡ record { refusal = a .refusal; place = a .place }
-        unfolding planSheetVerdict list
-        plan-list-refused e =
-            rw (test-says v-is f-is good, ← t-is, named, list-says ∙ e) (ap (λ x. record { refusal = x .refusal; place = x .place }) (sym (priced-refused (list-says ∙ e))))
+      pub plan-list-refused : g ≡ true → planSheetVerdict name run froms tos row ≡ record { refusal = a .refusal; place = a .place }
+      unfolding list
+      plan-list-refused e =
+          plan-passes ∙ rw (list-says ∙ e) (ap (λ x. record { refusal = x .refusal; place = x .place }) (sym (priced-refused (list-says ∙ e))))
 
-        module _ (fine : g ≡ false) where
-          pub good-list : GoodList (run .numbers) froms tos
-          unfolding list
-          good-list = accepted-list (run .starts) (run .lengths) (run .numbers) (run .counts) froms tos (sym (good-run .wants .equal)) (list-says ∙ fine)
+      module _ (fine : g ≡ false) where
+        pub good-list : GoodList (run .numbers) froms tos
+        unfolding list
+        good-list = accepted-list (run .starts) (run .lengths) (run .numbers) (run .counts) froms tos (sym (plan-good .wants .equal)) (list-says ∙ fine)
 
-          pub plan-last : planSheetVerdict name run froms tos row ≡ rowVerdict (planText name run froms tos) row
-          unfolding planSheetVerdict list
-          plan-last = rw (test-says v-is f-is good, ← t-is, named, list-says ∙ fine) (last-verdict (planText name run froms tos) row)
+        pub plan-last : planSheetVerdict name run froms tos row ≡ rowVerdict (planText name run froms tos) row
+        unfolding list
+        plan-last = plan-passes ∙ rw (list-says ∙ fine) (last-verdict (planText name run froms tos) row)
 
-          -- The times that the pricer left in the row.
-          module _ (times′ : List ℕ) (times-are : times′ ≡ priceRow run froms tos times) where
-            timed : times′ ≡ pricedTimes run (listOf froms tos) ++ drop (length (run .numbers)) times
-            unfolding priceRow
-            timed = times-are ∙ rw (price-verdict, list-says ∙ fine)
+        -- The times that the pricer left in the row.
+        module _ (times′ : List ℕ) (times-are : times′ ≡ priceRow run froms tos times) where
+          timed : times′ ≡ pricedTimes run (listOf froms tos) ++ drop (length (run .numbers)) times
+          unfolding priceRow
+          timed = times-are ∙ rw (price-verdict, list-says ∙ fine)
 
-            times-count : length (pricedTimes run (listOf froms tos)) ≡ length (run .numbers)
-            unfolding pricedTimes
-            times-count = one-time-each (run .turn) _ _ (stopsOf run) ∙ stops-length (run .starts) (run .lengths) (run .numbers) (run .counts) (sym (good-run .wants .equal))
+          times-count : length (pricedTimes run (listOf froms tos)) ≡ length (run .numbers)
+          unfolding pricedTimes
+          times-count = one-time-each (run .turn) _ _ (stopsOf run) ∙ stops-length (run .starts) (run .lengths) (run .numbers) (run .counts) (sym (plan-good .wants .equal))
 
-            times-taken : take (length (run .numbers)) times′ ≡ pricedTimes run (listOf froms tos)
-            times-taken = ap (take (length (run .numbers))) timed ∙ take-at (pricedTimes run (listOf froms tos)) (drop (length (run .numbers)) times) (length (run .numbers)) times-count
+          times-taken : take (length (run .numbers)) times′ ≡ pricedTimes run (listOf froms tos)
+          times-taken = ap (take (length (run .numbers))) timed ∙ take-at (pricedTimes run (listOf froms tos)) (drop (length (run .numbers)) times) (length (run .numbers)) times-count
 
-            pub wants-length : length (run .numbers) ≡ length (take (length (run .numbers)) times′)
-            wants-length = sym (ap length times-taken ∙ times-count)
+          pub wants-length : length (run .numbers) ≡ length (take (length (run .numbers)) times′)
+          wants-length = sym (ap length times-taken ∙ times-count)
 
-            pub plan-fits : (page : List ℕ) → planMost ≤ length page → PlanFits page name froms tos (run .numbers) (take (length (run .numbers)) times′)
-            plan-fits page wide =
-                record {
-                  room = wide;
-                  short = name-length name (sym t-is ∙ named);
-                  few = omega (arith, list-fits run good-run froms tos good-list, good-run .wants .few);
-                  even = good-list .even;
-                  wants = good-run .wants .few;
-                  timed = wants-length;
-                }
+          pub plan-fits : (page : List ℕ) → planMost ≤ length page → PlanFits page name froms tos (run .numbers) (take (length (run .numbers)) times′)
+          plan-fits page wide =
+              record {
+                room = wide;
+                short = name-short name run false v w v-is w-is f f-is good;
+                few = omega (arith, list-fits run plan-good froms tos good-list, plan-good .wants .few);
+                even = good-list .even;
+                wants = plan-good .wants .few;
+                timed = wants-length;
+              }
 
-            pub plan-wrote : (reads : ℕ) → reads ≡ total (run .counts) → (page page′ : List ℕ) (n : ℕ)
-                → Wrote page 0 (planLines name reads a froms tos (run .numbers) (take (length (run .numbers)) times′)) planMost page′ n
-                → Wrote page 0 (planText name run froms tos) planMost page′ n
-            unfolding planText
-            plan-wrote reads e page page′ n w =
-                rw (← e, ← priced-good (list-says ∙ fine), ← times-taken) w
+          pub plan-wrote : (reads : ℕ) → reads ≡ total (run .counts) → (page page′ : List ℕ) (n : ℕ)
+              → Wrote page 0 (planLines name reads a froms tos (run .numbers) (take (length (run .numbers)) times′)) planMost page′ n
+              → Wrote page 0 (planText name run froms tos) planMost page′ n
+          unfolding planText
+          plan-wrote reads e page page′ n w =
+              rw (← e, ← priced-good (list-says ∙ fine), ← times-taken) w

@@ -10,7 +10,7 @@ use lib.Dec.{eqb}
 use borrow.Author.Tests.{eq-eqb, le-leb}
 use Rattle.runs.proofs.Search.{or-false-both, first-all}
 use Rattle.texts.specs.Text.{lineFeed, comma, has, before, behind, startsWith, valueOf, decimal}
-use Rattle.sheets.specs.Lines.{lineOf, afterLines, lineAfter, valueText, isNumberLine, numberIn, isCountLine, isPair, isPairLine, firstIn, secondIn}
+use Rattle.sheets.specs.Lines.{lineOf, afterLines, lineAfter, valueText, isNumberLine, numberBehind, isCountLine, isPair, isPairLine, firstIn, secondIn}
 use Rattle.sheets.specs.Sheet.{firstBadPair, eachOf}
 use Rattle.writers.specs.Writing.{line, pairText, pairLine, pairLines}
 use Rattle.texts.proofs.Decimals.{has-append, decimal-without, decimal-number, decimal-value}
@@ -62,12 +62,12 @@ module _ (key : List ℕ) (n : ℕ) (small : n < 2 ^ 64) where
   unfolding isNumberLine
   number-back = rw (key-begins key (decimal n), key-value key (decimal n), decimal-number n small)
 
-  pub value-back : numberIn key (key ++ decimal n) ≡ n
+  pub value-back : numberBehind key (key ++ decimal n) ≡ n
   value-back = ap valueOf (key-value key (decimal n)) ∙ decimal-value n
 
   pub count-back : (most : ℕ) → n ≤ most → isCountLine key most (key ++ decimal n) ≡ true
   unfolding isCountLine
-  count-back most l = rw (number-back, le-leb (numberIn key (key ++ decimal n)) most (rw value-back l))
+  count-back most l = rw (number-back, le-leb (numberBehind key (key ++ decimal n)) most (rw value-back l))
 
 -- A line of a pair reads back.
 module _ (a b : ℕ) where

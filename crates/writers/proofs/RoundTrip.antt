@@ -16,8 +16,8 @@ use Rattle.runs.proofs.Judged.{accepted-run}
 use Rattle.runs.specs.declared.Rule.{Rule}
 use Rattle.runs.specs.declared.Rule.the-variants.{Sweep, Least}
 use Rattle.texts.specs.Text.{lineFeed, has, behind, isName, isNameByte, between, allOf, isEmpty, startsWith, isNumber, decimal}
-use Rattle.sheets.specs.Lines.{lineOf, afterLines, lineAfter, tapeKey, headKey, turnKey, ruleKey, ruleText, filesKey, fileKey, wantsKey, wantKey, valueText, isTapeLine, isNumberLine, numberIn, isCountLine, emptyTurn, isTurnLine, turnIn, isRuleLine, ruleIn, firstIn, secondIn}
-use Rattle.sheets.specs.Sheet.{longestSheet, mostSheetFiles, headOf, turnOf, ruleOf, filesOf, fileText, wantsText, wantsOf, wantText, endText, firstBadPair, firstBadTop, firstBadBelow, firstBadLine, eachOf, runIn, nameIn}
+use Rattle.sheets.specs.Lines.{lineOf, afterLines, lineAfter, tapeKey, headKey, turnKey, ruleKey, ruleText, filesKey, fileKey, wantsKey, wantKey, valueText, isTapeLine, isNumberLine, numberBehind, isCountLine, emptyTurn, isTurnLine, turnIn, isRuleLine, ruleIn, firstIn, secondIn}
+use Rattle.sheets.specs.Sheet.{longestSheet, mostSheetFiles, sheetHead, sheetTurn, sheetRule, sheetFiles, fileText, wantsText, sheetWants, wantText, endText, firstBadPair, firstBadTop, firstBadBelow, firstBadLine, eachOf, sheetRun, sheetName}
 use Rattle.sheets.specs.Reading.{sheetVerdict, readName}
 use Rattle.writers.specs.Writing.{line, numberLine, pairText, pairLine, pairLines, topText, sheetText}
 use Rattle.texts.proofs.Bytes.{and-true-both, not-empty}
@@ -108,7 +108,7 @@ price-back : (key : List ℕ) (n : ℕ) → n < 2 ^ 64
     → (startsWith key (key ++ decimal n) && (isEmpty (valueText key (key ++ decimal n)) || isNumber (valueText key (key ++ decimal n)))) ≡ true
 price-back key n l = rw (key-begins key (decimal n), key-value key (decimal n), not-empty (decimal n) (decimal-some n n), decimal-number n l)
 
-price-value : (key : List ℕ) (n : ℕ) → cond (isEmpty (valueText key (key ++ decimal n))) emptyTurn (numberIn key (key ++ decimal n)) ≡ n
+price-value : (key : List ℕ) (n : ℕ) → cond (isEmpty (valueText key (key ++ decimal n))) emptyTurn (numberBehind key (key ++ decimal n)) ≡ n
 price-value key n = rw (key-value key (decimal n), not-empty (decimal n) (decimal-some n n), decimal-value n)
 
 rule-test : (r : Rule) → isRuleLine (ruleKey ++ ruleText r) ≡ true
@@ -220,9 +220,9 @@ module _ (name : List ℕ) (rule : Rule) (run : Run) (named : isName name ≡ tr
   unfolding W
   W-small = omega (arith, small .wants)
 
-  files-back : filesOf text ≡ F
-  unfolding filesOf
-  files-back = ap (numberIn filesKey) line₄ ∙ value-back filesKey F F-small
+  files-back : sheetFiles text ≡ F
+  unfolding sheetFiles
+  files-back = ap (numberBehind filesKey) line₄ ∙ value-back filesKey F F-small
 
   -- The lines below.
   files-text : fileText text ≡ rest₅
@@ -240,9 +240,9 @@ module _ (name : List ℕ) (rule : Rule) (run : Run) (named : isName name ≡ tr
   unfolding has
   wants-line = ap lineOf wants-text ∙ line-first wantsKey (decimal W) rest₆ refl (number-flat W)
 
-  wants-back : wantsOf text ≡ W
-  unfolding wantsOf
-  wants-back = ap (numberIn wantsKey) wants-line ∙ value-back wantsKey W W-small
+  wants-back : sheetWants text ≡ W
+  unfolding sheetWants
+  wants-back = ap (numberBehind wantsKey) wants-line ∙ value-back wantsKey W W-small
 
   want-text : wantText text ≡ rest₆
   unfolding wantText afterLines has
@@ -282,14 +282,14 @@ module _ (name : List ℕ) (rule : Rule) (run : Run) (named : isName name ≡ tr
   unfolding W
   wants-good = ap (isCountLine wantsKey mostWants) wants-line ∙ count-back wantsKey W W-small mostWants (small .wants)
 
-  file-good : firstBadPair fileKey (filesOf text) (fileText text) ≡ 0
+  file-good : firstBadPair fileKey (sheetFiles text) (fileText text) ≡ 0
   unfolding rest₅ F has
   file-good =
       ap (λ n. firstBadPair fileKey n (fileText text)) files-back
       ∙ ap (firstBadPair fileKey F) files-text
       ∙ pairs-good fileKey refl (numberLine wantsKey W ++ rest₆) (run .starts) (run .lengths) (small .table) (small .starts) (λ i l. small .lengths i (omega (arith, small .table)))
 
-  want-good : firstBadPair wantKey (wantsOf text) (wantText text) ≡ 0
+  want-good : firstBadPair wantKey (sheetWants text) (wantText text) ≡ 0
   unfolding W has
   want-good =
       ap (λ n. firstBadPair wantKey n (wantText text)) wants-back
@@ -301,31 +301,31 @@ module _ (name : List ℕ) (rule : Rule) (run : Run) (named : isName name ≡ tr
   all-described = rw (tape-good, head-good, turn-good, rule-good, files-good, file-good, wants-good, want-good, end-text)
 
   -- What the sheet holds is what was written.
-  head-back : headOf text ≡ run .head
-  unfolding headOf
-  head-back = ap (numberIn headKey) line₁ ∙ value-back headKey (run .head) (small .head)
+  head-back : sheetHead text ≡ run .head
+  unfolding sheetHead
+  head-back = ap (numberBehind headKey) line₁ ∙ value-back headKey (run .head) (small .head)
 
-  turn-back : turnOf text ≡ run .turn
-  unfolding turnOf turnIn
+  turn-back : sheetTurn text ≡ run .turn
+  unfolding sheetTurn turnIn
   turn-back = ap turnIn line₂ ∙ price-value turnKey (run .turn)
 
-  rule-back : ruleOf text ≡ rule
-  unfolding ruleOf
+  rule-back : sheetRule text ≡ rule
+  unfolding sheetRule
   rule-back = ap ruleIn line₃ ∙ rule-value rule
 
-  names-back : nameIn text ≡ name
-  unfolding nameIn
+  names-back : sheetName text ≡ name
+  unfolding sheetName
   names-back = ap (valueText tapeKey) line₀ ∙ key-value tapeKey name
 
-  file-column : (column : List ℕ → ℕ) (row : List ℕ) → eachOf (λ i. column (lineAfter i rest₅)) F ≡ row → eachOf (λ i. column (lineAfter i (fileText text))) (filesOf text) ≡ row
+  file-column : (column : List ℕ → ℕ) (row : List ℕ) → eachOf (λ i. column (lineAfter i rest₅)) F ≡ row → eachOf (λ i. column (lineAfter i (fileText text))) (sheetFiles text) ≡ row
   file-column column row e = ap (eachOf (λ i. column (lineAfter i (fileText text)))) files-back ∙ ap (λ t. eachOf (λ i. column (lineAfter i t)) F) files-text ∙ e
 
   want-column : (column : List ℕ → ℕ) (row : List ℕ) → eachOf (λ i. column (lineAfter i (pairLines wantKey (run .numbers) (run .counts) ++ []))) W ≡ row
-      → eachOf (λ i. column (lineAfter i (wantText text))) (wantsOf text) ≡ row
+      → eachOf (λ i. column (lineAfter i (wantText text))) (sheetWants text) ≡ row
   want-column column row e = ap (eachOf (λ i. column (lineAfter i (wantText text)))) wants-back ∙ ap (λ t. eachOf (λ i. column (lineAfter i t)) W) want-pairs ∙ e
 
-  run-back : runIn text ≡ run
-  unfolding runIn F W rest₅ has
+  run-back : sheetRun text ≡ run
+  unfolding sheetRun F W rest₅ has
   run-back =
       let starts = file-column (firstIn fileKey) (run .starts) (firsts-back fileKey refl (numberLine wantsKey W ++ rest₆) (run .starts) (run .lengths) (small .table)) in
       let lengths = file-column (secondIn fileKey) (run .lengths) (seconds-back fileKey refl (numberLine wantsKey W ++ rest₆) (run .starts) (run .lengths) (small .table)) in
@@ -352,8 +352,8 @@ module _ (name : List ℕ) (rule : Rule) (run : Run) (named : isName name ≡ tr
 pub record ReadsBack (name : List ℕ) (rule : Rule) (run : Run) : Type 0 where
   pub short : length (sheetText name rule run) ≤ longestSheet
   pub accepts : sheetVerdict (sheetText name rule run) ≡ accepted
-  pub same-run : runIn (sheetText name rule run) ≡ run
-  pub same-rule : ruleOf (sheetText name rule run) ≡ rule
+  pub same-run : sheetRun (sheetText name rule run) ≡ run
+  pub same-rule : sheetRule (sheetText name rule run) ≡ rule
   pub same-name : readName (sheetText name rule run) ≡ name
 
 -- For every accepted run within the sheet's limits.

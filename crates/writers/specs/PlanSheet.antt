@@ -1,4 +1,4 @@
--- The text of a plan sheet, what the plan sheet writer answers, for every input, and the row that it leaves (with Writing's `writtenAnswer` and `writtenRow`).
+-- The text of a plan sheet, what the plan sheet writer answers, for every input, and the row that it leaves (with Writing's `Handed`).
 use Prim.Native.Nat.{ℕ}
 use mathlib.Core.Bool.{not}
 use mathlib.Core.List.{List, [], _∷_, _++_}
@@ -10,31 +10,32 @@ use Rattle.runs.specs.Run.{Run, total, stopsOf}
 use Rattle.runs.specs.Judging.{judgeOf}
 use Rattle.runs.specs.Lists.{listOf, listVerdict}
 use Rattle.walk.specs.Price.{pricedAnswer, pricedTimes}
-use Rattle.texts.specs.Text.{isName}
+use Rattle.texts.specs.Text.{bytes, isName}
 use Rattle.sheets.specs.Lines.{tapeKey}
-use Rattle.writers.specs.Writing.{line, numberLine, pairLines, rowVerdict}
+use Rattle.writers.specs.declared.Written.{Written}
+use Rattle.writers.specs.Writing.{line, numberLine, pairLines, rowVerdict, Handed}
 
--- The keys, `sum=` to `time=`.
+-- The keys.
 abbrev pub sumKey : List ℕ
-sumKey = 115 ∷ 117 ∷ 109 ∷ 61 ∷ []
+sumKey = bytes "sum="
 
 abbrev pub readsKey : List ℕ
-readsKey = 114 ∷ 101 ∷ 97 ∷ 100 ∷ 115 ∷ 61 ∷ []
+readsKey = bytes "reads="
 
 abbrev pub finishKey : List ℕ
-finishKey = 102 ∷ 105 ∷ 110 ∷ 105 ∷ 115 ∷ 104 ∷ 61 ∷ []
+finishKey = bytes "finish="
 
 abbrev pub endKey : List ℕ
-endKey = 101 ∷ 110 ∷ 100 ∷ 61 ∷ []
+endKey = bytes "end="
 
 abbrev pub detoursKey : List ℕ
-detoursKey = 100 ∷ 101 ∷ 116 ∷ 111 ∷ 117 ∷ 114 ∷ 115 ∷ 61 ∷ []
+detoursKey = bytes "detours="
 
 abbrev pub detourKey : List ℕ
-detourKey = 100 ∷ 101 ∷ 116 ∷ 111 ∷ 117 ∷ 114 ∷ 61 ∷ []
+detourKey = bytes "detour="
 
 abbrev pub timeKey : List ℕ
-timeKey = 116 ∷ 105 ∷ 109 ∷ 101 ∷ 61 ∷ []
+timeKey = bytes "time="
 
 -- The first six lines, for the pricer's answer: `finish` is the clock and `end` the place at the end of the last sweep.
 unfoldable pub planTop : List ℕ → ℕ → Answer → List ℕ
@@ -65,3 +66,8 @@ planSheetVerdict name run froms tos row =
     ∷ listVerdict (stopsOf run) froms tos
     ∷ rowVerdict (planText name run froms tos) row
     ∷ [])
+
+-- The plan sheet writer.
+abbrev pub PlanWritten : List ℕ → Run → List ℕ → List ℕ → List ℕ → Written → List ℕ → Type 0
+PlanWritten name run froms tos row r row′ =
+    Handed (planSheetVerdict name run froms tos row) (planText name run froms tos) row r row′

@@ -1,10 +1,16 @@
 -- What the functions that put a sheet on a page ask and leave. No public contract cites this file.
 use Prim.Native.Nat.{ℕ, _+_, _≤_}
 use mathlib.Core.Path.{_≡_}
+use mathlib.Core.Bool.{cond}
 use mathlib.Core.List.{List, _++_}
 use lib.ListN.{length, take}
+use Rattle.refusals.specs.declared.Refusal.the-variants.{Accepted}
+use Rattle.refusals.specs.declared.Verdict.{Verdict}
+use Rattle.refusals.specs.Refusals.{isRefusal}
 use Rattle.runs.specs.Run.{mostWants}
 use Rattle.sheets.specs.Sheet.{longestSheet, mostSheetFiles}
+use Rattle.writers.specs.declared.Written.{Written}
+use Rattle.writers.specs.Writing.{refusedWriting}
 
 -- A text put on a page behind what stands before a position, in at most so many bytes.
 pub record Wrote (page : List ℕ) (at : ℕ) (text : List ℕ) (most : ℕ) (page′ : List ℕ) (next : ℕ) : Type 0 where
@@ -33,3 +39,7 @@ pub record PlanFits (page name froms tos numbers times : List ℕ) : Type 0 wher
   pub even : length froms ≡ length tos
   pub wants : length numbers ≤ mostWants
   pub timed : length numbers ≡ length times
+
+-- The answer to a verdict.
+abbrev pub writtenOf : Verdict → ℕ → Written
+writtenOf v n = cond (isRefusal (v .refusal)) (refusedWriting v) (record { refusal = Accepted; place = 0; bytes = n })

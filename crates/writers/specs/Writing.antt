@@ -1,5 +1,6 @@
 -- The text of a run sheet, what the run sheet writer answers, for every input, and the row that it leaves.
 use Prim.Native.Nat.{ℕ}
+use mathlib.Core.Path.{_≡_}
 use mathlib.Core.Bool.{cond, not, _||_}
 use mathlib.Core.List.{List, [], _∷_, _++_}
 use lib.ListN.{length, drop}
@@ -75,3 +76,12 @@ writtenAnswer v text =
 -- The row afterwards: the text, then the later bytes as they were; on a refusal the whole row as it was.
 unfoldable pub writtenRow : Verdict → List ℕ → List ℕ → List ℕ
 writtenRow v text row = cond (isRefusal (v .refusal)) row (text ++ drop (length text) row)
+
+-- What a writer answers and the row that it leaves, for a verdict and a text.
+pub record Handed (v : Verdict) (text row : List ℕ) (r : Written) (row′ : List ℕ) : Type 0 where
+  pub answer : r ≡ writtenAnswer v text
+  pub left : row′ ≡ writtenRow v text row
+
+-- The run sheet writer.
+abbrev pub SheetWritten : List ℕ → Rule → Run → List ℕ → Written → List ℕ → Type 0
+SheetWritten name rule run row r row′ = Handed (writeVerdict name rule run row) (sheetText name rule run) row r row′

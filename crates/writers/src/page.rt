@@ -1,13 +1,20 @@
 // A page: texts put one behind the other. A sheet is put together on a page of its own, so that a row too short for it is left alone.
 ghost use mathlib.Core.Path.{_≡_};
+ghost use mathlib.Core.Bool.{not, _||_};
+ghost use mathlib.Core.List.{[], _∷_};
 ghost use Prim.Native.Nat.{_+_, _*_, _≤_};
 ghost use lib.ListN.{length, drop};
-ghost use Rattle.texts.specs.Text.{decimal};
-ghost use Rattle.writers.specs.Writing.{line, numberLine, pairLine, pairLines, refusedWriting, rowVerdict, writtenAnswer, writtenRow};
-ghost use Rattle.writers.specs.Private.{Wrote};
+ghost use Rattle.refusals.specs.declared.Refusal.the-variants.{BadName};
+ghost use Rattle.refusals.specs.Refusals.{refuseIf, firstOf};
+ghost use Rattle.texts.specs.Text.{decimal, isName};
+ghost use Rattle.writers.specs.Writing.{line, numberLine, pairLine, pairLines, rowVerdict, Handed};
+ghost use Rattle.writers.specs.Private.{Wrote, writtenOf};
 use crate::Written;
 use refusals::Refusal;
 use refusals::Verdict;
+use refusals::refuse_if;
+use refusals::refused;
+use texts::is_name;
 
 fn put(page: &mut [u8], at: usize, text: &[u8]) -> usize
     requires { ⌜ at + length (now text) ≤ length (now page) ⌝ }
@@ -82,33 +89,44 @@ pub(crate) fn put_pairs(
     next
 }
 
-// The answer of a refusal: kind and place, and 0 bytes.
-pub(crate) fn refused_writing(v: Verdict) -> Written
-    ensures { λ r. ⌜ r ≡ refusedWriting v ⌝ }
+// 13, unless what was judged before refuses: more files than a sheet takes, or a name that is none.
+pub(crate) fn judge_name(before: Verdict, over: bool, name: &[u8]) -> Verdict
+    ensures { λ r. ⌜ r ≡ firstOf (before ∷ refuseIf (over || not (isName (now (name .entry)))) BadName ∷ []) ⌝ }
 {
-    let refusal = v.refusal;
-    Written {
-        refusal,
-        place: v.place,
-        bytes: 0,
+    if refused(before) {
+        return before;
     }
+    if over {
+        return refuse_if(over, Refusal::BadName);
+    }
+    refuse_if(!is_name(name), Refusal::BadName)
 }
 
-// The text as a sheet in the first bytes of a row, unless the row is too short for it.
-pub(crate) fn hand_out(text: &[u8], out: &mut [u8]) -> Written
-    ensures { λ r. ⌜ r ≡ writtenAnswer (rowVerdict (now (text .entry)) (now (out .entry))) (now (text .entry)) ⌝ }
-    ensures { λ _. ⌜ now (out .exit) ≡ writtenRow (rowVerdict (now (text .entry)) (now (out .entry))) (now (text .entry)) (now (out .entry)) ⌝ }
+// The answer to a verdict: on a refusal kind and place, and 0 bytes.
+pub(crate) fn written(verdict: Verdict, bytes: u64) -> Written
+    ensures { λ r. ⌜ r ≡ writtenOf verdict bytes ⌝ }
 {
-    if out.len() < text.len() {
-        return refused_writing(Verdict {
-            refusal: Refusal::ShortRow,
-            place: 0,
-        });
+    let refusal = verdict.refusal;
+    if refused(verdict) {
+        return Written {
+            refusal,
+            place: verdict.place,
+            bytes: 0,
+        };
     }
-    let bytes = put(out, 0, text);
     Written {
         refusal: Refusal::Accepted,
         place: 0,
-        bytes: bytes as u64,
+        bytes,
     }
+}
+
+// The text as a sheet in the first bytes of a row. A row too short for it takes none of it.
+pub(crate) fn hand_out(text: &[u8], out: &mut [u8]) -> Written
+    ensures { λ r. ⌜ Handed (rowVerdict (now (text .entry)) (now (out .entry))) (now (text .entry)) (now (out .entry)) r (now (out .exit)) ⌝ }
+{
+    let short = out.len() < text.len();
+    let bytes = if short { 0 } else { text.len() };
+    put(out, 0, &text[..bytes]);
+    written(refuse_if(short, Refusal::ShortRow), text.len() as u64)
 }

@@ -3,18 +3,17 @@ ghost use mathlib.Core.Path.{_≡_};
 ghost use Prim.Native.Nat.{_≤_};
 ghost use lib.ListN.{length};
 ghost use Rattle.runs.specs.Run.{runOf, total, mostReads};
-ghost use Rattle.writers.specs.PlanSheet.{planTop, planLines, planText, planSheetVerdict};
-ghost use Rattle.writers.specs.Writing.{writtenAnswer, writtenRow};
+ghost use Rattle.writers.specs.PlanSheet.{planTop, planLines, PlanWritten};
 ghost use Rattle.writers.specs.Private.{Wrote, planMost, PlanFits};
 use crate::Written;
 use crate::page::hand_out;
+use crate::page::judge_name;
 use crate::page::put_line;
 use crate::page::put_number_line;
 use crate::page::put_pairs;
-use crate::page::refused_writing;
-use refusals::Refusal;
+use crate::page::written;
 use refusals::Verdict;
-use texts::is_name;
+use refusals::refused;
 use walk::Answer;
 
 // The number of reads of an accepted run.
@@ -74,18 +73,12 @@ pub fn write_plan(
     tos: &[u64],
     out: &mut [u8],
 ) -> Written
-    ensures { λ r. ⌜ r ≡ writtenAnswer (planSheetVerdict (now (name .entry)) (runOf (now (starts .entry)) (now (lengths .entry)) (now (numbers .entry)) (now (counts .entry)) head turn) (now (froms .entry)) (now (tos .entry)) (now (out .entry))) (planText (now (name .entry)) (runOf (now (starts .entry)) (now (lengths .entry)) (now (numbers .entry)) (now (counts .entry)) head turn) (now (froms .entry)) (now (tos .entry))) ⌝ }
-    ensures { λ _. ⌜ now (out .exit) ≡ writtenRow (planSheetVerdict (now (name .entry)) (runOf (now (starts .entry)) (now (lengths .entry)) (now (numbers .entry)) (now (counts .entry)) head turn) (now (froms .entry)) (now (tos .entry)) (now (out .entry))) (planText (now (name .entry)) (runOf (now (starts .entry)) (now (lengths .entry)) (now (numbers .entry)) (now (counts .entry)) head turn) (now (froms .entry)) (now (tos .entry))) (now (out .entry)) ⌝ }
+    ensures { λ r. ⌜ PlanWritten (now (name .entry)) (runOf (now (starts .entry)) (now (lengths .entry)) (now (numbers .entry)) (now (counts .entry)) head turn) (now (froms .entry)) (now (tos .entry)) (now (out .entry)) r (now (out .exit)) ⌝ }
 {
     let run = runs::judge(starts, lengths, numbers, counts, head, turn);
-    if refusals::refused(run) {
-        return refused_writing(run);
-    }
-    if !is_name(name) {
-        return refused_writing(Verdict {
-            refusal: Refusal::BadName,
-            place: 0,
-        });
+    let named = judge_name(run, false, name);
+    if refused(named) {
+        return written(named, 0);
     }
     let mut times = [0u64; 64];
     let answer = walk::price(
@@ -104,8 +97,8 @@ pub fn write_plan(
         refusal,
         place: answer.place,
     };
-    if refusals::refused(list) {
-        return refused_writing(list);
+    if refused(list) {
+        return written(list, 0);
     }
     let wants = numbers.len();
     let mut page = [0u8; 6428];

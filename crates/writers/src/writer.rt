@@ -1,23 +1,21 @@
 // The run sheet writer.
-ghost use mathlib.Core.Path.{_≡_};
 ghost use Prim.Native.Nat.{_+_, _≤_};
 ghost use lib.ListN.{length};
 ghost use Rattle.runs.specs.Run.{runOf};
 ghost use Rattle.sheets.specs.Lines.{ruleKey, ruleText};
 ghost use Rattle.sheets.specs.Sheet.{longestSheet};
-ghost use Rattle.writers.specs.Writing.{line, topText, sheetText, writeVerdict, writtenAnswer, writtenRow};
+ghost use Rattle.writers.specs.Writing.{line, topText, sheetText, SheetWritten};
 ghost use Rattle.writers.specs.Private.{Wrote, SheetFits};
 use crate::Written;
 use crate::page::hand_out;
+use crate::page::judge_name;
 use crate::page::put_line;
 use crate::page::put_number_line;
 use crate::page::put_pairs;
-use crate::page::refused_writing;
-use refusals::Refusal;
-use refusals::Verdict;
+use crate::page::written;
+use refusals::refused;
 use runs::Rule;
 use sheets::MOST_SHEET_FILES;
-use texts::is_name;
 
 fn put_rule(page: &mut [u8], at: usize, rule: Rule) -> usize
     requires { ⌜ at + 11 ≤ length (now page) ⌝ }
@@ -72,24 +70,12 @@ pub fn write_sheet(
     turn: u64,
     out: &mut [u8],
 ) -> Written
-    ensures { λ r. ⌜ r ≡ writtenAnswer (writeVerdict (now (name .entry)) rule (runOf (now (starts .entry)) (now (lengths .entry)) (now (numbers .entry)) (now (counts .entry)) head turn) (now (out .entry))) (sheetText (now (name .entry)) rule (runOf (now (starts .entry)) (now (lengths .entry)) (now (numbers .entry)) (now (counts .entry)) head turn)) ⌝ }
-    ensures { λ _. ⌜ now (out .exit) ≡ writtenRow (writeVerdict (now (name .entry)) rule (runOf (now (starts .entry)) (now (lengths .entry)) (now (numbers .entry)) (now (counts .entry)) head turn) (now (out .entry))) (sheetText (now (name .entry)) rule (runOf (now (starts .entry)) (now (lengths .entry)) (now (numbers .entry)) (now (counts .entry)) head turn)) (now (out .entry)) ⌝ }
+    ensures { λ r. ⌜ SheetWritten (now (name .entry)) rule (runOf (now (starts .entry)) (now (lengths .entry)) (now (numbers .entry)) (now (counts .entry)) head turn) (now (out .entry)) r (now (out .exit)) ⌝ }
 {
-    let v = runs::judge(starts, lengths, numbers, counts, head, turn);
-    if refusals::refused(v) {
-        return refused_writing(v);
-    }
-    if MOST_SHEET_FILES < starts.len() as u64 {
-        return refused_writing(Verdict {
-            refusal: Refusal::BadName,
-            place: 0,
-        });
-    }
-    if !is_name(name) {
-        return refused_writing(Verdict {
-            refusal: Refusal::BadName,
-            place: 0,
-        });
+    let run = runs::judge(starts, lengths, numbers, counts, head, turn);
+    let verdict = judge_name(run, MOST_SHEET_FILES < starts.len() as u64, name);
+    if refused(verdict) {
+        return written(verdict, 0);
     }
     let mut page = [0u8; 16384];
     let bytes = put_sheet(

@@ -5,14 +5,29 @@ use borrow.Author.Needs.{needs}
 use Rattle.sheets.proofs.reader.lay_out.Statement.{statement}
 use Rattle.sheets.proofs.reader.lay_out.Tie as tie
 
+refuse-if-requires : tie.Need-refuse-if-requires
+refuse-if-requires c κs = search needs
+
+refused-requires : tie.Need-refused-requires
+refused-requires c κs = search needs
+
+unread-requires : tie.Need-unread-requires
+unread-requires c κs = search needs
+
 returns : tie.Need-returns
-returns c = sheet-long _ (c .if1 .taken)
+returns c = sheet-long _ _ _ (c .before .before .before .refuse-if .ensures) (c .before .before .refused .ensures) (c .before .if1 .taken) _ (c .unread .ensures)
 
 read-top-requires : tie.Need-read-top-requires
 read-top-requires c κs = search needs
 
 enum-known-line : tie.Need-enum-known-line
 enum-known-line c = search needs
+
+refuse-at-requires : tie.Need-refuse-at-requires
+refuse-at-requires c κs = search needs
+
+unread-requires-2 : tie.Need-unread-requires-2
+unread-requires-2 c κs = search needs
 
 enum-known-top : tie.Need-enum-known-top
 enum-known-top c = search needs
@@ -23,28 +38,41 @@ read-below-requires c κs = top-found _ _ (top-read _ _ (c .before .before .befo
 enum-known-line-2 : tie.Need-enum-known-line-2
 enum-known-line-2 c = search needs
 
+refuse-at-requires-2 : tie.Need-refuse-at-requires-2
+refuse-at-requires-2 c κs = search needs
+
+unread-requires-3 : tie.Need-unread-requires-3
+unread-requires-3 c κs = search needs
+
 enum-known-wants : tie.Need-enum-known-wants
 enum-known-wants c = search needs
 
 returns-2 : tie.Need-returns-2
-returns-2 c = top-refuses _ (c .before .before .before .before .if1 .left) _ (top-failed _ _ (c .before .before .before .read-top .ensures) _ (c .before .line .given .1))
+returns-2 c = top-refuses _ _ _ (c .before .before .before .before .before .before .before .before .refuse-if .ensures) (c .before .before .before .before .before .before .before .refused .ensures) (c .before .before .before .before .before .before .if1 .left) _ (top-failed _ _ (c .before .before .before .before .before .read-top .ensures) _ (c .before .before .before .line .given .1)) _ (c .before .refuse-at .ensures) _ (c .unread2 .ensures)
 
 returns-3 : tie.Need-returns-3
-returns-3 c = below-refuses _ (c .before .before .before .before .before .before .before .before .if1 .left) _ (top-read _ _ (c .before .before .before .before .before .before .before .read-top .ensures) _ (c .before .before .before .before .before .top .given .1)) _ (below-failed _ _ (c .before .before .before .read-below .ensures) _ (c .before .line2 .given .1))
+returns-3 c = below-refuses _ _ _ (c .before .before .before .before .before .before .before .before .before .before .before .before .refuse-if .ensures) (c .before .before .before .before .before .before .before .before .before .before .before .refused .ensures) (c .before .before .before .before .before .before .before .before .before .before .if1 .left) _ (top-read _ _ (c .before .before .before .before .before .before .before .before .before .read-top .ensures) _ (c .before .before .before .before .before .before .before .top .given .1)) _ (below-failed _ _ (c .before .before .before .before .before .read-below .ensures) _ (c .before .before .before .line2 .given .1)) _ (c .before .refuse-at2 .ensures) _ (c .unread3 .ensures)
 
 returns-4 : tie.Need-returns-4
-returns-4 c = laid-out _ (c .before .before .before .before .before .before .before .before .if1 .left) _ (top-read _ _ (c .before .before .before .before .before .before .before .read-top .ensures) _ (c .before .before .before .before .before .top .given .1)) _ _ (below-read _ _ (c .before .before .before .read-below .ensures) _ _ (c .before .wants .given .1))
+returns-4 c = laid-out _ _ _ (c .before .before .before .before .before .before .before .before .before .before .refuse-if .ensures) (c .before .before .before .before .before .before .before .before .before .refused .ensures) (c .before .before .before .before .before .before .before .before .if1 .left) _ (top-read _ _ (c .before .before .before .before .before .before .before .read-top .ensures) _ (c .before .before .before .before .before .top .given .1)) _ _ (below-read _ _ (c .before .before .before .read-below .ensures) _ _ (c .before .wants .given .1))
 
 pub lay-out-spec : {M : Type 1} → statement M
 lay-out-spec =
     tie.close
     (tie.spec
+    refuse-if-requires
+    refused-requires
+    unread-requires
     returns
     read-top-requires
     enum-known-line
+    refuse-at-requires
+    unread-requires-2
     enum-known-top
     read-below-requires
     enum-known-line-2
+    refuse-at-requires-2
+    unread-requires-3
     enum-known-wants
     returns-2
     returns-3

@@ -1,28 +1,55 @@
 -- `writers::page::hand_out` meets its contract: a row too short stays, and any other takes the text in its first bytes.
 -- Assumes nothing.
-use mathlib.Core.Path.{refl, _∙_}
-use Rattle.writers.proofs.Sheets.{refused-writing-is, refused-row-is, row-short, handed-answer, handed-row}
+use mathlib.Core.Path.{sym}
+use mathlib.Core.Logic.{⊎-elim}
+use native.Mathlib.Omega.{arith}
+use lib.ListN.{length}
+use lib.Seq.{length-take-le}
+use borrow.Author.Tests.{ltb-true, ltb-false}
+use Rattle.writers.proofs.Sheets.{bytes-fit, none-handed, all-handed}
 use borrow.Author.Needs.{needs}
 use Rattle.writers.proofs.page.hand_out.Statement.{statement}
 use Rattle.writers.proofs.page.hand_out.Tie as tie
 
-refused-writing-requires : tie.Need-refused-writing-requires
-refused-writing-requires c κs = search needs
-
-returns : tie.Need-returns
-returns c =
-    let e = row-short _ _ (c .before .if1 .taken) in
-    (c .refused-writing .ensures ∙ refused-writing-is _ _ _ e refl, refused-row-is _ _ _ e refl _)
+slice-aggregate-put : tie.Need-slice-aggregate-put
+slice-aggregate-put c =
+    let a = c .before .before .before .before .before .args in
+    let n = c .before .before .if1 .bytes in
+    sym (length-take-le n (a .text .now) (⊎-elim (λ w. omega (arith, ltb-true (length (a .out .now)) (length (a .text .now)) (w .0 .taken), w .1)) (λ w. omega (arith, w .1)) (c .before .before .if1 .came)))
 
 put-requires : tie.Need-put-requires
-put-requires c κs = search needs
+put-requires c κs =
+    let a = c .before .before .before .before .before .args in
+    let n = c .before .before .if1 .bytes in
+    bytes-fit (a .text .now) (a .out .now) n (⊎-elim (λ w. omega (arith, ltb-true (length (a .out .now)) (length (a .text .now)) (w .0 .taken), w .1)) (λ w. omega (arith, w .1)) (c .before .before .if1 .came)) (⊎-elim (λ w. omega (arith, w .1)) (λ w. omega (arith, ltb-false (length (a .out .now)) (length (a .text .now)) (w .0 .left), w .1)) (c .before .before .if1 .came))
+
+refuse-if-requires : tie.Need-refuse-if-requires
+refuse-if-requires c κs = search needs
+
+written-requires : tie.Need-written-requires
+written-requires c κs = search needs
 
 same-length : tie.Need-same-length
 same-length c = search needs
 
-returns-2 : tie.Need-returns-2
-returns-2 c = (handed-answer _ _ (c .before .before .before .before .if1 .left) _ _ (c .before .before .put .ensures .0), handed-row _ _ (c .before .before .before .before .if1 .left) _ _ (c .before .before .put .ensures .0) (c .before .before .put .ensures .1))
+returns : tie.Need-returns
+returns c =
+    let c4 = c .before .before .before .before in
+    let c8 = c4 .before .before .before .before in
+    let a = c8 .before .before .args in
+    let n = c4 .before .before .before .if1 .bytes in
+    ⊎-elim
+    (λ w. none-handed (a .text .now) (a .out .now) n _ _ (c4 .put .ensures .0) (c4 .put .ensures .1) _ (c .before .refuse-if .ensures) _ (c .written .ensures) (ltb-true _ _ (w .0 .taken)) (w .1))
+    (λ w. all-handed (a .text .now) (a .out .now) n _ _ (c4 .put .ensures .0) (c4 .put .ensures .1) _ (c .before .refuse-if .ensures) _ (c .written .ensures) (ltb-false _ _ (w .0 .left)) (w .1))
+    (c4 .before .before .before .if1 .came)
 
 pub hand-out-spec : {M : Type 1} → statement M
 hand-out-spec =
-    tie.close (tie.spec refused-writing-requires returns put-requires same-length returns-2)
+    tie.close
+    (tie.spec
+    slice-aggregate-put
+    put-requires
+    refuse-if-requires
+    written-requires
+    same-length
+    returns)

@@ -1,11 +1,10 @@
 -- `writers::plan::write_plan` meets its contract: 1 to 7, then 13, then 10 as the pricer gives it, then 8, then the sheet.
 -- Assumes nothing.
+use mathlib.Core.Path.{sym, _∙_}
 use native.Mathlib.Omega.{arith}
-use mathlib.Core.Path.{refl, sym, _∙_}
-use borrow.Author.Tests.{not-true, not-false}
 use Rattle.runs.specs.Run.{runOf}
-use Rattle.writers.proofs.Sheets.{refused-writing-is, refused-row-is, part-length, page-answer, page-row}
-use Rattle.writers.proofs.Plans.{plan-run-refused, good-run, plan-name-refused, plan-list-refused, plan-last, wants-length, plan-fits, plan-wrote}
+use Rattle.writers.proofs.Sheets.{refused-handed, part-length, page-handed}
+use Rattle.writers.proofs.Plans.{plan-refused, plan-good, plan-list-refused, plan-last, wants-length, plan-fits, plan-wrote}
 use borrow.Author.Needs.{needs}
 use Rattle.writers.proofs.plan.write_plan.Statement.{statement}
 use Rattle.writers.proofs.plan.write_plan.Tie as tie
@@ -13,35 +12,23 @@ use Rattle.writers.proofs.plan.write_plan.Tie as tie
 judge-requires : tie.Need-judge-requires
 judge-requires c κs = search needs
 
+judge-name-requires : tie.Need-judge-name-requires
+judge-name-requires c κs = search needs
+
 refused-requires : tie.Need-refused-requires
 refused-requires c κs = search needs
 
-refused-writing-requires : tie.Need-refused-writing-requires
-refused-writing-requires c κs = search needs
+written-requires : tie.Need-written-requires
+written-requires c κs = search needs
 
 returns : tie.Need-returns
 returns c =
-    let a = c .before .before .before .before .before .before .before .before .before .before .before .before .args in
-    let run = runOf (a .starts .now) (a .lengths .now) (a .numbers .now) (a .counts .now) (a .head) (a .turn) in
-    let e = plan-run-refused (a .name .now) run (a .froms .now) (a .tos .now) (a .out .now) _ _ (c .before .before .before .judge .ensures) (c .before .before .refused .ensures) (c .before .if1 .taken) in
-    let r = sym (c .before .before .refused .ensures) ∙ c .before .if1 .taken in
-    (c .refused-writing .ensures ∙ refused-writing-is _ _ _ e r, refused-row-is _ _ _ e r _)
-
-is-name-requires : tie.Need-is-name-requires
-is-name-requires c κs = search needs
-
-refused-writing-requires-2 : tie.Need-refused-writing-requires-2
-refused-writing-requires-2 c κs = search needs
-
-returns-2 : tie.Need-returns-2
-returns-2 c =
     let c4 = c .before .before .before .before in
     let c8 = c4 .before .before .before .before in
     let c12 = c8 .before .before .before .before in
-    let a = c12 .before .before .args in
+    let a = c12 .before .args in
     let run = runOf (a .starts .now) (a .lengths .now) (a .numbers .now) (a .counts .now) (a .head) (a .turn) in
-    let e = plan-name-refused (a .name .now) run (a .froms .now) (a .tos .now) (a .out .now) _ _ (c4 .before .judge .ensures) (c4 .refused .ensures) (c .before .before .before .if1 .left) _ (c .before .before .is-name .ensures) (not-true _ (c .before .if2 .taken)) in
-    (c .refused-writing2 .ensures ∙ refused-writing-is _ _ _ e refl, refused-row-is _ _ _ e refl _)
+    refused-handed _ _ _ _ _ _ (plan-refused (a .name .now) run (a .froms .now) (a .tos .now) (a .out .now) _ _ (c4 .judge .ensures) (c .before .before .before .judge-name .ensures) _ (c .before .before .refused .ensures) (c .before .if1 .taken)) (sym (c .before .before .refused .ensures) ∙ c .before .if1 .taken) (c .written .ensures)
 
 slice-aggregate-price : tie.Need-slice-aggregate-price
 slice-aggregate-price c = search needs
@@ -52,22 +39,18 @@ price-requires c κs = search needs
 refused-requires-2 : tie.Need-refused-requires-2
 refused-requires-2 c κs = search needs
 
-refused-writing-requires-3 : tie.Need-refused-writing-requires-3
-refused-writing-requires-3 c κs = search needs
+written-requires-2 : tie.Need-written-requires-2
+written-requires-2 c κs = search needs
 
-returns-3 : tie.Need-returns-3
-returns-3 c =
+returns-2 : tie.Need-returns-2
+returns-2 c =
     let c4 = c .before .before .before .before in
     let c8 = c4 .before .before .before .before in
     let c12 = c8 .before .before .before .before in
     let c16 = c12 .before .before .before .before in
-    let a = c16 .before .before .before .args in
+    let a = c16 .before .before .args in
     let run = runOf (a .starts .now) (a .lengths .now) (a .numbers .now) (a .counts .now) (a .head) (a .turn) in
-    let e = plan-list-refused (a .name .now) run (a .froms .now) (a .tos .now) (a .out .now) _ _ (c8 .before .before .judge .ensures) (c8 .before .refused .ensures) (c8 .if1 .left) _
-    (c4 .before .before .before .is-name .ensures) (not-false _ (c4 .before .before .if2 .left)) _ (search needs) (c4 .price .result) (c4 .price .ensures .0) _ (c .before .before .refused2 .ensures)
-    (c .before .if3 .taken) in
-    let r = sym (c .before .before .refused2 .ensures) ∙ c .before .if3 .taken in
-    (c .refused-writing3 .ensures ∙ refused-writing-is _ _ _ e r, refused-row-is _ _ _ e r _)
+    refused-handed _ _ _ _ _ _ (plan-list-refused (a .name .now) run (a .froms .now) (a .tos .now) (a .out .now) _ _ (c8 .before .judge .ensures) (c8 .judge-name .ensures) _ (c4 .before .before .before .refused .ensures) (c4 .before .before .if1 .left) _ (search needs) (c4 .price .result) (c4 .price .ensures .0) _ (c .before .before .refused2 .ensures) (c .before .if2 .taken)) (sym (c .before .before .refused2 .ensures) ∙ c .before .if2 .taken) (c .written2 .ensures)
 
 slice-aggregate-put-plan : tie.Need-slice-aggregate-put-plan
 slice-aggregate-put-plan c = search needs
@@ -78,9 +61,9 @@ reads-of-requires c κs =
     let c8 = c4 .before .before .before .before in
     let c12 = c8 .before .before .before .before in
     let c16 = c12 .before .before .before .before in
-    let a = c16 .before .before .before .args in
+    let a = c16 .before .before .args in
     let run = runOf (a .starts .now) (a .lengths .now) (a .numbers .now) (a .counts .now) (a .head) (a .turn) in
-    good-run (a .name .now) run (a .froms .now) (a .tos .now) (a .out .now) _ _ (c8 .before .before .judge .ensures) (c8 .before .refused .ensures) (c8 .if1 .left) .wants .reads
+    plan-good (a .name .now) run (a .froms .now) (a .tos .now) (a .out .now) _ _ (c8 .before .judge .ensures) (c8 .judge-name .ensures) _ (c4 .before .before .before .refused .ensures) (c4 .before .before .if1 .left) .wants .reads
 
 array-share-prefix-times : tie.Need-array-share-prefix-times
 array-share-prefix-times c =
@@ -88,11 +71,10 @@ array-share-prefix-times c =
     let c8 = c4 .before .before .before .before in
     let c12 = c8 .before .before .before .before in
     let c16 = c12 .before .before .before .before in
-    let c20 = c16 .before .before .before .before in
-    let a = c20 .args in
+    let a = c16 .before .before .before .args in
     let run = runOf (a .starts .now) (a .lengths .now) (a .numbers .now) (a .counts .now) (a .head) (a .turn) in
-    let w = good-run (a .name .now) run (a .froms .now) (a .tos .now) (a .out .now) _ _ (c8 .before .before .before .judge .ensures) (c8 .before .before .refused .ensures) (c8 .before .if1 .left) .wants .few in
-    omega (arith, w)
+    let few = plan-good (a .name .now) run (a .froms .now) (a .tos .now) (a .out .now) _ _ (c8 .before .before .judge .ensures) (c8 .before .judge-name .ensures) _ (c8 .refused .ensures) (c4 .before .before .before .if1 .left) .wants .few in
+    omega (arith, few)
 
 slice-aggregate-put-plan-2 : tie.Need-slice-aggregate-put-plan-2
 slice-aggregate-put-plan-2 c =
@@ -101,11 +83,9 @@ slice-aggregate-put-plan-2 c =
     let c12 = c8 .before .before .before .before in
     let c16 = c12 .before .before .before .before in
     let c20 = c16 .before .before .before .before in
-    let a = c20 .before .args in
+    let a = c20 .args in
     let run = runOf (a .starts .now) (a .lengths .now) (a .numbers .now) (a .counts .now) (a .head) (a .turn) in
-    wants-length (a .name .now) run (a .froms .now) (a .tos .now) (a .out .now) _ _ (c12 .judge .ensures) (c8 .before .before .before .refused .ensures) (c8 .before .before .if1 .left) _ (c8 .before .is-name .ensures)
-    (not-false _ (c8 .if2 .left)) _ (search needs) (c4 .before .before .price .result) (c4 .before .before .price .ensures .0) _ (c4 .refused2 .ensures) (c .before .before .before .if3 .left) _
-    (c4 .before .before .price .ensures .1)
+    wants-length (a .name .now) run (a .froms .now) (a .tos .now) (a .out .now) _ _ (c8 .before .before .before .judge .ensures) (c8 .before .before .judge-name .ensures) _ (c8 .before .refused .ensures) (c8 .if1 .left) _ (search needs) (c4 .before .before .price .result) (c4 .before .before .price .ensures .0) _ (c4 .refused2 .ensures) (c .before .before .before .if2 .left) _ (c4 .before .before .price .ensures .1)
 
 put-plan-requires : tie.Need-put-plan-requires
 put-plan-requires c κs =
@@ -114,11 +94,9 @@ put-plan-requires c κs =
     let c12 = c8 .before .before .before .before in
     let c16 = c12 .before .before .before .before in
     let c20 = c16 .before .before .before .before in
-    let a = c20 .before .args in
+    let a = c20 .args in
     let run = runOf (a .starts .now) (a .lengths .now) (a .numbers .now) (a .counts .now) (a .head) (a .turn) in
-    plan-fits (a .name .now) run (a .froms .now) (a .tos .now) (a .out .now) _ _ (c12 .judge .ensures) (c8 .before .before .before .refused .ensures) (c8 .before .before .if1 .left) _ (c8 .before .is-name .ensures)
-    (not-false _ (c8 .if2 .left)) _ (search needs) (c4 .before .before .price .result) (c4 .before .before .price .ensures .0) _ (c4 .refused2 .ensures) (c .before .before .before .if3 .left) _
-    (c4 .before .before .price .ensures .1) _ (search needs)
+    plan-fits (a .name .now) run (a .froms .now) (a .tos .now) (a .out .now) _ _ (c8 .before .before .before .judge .ensures) (c8 .before .before .judge-name .ensures) _ (c8 .before .refused .ensures) (c8 .if1 .left) _ (search needs) (c4 .before .before .price .result) (c4 .before .before .price .ensures .0) _ (c4 .refused2 .ensures) (c .before .before .before .if2 .left) _ (c4 .before .before .price .ensures .1) _ (search needs)
 
 array-share-prefix-page : tie.Need-array-share-prefix-page
 array-share-prefix-page c = search needs
@@ -132,41 +110,33 @@ hand-out-requires c κs = search needs
 same-length : tie.Need-same-length
 same-length c = search needs
 
-returns-4 : tie.Need-returns-4
-returns-4 c =
+returns-3 : tie.Need-returns-3
+returns-3 c =
     let c4 = c .before .before .before .before in
     let c8 = c4 .before .before .before .before in
     let c12 = c8 .before .before .before .before in
     let c16 = c12 .before .before .before .before in
     let c20 = c16 .before .before .before .before in
     let c24 = c20 .before .before .before .before in
-    let c28 = c24 .before .before .before .before in
-    let a = c28 .args in
+    let a = c24 .before .before .before .args in
     let run = runOf (a .starts .now) (a .lengths .now) (a .numbers .now) (a .counts .now) (a .head) (a .turn) in
-    let w = plan-wrote (a .name .now) run (a .froms .now) (a .tos .now) (a .out .now) _ _ (c16 .before .before .before .judge .ensures) (c16 .before .before .refused .ensures) (c16 .before .if1 .left) _
-    (c16 .is-name .ensures) (not-false _ (c12 .before .before .before .if2 .left)) _ (search needs) (c12 .before .price .result) (c12 .before .price .ensures .0) _ (c8 .before .before .before .refused2 .ensures)
-    (c8 .before .before .if3 .left) _ (c12 .before .price .ensures .1) _ (c8 .reads-of .ensures) _ _ _ (c4 .before .before .put-plan .ensures) in
-    let e = plan-last (a .name .now) run (a .froms .now) (a .tos .now) (a .out .now) _ _ (c16 .before .before .before .judge .ensures) (c16 .before .before .refused .ensures) (c16 .before .if1 .left) _
-    (c16 .is-name .ensures) (not-false _ (c12 .before .before .before .if2 .left)) _ (search needs) (c12 .before .price .result) (c12 .before .price .ensures .0) _ (c8 .before .before .before .refused2 .ensures)
-    (c8 .before .before .if3 .left) in
-    (page-answer _ _ _ _ _ w _ _ e _ (c .before .before .hand-out .ensures .0), page-row _ _ _ _ _ w _ _ e _ (c .before .before .hand-out .ensures .1))
+    let wrote = plan-wrote (a .name .now) run (a .froms .now) (a .tos .now) (a .out .now) _ _ (c16 .before .before .judge .ensures) (c16 .before .judge-name .ensures) _ (c16 .refused .ensures) (c12 .before .before .before .if1 .left) _ (search needs) (c12 .before .price .result) (c12 .before .price .ensures .0) _ (c8 .before .before .before .refused2 .ensures) (c8 .before .before .if2 .left) _ (c12 .before .price .ensures .1) _ (c8 .reads-of .ensures) _ _ _ (c4 .before .before .put-plan .ensures) in
+    page-handed _ _ _ _ _ wrote _ _ (plan-last (a .name .now) run (a .froms .now) (a .tos .now) (a .out .now) _ _ (c16 .before .before .judge .ensures) (c16 .before .judge-name .ensures) _ (c16 .refused .ensures) (c12 .before .before .before .if1 .left) _ (search needs) (c12 .before .price .result) (c12 .before .price .ensures .0) _ (c8 .before .before .before .refused2 .ensures) (c8 .before .before .if2 .left)) _ _ (c .before .before .hand-out .ensures)
 
 pub write-plan-spec : {M : Type 1} → statement M
 write-plan-spec =
     tie.close
     (tie.spec
     judge-requires
+    judge-name-requires
     refused-requires
-    refused-writing-requires
+    written-requires
     returns
-    is-name-requires
-    refused-writing-requires-2
-    returns-2
     slice-aggregate-price
     price-requires
     refused-requires-2
-    refused-writing-requires-3
-    returns-3
+    written-requires-2
+    returns-2
     slice-aggregate-put-plan
     reads-of-requires
     array-share-prefix-times
@@ -176,4 +146,4 @@ write-plan-spec =
     slice-aggregate-hand-out
     hand-out-requires
     same-length
-    returns-4)
+    returns-3)
