@@ -1,22 +1,22 @@
 #!/bin/sh
 # Builds and runs the benchmark against ARCHIVE (default target/staticlib/libboundary.a) and prints its table.
 #
-#   host/bench.sh [--quick] [--native] [ARCHIVE]
+#   bench/run.sh [--quick] [--native] [ARCHIVE]
 #
-# --native: ARCHIVE was made by host/native.sh, for this machine's own processor.
+# --native: ARCHIVE was made by tools/native.sh, for this machine's own processor.
 # CC (default gcc, or a cross compiler: see machine.sh) and CFLAGS (default -O3) may be set in the environment; the table
 # names them.
 set -eu
 
 here=$(cd "$(dirname "$0")/.." && pwd)
-. "$here/host/machine.sh"
+. "$here/tools/machine.sh"
 archive=$here/target/staticlib/libboundary.a
 quick=
 for word in "$@"; do
     case $word in
         --quick) quick=--quick ;;
         --native) emulated=no cc=gcc emulator='' ;;
-        -*) printf 'bench.sh: unknown option %s; usage: host/bench.sh [--quick] [--native] [ARCHIVE]\n' "$word" >&2; exit 2 ;;
+        -*) printf 'bench/run.sh: unknown option %s; usage: bench/run.sh [--quick] [--native] [ARCHIVE]\n' "$word" >&2; exit 2 ;;
         *) archive=$word ;;
     esac
 done
@@ -26,14 +26,14 @@ flags=${CFLAGS:--O3}
 packages=gcc
 [ "$emulated" = no ] || packages='gcc-x86-64-linux-gnu libc6-dev-amd64-cross qemu-user'
 for tool in "$cc" $emulator; do
-    command -v "$tool" > /dev/null || { printf 'bench.sh: no %s (Debian: apt-get install %s)\n' "$tool" "$packages" >&2; exit 1; }
+    command -v "$tool" > /dev/null || { printf 'bench/run.sh: no %s (Debian: apt-get install %s)\n' "$tool" "$packages" >&2; exit 1; }
 done
-[ -f "$archive" ] || { printf "bench.sh: no archive at %s; 'rt staticlib boundary' makes it\n" "$archive" >&2; exit 1; }
+[ -f "$archive" ] || { printf "bench/run.sh: no archive at %s; 'rt staticlib boundary' makes it\n" "$archive" >&2; exit 1; }
 
 out=$(mktemp -d)
 trap 'rm -rf "$out"' EXIT
 # shellcheck disable=SC2086  # flags are words
 "$cc" -std=c11 $flags -DFLAGS="\"$cc $flags\"" -I "$here/include" \
-    "$here/host/bench.c" "$here/host/plain.c" "$here/host/paper.c" "$archive" -o "$out/bench"
+    "$here/bench/bench.c" "$here/bench/plain.c" "$here/bench/paper.c" "$archive" -o "$out/bench"
 [ "$emulated" = no ] || printf 'EMULATED: this machine is %s, the library is for x86-64; the times below say nothing about it.\n' "$machine"
 ${emulator:+"$emulator" -L "$cross"} "$out/bench" $quick

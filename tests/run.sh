@@ -3,7 +3,7 @@
 # header's example as C and as C++, the comparison with exhaustive search in C and in Rust, the benchmark once (for its
 # sums), four threads at once, the daemon against the archive and against an installed prefix.
 #
-#   host/run.sh [--install-tools] [--calls N] [ARCHIVE]
+#   tests/run.sh [--install-tools] [--calls N] [ARCHIVE]
 #
 # On x86-64 it needs gcc, g++ and rustc. On another processor it needs cross compilers for x86-64, Rust with its standard
 # library for x86-64, and an emulator: see machine.sh. With --install-tools, run as root on Debian, it fetches what is
@@ -12,14 +12,14 @@
 set -u
 
 here=$(cd "$(dirname "$0")/.." && pwd)
-. "$here/host/machine.sh"
+. "$here/tools/machine.sh"
 archive=$here/target/staticlib/libboundary.a
 calls=
 install_tools=no
 time_limit=600
 
 fail() {
-    printf 'host/run.sh: %s\n' "$1" >&2
+    printf 'tests/run.sh: %s\n' "$1" >&2
     exit 1
 }
 
@@ -27,7 +27,7 @@ while [ $# -gt 0 ]; do
     case $1 in
         --install-tools) install_tools=yes ;;
         --calls) [ $# -gt 1 ] || fail "--calls needs a number"; calls=$2; shift ;;
-        -*) fail "unknown option $1; usage: host/run.sh [--install-tools] [--calls N] [ARCHIVE]" ;;
+        -*) fail "unknown option $1; usage: tests/run.sh [--install-tools] [--calls N] [ARCHIVE]" ;;
         *) archive=$1 ;;
     esac
     shift
@@ -157,7 +157,7 @@ check_example() {
 
 check_compare() {
     [ "$emulated" = no ] || calls=${calls:-100000}
-    build "building compare.c" -O2 -Wall -Wextra -I "$here/include" "$here/host/compare.c" "$here/host/paper.c" "$archive" \
+    build "building compare.c" -O2 -Wall -Wextra -I "$here/include" -I "$here/bench" "$here/tests/c/compare/compare.c" "$here/bench/paper.c" "$archive" \
         -o "$out/compare_c"
     run_step "compare.c" "$out/compare_c" ${calls:+--calls "$calls"}
     build_rust
@@ -166,39 +166,39 @@ check_compare() {
 
 build_rust() {
     cp "$archive" "$out/libviolstream.a"
-    set -- -O --edition 2021 "$here/host/compare.rs" -L native="$out" -l static=violstream -o "$out/compare_rs"
+    set -- -O --edition 2021 "$here/tests/rust/compare/compare.rs" -L native="$out" -l static=violstream -o "$out/compare_rs"
     [ "$emulated" = no ] || set -- "$@" --target "$rust_target" -C linker="$cc"
     step "building compare.rs" "$rustc" ${rust_root:+--sysroot "$rust_root"} "$@"
 }
 
 check_bench() {
-    step "bench" env CC="$cc" "$here/host/bench.sh" --quick "$archive" > "$out/bench.log"
+    step "bench" env CC="$cc" "$here/bench/run.sh" --quick "$archive" > "$out/bench.log"
     printf 'bench: planner, plain.c and paper.c give the same sums\n'
 }
 
 check_threads() {
-    build "building threads.c" -O2 -Wall -Wextra -pthread -I "$here/include" "$here/host/threads.c" "$archive" -o "$out/threads"
+    build "building threads.c" -O2 -Wall -Wextra -pthread -I "$here/include" "$here/tests/c/threads.c" "$archive" -o "$out/threads"
     run_step "threads.c" "$out/threads"
 }
 
 # run_daemon WHAT PROGRAM
 run_daemon() {
-    run_step "$1" "$2" < "$here/host/requests.txt" > "$out/answers.is"
-    same "$1" "$here/host/answers.txt" "$out/answers.is"
+    run_step "$1" "$2" < "$here/examples/daemon.requests" > "$out/answers.is"
+    same "$1" "$here/examples/daemon.answers" "$out/answers.is"
 }
 
 check_daemon() {
-    build "building daemon.c" -O2 -Wall -Wextra -I "$here/include" "$here/host/daemon.c" "$archive" -o "$out/daemon"
+    build "building daemon.c" -O2 -Wall -Wextra -I "$here/include" "$here/examples/daemon.c" "$archive" -o "$out/daemon"
     run_daemon "daemon against the archive" "$out/daemon"
 }
 
 check_installed() {
     prefix=$out/prefix
-    step "install.sh" env -u DESTDIR "$here/host/install.sh" PREFIX="$prefix" "$archive" > "$out/install.log"
-    build "building daemon.c against an installed prefix" -O2 "$here/host/daemon.c" -I "$prefix/include" \
+    step "install.sh" env -u DESTDIR "$here/install.sh" PREFIX="$prefix" "$archive" > "$out/install.log"
+    build "building daemon.c against an installed prefix" -O2 "$here/examples/daemon.c" -I "$prefix/include" \
         -L "$prefix/lib" -lviolstream -o "$out/daemon_installed"
     run_daemon "daemon against an installed prefix" "$out/daemon_installed"
-    step "install.sh with DESTDIR" "$here/host/install.sh" PREFIX=/usr DESTDIR="$out/stage" "$archive" > "$out/install.log"
+    step "install.sh with DESTDIR" "$here/install.sh" PREFIX=/usr DESTDIR="$out/stage" "$archive" > "$out/install.log"
     grep -qx 'prefix=/usr' "$out/stage/usr/lib/pkgconfig/violstream.pc" || fail "violstream.pc does not name PREFIX, or not without DESTDIR"
     check_pkg_config
 }
@@ -210,7 +210,7 @@ check_pkg_config() {
     fi
     words=$(PKG_CONFIG_PATH=$prefix/lib/pkgconfig pkg-config --cflags --libs violstream) || fail "pkg-config does not find violstream"
     # shellcheck disable=SC2086  # words for the compiler
-    build "building daemon.c by pkg-config" -O2 "$here/host/daemon.c" $words -o "$out/daemon_pkg"
+    build "building daemon.c by pkg-config" -O2 "$here/examples/daemon.c" $words -o "$out/daemon_pkg"
     run_daemon "daemon by pkg-config" "$out/daemon_pkg"
 }
 
@@ -224,4 +224,4 @@ check_installed
 check_threads
 check_bench
 check_compare
-printf 'host/run.sh: all hosts agree\n'
+printf 'tests/run.sh: all hosts agree\n'

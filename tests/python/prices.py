@@ -2,16 +2,16 @@
 """Works out what the program check_prices must print, from document 01's sentences, and compares it with the file that the
 gate holds the program to, crates/check_prices/stdout.
 
-usage: host/prices.py            compares
-       host/prices.py --print    prints the text instead
+usage: tests/python/prices.py            compares
+       tests/python/prices.py --print    prints the text instead
 
-The judging and the walk are those of host/sheets.py; they share nothing with the crates.
+The judging and the walk are those of tests/python/plan.py; they share nothing with the crates.
 """
 import os
 import sys
 
 sys.dont_write_bytecode = True
-import sheets
+import plan as sheets
 
 LAST, HIGHEST = 2**40, 2**32
 FOUR = [(0, 2), (2, 2), (4, 2), (6, 2)]
@@ -88,7 +88,7 @@ def main():
     with open(path, encoding="ascii") as handle:
         held = handle.read()
     if held != must:
-        sys.exit("prices.py: crates/check_prices/stdout is not what document 01 gives; 'host/prices.py --print' shows that")
+        sys.exit("prices.py: crates/check_prices/stdout is not what document 01 gives; 'tests/python/prices.py --print' shows that")
     print(f"prices.py: the {must.count(chr(10))} lines that check_prices must print are as worked out here")
 
 

@@ -10,7 +10,7 @@
  * All rows of a call stand in one arena between guard words. After the call every word of the arena, guards and rows
  * that are only read among them, is compared with what it must be.
  *
- * cc -O2 -I include host/compare.c host/paper.c ARCHIVE -o compare
+ * cc -O2 -I include tests/c/compare/compare.c bench/paper.c ARCHIVE -o compare
  * ./compare [--calls N] [--seed S] [--from N] [--apart]     exit status: 0 all agree, 1 a difference, 2 bad usage
  *
  * --apart lends each row in a block of its own from malloc, so that valgrind sees every word read outside a row:

@@ -1,10 +1,10 @@
 #!/usr/bin/env python3
 """Runs the cmd_ltfs program on whole and damaged labels and indexes and compares every byte it prints with an answer worked out here.
 
-usage: host/ltfs.py [--cases N] [PROGRAM]    (default target/bin/cmd_ltfs, 4,000 generated cases beside the fixed ones)
-       host/ltfs.py --time [PROGRAM]         how long one call takes, at three sizes of the index
-       host/ltfs.py --native ... PROGRAM     the program was made by host/native.sh, for this machine's own processor
-       host/ltfs.py --examples [PROGRAM]     the pairs of examples/ltfs alone
+usage: tests/python/ltfs.py [--cases N] [PROGRAM]    (default target/bin/cmd_ltfs, 4,000 generated cases beside the fixed ones)
+       tests/python/ltfs.py --time [PROGRAM]         how long one call takes, at three sizes of the index
+       tests/python/ltfs.py --native ... PROGRAM     the program was made by tools/native.sh, for this machine's own processor
+       tests/python/ltfs.py --examples [PROGRAM]     the pairs of examples/ltfs alone
 
 Two readers stand here that share nothing with the program: one of every text, by regular expressions, after docs/DECISIONS.md;
 and Python's own XML parser (expat) for those that are well-formed, which must find the same table.
@@ -18,9 +18,9 @@ import time
 import xml.parsers.expat
 
 sys.dont_write_bytecode = True
-import sheets
+import plan as sheets
 
-HERE = os.path.dirname(os.path.dirname(os.path.abspath(__file__)))
+HERE = os.path.dirname(os.path.dirname(os.path.dirname(os.path.abspath(__file__))))
 LIMIT = 2**40
 NAME = rb"[A-Za-z_:\x80-\xff][A-Za-z0-9_:.\-\x80-\xff]*"
 START = re.compile(rb"<(" + NAME + rb")((?:[^<>\"']|\"[^\"]*\"|'[^']*')*)>", re.S)
@@ -218,7 +218,7 @@ def expected(text, met):
                 except Refused:
                     again = None
                 if again != answer:
-                    raise SystemExit(f"the two readers of host/ltfs.py differ on\n{text!r}")
+                    raise SystemExit(f"the two readers of tests/python/ltfs.py differ on\n{text!r}")
         ranges, empty, other = answer
         met[0] = met.get(0, 0) + 1
         return sheet(name, ranges), f"empty={empty}\nother={other}\n".encode()
@@ -484,7 +484,7 @@ def examples():
             if not expat_tree(label) or not expat_tree(index):
                 raise SystemExit(f"{stem}: no well-formed XML")
             if table(expat_tree(label), expat_tree(index)) != table(tree(label), tree(index)):
-                raise SystemExit(f"{stem}: the two readers of host/ltfs.py differ")
+                raise SystemExit(f"{stem}: the two readers of tests/python/ltfs.py differ")
             written, report = expected(framed(os.path.basename(stem).encode(), label, index), {})
             if written != open(stem + ".run", "rb").read() or report != open(stem + ".report", "rb").read():
                 raise SystemExit(f"{stem}: the stored sheet and report are not what its label and index say")

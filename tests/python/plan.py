@@ -1,8 +1,8 @@
 #!/usr/bin/env python3
 """Runs the recall program on whole and damaged sheets and compares every byte it prints with an answer worked out here.
 
-usage: host/sheets.py [PROGRAM]           (default target/bin/cmd_plan)
-       host/sheets.py --time [PROGRAM]    how long one call takes on a full sheet, and on none
+usage: tests/python/plan.py [PROGRAM]           (default target/bin/cmd_plan)
+       tests/python/plan.py --time [PROGRAM]    how long one call takes on a full sheet, and on none
 
 The program is for x86-64; on another processor it is started as machine.sh says.
 
@@ -14,10 +14,10 @@ import subprocess
 import sys
 import time
 
-HERE = os.path.dirname(os.path.dirname(os.path.abspath(__file__)))
+HERE = os.path.dirname(os.path.dirname(os.path.dirname(os.path.abspath(__file__))))
 WORDS = [word for word in sys.argv[1:] if word != "--time"]
 PROGRAM = WORDS[0] if WORDS else os.path.join(HERE, "target/bin/cmd_plan")
-MACHINE = os.path.join(HERE, "host/machine.sh")
+MACHINE = os.path.join(HERE, "tools/machine.sh")
 NUMBER = rb"(0|[1-9][0-9]*)"
 
 
@@ -198,16 +198,16 @@ def main():
         tried += 1
         if must is None:
             if not out.startswith(b"tape="):
-                sys.exit(f"sheets.py: a sheet that fits was refused:\n{sheet!r}\nprinted {out!r}")
+                sys.exit(f"plan.py: a sheet that fits was refused:\n{sheet!r}\nprinted {out!r}")
             seen.add(b"planned")
         elif out != must:
-            sys.exit(f"sheets.py: for the sheet\n{sheet!r}\nthe program printed\n{out!r}\nand should have printed\n{must!r}")
+            sys.exit(f"plan.py: for the sheet\n{sheet!r}\nthe program printed\n{out!r}\nand should have printed\n{must!r}")
         else:
             seen.add(out.split(b"\n")[0] if out.startswith(b"refused") else b"planned")
     missing = {b"refused=%d" % n for n in (2, 4, 5, 6, 7, 9, 11, 12)} - seen
     if missing:
-        sys.exit(f"sheets.py: no sheet met {sorted(missing)}")
-    print(f"sheets.py: {tried} sheets answered as they must be, every refusal of the program among them")
+        sys.exit(f"plan.py: no sheet met {sorted(missing)}")
+    print(f"plan.py: {tried} sheets answered as they must be, every refusal of the program among them")
 
 
 def full_sheet():
@@ -224,7 +224,7 @@ def timed(sheet, calls=300):
         out = subprocess.run(start, input=sheet, capture_output=True).stdout
         taken.append(1000 * (time.perf_counter() - began))
         if out.startswith(b"refused") != (sheet == b""):
-            sys.exit(f"sheets.py: the program printed {out!r}")
+            sys.exit(f"plan.py: the program printed {out!r}")
     taken.sort()
     return f"best {taken[0]:.2f} ms, median {taken[calls // 2]:.2f} ms of {calls} calls"
 

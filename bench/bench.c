@@ -1,7 +1,7 @@
 /* Measures the planner and the pricer through the C boundary, beside two table programs in C (plain.c and paper.c), in
  * one process and on the same runs, and prints one table. Every sum is compared, and the planner's list with plain.c's.
  *
- * cc -O3 -I include host/bench.c host/plain.c host/paper.c ARCHIVE -o bench
+ * cc -O3 -I include bench/bench.c bench/plain.c bench/paper.c ARCHIVE -o bench
  * ./bench [--quick]     --quick: each size once, to see that all agree; its times say little */
 #define _XOPEN_SOURCE 700
 #include <inttypes.h>
