@@ -1,5 +1,5 @@
 #!/bin/sh
-# Installs the header, the archive and violstream.pc. It builds nothing.
+# Installs the header, the archive and violstream.pc. It builds nothing; `./violstream install` builds the archive first.
 #
 #   ./install.sh [PREFIX=DIR] [DESTDIR=DIR] [ARCHIVE]
 #

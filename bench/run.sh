@@ -3,9 +3,10 @@
 #
 #   bench/run.sh [--quick] [--native] [ARCHIVE]
 #
+# --quick: each size once, to see that all agree.
 # --native: ARCHIVE was made by tools/native.sh, for this machine's own processor.
-# CC (default gcc, or a cross compiler: see machine.sh) and CFLAGS (default -O3) may be set in the environment; the table
-# names them.
+# CC (default gcc, or a cross compiler: see tools/machine.sh) and CFLAGS (default -O3) may be set in the environment; the
+# table names them.
 set -eu
 
 here=$(cd "$(dirname "$0")/.." && pwd)
@@ -23,17 +24,16 @@ done
 
 cc=${CC:-$cc}
 flags=${CFLAGS:--O3}
-packages=gcc
-[ "$emulated" = no ] || packages='gcc-x86-64-linux-gnu libc6-dev-amd64-cross qemu-user'
-for tool in "$cc" $emulator; do
+packages='make gcc'
+[ "$emulated" = no ] || packages='make gcc-x86-64-linux-gnu libc6-dev-amd64-cross qemu-user'
+for tool in make "$cc" $emulator; do
     command -v "$tool" > /dev/null || { printf 'bench/run.sh: no %s (Debian: apt-get install %s)\n' "$tool" "$packages" >&2; exit 1; }
 done
 [ -f "$archive" ] || { printf "bench/run.sh: no archive at %s; 'rt staticlib boundary' makes it\n" "$archive" >&2; exit 1; }
 
 out=$(mktemp -d)
 trap 'rm -rf "$out"' EXIT
-# shellcheck disable=SC2086  # flags are words
-"$cc" -std=c11 $flags -DFLAGS="\"$cc $flags\"" -I "$here/include" \
-    "$here/bench/bench.c" "$here/bench/plain.c" "$here/bench/paper.c" "$archive" -o "$out/bench"
+cp "$archive" "$out/libviolstream.a"
+make -s -C "$here/tests/c" CC="$cc" CFLAGS="$flags" ARCHIVE="$out/libviolstream.a" OUT="$out" bench
 [ "$emulated" = no ] || printf 'EMULATED: this machine is %s, the library is for x86-64; the times below say nothing about it.\n' "$machine"
 ${emulator:+"$emulator" -L "$cross"} "$out/bench" $quick
