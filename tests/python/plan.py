@@ -51,14 +51,23 @@ def sheet_of(wants, reads):
     return b"tape=A\nhead=%d\nturn=3\nrule=least\nfiles=%d\n" % (wants * 10, wants) + files + b"wants=%d\n" % wants + asked
 
 
-def cases():
-    with open(os.path.join(programs.ROOT, "examples/VX0041.run"), "rb") as handle:
-        example = handle.read()
+def contents(path):
+    with open(path, "rb") as handle:
+        return handle.read()
+
+
+def stored():
+    """The paths of the run sheets in examples/."""
     for folder, _, names in os.walk(os.path.join(programs.ROOT, "examples")):
         for name in sorted(names):
             if name.endswith(".run"):
-                with open(os.path.join(folder, name), "rb") as handle:
-                    yield handle.read()
+                yield os.path.join(folder, name)
+
+
+def cases():
+    example = contents(os.path.join(programs.ROOT, "examples/VX0041.run"))
+    for path in stored():
+        yield contents(path)
     for cut in range(len(example)):
         yield example[:cut]
     for at in range(len(example)):
@@ -75,6 +84,14 @@ def cases():
     yield b"x" * 16384
     yield sheet_of(10, 50)
     yield sheet_of(10, 51)
+
+
+def compare_stored(start):
+    """A plan sheet that is stored beside a run sheet is what the program prints for it."""
+    for path in stored():
+        plan = path[:-len("run")] + "plan"
+        if os.path.exists(plan) and subprocess.run(start, input=contents(path), capture_output=True).stdout != contents(plan):
+            sys.exit(f"plan.py: {plan} is not what the program prints for the run sheet beside it")
 
 
 def compare(start):
@@ -120,6 +137,7 @@ def main():
     words = programs.arguments(__doc__.split("\n")[0], "cmd_plan").parse_args()
     start = programs.started(words)
     if not words.time:
+        compare_stored(start)
         compare(start)
         return
     programs.say_if_emulated(start)
