@@ -1,13 +1,13 @@
 #!/bin/sh
-# Installs the header, the archive and violstream.pc. It builds nothing.
+# Installs the header, the archive and violstream.pc. It builds nothing; `./violstream install` builds the archive first.
 #
-#   host/install.sh [PREFIX=DIR] [DESTDIR=DIR] [ARCHIVE]
+#   ./install.sh [PREFIX=DIR] [DESTDIR=DIR] [ARCHIVE]
 #
 # PREFIX (default /usr/local) and DESTDIR (default none) may also stand in the environment. ARCHIVE is what
 # `rt staticlib boundary` makes, by default target/staticlib/libboundary.a.
 set -eu
 
-here=$(cd "$(dirname "$0")/.." && pwd)
+here=$(cd "$(dirname "$0")" && pwd)
 prefix=${PREFIX:-/usr/local}
 destdir=${DESTDIR:-}
 archive=$here/target/staticlib/libboundary.a
@@ -21,7 +21,7 @@ for word in "$@"; do
     case $word in
         PREFIX=*) prefix=${word#PREFIX=} ;;
         DESTDIR=*) destdir=${word#DESTDIR=} ;;
-        -*) fail "unknown option $word; usage: host/install.sh [PREFIX=DIR] [DESTDIR=DIR] [ARCHIVE]" ;;
+        -*) fail "unknown option $word; usage: ./install.sh [PREFIX=DIR] [DESTDIR=DIR] [ARCHIVE]" ;;
         *) archive=$word ;;
     esac
 done

@@ -1,17 +1,16 @@
 /* Measures the planner and the pricer through the C boundary, beside two table programs in C (plain.c and paper.c), in
  * one process and on the same runs, and prints one table. Every sum is compared, and the planner's list with plain.c's.
  *
- * cc -O3 -I include host/bench.c host/plain.c host/paper.c ARCHIVE -o bench
- * ./bench [--quick]     --quick: each size once, to see that all agree; its times say little */
-#define _XOPEN_SOURCE 700
+ * bench/run.sh [--quick] builds and runs it     --quick: each size once, to see that all agree; its times say little */
+#define _POSIX_C_SOURCE 199309L
 #include <inttypes.h>
 #include <stdbool.h>
 #include <stdio.h>
 #include <stdlib.h>
 #include <string.h>
 #include <time.h>
-#include <ucontext.h>
 #include <violstream.h>
+#include "stack.h"
 #include "tables.h"
 
 #ifndef FLAGS
@@ -287,11 +286,8 @@ static void print_small(size_t k, uint64_t reads)
     free(q);
 }
 
-/* ---- Stack: a call on a stack of its own, painted before ---- */
+/* ---- Stack ---- */
 
-enum { STACK_WORDS = 32768 };
-static uint64_t stack[STACK_WORDS];
-static ucontext_t outside, inside;
 static const struct request *on_stack;
 
 static void nothing_there(void)
@@ -306,23 +302,6 @@ static void plan_there(void)
 static void price_there(void)
 {
     price(on_stack, single_detours(on_stack));
-}
-
-static size_t stack_bytes(void (*there)(void))
-{
-    const uint64_t paint = 0x6b6b6b6b6b6b6b6bu;
-    for (size_t i = 0; i < STACK_WORDS; i++)
-        stack[i] = paint;
-    getcontext(&inside);
-    inside.uc_stack.ss_sp = stack;
-    inside.uc_stack.ss_size = sizeof stack;
-    inside.uc_link = &outside;
-    makecontext(&inside, there, 0);
-    swapcontext(&outside, &inside);
-    size_t untouched = 0;
-    while (untouched < STACK_WORDS && stack[untouched] == paint)
-        untouched++;
-    return (STACK_WORDS - untouched) * sizeof *stack;
 }
 
 static void print_stack(struct request *q)

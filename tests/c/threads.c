@@ -1,8 +1,8 @@
 /* Calls from several threads at once, each with rows of its own: every thread plans its runs and prices the lists it
  * gets, over and over, and every result and every word of every row must be what one thread alone got before.
  *
- * cc -O2 -pthread -I include host/threads.c ARCHIVE -o threads
- * ./threads     exit status: 0 all agree, 1 a difference */
+ * make -C tests/c threads    (Makefile beside this file says against what)
+ * target/tests/threads     exit status: 0 all agree, 1 a difference */
 #define _POSIX_C_SOURCE 200809L
 #include <inttypes.h>
 #include <pthread.h>

@@ -2,16 +2,17 @@
 """Works out what the program check_prices must print, from document 01's sentences, and compares it with the file that the
 gate holds the program to, crates/check_prices/stdout.
 
-usage: host/prices.py            compares
-       host/prices.py --print    prints the text instead
+usage: tests/python/prices.py            compares
+       tests/python/prices.py --print    prints the text instead
 
-The judging and the walk are those of host/sheets.py; they share nothing with the crates.
+The judging and the walk are those of runs.py; they share nothing with the crates.
 """
+import argparse
 import os
 import sys
 
-sys.dont_write_bytecode = True
-import sheets
+import programs
+import runs
 
 LAST, HIGHEST = 2**40, 2**32
 FOUR = [(0, 2), (2, 2), (4, 2), (6, 2)]
@@ -21,23 +22,23 @@ EACH = [(1, 1), (2, 1), (3, 1), (4, 1)]
 def judge_list(asked, froms, tos):
     """10: place 0 where the rows differ in number, else the first entry that breaks a rule."""
     if len(froms) != len(tos):
-        raise sheets.Refused(10)
+        raise runs.Refused(10)
     wanted = [number for number, _ in asked]
     for i, (a, b) in enumerate(zip(froms, tos)):
         alone = a in wanted and b in wanted and a <= b and a > wanted[0]
         if not alone or any(c <= a or not (b < c or d < b) for c, d in zip(froms[:i], tos[:i])):
-            raise sheets.Refused(10, i + 1)
+            raise runs.Refused(10, i + 1)
 
 
 def line(label, table, asked, head, turn, froms=(), tos=()):
     try:
         if len(asked) > 64:
-            raise sheets.Refused(3)
-        sheets.judge(head, turn, table, asked)
+            raise runs.Refused(3)
+        runs.judge(head, turn, table, asked)
         judge_list(asked, froms, tos)
-    except sheets.Refused as refusal:
+    except runs.Refused as refusal:
         return label + ": " + refusal.args[0].decode().replace("\n", " ").strip()
-    times, clock, place = sheets.walk(head, turn, table, asked, list(zip(froms, tos)))
+    times, clock, place = runs.walk(head, turn, table, asked, list(zip(froms, tos)))
     total = sum(count * times[number] for number, count in asked)
     rest = "".join(" %d" % times[number] for number, _ in asked)
     return f"{label}: sum={total} finish={clock} end={place} detours={len(froms)} times={rest}"
@@ -80,15 +81,18 @@ def limits():
 
 
 def main():
-    must = "".join(text + "\n" for runs in (small_runs(), sheet_runs(), limits()) for text in runs)
-    if "--print" in sys.argv[1:]:
+    reader = argparse.ArgumentParser(description="Compares what check_prices must print with what document 01 gives.")
+    reader.add_argument("--print", action="store_true", help="print the text instead")
+    words = reader.parse_args()
+    must = "".join(text + "\n" for group in (small_runs(), sheet_runs(), limits()) for text in group)
+    if words.print:
         sys.stdout.write(must)
         return
-    path = os.path.join(sheets.HERE, "crates/check_prices/stdout")
+    path = os.path.join(programs.ROOT, "crates/check_prices/stdout")
     with open(path, encoding="ascii") as handle:
         held = handle.read()
     if held != must:
-        sys.exit("prices.py: crates/check_prices/stdout is not what document 01 gives; 'host/prices.py --print' shows that")
+        sys.exit("prices.py: crates/check_prices/stdout is not what document 01 gives; 'tests/python/prices.py --print' shows that")
     print(f"prices.py: the {must.count(chr(10))} lines that check_prices must print are as worked out here")
 
 

@@ -10,9 +10,9 @@
  *   refused=7 place=0 head above 2^40, or left of the rightmost wanted file's end
  *   unreadable: word 4: a number was expected, not 'x'
  *
- * Against an installed library:  cc host/daemon.c $(pkg-config --cflags --libs violstream) -o daemon
- * Against the build itself:      cc -I include host/daemon.c target/staticlib/libboundary.a -o daemon
- * ./daemon < host/requests.txt, or ./daemon --example for one request that is built in. */
+ * Against an installed library:  cc examples/daemon.c $(pkg-config --cflags --libs violstream) -o daemon
+ * Against the build itself:      cc -I include examples/daemon.c target/staticlib/libboundary.a -o daemon
+ * ./daemon < examples/daemon.requests, or ./daemon --example for one request that is built in. */
 #define _POSIX_C_SOURCE 200809L
 #include <errno.h>
 #include <inttypes.h>

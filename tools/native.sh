@@ -3,20 +3,20 @@
 # Rattle compiler hands to its back end is kept, its target named anew, and compiled at -O3 as the kit does. What is
 # installed, and what the gate runs, is the x86-64 build.
 #
-#   host/native.sh CRATE OUT      OUT: a program; for a library crate an archive
+#   tools/native.sh CRATE OUT      OUT: a program; for a library crate an archive
 #
 # The crates below CRATE must be proved already (rt check CRATE).
 set -eu
 
 here=$(cd "$(dirname "$0")/.." && pwd)
-. "$here/host/machine.sh"
+. "$here/tools/machine.sh"
 
 fail() {
     printf 'native.sh: %s\n' "$1" >&2
     exit 1
 }
 
-[ $# -eq 2 ] || fail "usage: host/native.sh CRATE OUT"
+[ $# -eq 2 ] || fail "usage: tools/native.sh CRATE OUT"
 crate=$1 out=$2
 source=$here/crates/$crate/src
 kit=$(kit) && own=$kit/on/$machine && clang=$own/toolchain/bin/clang

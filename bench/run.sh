@@ -1,0 +1,39 @@
+#!/bin/sh
+# Builds and runs the benchmark against ARCHIVE (default target/staticlib/libboundary.a) and prints its table.
+#
+#   bench/run.sh [--quick] [--native] [ARCHIVE]
+#
+# --quick: each size once, to see that all agree.
+# --native: ARCHIVE was made by tools/native.sh, for this machine's own processor.
+# CC (default gcc, or a cross compiler: see tools/machine.sh) and CFLAGS (default -O3) may be set in the environment; the
+# table names them.
+set -eu
+
+here=$(cd "$(dirname "$0")/.." && pwd)
+. "$here/tools/machine.sh"
+archive=$here/target/staticlib/libboundary.a
+quick=
+for word in "$@"; do
+    case $word in
+        --quick) quick=--quick ;;
+        --native) emulated=no cc=gcc emulator='' ;;
+        -*) printf 'bench/run.sh: unknown option %s; usage: bench/run.sh [--quick] [--native] [ARCHIVE]\n' "$word" >&2; exit 2 ;;
+        *) archive=$word ;;
+    esac
+done
+
+cc=${CC:-$cc}
+flags=${CFLAGS:--O3}
+packages='make gcc'
+[ "$emulated" = no ] || packages='make gcc-x86-64-linux-gnu libc6-dev-amd64-cross qemu-user'
+for tool in make "$cc" $emulator; do
+    command -v "$tool" > /dev/null || { printf 'bench/run.sh: no %s (Debian: apt-get install %s)\n' "$tool" "$packages" >&2; exit 1; }
+done
+[ -f "$archive" ] || { printf "bench/run.sh: no archive at %s; 'rt staticlib boundary' makes it\n" "$archive" >&2; exit 1; }
+
+out=$(mktemp -d)
+trap 'rm -rf "$out"' EXIT
+cp "$archive" "$out/libviolstream.a"
+make -s -C "$here/tests/c" CC="$cc" CFLAGS="$flags" ARCHIVE="$out/libviolstream.a" OUT="$out" bench
+[ "$emulated" = no ] || printf 'EMULATED: this machine is %s, the library is for x86-64; the times below say nothing about it.\n' "$machine"
+${emulator:+"$emulator" -L "$cross"} "$out/bench" $quick

@@ -1,0 +1,33 @@
+/* What the call at hand must give, and what was met on the way. */
+#ifndef ORACLE_H
+#define ORACLE_H
+
+#include <stddef.h>
+#include <stdint.h>
+#include "lists.h"
+
+/* ---- judge.c ---- */
+
+extern struct stops run;                    /* the run of the call at hand, once it is judged sound */
+extern uint64_t wanted[LIMIT_WANTS];        /* its file numbers */
+extern uint64_t times_broken[RULES][LIMIT_WANTS + 1];
+
+uint64_t refuse(uint64_t number, uint64_t place);
+size_t room_words(void);
+uint64_t judge(void);
+
+/* ---- answer.c ---- */
+
+extern uint64_t *cells;                     /* for paper.c */
+extern uint64_t plans_searched, plans_by_cells;
+
+void write_answer(void);
+
+/* ---- met.c ---- */
+
+extern uint64_t results[2][256];            /* by function and number */
+
+void note_call(uint64_t result);
+void require_all_met(void);
+
+#endif

@@ -1,0 +1,69 @@
+/* The walk of a list, and the search through all of them. */
+#include "call.h"
+#include "lists.h"
+
+struct head {
+    uint64_t place, clock;
+};
+
+static void move_left(struct head *head, uint64_t to)
+{
+    if (to > head->place)
+        differ("a leg of this program's own walk goes left", head->place, to);
+    head->clock += head->place - to;
+    head->place = to;
+}
+
+static void move_right(struct head *head, uint64_t to)
+{
+    if (to < head->place)
+        differ("a leg of this program's own walk goes right", head->place, to);
+    head->clock += to - head->place;
+    head->place = to;
+}
+
+/* One leg: left to `from`, turn, right to `to`. What lies wholly inside and is not yet read is read. */
+static void go_leg(const struct stops *run, struct head *head, uint64_t from, uint64_t to, bool *read, uint64_t *times)
+{
+    move_left(head, from);
+    head->clock += run->turn;
+    for (size_t i = 0; i < run->k; i++)
+        if (!read[i] && from <= run->start[i] && run->end[i] <= to) {
+            read[i] = true;
+            times[i] = head->clock + (run->end[i] - from);
+        }
+    move_right(head, to);
+}
+
+void walk_list(const struct stops *run, const struct list *list, struct walk *walk)
+{
+    struct head head = {run->head, 0};
+    bool read[LIMIT_WANTS] = {false};
+    for (size_t i = 0; i < list->length; i++) {
+        go_leg(run, &head, run->start[list->start[i]], run->end[list->end[i]], read, walk->times);
+        head.clock += run->turn;
+    }
+    if (run->k > 0)
+        go_leg(run, &head, run->start[0], run->end[run->k - 1], read, walk->times);
+    walk->sum = 0;
+    for (size_t i = 0; i < run->k; i++)
+        walk->sum += run->count[i] * walk->times[i];
+    walk->finish = head.clock;
+    walk->end = head.place;
+}
+
+void search_all_lists(const struct stops *run, struct list *best)
+{
+    struct walk walk;
+    *best = all_lists[run->k][0];
+    walk_list(run, best, &walk);
+    uint64_t least = walk.sum;
+    for (size_t i = 1; i < number_of_lists[run->k]; i++) {
+        const struct list *list = &all_lists[run->k][i];
+        walk_list(run, list, &walk);
+        if (walk.sum < least || (walk.sum == least && comes_first(list, best, run->k))) {
+            least = walk.sum;
+            *best = *list;
+        }
+    }
+}

@@ -1,0 +1,81 @@
+/* The cases that document 01 works by hand. */
+#include <string.h>
+#include "call.h"
+#include "compare.h"
+#include "draw.h"
+#include "oracle.h"
+#include "random.h"
+
+struct worked {
+    const char *name;
+    size_t files;
+    uint64_t start[4], length[4];
+    size_t wants;
+    uint64_t number[4], count[4], head, turn;
+    size_t detours;
+    uint64_t from[2], to[2], result, sum;
+    bool least;                             /* the planner gives this list */
+};
+
+static const struct worked worked_cases[] = {
+    {"no wants", 1, {0}, {10}, 0, {0}, {0}, 60, 0, 0, {0}, {0}, 0, 0, true},
+    {"one file", 1, {5}, {3}, 1, {1}, {3}, 8, 2, 0, {0}, {0}, 0, 24, true},
+    {"two files, tie, empty", 2, {0, 10}, {10, 10}, 2, {1, 2}, {1, 1}, 20, 0, 0, {0}, {0}, 0, 70, true},
+    {"two files, tie, (2,2)", 2, {0, 10}, {10, 10}, 2, {1, 2}, {1, 1}, 20, 0, 1, {2}, {2}, 0, 70, false},
+    {"two reads, (2,2)", 2, {0, 10}, {10, 10}, 2, {1, 2}, {1, 2}, 20, 0, 1, {2}, {2}, 0, 90, true},
+    {"two reads, empty", 2, {0, 10}, {10, 10}, 2, {1, 2}, {1, 2}, 20, 0, 0, {0}, {0}, 0, 110, false},
+    {"turn 1, empty", 2, {0, 10}, {10, 10}, 2, {1, 2}, {1, 1}, 20, 1, 0, {0}, {0}, 0, 72, true},
+    {"turn 1, (2,2)", 2, {0, 10}, {10, 10}, 2, {1, 2}, {1, 1}, 20, 1, 1, {2}, {2}, 0, 74, false},
+    {"only file 2", 2, {0, 10}, {10, 10}, 1, {2}, {1}, 20, 0, 0, {0}, {0}, 0, 20, true},
+    {"sheet, empty", 3, {0, 10, 20}, {10, 4, 30}, 3, {1, 2, 3}, {1, 3, 1}, 60, 1, 0, {0}, {0}, 0, 407, false},
+    {"sheet, (2,2)", 3, {0, 10, 20}, {10, 4, 30}, 3, {1, 2, 3}, {1, 3, 1}, 60, 1, 1, {2}, {2}, 0, 367, true},
+    {"sheet, (2,3)", 3, {0, 10, 20}, {10, 4, 30}, 3, {1, 2, 3}, {1, 3, 1}, 60, 1, 1, {2}, {3}, 0, 409, false},
+    {"sheet, (3,3)", 3, {0, 10, 20}, {10, 4, 30}, 3, {1, 2, 3}, {1, 3, 1}, 60, 1, 1, {3}, {3}, 0, 615, false},
+    {"sheet, (3,3)(2,2)", 3, {0, 10, 20}, {10, 4, 30}, 3, {1, 2, 3}, {1, 3, 1}, 60, 1, 2, {3, 2}, {3, 2}, 0, 565, false},
+    {"four files, (3,3)(2,4)", 4, {0, 2, 4, 6}, {2, 2, 2, 2}, 4, {1, 2, 3, 4}, {1, 1, 1, 1}, 8, 1, 2, {3, 2}, {3, 4}, 0, 72, false},
+    {"four files, empty", 4, {0, 2, 4, 6}, {2, 2, 2, 2}, 4, {1, 2, 3, 4}, {1, 1, 1, 1}, 8, 1, 0, {0}, {0}, 0, 56, true},
+    {"equal ends", 4, {0, 2, 4, 6}, {2, 2, 2, 2}, 4, {1, 2, 3, 4}, {1, 1, 1, 1}, 8, 1, 2, {3, 2}, {4, 4}, 10 + 2 * 256, 0, false},
+    {"crossing", 4, {0, 2, 4, 6}, {2, 2, 2, 2}, 4, {1, 2, 3, 4}, {1, 1, 1, 1}, 8, 1, 2, {3, 2}, {4, 3}, 10 + 2 * 256, 0, false},
+};
+
+static void draft_words(enum row r, const uint64_t *words, size_t n)
+{
+    call.length[r] = n;
+    memcpy(call.draft[r], words, n * sizeof *words);
+}
+
+static void check_worked(const struct worked *w, bool plan)
+{
+    call.plan = plan;
+    call.head = w->head;
+    call.turn = w->turn;
+    call.rule = 1;
+    draft_words(STARTS, w->start, w->files);
+    draft_words(LENGTHS, w->length, w->files);
+    draft_words(NUMBERS, w->number, w->wants);
+    draft_words(COUNTS, w->count, w->wants);
+    draft_words(DETOUR_STARTS, w->from, w->detours);
+    draft_words(DETOUR_ENDS, w->to, w->detours);
+    draw_answer_rows();
+    uint64_t result = check_call();
+    if (result != w->result)
+        differ_in_result(w->result, result);
+    if (result == 0 && now[offset[SUMS]] != w->sum)
+        differ("the sum worked by hand", w->sum, now[offset[SUMS]]);
+    if (plan && now[offset[SUMS] + 3] != w->detours)
+        differ("the number of detours worked by hand", w->detours, now[offset[SUMS] + 3]);
+}
+
+void check_worked_cases(void)
+{
+    stream = seed;
+    for (size_t i = 0; i < sizeof worked_cases / sizeof *worked_cases; i++) {
+        worked_case = worked_cases[i].name;
+        check_worked(&worked_cases[i], false);
+        if (worked_cases[i].least)
+            check_worked(&worked_cases[i], true);
+    }
+    worked_case = NULL;
+    memset(results, 0, sizeof results);
+    plans_searched = 0;
+}

@@ -1,0 +1,149 @@
+#!/usr/bin/env python3
+"""Runs the program behind `./violstream plan` on whole and damaged sheets and compares every byte it prints with an answer worked out here.
+
+usage: tests/python/plan.py [--native] [PROGRAM]           (default target/bin/cmd_plan)
+       tests/python/plan.py [--native] --time [PROGRAM]    how long one call takes on a full sheet, and on none
+
+The program is for x86-64; on another processor it is started as tools/machine.sh says.
+
+The reader (sheets.py), the judging, the walk and the search over all well-formed lists (runs.py) share nothing with the program.
+"""
+import os
+import subprocess
+import sys
+import time
+
+import programs
+from runs import Refused, judge, lists, order, walk
+from sheets import read
+
+
+def answer(sheet):
+    try:
+        name, head, turn, rule, table, asked = read(sheet)
+        judge(head, turn, table, asked)
+        reads = sum(count for _, count in asked)
+        if len(asked) ** 2 * (reads + 1) > 5120:
+            raise Refused(9)
+    except Refused as refusal:
+        return refusal.args[0]
+    files = [number for number, _ in asked]
+    def total(detours):
+        times = walk(head, turn, table, asked, detours)[0]
+        return sum(count * times[number] for number, count in asked)
+    if rule == b"sweep" or len(asked) > 6:
+        best = []
+        if rule == b"least":
+            return None
+    else:
+        best = min(lists(files), key=lambda d: (total(d), order(files, d)))
+    times, clock, place = walk(head, turn, table, asked, best)
+    lines = [b"tape=" + name, b"sum=%d" % total(best), b"reads=%d" % reads, b"finish=%d" % clock, b"end=%d" % place,
+             b"detours=%d" % len(best)]
+    lines += [b"detour=%d,%d" % d for d in best] + [b"time=%d,%d" % (n, times[n]) for n in files]
+    return b"\n".join(lines) + b"\n"
+
+
+def sheet_of(wants, reads):
+    """A sheet with so many wants of one file each and so many reads in all."""
+    files = b"".join(b"file=%d,10\n" % (i * 10) for i in range(wants))
+    asked = b"".join(b"want=%d,%d\n" % (i + 1, reads - wants + 1 if i == 0 else 1) for i in range(wants))
+    return b"tape=A\nhead=%d\nturn=3\nrule=least\nfiles=%d\n" % (wants * 10, wants) + files + b"wants=%d\n" % wants + asked
+
+
+def contents(path):
+    with open(path, "rb") as handle:
+        return handle.read()
+
+
+def stored():
+    """The paths of the run sheets in examples/."""
+    for folder, _, names in os.walk(os.path.join(programs.ROOT, "examples")):
+        for name in sorted(names):
+            if name.endswith(".run"):
+                yield os.path.join(folder, name)
+
+
+def cases():
+    example = contents(os.path.join(programs.ROOT, "examples/VX0041.run"))
+    for path in stored():
+        yield contents(path)
+    for cut in range(len(example)):
+        yield example[:cut]
+    for at in range(len(example)):
+        for byte in (b"0", b"9", b",", b"=", b"\n", b" ", b"\x00", b"\xff", b"A"):
+            yield example[:at] + byte + example[at + 1:]
+    for old, new in ((b"turn=1", b"turn="), (b"rule=least", b"rule=sweep"), (b"head=60", b"head=49"), (b"head=60", b"head=1099511627777"),
+                     (b"turn=1", b"turn=4294967297"), (b"file=10,4", b"file=9,4"), (b"file=10,4", b"file=10,0"), (b"want=2,3", b"want=2,1023"),
+                     (b"want=2,3", b"want=2,1022"), (b"want=2,3", b"want=1,3"), (b"want=3,1", b"want=4,1"), (b"want=3,1", b"want=3,0"),
+                     (b"tape=VX0041", b"tape=ABCDEFGHIJKLMNOPQ"), (b"tape=VX0041", b"tape="), (b"files=3", b"files=257"), (b"wants=3", b"wants=65"),
+                     (b"head=60", b"head=060"), (b"head=60", b"head=18446744073709551616"), (b"head=60", b"head=18446744073709551615")):
+        yield example.replace(old, new)
+    yield example + b"\n"
+    yield example + b" " * 16384
+    yield b"x" * 16384
+    yield sheet_of(10, 50)
+    yield sheet_of(10, 51)
+
+
+def compare_stored(start):
+    """A plan sheet that is stored beside a run sheet is what the program prints for it."""
+    for path in stored():
+        plan = path[:-len("run")] + "plan"
+        if os.path.exists(plan) and subprocess.run(start, input=contents(path), capture_output=True).stdout != contents(plan):
+            sys.exit(f"plan.py: {plan} is not what the program prints for the run sheet beside it")
+
+
+def compare(start):
+    seen, tried = set(), 0
+    for sheet in cases():
+        must = answer(sheet)
+        out = subprocess.run(start, input=sheet, capture_output=True).stdout
+        tried += 1
+        if must is None:
+            if not out.startswith(b"tape="):
+                sys.exit(f"plan.py: a sheet that fits was refused:\n{sheet!r}\nprinted {out!r}")
+            seen.add(b"planned")
+        elif out != must:
+            sys.exit(f"plan.py: for the sheet\n{sheet!r}\nthe program printed\n{out!r}\nand should have printed\n{must!r}")
+        else:
+            seen.add(out.split(b"\n")[0] if out.startswith(b"refused") else b"planned")
+    missing = {b"refused=%d" % n for n in (2, 4, 5, 6, 7, 9, 11, 12)} - seen
+    if missing:
+        sys.exit(f"plan.py: no sheet met {sorted(missing)}")
+    print(f"plan.py: {tried} sheets answered as they must be, every refusal of the program among them")
+
+
+def full_sheet():
+    """256 files, 10 wants with 50 reads: the most files of a sheet, and wants that fill the program's 5,120 words of room."""
+    files = b"".join(b"file=%d,%d\n" % (4 * 10**9 * i, 3 * 10**9 + i) for i in range(256))
+    wants = b"".join(b"want=%d,5\n" % (25 * i + 7) for i in range(10))
+    return b"tape=ABCDEFGHIJKLMNOP\nhead=1099511627776\nturn=1000000\nrule=least\nfiles=256\n" + files + b"wants=10\n" + wants
+
+
+def timed(start, sheet, calls=300):
+    taken = []
+    for _ in range(calls):
+        began = time.perf_counter()
+        out = subprocess.run(start, input=sheet, capture_output=True).stdout
+        taken.append(1000 * (time.perf_counter() - began))
+        if out.startswith(b"refused") != (sheet == b""):
+            sys.exit(f"plan.py: the program printed {out!r}")
+    taken.sort()
+    return f"best {taken[0]:.2f} ms, median {taken[calls // 2]:.2f} ms of {calls} calls"
+
+
+def main():
+    words = programs.arguments(__doc__.split("\n")[0], "cmd_plan").parse_args()
+    start = programs.started(words)
+    if not words.time:
+        compare_stored(start)
+        compare(start)
+        return
+    programs.say_if_emulated(start)
+    print(f"full sheet ({len(full_sheet())} bytes): {timed(start, full_sheet())}")
+    print(f"empty sheet, refused at once: {timed(start, b'')}")
+
+
+if __name__ == "__main__":
+    main()

@@ -1,0 +1,47 @@
+"""For the comparisons: a reader of run sheets. It shares nothing with the crates."""
+import re
+
+from runs import Refused
+
+NUMBER = rb"(0|[1-9][0-9]*)"
+
+
+def field(sheet, line, at, pattern):
+    """The groups of the line that starts at `at`, and where the next one starts; 11 where it is not as described."""
+    end = sheet.find(b"\n", at)
+    found = re.fullmatch(pattern, sheet[at:end]) if end >= 0 else None
+    if not found:
+        raise Refused(11, line)
+    for value in found.groups():
+        if re.fullmatch(rb"[0-9]+", value or b"x") and not pattern.startswith(rb"tape") and int(value) >= 2**64:
+            raise Refused(11, line)
+    return found.groups(), end + 1
+
+
+def pairs(sheet, line, at, key, count):
+    rows = []
+    for _ in range(count):
+        (a, b), at = field(sheet, line, at, key + b"=" + NUMBER + b"," + NUMBER)
+        rows.append((int(a), int(b)))
+        line += 1
+    return rows, line, at
+
+
+def read(sheet):
+    if len(sheet) > 16384:
+        raise Refused(12)
+    (name,), at = field(sheet, 1, 0, rb"tape=([A-Z0-9]{1,16})")
+    (head,), at = field(sheet, 2, at, rb"head=" + NUMBER)
+    (turn,), at = field(sheet, 3, at, rb"turn=(|0|[1-9][0-9]*)")
+    (rule,), at = field(sheet, 4, at, rb"rule=(least|sweep)")
+    (files,), at = field(sheet, 5, at, rb"files=" + NUMBER)
+    if int(files) > 256:
+        raise Refused(11, 5)
+    table, line, at = pairs(sheet, 6, at, rb"file", int(files))
+    (wants,), at = field(sheet, line, at, rb"wants=" + NUMBER)
+    if int(wants) > 64:
+        raise Refused(11, line)
+    asked, line, at = pairs(sheet, line + 1, at, rb"want", int(wants))
+    if at < len(sheet):
+        raise Refused(11, line)
+    return name, int(head), int(turn or 0), rule, table, asked

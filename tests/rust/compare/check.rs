@@ -1,0 +1,154 @@
+//! One call checked, and what was met.
+
+use crate::call::*;
+use crate::draw::{last_wanted_end, reads_drawn};
+use crate::fence::{make, Fenced};
+use crate::judge::judge;
+use crate::limits::*;
+use crate::lists::{all_lists, Detour};
+use crate::rows::{by_position, compare_rows, difference, written, Difference, Written};
+use crate::walk::{search, Run};
+use crate::windows::plan_by_windows;
+use std::collections::BTreeMap;
+
+pub const SEARCHED: usize = 10; // wants up to which every list is tried
+
+/// The words of room that an accepted run needs.
+fn room_needed(call: &Call) -> usize {
+    call.len(NUMBERS) * call.len(NUMBERS) * (reads_drawn(call) as usize + 1)
+}
+
+/// The rows for the answer are one word short in `row` and nowhere else.
+fn one_short(call: &Call, row: usize) -> bool {
+    let k = call.len(NUMBERS);
+    let detours = if call.plan { k.saturating_sub(1) } else { 0 };
+    let needed = [(FROM, detours), (TO, detours), (TIMES, k), (SUMS, 4)];
+    needed.iter().all(|&(r, n)| if r == row { call.len(r) + 1 == n } else { call.len(r) >= n })
+}
+
+fn tape_end(call: &Call) -> u64 {
+    match (call.rows[STARTS].last(), call.rows[LENGTHS].last()) {
+        (Some(start), Some(length)) => start.wrapping_add(*length),
+        _ => 0,
+    }
+}
+
+/// What a long run must have met, each by what it is and how it is told from the call and the result.
+pub const TO_MEET: &[(&str, fn(&Call, u64) -> bool)] = &[
+    ("plan of 64 wants and 1,024 reads", |c, r| r == 0 && c.plan && c.len(NUMBERS) == WANTS && reads_drawn(c) == READS),
+    ("price of 64 wants and 1,024 reads", |c, r| r == 0 && !c.plan && c.len(NUMBERS) == WANTS && reads_drawn(c) == READS),
+    ("4,096 files", |c, r| r == 0 && c.len(STARTS) == FILES),
+    ("4,097 files", |c, r| r == 1 && c.len(STARTS) == FILES + 1 && c.len(LENGTHS) == FILES + 1),
+    ("65 wants", |c, r| r == 3 && c.len(NUMBERS) == WANTS + 1 && c.len(COUNTS) == WANTS + 1),
+    ("1,025 reads", |c, r| r == 5 && c.rows[COUNTS].iter().all(|&n| n <= READS) && reads_drawn(c) == READS + 1),
+    ("file up to the limit", |c, r| r == 0 && tape_end(c) == POSITION),
+    ("file over the limit", |c, r| r == 2 + 256 * c.len(STARTS) as u64 && tape_end(c) == POSITION + 1),
+    ("turn price at the limit", |c, r| r == 0 && c.turn == TURN),
+    ("turn price over the limit", |c, r| r == 6 && c.turn == TURN + 1),
+    ("head at the limit", |c, r| r == 0 && c.head == POSITION),
+    ("head over the limit", |c, r| r == 7 && c.head == POSITION + 1),
+    ("head at the rightmost wanted end", |c, r| r == 0 && c.len(NUMBERS) > 0 && c.head == last_wanted_end(c)),
+    ("head one left of it", |c, r| r == 7 && c.head.wrapping_add(1) == last_wanted_end(c)),
+    ("rule 2", |c, r| r == 14 && c.rule == 2),
+    ("rule 255", |c, r| r == 14 && c.rule == 255),
+    ("rule 256", |c, r| r == 14 && c.rule == 256),
+    ("rule 2^64 - 1", |c, r| r == 14 && c.rule == u64::MAX),
+    ("unequal halves of a list", |_, r| r == 10),
+    ("times one short", |c, r| r == 8 && one_short(c, TIMES)),
+    ("sums one short", |c, r| r == 8 && one_short(c, SUMS)),
+    ("detour starts one short", |c, r| r == 8 && one_short(c, FROM)),
+    ("detour ends one short", |c, r| r == 8 && one_short(c, TO)),
+    ("room one short, sweep", |c, r| r == 9 && c.rule == 0 && c.len(ROOM) + 1 == room_needed(c)),
+    ("room one short, least", |c, r| r == 9 && c.rule == 1 && c.len(ROOM) + 1 == room_needed(c)),
+    ("room just enough", |c, r| r == 0 && c.plan && c.len(NUMBERS) > 1 && c.len(ROOM) == room_needed(c)),
+    ("no wants and null rows", |c, r| r == 0 && c.plan && c.len(NUMBERS) == 0 && c.len(ROOM) == 0 && c.nulls[ROOM]),
+];
+
+pub struct Checker {
+    lists: Vec<Vec<Vec<Detour>>>,
+    pub met: Vec<u64>, // how often each of TO_MEET
+    pub results: BTreeMap<(bool, u64), u64>,
+    pub broken: BTreeMap<(&'static str, usize), u64>,
+    pub searched: u64,
+    pub by_windows: u64,
+}
+
+impl Checker {
+    pub fn new() -> Checker {
+        let lists: Vec<_> = (0..=SEARCHED).map(all_lists).collect();
+        let numbers: Vec<usize> = lists.iter().map(Vec::len).collect();
+        assert_eq!(numbers, [1, 1, 2, 5, 14, 42, 132, 429, 1430, 4862, 16796], "the numbers of well-formed lists");
+        let met = vec![0; TO_MEET.len()];
+        Checker { lists, met, results: BTreeMap::new(), broken: BTreeMap::new(), searched: 0, by_windows: 0 }
+    }
+
+    fn least(&mut self, run: &Run) -> Vec<Detour> {
+        if run.k() <= SEARCHED {
+            self.searched += 1;
+            search(run, &self.lists[run.k()])
+        } else {
+            self.by_windows += 1;
+            plan_by_windows(run)
+        }
+    }
+
+    pub fn expect(&mut self, call: &Call) -> (u64, Written) {
+        match judge(call) {
+            Err((number, place)) => {
+                if number == 10 && place > 0 {
+                    *self.broken.entry((rule_broken(call, place - 1), place)).or_insert(0) += 1;
+                }
+                (number + 256 * place as u64, Written::default())
+            }
+            Ok((run, list)) => {
+                let list = match (call.plan, call.rule) {
+                    (false, _) => by_position(&run, &list),
+                    (true, 0) => Vec::new(),
+                    (true, _) => self.least(&run),
+                };
+                (0, written(call, &run, &list))
+            }
+        }
+    }
+
+    pub fn check(&mut self, call: &Call, shift: usize) -> Result<(), Difference> {
+        let (must_be, written) = self.expect(call);
+        let mut rows: Vec<Fenced> =
+            (0..ROWS).map(|r| Fenced::around(&call.rows[r], (shift + r) % 4, call.nulls[r])).collect();
+        let is = make(call, &mut rows);
+        if is != must_be {
+            let account = |result: u64| (result, result % 256, result / 256);
+            return Err(difference("the result, its number and its place".to_string(), account(must_be), account(is)));
+        }
+        compare_rows(call, &rows, &written)?;
+        self.note(call, must_be);
+        Ok(())
+    }
+
+    fn note(&mut self, call: &Call, result: u64) {
+        *self.results.entry((call.plan, result % 256)).or_insert(0) += 1;
+        for (times, (_, is_met)) in self.met.iter_mut().zip(TO_MEET) {
+            *times += is_met(call, result) as u64;
+        }
+    }
+}
+
+/// Which rule entry i breaks, for the count of what was met; the judging does not use it.
+pub fn rule_broken(call: &Call, i: usize) -> &'static str {
+    let entry = |j: usize| (call.rows[FROM][j], call.rows[TO][j]);
+    let wanted = |file: u64| call.rows[NUMBERS].contains(&file);
+    let (a, b) = entry(i);
+    if !wanted(a) || !wanted(b) {
+        "not wanted"
+    } else if a > b {
+        "backward"
+    } else if call.rows[NUMBERS][0] == a {
+        "at leftmost"
+    } else if (0..i).any(|j| entry(j).0 <= a) {
+        "not falling"
+    } else if (0..i).any(|j| entry(j).1 == b) {
+        "same end"
+    } else {
+        "crossing"
+    }
+}

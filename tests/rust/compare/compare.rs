@@ -1,0 +1,121 @@
+//! Calls violstream_price and violstream_plan at random and compares every answer with one worked out here:
+//!
+//! - refusals: the first row of the table that applies, over whole numbers wide enough never to wrap;
+//! - times, sum, finish and end: the legs of the list, walked one after the other;
+//! - the least list of up to 10 wants: every choice of an end for every start is written down, the three rules are held
+//!   against each pair of entries, and of the lists left (1,430 for 8 wants) the tie rule picks one;
+//! - for more wants: the cheapest plan of each window of wants, remembered by window.
+//!
+//! Every row stands between guard words. After a call every word of every row, and every guard, is compared with what it
+//! must be: unchanged, but for the first entries of the rows for the answer of an accepted call.
+//!
+//! rustc -O --edition 2021 tests/rust/compare/compare.rs -L native=DIR -l static=boundary     (DIR holds libboundary.a)
+//! ./compare [--calls N] [--seed S] [--from N]     exit status: 0 all agree, 1 a difference, 2 bad usage
+
+mod call;
+mod check;
+mod draw;
+mod fence;
+mod judge;
+mod kinds;
+mod limits;
+mod lists;
+mod random;
+mod rows;
+mod walk;
+mod windows;
+mod worked;
+
+use call::Call;
+use check::{Checker, TO_MEET};
+use kinds::draw_call;
+use random::Random;
+use std::process::exit;
+use std::time::Instant;
+use worked::check_worked;
+
+const DEFAULT_CALLS: u64 = 220_000;
+const COVERING_CALLS: u64 = 100_000;
+
+fn check_or_exit(checker: &mut Checker, call: &Call, shift: usize, again: String) {
+    if let Err(d) = checker.check(call, shift) {
+        eprintln!("compare.rs: difference: {}\n  must be {}\n  is      {}\n{}\n  {}", d.what, d.must_be, d.is, call, again);
+        exit(1);
+    }
+}
+
+fn require(met: bool, what: String) {
+    if !met {
+        eprintln!("compare.rs: never met: {}; this says nothing of the library, choose more calls", what);
+        exit(1);
+    }
+}
+
+fn require_all_met(checker: &Checker) {
+    for &(plan, numbers) in &[(false, [0, 1, 2, 3, 4, 5, 6, 7, 10, 8, 8]), (true, [0, 1, 2, 3, 4, 5, 6, 7, 14, 8, 9])] {
+        for &number in numbers.iter() {
+            require(checker.results.contains_key(&(plan, number)), format!("plan: {}, number {}", plan, number));
+        }
+    }
+    for (&times, (what, _)) in checker.met.iter().zip(TO_MEET) {
+        require(times > 0, what.to_string());
+    }
+    for entry in 1..=8 {
+        for rule in ["not wanted", "backward", "at leftmost", "not falling", "same end", "crossing"].iter() {
+            let possible = entry > 1 || ["not wanted", "backward", "at leftmost"].contains(rule);
+            require(!possible || checker.broken.contains_key(&(*rule, entry)), format!("{} at entry {}", rule, entry));
+        }
+    }
+}
+
+fn summary(checker: &Checker, calls: u64, seed: u64, seconds: f64) -> String {
+    let count = |plan: bool, refused: bool| -> u64 {
+        checker.results.iter().filter(|(key, _)| key.0 == plan && (key.1 != 0) == refused).map(|(_, n)| n).sum()
+    };
+    format!(
+        "compare.rs: {} calls agree, seed {}: price {} accepted, {} refused; plan {} accepted ({} against all lists, {} by \
+         windows), {} refused; {:.1} s",
+        calls, seed, count(false, false), count(false, true), count(true, false), checker.searched, checker.by_windows,
+        count(true, true), seconds
+    )
+}
+
+fn usage() -> ! {
+    eprintln!("usage: compare [--calls N] [--seed S] [--from N]");
+    exit(2)
+}
+
+/// Calls, seed and first call.
+fn arguments() -> (u64, u64, u64) {
+    let words: Vec<String> = std::env::args().skip(1).collect();
+    let (mut calls, mut seed, mut from) = (DEFAULT_CALLS, 1, 0);
+    for pair in words.chunks(2) {
+        let value = pair.get(1).and_then(|word| word.parse().ok()).unwrap_or_else(|| usage());
+        match pair[0].as_str() {
+            "--calls" => calls = value,
+            "--seed" => seed = value,
+            "--from" => from = value,
+            _ => usage(),
+        }
+    }
+    (calls, seed, from)
+}
+
+fn main() {
+    let (calls, seed, from) = arguments();
+    let began = Instant::now();
+    let mut checker = Checker::new();
+    check_worked(&mut checker);
+    checker.results.clear();
+    checker.searched = 0;
+    for number in from..from + calls {
+        let mut random = Random::of(seed, number);
+        let call = draw_call(&mut random);
+        let again = format!("again alone: compare --seed {} --from {} --calls 1", seed, number);
+        check_or_exit(&mut checker, &call, random.index(4), again);
+    }
+    if calls >= COVERING_CALLS {
+        require_all_met(&checker);
+    }
+    println!("{}", summary(&checker, calls, seed, began.elapsed().as_secs_f64()));
+}

@@ -1,0 +1,80 @@
+//! Rows between guard words, and the two functions as this program declares them.
+
+use crate::call::*;
+
+extern "C" {
+    fn violstream_price(
+        starts: *const u64, starts_len: usize, lengths: *const u64, lengths_len: usize,
+        numbers: *const u64, numbers_len: usize, counts: *const u64, counts_len: usize,
+        head: u64, turn: u64,
+        detour_starts: *const u64, detour_starts_len: usize, detour_ends: *const u64, detour_ends_len: usize,
+        times: *mut u64, times_len: usize, sums: *mut u64, sums_len: usize,
+    ) -> u64;
+    fn violstream_plan(
+        starts: *const u64, starts_len: usize, lengths: *const u64, lengths_len: usize,
+        numbers: *const u64, numbers_len: usize, counts: *const u64, counts_len: usize,
+        head: u64, turn: u64, rule: u64,
+        detour_starts: *mut u64, detour_starts_len: usize, detour_ends: *mut u64, detour_ends_len: usize,
+        times: *mut u64, times_len: usize, sums: *mut u64, sums_len: usize, room: *mut u64, room_len: usize,
+    ) -> u64;
+}
+
+const GUARD: usize = 6;
+
+pub struct Fenced {
+    pub words: Vec<u64>,
+    before: usize,
+    len: usize,
+    null: bool,
+}
+
+pub fn guard_word(at: usize) -> u64 {
+    0xfeed_5afe_0000_0000 ^ (at as u64).wrapping_mul(0x0101_0101_0101)
+}
+
+impl Fenced {
+    pub fn around(row: &[u64], shift: usize, null: bool) -> Fenced {
+        let before = GUARD + shift;
+        let mut words: Vec<u64> = Vec::with_capacity(before + row.len() + GUARD);
+        words.extend((0..before).map(guard_word));
+        words.extend_from_slice(row);
+        words.extend((words.len()..words.len() + GUARD).map(guard_word));
+        Fenced { words, before, len: row.len(), null: null && row.is_empty() }
+    }
+
+    fn pointer(&mut self) -> *mut u64 {
+        if self.null {
+            return std::ptr::null_mut();
+        }
+        self.words[self.before..].as_mut_ptr()
+    }
+
+    pub fn row(&self) -> &[u64] {
+        &self.words[self.before..self.before + self.len]
+    }
+
+    pub fn first_bad_guard(&self) -> Option<usize> {
+        let after = self.before + self.len;
+        (0..self.before).chain(after..self.words.len()).find(|&at| self.words[at] != guard_word(at))
+    }
+}
+
+pub fn make(call: &Call, rows: &mut [Fenced]) -> u64 {
+    let p: Vec<*mut u64> = rows.iter_mut().map(Fenced::pointer).collect();
+    let n: Vec<usize> = rows.iter().map(|row| row.len).collect();
+    // Sound: each pointer is that of a row of its length, or null for an empty one, and no two rows overlap.
+    unsafe {
+        if call.plan {
+            violstream_plan(
+                p[STARTS], n[STARTS], p[LENGTHS], n[LENGTHS], p[NUMBERS], n[NUMBERS], p[COUNTS], n[COUNTS],
+                call.head, call.turn, call.rule,
+                p[FROM], n[FROM], p[TO], n[TO], p[TIMES], n[TIMES], p[SUMS], n[SUMS], p[ROOM], n[ROOM],
+            )
+        } else {
+            violstream_price(
+                p[STARTS], n[STARTS], p[LENGTHS], n[LENGTHS], p[NUMBERS], n[NUMBERS], p[COUNTS], n[COUNTS],
+                call.head, call.turn, p[FROM], n[FROM], p[TO], n[TO], p[TIMES], n[TIMES], p[SUMS], n[SUMS],
+            )
+        }
+    }
+}

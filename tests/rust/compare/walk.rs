@@ -1,0 +1,106 @@
+//! The walk, and the search among all lists.
+
+use crate::lists::{tie_order, Detour};
+
+pub struct Stop {
+    pub file: u64,
+    pub start: u64,
+    pub end: u64,
+    pub count: u64,
+}
+
+pub struct Run {
+    pub stops: Vec<Stop>,
+    pub head: u64,
+    pub turn: u64,
+}
+
+impl Run {
+    pub fn k(&self) -> usize {
+        self.stops.len()
+    }
+
+    pub fn reads(&self) -> u64 {
+        self.stops.iter().map(|stop| stop.count).sum()
+    }
+
+    pub fn room(&self) -> usize {
+        self.k() * self.k() * (self.reads() as usize + 1)
+    }
+}
+
+#[derive(Clone, Copy)]
+pub struct Head {
+    pub place: u64,
+    pub clock: u64,
+}
+
+impl Head {
+    fn left_to(self, place: u64) -> Head {
+        assert!(place <= self.place, "a leg goes left");
+        Head { place, clock: self.clock + (self.place - place) }
+    }
+
+    fn turned(self, price: u64) -> Head {
+        Head { place: self.place, clock: self.clock + price }
+    }
+
+    fn right_to(self, place: u64) -> Head {
+        assert!(self.place <= place, "a rightward run goes right");
+        Head { place, clock: self.clock + (place - self.place) }
+    }
+}
+
+/// A rightward run: where and when it starts, where it ends.
+pub struct Rightward {
+    from: Head,
+    to: u64,
+}
+
+/// The rightward runs of a list with its last sweep, and the head at the end.
+pub fn rightward_runs(run: &Run, list: &[Detour]) -> (Vec<Rightward>, Head) {
+    let mut head = Head { place: run.head, clock: 0 };
+    let mut runs = Vec::with_capacity(list.len() + 1);
+    if run.k() == 0 {
+        return (runs, head);
+    }
+    let sweep = (0, run.k() as u64 - 1);
+    for &(a, b) in list.iter().chain(Some(&sweep)) {
+        if !runs.is_empty() {
+            head = head.turned(run.turn);
+        }
+        let from = head.left_to(run.stops[a as usize].start).turned(run.turn);
+        let to = run.stops[b as usize].end;
+        runs.push(Rightward { from, to });
+        head = from.right_to(to);
+    }
+    (runs, head)
+}
+
+pub fn time_of(stop: &Stop, runs: &[Rightward]) -> u64 {
+    let reads = |r: &&Rightward| r.from.place <= stop.start && stop.end <= r.to;
+    runs.iter().find(reads).expect("the last sweep reads every want").from.right_to(stop.end).clock
+}
+
+pub fn sum_of(run: &Run, list: &[Detour]) -> u64 {
+    let (runs, _) = rightward_runs(run, list);
+    run.stops.iter().map(|stop| stop.count * time_of(stop, &runs)).sum()
+}
+
+/// Of all lists, those of smallest sum; of those, the one that comes first.
+pub fn search(run: &Run, lists: &[Vec<Detour>]) -> Vec<Detour> {
+    let mut least = u64::MAX;
+    let mut cheapest: Vec<&Vec<Detour>> = Vec::new();
+    for list in lists {
+        let sum = sum_of(run, list);
+        if sum < least {
+            least = sum;
+            cheapest.clear();
+        }
+        if sum == least {
+            cheapest.push(list);
+        }
+    }
+    let first = cheapest.into_iter().min_by(|x, y| tie_order(x, y, run.k() as u64));
+    first.expect("the empty list is well formed").clone()
+}
