@@ -1,5 +1,5 @@
 // Prices the lists of document 01's worked cases, its limits and the two longest walks, and prints a line for each.
-// What it must print stands beside it in stdout; host/prices.py works the same text out from the paper's sentences.
+// What it must print stands beside it in stdout; tests/python/prices.py works the same text out from the paper's sentences.
 ghost use lib.ListN.{length};
 use libc::STDOUT_FILENO;
 use walk::Answer;

@@ -89,7 +89,7 @@ pub fn refuse_if(bad: bool, kind: Refusal) -> Verdict
 {
     if bad {
         return Verdict {
-            refusal: kind,
+            refusal: kind, // and no place
             place: 0,
         };
     }

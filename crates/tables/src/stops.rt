@@ -10,7 +10,7 @@ fn start_of(starts: &[u64], numbers: &[u64], i: usize) -> u64
     requires { ⌜ IsStop (now starts) (now numbers) i ⌝ }
     ensures { λ r. ⌜ r ≡ startAt (now (starts .entry)) (now (numbers .entry)) i ⌝ }
 {
-    let at = (numbers[i] - 1) as usize;
+    let at = (numbers[i] - 1) as usize; // of the table
     starts[at]
 }
 
