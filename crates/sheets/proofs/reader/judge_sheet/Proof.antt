@@ -1,9 +1,9 @@
--- `sheets::reader::lay_out` meets its contract: 12, then the first five lines, then those below.
+-- `sheets::reader::judge_sheet` meets its contract: 12, then the first five lines, then those below.
 -- Assumes nothing.
-use Rattle.sheets.proofs.Order.{sheet-long, top-found, top-refuses, below-refuses, laid-out, top-read, top-failed, below-read, below-failed}
+use Rattle.sheets.proofs.Order.{sheet-long, top-found, top-refuses, below-refuses, judged-good, top-read, top-failed, below-read, below-failed}
 use borrow.Author.Needs.{needs}
-use Rattle.sheets.proofs.reader.lay_out.Statement.{statement}
-use Rattle.sheets.proofs.reader.lay_out.Tie as tie
+use Rattle.sheets.proofs.reader.judge_sheet.Statement.{statement}
+use Rattle.sheets.proofs.reader.judge_sheet.Tie as tie
 
 refuse-if-requires : tie.Need-refuse-if-requires
 refuse-if-requires c κs = search needs
@@ -54,10 +54,10 @@ returns-3 : tie.Need-returns-3
 returns-3 c = below-refuses _ _ _ (c .before .before .before .before .before .before .before .before .before .before .before .before .refuse-if .ensures) (c .before .before .before .before .before .before .before .before .before .before .before .refused .ensures) (c .before .before .before .before .before .before .before .before .before .before .if1 .left) _ (top-read _ _ (c .before .before .before .before .before .before .before .before .before .read-top .ensures) _ (c .before .before .before .before .before .before .before .top .given .1)) _ (below-failed _ _ (c .before .before .before .before .before .read-below .ensures) _ (c .before .before .before .line2 .given .1)) _ (c .before .refuse-at2 .ensures) _ (c .unread3 .ensures)
 
 returns-4 : tie.Need-returns-4
-returns-4 c = laid-out _ _ _ (c .before .before .before .before .before .before .before .before .before .before .refuse-if .ensures) (c .before .before .before .before .before .before .before .before .before .refused .ensures) (c .before .before .before .before .before .before .before .before .if1 .left) _ (top-read _ _ (c .before .before .before .before .before .before .before .read-top .ensures) _ (c .before .before .before .before .before .top .given .1)) _ _ (below-read _ _ (c .before .before .before .read-below .ensures) _ _ (c .before .wants .given .1))
+returns-4 c = judged-good _ _ _ (c .before .before .before .before .before .before .before .before .before .before .refuse-if .ensures) (c .before .before .before .before .before .before .before .before .before .refused .ensures) (c .before .before .before .before .before .before .before .before .if1 .left) _ (top-read _ _ (c .before .before .before .before .before .before .before .read-top .ensures) _ (c .before .before .before .before .before .top .given .1)) _ _ (below-read _ _ (c .before .before .before .read-below .ensures) _ _ (c .before .wants .given .1))
 
-pub lay-out-spec : {M : Type 1} → statement M
-lay-out-spec =
+pub judge-sheet-spec : {M : Type 1} → statement M
+judge-sheet-spec =
     tie.close
     (tie.spec
     refuse-if-requires
