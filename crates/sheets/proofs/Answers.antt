@@ -148,3 +148,11 @@ module _ (sheet : List ℕ) (judged : Judged) (found : JudgedFound sheet judged)
     pub no-name-from : (place : ℕ × ℕ) → place ≡ placeOn (readFrom sheet) place
     unfolding readFrom
     no-name-from place = rw (← found .verdict, ← f-is, e, zero-add)
+
+-- The contract determines the answer and every row.
+pub read-determined : (sheet : List ℕ) (rows : RunRows) (r s : Reading) (rows′ rows″ : RunRows) → SheetRead sheet rows r rows′ → SheetRead sheet rows s rows″ → (r ≡ s) × (rows′ ≡ rows″)
+read-determined sheet rows r s rows′ rows″ p q =
+    (p .answer ∙ sym (q .answer), same (p .starts ∙ sym (q .starts)) (p .lengths ∙ sym (q .lengths)) (p .numbers ∙ sym (q .numbers)) (p .counts ∙ sym (q .counts)))
+  where
+    same : {a a′ b b′ c c′ d d′ : List ℕ} → a ≡ a′ → b ≡ b′ → c ≡ c′ → d ≡ d′ → runRows a b c d ≡ runRows a′ b′ c′ d′
+    same e f g h = rw (e, f, g, h)

@@ -157,3 +157,7 @@ module _ (name : List ℕ) (rule : Rule) (run : Run) (row : List ℕ) (v w : Ver
     sheet-last =
         judged-passes name run (ltb mostSheetFiles (length (run .starts))) v w v-is w-is f f-is good (rowVerdict (sheetText name rule run) row ∷ [])
         ∙ last-verdict (sheetText name rule run) row
+
+-- A writer's contract determines the answer and the row.
+pub handed-determined : (v : Verdict) (text row : List ℕ) (r s : Written) (row′ row″ : List ℕ) → Handed v text row r row′ → Handed v text row s row″ → (r ≡ s) × (row′ ≡ row″)
+handed-determined v text row r s row′ row″ p q = (p .answer ∙ sym (q .answer), p .left ∙ sym (q .left))

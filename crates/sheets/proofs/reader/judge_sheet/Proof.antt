@@ -48,13 +48,28 @@ enum-known-wants : tie.Need-enum-known-wants
 enum-known-wants c = search needs
 
 returns-2 : tie.Need-returns-2
-returns-2 c = top-refuses _ _ _ (c .before .before .before .before .before .before .before .before .refuse-if .ensures) (c .before .before .before .before .before .before .before .refused .ensures) (c .before .before .before .before .before .before .if1 .left) _ (top-failed _ _ (c .before .before .before .before .before .read-top .ensures) _ (c .before .before .before .line .given .1)) _ (c .before .refuse-at .ensures) _ (c .unread2 .ensures)
+returns-2 c =
+    let c4 = c .before .before .before .before in
+    let c8 = c4 .before .before .before .before in
+    top-refuses _ _ _ (c8 .refuse-if .ensures) (c4 .before .before .before .refused .ensures) (c4 .before .before .if1 .left) _
+    (top-failed _ _ (c4 .before .read-top .ensures) _ (c .before .before .before .line .given .1)) _ (c .before .refuse-at .ensures) _ (c .unread2 .ensures)
 
 returns-3 : tie.Need-returns-3
-returns-3 c = below-refuses _ _ _ (c .before .before .before .before .before .before .before .before .before .before .before .before .refuse-if .ensures) (c .before .before .before .before .before .before .before .before .before .before .before .refused .ensures) (c .before .before .before .before .before .before .before .before .before .before .if1 .left) _ (top-read _ _ (c .before .before .before .before .before .before .before .before .before .read-top .ensures) _ (c .before .before .before .before .before .before .before .top .given .1)) _ (below-failed _ _ (c .before .before .before .before .before .read-below .ensures) _ (c .before .before .before .line2 .given .1)) _ (c .before .refuse-at2 .ensures) _ (c .unread3 .ensures)
+returns-3 c =
+    let c4 = c .before .before .before .before in
+    let c8 = c4 .before .before .before .before in
+    let c12 = c8 .before .before .before .before in
+    below-refuses _ _ _ (c12 .refuse-if .ensures) (c8 .before .before .before .refused .ensures) (c8 .before .before .if1 .left) _
+    (top-read _ _ (c8 .before .read-top .ensures) _ (c4 .before .before .before .top .given .1)) _
+    (below-failed _ _ (c4 .before .read-below .ensures) _ (c .before .before .before .line2 .given .1)) _ (c .before .refuse-at2 .ensures) _ (c .unread3 .ensures)
 
 returns-4 : tie.Need-returns-4
-returns-4 c = judged-good _ _ _ (c .before .before .before .before .before .before .before .before .before .before .refuse-if .ensures) (c .before .before .before .before .before .before .before .before .before .refused .ensures) (c .before .before .before .before .before .before .before .before .if1 .left) _ (top-read _ _ (c .before .before .before .before .before .before .before .read-top .ensures) _ (c .before .before .before .before .before .top .given .1)) _ _ (below-read _ _ (c .before .before .before .read-below .ensures) _ _ (c .before .wants .given .1))
+returns-4 c =
+    let c4 = c .before .before .before .before in
+    let c8 = c4 .before .before .before .before in
+    judged-good _ _ _ (c8 .before .before .refuse-if .ensures) (c8 .before .refused .ensures) (c8 .if1 .left) _
+    (top-read _ _ (c4 .before .before .before .read-top .ensures) _ (c4 .before .top .given .1)) _ _
+    (below-read _ _ (c .before .before .before .read-below .ensures) _ _ (c .before .wants .given .1))
 
 pub judge-sheet-spec : {M : Type 1} → statement M
 judge-sheet-spec =

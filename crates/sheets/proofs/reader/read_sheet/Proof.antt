@@ -30,7 +30,10 @@ fill-pair-requires c κs =
     let c12 = c8 .before .before .before .before in
     let c16 = c12 .before .before .before .before in
     let a = c16 .before .before .args in
-    files-ready _ _ (c12 .judge-sheet .ensures) (a .starts .now) (a .lengths .now) (a .numbers .now) (a .counts .now) _ _ (c8 .judge-pair .ensures) (c4 .before .judge-pair2 .ensures) _ (c4 .to-fill .ensures)
+    files-ready _ _
+    (c12 .judge-sheet .ensures)
+    (a .starts .now) (a .lengths .now) (a .numbers .now) (a .counts .now) _ _
+    (c8 .judge-pair .ensures) (c4 .before .judge-pair2 .ensures) _ (c4 .to-fill .ensures)
 
 slice-aggregate-fill-pair-2 : tie.Need-slice-aggregate-fill-pair-2
 slice-aggregate-fill-pair-2 c = search needs
@@ -44,7 +47,10 @@ fill-pair-requires-2 c κs =
     let c20 = c16 .before .before .before .before in
     let c24 = c20 .before .before .before .before in
     let a = c24 .before .before .args in
-    wants-ready _ _ (c20 .judge-sheet .ensures) (a .starts .now) (a .lengths .now) (a .numbers .now) (a .counts .now) _ _ (c16 .judge-pair .ensures) (c12 .before .judge-pair2 .ensures) _ (c12 .to-fill .ensures) _ (c8 .before .before .before .to-fill2 .ensures)
+    wants-ready _ _
+    (c20 .judge-sheet .ensures)
+    (a .starts .now) (a .lengths .now) (a .numbers .now) (a .counts .now) _ _
+    (c16 .judge-pair .ensures) (c12 .before .judge-pair2 .ensures) _ (c12 .to-fill .ensures) _ (c8 .before .before .before .to-fill2 .ensures)
 
 reading-of-requires : tie.Need-reading-of-requires
 reading-of-requires c κs = search needs
@@ -72,7 +78,11 @@ returns c =
     let c28 = c24 .before .before .before .before in
     let c32 = c28 .before .before .before .before in
     let a = c32 .args in
-    sheet-read _ _ (c24 .before .before .judge-sheet .ensures) (a .starts .now) (a .lengths .now) (a .numbers .now) (a .counts .now) _ _ (c20 .before .before .judge-pair .ensures) (c16 .before .before .before .judge-pair2 .ensures) _ (c16 .before .before .to-fill .ensures) _ (c16 .before .to-fill2 .ensures) _ _ _ _ _ (c .reading-of .ensures) (c12 .before .fill-pair .ensures) (c4 .before .fill-pair2 .ensures)
+    sheet-read _ _
+    (c24 .before .before .judge-sheet .ensures)
+    (a .starts .now) (a .lengths .now) (a .numbers .now) (a .counts .now) _ _
+    (c20 .before .before .judge-pair .ensures) (c16 .before .before .before .judge-pair2 .ensures) _ (c16 .before .before .to-fill .ensures) _ (c16 .before .to-fill2 .ensures)
+    _ _ _ _ _ (c .reading-of .ensures) (c12 .before .fill-pair .ensures) (c4 .before .fill-pair2 .ensures)
 
 pub read-sheet-spec : {M : Type 1} → statement M
 read-sheet-spec =
