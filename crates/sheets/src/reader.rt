@@ -1,10 +1,12 @@
 // The sheet reader: the whole sheet is judged first, and the rows are written after that.
 ghost use mathlib.Core.Path.{_≡_};
+ghost use mathlib.Core.Bool.{_||_};
 ghost use mathlib.Core.List.{[], _∷_};
 ghost use lib.ListN.{drop};
+ghost use lib.Dec.{ltb};
 ghost use Rattle.refusals.specs.declared.Refusal.the-variants.{ShortRow};
 ghost use Rattle.refusals.specs.Refusals.{refuseIf, firstOf};
-ghost use Rattle.sheets.specs.Reading.{shortPairRows, runRows, SheetRead, readName, readFrom, placeOn};
+ghost use Rattle.sheets.specs.Reading.{runRows, SheetRead, readName, readFrom, placeOn};
 ghost use Rattle.sheets.specs.Private.{TopFound, FilesAt, WantsAt, BelowFound, Unread, JudgedFound, PairsReady, leftRow, rightRow, linesFilled, readingOf};
 use crate::LONGEST_SHEET;
 use crate::MOST_SHEET_FILES;
@@ -194,24 +196,17 @@ fn fill_pair(
     }
 }
 
-// Whether one of two rows is shorter than so many entries.
-fn short_pair(count: u64, firsts: &[u64], seconds: &[u64]) -> bool
-    ensures { λ r. ⌜ r ≡ shortPairRows count (now (firsts .entry)) (now (seconds .entry)) ⌝ }
-{
-    if (firsts.len() as u64) < count {
-        return true;
-    }
-    (seconds.len() as u64) < count
-}
-
-// 8 for two rows, unless what was judged before refuses.
-fn judge_pair(before: Verdict, count: u64, firsts: &[u64], seconds: &[u64]) -> Verdict
-    ensures { λ r. ⌜ r ≡ firstOf (before ∷ refuseIf (shortPairRows count (now (firsts .entry)) (now (seconds .entry))) ShortRow ∷ []) ⌝ }
+// 8 for two rows of these lengths, unless what was judged before refuses.
+fn judge_pair(before: Verdict, count: u64, firsts: usize, seconds: usize) -> Verdict
+    ensures { λ r. ⌜ r ≡ firstOf (before ∷ refuseIf (ltb firsts count || ltb seconds count) ShortRow ∷ []) ⌝ }
 {
     if refused(before) {
         return before;
     }
-    refuse_if(short_pair(count, firsts, seconds), Refusal::ShortRow)
+    if (firsts as u64) < count {
+        return refuse_if(true, Refusal::ShortRow);
+    }
+    refuse_if((seconds as u64) < count, Refusal::ShortRow)
 }
 
 // How many lines go into the rows: none on a refusal.
@@ -262,8 +257,8 @@ pub fn read_sheet(
 {
     let judged = judge_sheet(sheet);
     let top = judged.top;
-    let files = judge_pair(judged.verdict, top.files, starts, lengths);
-    let verdict = judge_pair(files, judged.wants, numbers, counts);
+    let so_far = judge_pair(judged.verdict, top.files, starts.len(), lengths.len());
+    let verdict = judge_pair(so_far, judged.wants, numbers.len(), counts.len());
     let file_lines = to_fill(verdict, top.files);
     let want_lines = to_fill(verdict, judged.wants);
     fill_pair(sheet, top.next, b"file=", file_lines, starts, lengths);

@@ -28,12 +28,11 @@ fill-pair-requires c κs =
     let c4 = c .before .before .before .before in
     let c8 = c4 .before .before .before .before in
     let c12 = c8 .before .before .before .before in
-    let c16 = c12 .before .before .before .before in
-    let a = c16 .before .before .args in
+    let a = c12 .before .before .args in
     files-ready _ _
-    (c12 .judge-sheet .ensures)
+    (c8 .judge-sheet .ensures)
     (a .starts .now) (a .lengths .now) (a .numbers .now) (a .counts .now) _ _
-    (c8 .judge-pair .ensures) (c4 .before .judge-pair2 .ensures) _ (c4 .to-fill .ensures)
+    (c4 .before .before .judge-pair .ensures) (c4 .before .judge-pair2 .ensures) _ (c4 .to-fill .ensures)
 
 slice-aggregate-fill-pair-2 : tie.Need-slice-aggregate-fill-pair-2
 slice-aggregate-fill-pair-2 c = search needs
@@ -45,12 +44,11 @@ fill-pair-requires-2 c κs =
     let c12 = c8 .before .before .before .before in
     let c16 = c12 .before .before .before .before in
     let c20 = c16 .before .before .before .before in
-    let c24 = c20 .before .before .before .before in
-    let a = c24 .before .before .args in
+    let a = c20 .before .before .args in
     wants-ready _ _
-    (c20 .judge-sheet .ensures)
+    (c16 .judge-sheet .ensures)
     (a .starts .now) (a .lengths .now) (a .numbers .now) (a .counts .now) _ _
-    (c16 .judge-pair .ensures) (c12 .before .judge-pair2 .ensures) _ (c12 .to-fill .ensures) _ (c8 .before .before .before .to-fill2 .ensures)
+    (c12 .before .before .judge-pair .ensures) (c12 .before .judge-pair2 .ensures) _ (c12 .to-fill .ensures) _ (c8 .before .before .before .to-fill2 .ensures)
 
 reading-of-requires : tie.Need-reading-of-requires
 reading-of-requires c κs = search needs
@@ -76,12 +74,11 @@ returns c =
     let c20 = c16 .before .before .before .before in
     let c24 = c20 .before .before .before .before in
     let c28 = c24 .before .before .before .before in
-    let c32 = c28 .before .before .before .before in
-    let a = c32 .args in
+    let a = c28 .args in
     sheet-read _ _
-    (c24 .before .before .judge-sheet .ensures)
+    (c20 .before .before .judge-sheet .ensures)
     (a .starts .now) (a .lengths .now) (a .numbers .now) (a .counts .now) _ _
-    (c20 .before .before .judge-pair .ensures) (c16 .before .before .before .judge-pair2 .ensures) _ (c16 .before .before .to-fill .ensures) _ (c16 .before .to-fill2 .ensures)
+    (c20 .judge-pair .ensures) (c16 .before .before .before .judge-pair2 .ensures) _ (c16 .before .before .to-fill .ensures) _ (c16 .before .to-fill2 .ensures)
     _ _ _ _ _ (c .reading-of .ensures) (c12 .before .fill-pair .ensures) (c4 .before .fill-pair2 .ensures)
 
 pub read-sheet-spec : {M : Type 1} → statement M
