@@ -5,6 +5,23 @@ use borrow.Author.Needs.{needs}
 use Rattle.sheets.proofs.reader.read_sheet.Statement.{statement}
 use Rattle.sheets.proofs.reader.read_sheet.Tie as tie
 
+-- What is answered and left in the rows: as many lines are filled as the whole verdict allows.
+returns : tie.Need-returns
+returns c =
+    let c4 = c .before .before .before .before in
+    let c8 = c4 .before .before .before .before in
+    let c12 = c8 .before .before .before .before in
+    let c16 = c12 .before .before .before .before in
+    let c20 = c16 .before .before .before .before in
+    let c24 = c20 .before .before .before .before in
+    let c28 = c24 .before .before .before .before in
+    let a = c28 .args in
+    sheet-read _ _
+    (c20 .before .before .judge-sheet .ensures)
+    (a .starts .now) (a .lengths .now) (a .numbers .now) (a .counts .now) _ _
+    (c20 .judge-pair .ensures) (c16 .before .before .before .judge-pair2 .ensures) _ (c16 .before .before .to-fill .ensures) _ (c16 .before .to-fill2 .ensures)
+    _ _ _ _ _ (c .reading-of .ensures) (c12 .before .fill-pair .ensures) (c4 .before .fill-pair2 .ensures)
+
 judge-sheet-requires : tie.Need-judge-sheet-requires
 judge-sheet-requires c κs = search needs
 
@@ -64,22 +81,6 @@ same-length-3 c = search needs
 
 same-length-4 : tie.Need-same-length-4
 same-length-4 c = search needs
-
-returns : tie.Need-returns
-returns c =
-    let c4 = c .before .before .before .before in
-    let c8 = c4 .before .before .before .before in
-    let c12 = c8 .before .before .before .before in
-    let c16 = c12 .before .before .before .before in
-    let c20 = c16 .before .before .before .before in
-    let c24 = c20 .before .before .before .before in
-    let c28 = c24 .before .before .before .before in
-    let a = c28 .args in
-    sheet-read _ _
-    (c20 .before .before .judge-sheet .ensures)
-    (a .starts .now) (a .lengths .now) (a .numbers .now) (a .counts .now) _ _
-    (c20 .judge-pair .ensures) (c16 .before .before .before .judge-pair2 .ensures) _ (c16 .before .before .to-fill .ensures) _ (c16 .before .to-fill2 .ensures)
-    _ _ _ _ _ (c .reading-of .ensures) (c12 .before .fill-pair .ensures) (c4 .before .fill-pair2 .ensures)
 
 pub read-sheet-spec : {M : Type 1} → statement M
 read-sheet-spec =
