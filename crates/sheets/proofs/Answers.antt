@@ -14,11 +14,11 @@ use Rattle.refusals.specs.Refusals.{isRefusal, refuseIf, firstOf, firstWhere}
 use Rattle.refusals.proofs.Verdicts.{first-refuses, all-accept, accepts-if}
 use Rattle.runs.proofs.Search.{or-false-both}
 use Rattle.sheets.specs.declared.Reading.{Reading}
-use Rattle.sheets.specs.declared.reader.Laid.{Laid}
+use Rattle.sheets.specs.declared.reader.Judged.{Judged}
 use Rattle.sheets.specs.Lines.{fileKey, wantKey, lineAfter, firstIn, secondIn, afterLines}
 use Rattle.sheets.specs.Sheet.{firstBadPair, eachOf, sheetRun, sheetName}
 use Rattle.sheets.specs.Reading.{sheetVerdict, readVerdict, readAnswer, readRow, RunRows, runRows, SheetRead, readName, readFrom, placeOn, shortPairRows}
-use Rattle.sheets.specs.Private.{LaidOut, LaidFound, PairsReady, leftRow, rightRow, linesFilled, readingOf, NamePart}
+use Rattle.sheets.specs.Private.{JudgedGood, JudgedFound, PairsReady, leftRow, rightRow, linesFilled, readingOf, NamePart}
 use Rattle.sheets.proofs.Rows.{length-each}
 
 -- Two pairs of rows judged one after the other are judged together.
@@ -63,76 +63,76 @@ row-read v count n n-is value values row said = go (isRefusal (v .refusal)) refl
     go false e = let all : n ≡ count = n-is ∙ rw e in rw (e, all, said e, length-each value count)
 
 -- t is the verdict after the files' rows, v after all; m and n are how many lines are filled.
-module _ (sheet : List ℕ) (laid : Laid) (found : LaidFound sheet laid) (starts lengths numbers counts : List ℕ) (t v : Verdict)
-    (t-is : t ≡ firstOf (laid .verdict ∷ refuseIf (shortPairRows (laid .top .files) starts lengths) ShortRow ∷ []))
-    (v-is : v ≡ firstOf (t ∷ refuseIf (shortPairRows (laid .wants) numbers counts) ShortRow ∷ [])) where
+module _ (sheet : List ℕ) (judged : Judged) (found : JudgedFound sheet judged) (starts lengths numbers counts : List ℕ) (t v : Verdict)
+    (t-is : t ≡ firstOf (judged .verdict ∷ refuseIf (shortPairRows (judged .top .files) starts lengths) ShortRow ∷ []))
+    (v-is : v ≡ firstOf (t ∷ refuseIf (shortPairRows (judged .wants) numbers counts) ShortRow ∷ [])) where
   read-verdict : v ≡ readVerdict sheet starts lengths numbers counts
   unfolding readVerdict
   read-verdict =
-      v-is ∙ ap (λ x. firstOf (x ∷ refuseIf (shortPairRows (laid .wants) numbers counts) ShortRow ∷ [])) t-is
-      ∙ both-judged (laid .verdict) (shortPairRows (laid .top .files) starts lengths) (shortPairRows (laid .wants) numbers counts)
-      ∙ go (isRefusal (laid .verdict .refusal)) refl
+      v-is ∙ ap (λ x. firstOf (x ∷ refuseIf (shortPairRows (judged .wants) numbers counts) ShortRow ∷ [])) t-is
+      ∙ both-judged (judged .verdict) (shortPairRows (judged .top .files) starts lengths) (shortPairRows (judged .wants) numbers counts)
+      ∙ go (isRefusal (judged .verdict .refusal)) refl
     where
-      go : (f : Bool) → isRefusal (laid .verdict .refusal) ≡ f
-          → firstOf (laid .verdict ∷ refuseIf (shortPairRows (laid .top .files) starts lengths || shortPairRows (laid .wants) numbers counts) ShortRow ∷ []) ≡ readVerdict sheet starts lengths numbers counts
+      go : (f : Bool) → isRefusal (judged .verdict .refusal) ≡ f
+          → firstOf (judged .verdict ∷ refuseIf (shortPairRows (judged .top .files) starts lengths || shortPairRows (judged .wants) numbers counts) ShortRow ∷ []) ≡ readVerdict sheet starts lengths numbers counts
       go true e = rw (← found .verdict, e)
       go false e = let p = found .out e in rw (← found .verdict, ← p .upper .files, ← p .below .count)
 
   module _ (e : isRefusal (v .refusal) ≡ false) where
-    wants-pass : (isRefusal (t .refusal) ≡ false) × (shortPairRows (laid .wants) numbers counts ≡ false)
+    wants-pass : (isRefusal (t .refusal) ≡ false) × (shortPairRows (judged .wants) numbers counts ≡ false)
     wants-pass =
-        let all = all-accept (t ∷ refuseIf (shortPairRows (laid .wants) numbers counts) ShortRow ∷ []) (rw (← v-is) e) in
-        (all .0, accepts-if (shortPairRows (laid .wants) numbers counts) ShortRow refl (all .1 .0))
+        let all = all-accept (t ∷ refuseIf (shortPairRows (judged .wants) numbers counts) ShortRow ∷ []) (rw (← v-is) e) in
+        (all .0, accepts-if (shortPairRows (judged .wants) numbers counts) ShortRow refl (all .1 .0))
 
-    files-pass : (isRefusal (laid .verdict .refusal) ≡ false) × (shortPairRows (laid .top .files) starts lengths ≡ false)
+    files-pass : (isRefusal (judged .verdict .refusal) ≡ false) × (shortPairRows (judged .top .files) starts lengths ≡ false)
     files-pass =
-        let all = all-accept (laid .verdict ∷ refuseIf (shortPairRows (laid .top .files) starts lengths) ShortRow ∷ []) (rw (← t-is) (wants-pass .0)) in
-        (all .0, accepts-if (shortPairRows (laid .top .files) starts lengths) ShortRow refl (all .1 .0))
+        let all = all-accept (judged .verdict ∷ refuseIf (shortPairRows (judged .top .files) starts lengths) ShortRow ∷ []) (rw (← t-is) (wants-pass .0)) in
+        (all .0, accepts-if (shortPairRows (judged .top .files) starts lengths) ShortRow refl (all .1 .0))
 
-    parts : LaidOut sheet laid
+    parts : JudgedGood sheet judged
     parts = found .out (files-pass .0)
 
-  module _ (m : ℕ) (m-is : m ≡ linesFilled v (laid .top .files)) where
-    pub files-ready : PairsReady fileKey sheet (laid .top .next) m starts lengths
+  module _ (m : ℕ) (m-is : m ≡ linesFilled v (judged .top .files)) where
+    pub files-ready : PairsReady fileKey sheet (judged .top .next) m starts lengths
     files-ready =
-        pairs-ready fileKey sheet (laid .top .next) (laid .top .files) starts lengths v m m-is (omega arith) (found .file-at)
+        pairs-ready fileKey sheet (judged .top .next) (judged .top .files) starts lengths v m m-is (omega arith) (found .file-at)
         (λ e. (rw (parts e .upper .files, parts e .upper .rest) (parts e .below .filed), files-pass e .1))
 
-    module _ (n : ℕ) (n-is : n ≡ linesFilled v (laid .wants)) where
-      pub wants-ready : PairsReady wantKey sheet (laid .at) n numbers counts
+    module _ (n : ℕ) (n-is : n ≡ linesFilled v (judged .wants)) where
+      pub wants-ready : PairsReady wantKey sheet (judged .at) n numbers counts
       wants-ready =
-          pairs-ready wantKey sheet (laid .at) (laid .wants) numbers counts v n n-is (omega arith) (found .want-at)
+          pairs-ready wantKey sheet (judged .at) (judged .wants) numbers counts v n n-is (omega arith) (found .want-at)
           (λ e. (rw (parts e .below .count, parts e .below .rest) (parts e .below .wanted), wants-pass e .1))
 
-      answer-read : readingOf v (laid .top) (laid .wants) ≡ readAnswer v sheet
+      answer-read : readingOf v (judged .top) (judged .wants) ≡ readAnswer v sheet
       unfolding readAnswer
       answer-read = go (isRefusal (v .refusal)) refl
         where
-          go : (f : Bool) → isRefusal (v .refusal) ≡ f → readingOf v (laid .top) (laid .wants) ≡ readAnswer v sheet
+          go : (f : Bool) → isRefusal (v .refusal) ≡ f → readingOf v (judged .top) (judged .wants) ≡ readAnswer v sheet
           go true e = rw e
           go false e = let p = parts e in rw (e, ← p .upper .head, ← p .upper .turn, ← p .upper .rule, ← p .upper .files, ← p .below .count)
 
-      pub sheet-read : (r : Reading) (starts′ lengths′ numbers′ counts′ : List ℕ) → r ≡ readingOf v (laid .top) (laid .wants)
-          → (starts′ ≡ leftRow fileKey (drop (laid .top .next) sheet) m starts) × (lengths′ ≡ rightRow fileKey (drop (laid .top .next) sheet) m lengths)
-          → (numbers′ ≡ leftRow wantKey (drop (laid .at) sheet) n numbers) × (counts′ ≡ rightRow wantKey (drop (laid .at) sheet) n counts)
+      pub sheet-read : (r : Reading) (starts′ lengths′ numbers′ counts′ : List ℕ) → r ≡ readingOf v (judged .top) (judged .wants)
+          → (starts′ ≡ leftRow fileKey (drop (judged .top .next) sheet) m starts) × (lengths′ ≡ rightRow fileKey (drop (judged .top .next) sheet) m lengths)
+          → (numbers′ ≡ leftRow wantKey (drop (judged .at) sheet) n numbers) × (counts′ ≡ rightRow wantKey (drop (judged .at) sheet) n counts)
           → SheetRead sheet (runRows starts lengths numbers counts) r (runRows starts′ lengths′ numbers′ counts′)
       unfolding sheetRun
       sheet-read r starts′ lengths′ numbers′ counts′ r-is files wants =
           record {
             answer = rw (← read-verdict) (r-is ∙ answer-read);
-            starts = rw (← read-verdict) (files .0 ∙ row-read v (laid .top .files) m m-is _ _ starts (λ e. rw (parts e .upper .files, parts e .upper .rest)));
-            lengths = rw (← read-verdict) (files .1 ∙ row-read v (laid .top .files) m m-is _ _ lengths (λ e. rw (parts e .upper .files, parts e .upper .rest)));
-            numbers = rw (← read-verdict) (wants .0 ∙ row-read v (laid .wants) n n-is _ _ numbers (λ e. rw (parts e .below .count, parts e .below .rest)));
-            counts = rw (← read-verdict) (wants .1 ∙ row-read v (laid .wants) n n-is _ _ counts (λ e. rw (parts e .below .count, parts e .below .rest)));
+            starts = rw (← read-verdict) (files .0 ∙ row-read v (judged .top .files) m m-is _ _ starts (λ e. rw (parts e .upper .files, parts e .upper .rest)));
+            lengths = rw (← read-verdict) (files .1 ∙ row-read v (judged .top .files) m m-is _ _ lengths (λ e. rw (parts e .upper .files, parts e .upper .rest)));
+            numbers = rw (← read-verdict) (wants .0 ∙ row-read v (judged .wants) n n-is _ _ numbers (λ e. rw (parts e .below .count, parts e .below .rest)));
+            counts = rw (← read-verdict) (wants .1 ∙ row-read v (judged .wants) n n-is _ _ counts (λ e. rw (parts e .below .count, parts e .below .rest)));
           }
 
 -- The name's part, and where it starts; f says whether 12 or 11 applies.
-module _ (sheet : List ℕ) (laid : Laid) (found : LaidFound sheet laid) (f : Bool) (f-is : f ≡ isRefusal (laid .verdict .refusal)) where
+module _ (sheet : List ℕ) (judged : Judged) (found : JudgedFound sheet judged) (f : Bool) (f-is : f ≡ isRefusal (judged .verdict .refusal)) where
   module _ (e : f ≡ false) where
-    pub name-part : NamePart sheet (laid .top .end)
+    pub name-part : NamePart sheet (judged .top .end)
     name-part = found .out (sym f-is ∙ e) .upper .name
 
-    pub name-read : take (laid .top .end - 5) (drop 5 sheet) ≡ readName sheet
+    pub name-read : take (judged .top .end - 5) (drop 5 sheet) ≡ readName sheet
     unfolding readName sheetName afterLines
     name-read = rw (← found .verdict, ← f-is, e) (name-part .name)
 
@@ -148,3 +148,11 @@ module _ (sheet : List ℕ) (laid : Laid) (found : LaidFound sheet laid) (f : Bo
     pub no-name-from : (place : ℕ × ℕ) → place ≡ placeOn (readFrom sheet) place
     unfolding readFrom
     no-name-from place = rw (← found .verdict, ← f-is, e, zero-add)
+
+-- The contract determines the answer and every row.
+pub read-determined : (sheet : List ℕ) (rows : RunRows) (r s : Reading) (rows′ rows″ : RunRows) → SheetRead sheet rows r rows′ → SheetRead sheet rows s rows″ → (r ≡ s) × (rows′ ≡ rows″)
+read-determined sheet rows r s rows′ rows″ p q =
+    (p .answer ∙ sym (q .answer), same (p .starts ∙ sym (q .starts)) (p .lengths ∙ sym (q .lengths)) (p .numbers ∙ sym (q .numbers)) (p .counts ∙ sym (q .counts)))
+  where
+    same : {a a′ b b′ c c′ d d′ : List ℕ} → a ≡ a′ → b ≡ b′ → c ≡ c′ → d ≡ d′ → runRows a b c d ≡ runRows a′ b′ c′ d′
+    same e f g h = rw (e, f, g, h)

@@ -20,12 +20,12 @@ use Rattle.sheets.specs.declared.lines.RuleLine.{RuleLine}
 use Rattle.sheets.specs.declared.reader.Top.{Top}
 use Rattle.sheets.specs.declared.reader.TopRead.{TopRead}
 use Rattle.sheets.specs.declared.reader.BelowRead.{BelowRead}
-use Rattle.sheets.specs.declared.reader.Laid.{Laid}
+use Rattle.sheets.specs.declared.reader.Judged.{Judged}
 use Rattle.texts.specs.Text.{lineFeed, behind, isEmpty}
 use Rattle.sheets.specs.Lines.{lineOf, afterLines, lineAfter, headKey, filesKey, fileKey, wantsKey, wantKey, isTapeLine, isNumberLine, numberBehind, isCountLine, isTurnLine, turnIn, isRuleLine, ruleIn}
 use Rattle.sheets.specs.Sheet.{longestSheet, mostSheetFiles, sheetHead, sheetTurn, sheetRule, sheetFiles, fileText, wantsText, sheetWants, wantText, endText, shifted, firstSome, firstBadPair, firstBadTop, firstBadBelow, firstBadLine}
 use Rattle.sheets.specs.Reading.{sheetVerdict}
-use Rattle.sheets.specs.Private.{Passed, NamePart, NameLineFound, NumberLineFound, RuleLineFound, PairsPassed, PairBad, TopIs, TopBad, TopFound, FilesAt, WantsAt, BelowIs, BelowBad, BelowFound, Unread, LaidFound}
+use Rattle.sheets.specs.Private.{Passed, NamePart, NameLineFound, NumberLineFound, RuleLineFound, PairsPassed, PairBad, TopIs, TopBad, TopFound, FilesAt, WantsAt, BelowIs, BelowBad, BelowFound, Unread, JudgedFound}
 use Rattle.texts.proofs.Bytes.{and-true-both}
 
 -- So many lines passed, and what is left stands at a position.
@@ -246,8 +246,8 @@ module _ (sheet : List ℕ) (at files : ℕ) (p : WantsAt sheet at files) (r : N
 pub top-found : (sheet : List ℕ) (top : Top) → TopIs sheet top → FilesAt sheet (top .next) (top .files)
 top-found sheet top p = record { count = p .files; few = p .few; within = p .within; rest = p .rest }
 
-unread-found : (sheet : List ℕ) (v : Verdict) → isRefusal (v .refusal) ≡ true → v ≡ sheetVerdict sheet → (laid : Laid) → Unread v laid → LaidFound sheet laid
-unread-found sheet v refuses is laid u =
+unread-found : (sheet : List ℕ) (v : Verdict) → isRefusal (v .refusal) ≡ true → v ≡ sheetVerdict sheet → (judged : Judged) → Unread v judged → JudgedFound sheet judged
+unread-found sheet v refuses is judged u =
     record {
       verdict = u .same ∙ is;
       file-at = omega (arith, u .file-at);
@@ -257,29 +257,29 @@ unread-found sheet v refuses is laid u =
 
 -- v is the verdict on its length, f whether that refuses.
 module _ (sheet : List ℕ) (v : Verdict) (f : Bool) (v-is : v ≡ refuseIf (ltb longestSheet (length sheet)) LongSheet) (f-is : f ≡ isRefusal (v .refusal)) where
-  pub sheet-long : f ≡ true → (laid : Laid) → Unread v laid → LaidFound sheet laid
+  pub sheet-long : f ≡ true → (judged : Judged) → Unread v judged → JudgedFound sheet judged
   unfolding sheetVerdict
   sheet-long e = unread-found sheet v (sym f-is ∙ e) (v-is ∙ rw (test-says v-is f-is e))
 
   module _ (short : f ≡ false) where
-    line-bad : (line : ℕ) → 0 < line → firstBadLine sheet ≡ line → (w : Verdict) → w ≡ refuseAt line BadLine → (laid : Laid) → Unread w laid → LaidFound sheet laid
+    line-bad : (line : ℕ) → 0 < line → firstBadLine sheet ≡ line → (w : Verdict) → w ≡ refuseAt line BadLine → (judged : Judged) → Unread w judged → JudgedFound sheet judged
     unfolding sheetVerdict
     line-bad line some e w w-is =
         let refuses : isRefusal (w .refusal) ≡ true = rw (w-is, refuse-at line BadLine (λ z. omega arith)) in
         unread-found sheet w refuses (last-at BadLine refl w-is (sym e) ∙ rw (test-says v-is f-is short))
 
-    pub top-refuses : (line : ℕ) → TopBad sheet line → (w : Verdict) → w ≡ refuseAt line BadLine → (laid : Laid) → Unread w laid → LaidFound sheet laid
+    pub top-refuses : (line : ℕ) → TopBad sheet line → (w : Verdict) → w ≡ refuseAt line BadLine → (judged : Judged) → Unread w judged → JudgedFound sheet judged
     unfolding firstBadLine
     top-refuses line b = let l : 0 < line = b .some in line-bad line l (rw (b .first, first-some line))
 
     module _ (top : Top) (t : TopIs sheet top) where
-      pub below-refuses : (line : ℕ) → BelowBad sheet line → (w : Verdict) → w ≡ refuseAt line BadLine → (laid : Laid) → Unread w laid → LaidFound sheet laid
+      pub below-refuses : (line : ℕ) → BelowBad sheet line → (w : Verdict) → w ≡ refuseAt line BadLine → (judged : Judged) → Unread w judged → JudgedFound sheet judged
       unfolding firstBadLine
       below-refuses line b = let l : 0 < line = b .some in line-bad line l (rw (t .none, b .first, first-skip, first-some line))
 
-      pub laid-out : (wants at : ℕ) → BelowIs sheet wants at → LaidFound sheet (record { verdict = v; top = top; wants = wants; at = at })
+      pub judged-good : (wants at : ℕ) → BelowIs sheet wants at → JudgedFound sheet (record { verdict = v; top = top; wants = wants; at = at })
       unfolding sheetVerdict firstBadLine
-      laid-out wants at b =
+      judged-good wants at b =
           let fits = accepts-if (ltb longestSheet (length sheet)) LongSheet refl (test-says v-is f-is short) in
           record {
             verdict = v-is ∙ rw (fits, t .none, b .none);

@@ -18,7 +18,7 @@ use Rattle.sheets.specs.declared.lines.PairLines.{PairLines}
 use Rattle.sheets.specs.declared.reader.Top.{Top}
 use Rattle.sheets.specs.declared.reader.TopRead.{TopRead}
 use Rattle.sheets.specs.declared.reader.BelowRead.{BelowRead}
-use Rattle.sheets.specs.declared.reader.Laid.{Laid}
+use Rattle.sheets.specs.declared.reader.Judged.{Judged}
 use Rattle.texts.specs.Text.{lineFeed, comma, before, behind, startsWith, valueOf}
 use Rattle.sheets.specs.Lines.{lineOf, afterLines, lineAfter, tapeKey, fileKey, wantKey, valueText, isTapeLine, isRuleLine, ruleIn, isPair, isPairLine, firstIn, secondIn}
 use Rattle.sheets.specs.Sheet.{mostSheetFiles, sheetHead, sheetTurn, sheetRule, sheetFiles, fileText, wantsText, sheetWants, wantText, firstBadPair, firstBadTop, firstBadBelow, eachOf}
@@ -147,22 +147,22 @@ BelowFound sheet (BelowRead.Good wants at) = BelowIs sheet wants at
 BelowFound sheet (BelowRead.Bad line) = BelowBad sheet line
 
 -- A sheet that 12 or 11 refuses.
-pub record Unread (verdict : Verdict) (laid : Laid) : Type 0 where
-  pub same : laid .verdict ≡ verdict
-  pub file-at : laid .top .next ≡ 0
-  pub want-at : laid .at ≡ 0
+pub record Unread (verdict : Verdict) (judged : Judged) : Type 0 where
+  pub same : judged .verdict ≡ verdict
+  pub file-at : judged .top .next ≡ 0
+  pub want-at : judged .at ≡ 0
 
 -- One that they accept, with its parts.
-pub record LaidOut (sheet : List ℕ) (laid : Laid) : Type 0 where
-  pub upper : TopIs sheet (laid .top)
-  pub below : BelowIs sheet (laid .wants) (laid .at)
+pub record JudgedGood (sheet : List ℕ) (judged : Judged) : Type 0 where
+  pub upper : TopIs sheet (judged .top)
+  pub below : BelowIs sheet (judged .wants) (judged .at)
 
 -- What they say of a sheet; the file and want lines start within it, whatever they say.
-pub record LaidFound (sheet : List ℕ) (laid : Laid) : Type 0 where
-  pub verdict : laid .verdict ≡ sheetVerdict sheet
-  pub file-at : laid .top .next ≤ length sheet
-  pub want-at : laid .at ≤ length sheet
-  pub out : isRefusal (laid .verdict .refusal) ≡ false → LaidOut sheet laid
+pub record JudgedFound (sheet : List ℕ) (judged : Judged) : Type 0 where
+  pub verdict : judged .verdict ≡ sheetVerdict sheet
+  pub file-at : judged .top .next ≤ length sheet
+  pub want-at : judged .at ≤ length sheet
+  pub out : isRefusal (judged .verdict .refusal) ≡ false → JudgedGood sheet judged
 
 -- Lines of pairs that are all as described, and rows with room for them.
 pub record PairsReady (key sheet : List ℕ) (at count : ℕ) (firsts seconds : List ℕ) : Type 0 where

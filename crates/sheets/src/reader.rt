@@ -1,11 +1,13 @@
 // The sheet reader: the whole sheet is judged first, and the rows are written after that.
 ghost use mathlib.Core.Path.{_≡_};
+ghost use mathlib.Core.Bool.{_||_};
 ghost use mathlib.Core.List.{[], _∷_};
 ghost use lib.ListN.{drop};
+ghost use lib.Dec.{ltb};
 ghost use Rattle.refusals.specs.declared.Refusal.the-variants.{ShortRow};
 ghost use Rattle.refusals.specs.Refusals.{refuseIf, firstOf};
-ghost use Rattle.sheets.specs.Reading.{shortPairRows, runRows, SheetRead, readName, readFrom, placeOn};
-ghost use Rattle.sheets.specs.Private.{TopFound, FilesAt, WantsAt, BelowFound, Unread, LaidFound, PairsReady, leftRow, rightRow, linesFilled, readingOf};
+ghost use Rattle.sheets.specs.Reading.{runRows, SheetRead, readName, readFrom, placeOn};
+ghost use Rattle.sheets.specs.Private.{TopFound, FilesAt, WantsAt, BelowFound, Unread, JudgedFound, PairsReady, leftRow, rightRow, linesFilled, readingOf};
 use crate::LONGEST_SHEET;
 use crate::MOST_SHEET_FILES;
 use crate::Reading;
@@ -51,7 +53,7 @@ enum BelowRead {
 
 // What 12 and 11 say of a sheet, its first lines, the number of wants and where the first want line starts.
 // Of a sheet that they refuse every number is 0.
-struct Laid {
+struct Judged {
     verdict: Verdict,
     top: Top,
     wants: u64,
@@ -123,10 +125,10 @@ fn read_below(sheet: &[u8], at: usize, files: u64) -> BelowRead
     }
 }
 
-fn unread(verdict: Verdict) -> Laid
+fn unread(verdict: Verdict) -> Judged
     ensures { λ r. ⌜ Unread verdict r ⌝ }
 {
-    Laid {
+    Judged {
         verdict,
         top: Top {
             end: 0,
@@ -141,8 +143,8 @@ fn unread(verdict: Verdict) -> Laid
     }
 }
 
-fn lay_out(sheet: &[u8]) -> Laid
-    ensures { λ r. ⌜ LaidFound (now (sheet .entry)) r ⌝ }
+fn judge_sheet(sheet: &[u8]) -> Judged
+    ensures { λ r. ⌜ JudgedFound (now (sheet .entry)) r ⌝ }
 {
     let long = refuse_if(LONGEST_SHEET < sheet.len(), Refusal::LongSheet);
     if refused(long) {
@@ -152,7 +154,7 @@ fn lay_out(sheet: &[u8]) -> Laid
         TopRead::Bad(line) => unread(refuse_at(line, Refusal::BadLine)),
         TopRead::Good(top) => match read_below(sheet, top.next, top.files) {
             BelowRead::Bad(line) => unread(refuse_at(line, Refusal::BadLine)),
-            BelowRead::Good { wants, want_at } => Laid {
+            BelowRead::Good { wants, want_at } => Judged {
                 verdict: long,
                 top,
                 wants,
@@ -163,7 +165,14 @@ fn lay_out(sheet: &[u8]) -> Laid
 }
 
 // The pairs of lines already judged, into the first entries of two rows.
-fn fill(sheet: &[u8], at: usize, key: &[u8], count: u64, firsts: &mut [u64], seconds: &mut [u64])
+fn fill_pair(
+    sheet: &[u8],
+    at: usize,
+    key: &[u8],
+    count: u64,
+    firsts: &mut [u64],
+    seconds: &mut [u64],
+)
     requires { ⌜ PairsReady (now key) (now sheet) at count (now firsts) (now seconds) ⌝ }
     ensures { λ _. ⌜ now (firsts .exit) ≡ leftRow (now (key .entry)) (drop at (now (sheet .entry))) count (now (firsts .entry)) ⌝ }
     ensures { λ _. ⌜ now (seconds .exit) ≡ rightRow (now (key .entry)) (drop at (now (sheet .entry))) count (now (seconds .entry)) ⌝ }
@@ -187,24 +196,17 @@ fn fill(sheet: &[u8], at: usize, key: &[u8], count: u64, firsts: &mut [u64], sec
     }
 }
 
-// Whether one of two rows is shorter than so many entries.
-fn short_rows(count: u64, firsts: &[u64], seconds: &[u64]) -> bool
-    ensures { λ r. ⌜ r ≡ shortPairRows count (now (firsts .entry)) (now (seconds .entry)) ⌝ }
-{
-    if (firsts.len() as u64) < count {
-        return true;
-    }
-    (seconds.len() as u64) < count
-}
-
-// 8 for two rows, unless what was judged before refuses.
-fn judge_rows(before: Verdict, count: u64, firsts: &[u64], seconds: &[u64]) -> Verdict
-    ensures { λ r. ⌜ r ≡ firstOf (before ∷ refuseIf (shortPairRows count (now (firsts .entry)) (now (seconds .entry))) ShortRow ∷ []) ⌝ }
+// 8 for two rows of these lengths, unless what was judged before refuses.
+fn judge_pair(before: Verdict, count: u64, firsts: usize, seconds: usize) -> Verdict
+    ensures { λ r. ⌜ r ≡ firstOf (before ∷ refuseIf (ltb firsts count || ltb seconds count) ShortRow ∷ []) ⌝ }
 {
     if refused(before) {
         return before;
     }
-    refuse_if(short_rows(count, firsts, seconds), Refusal::ShortRow)
+    if (firsts as u64) < count {
+        return refuse_if(true, Refusal::ShortRow);
+    }
+    refuse_if((seconds as u64) < count, Refusal::ShortRow)
 }
 
 // How many lines go into the rows: none on a refusal.
@@ -253,15 +255,15 @@ pub fn read_sheet(
 ) -> Reading
     ensures { λ r. ⌜ SheetRead (now (sheet .entry)) (runRows (now (starts .entry)) (now (lengths .entry)) (now (numbers .entry)) (now (counts .entry))) r (runRows (now (starts .exit)) (now (lengths .exit)) (now (numbers .exit)) (now (counts .exit))) ⌝ }
 {
-    let laid = lay_out(sheet);
-    let top = laid.top;
-    let files = judge_rows(laid.verdict, top.files, starts, lengths);
-    let verdict = judge_rows(files, laid.wants, numbers, counts);
+    let judged = judge_sheet(sheet);
+    let top = judged.top;
+    let so_far = judge_pair(judged.verdict, top.files, starts.len(), lengths.len());
+    let verdict = judge_pair(so_far, judged.wants, numbers.len(), counts.len());
     let file_lines = to_fill(verdict, top.files);
-    let want_lines = to_fill(verdict, laid.wants);
-    fill(sheet, top.next, b"file=", file_lines, starts, lengths);
-    fill(sheet, laid.at, b"want=", want_lines, numbers, counts);
-    reading_of(verdict, top, laid.wants)
+    let want_lines = to_fill(verdict, judged.wants);
+    fill_pair(sheet, top.next, b"file=", file_lines, starts, lengths);
+    fill_pair(sheet, judged.at, b"want=", want_lines, numbers, counts);
+    reading_of(verdict, top, judged.wants)
 }
 
 // The part of the sheet that holds the tape name; an empty part where 12 or 11 applies.
@@ -269,10 +271,10 @@ pub fn tape_name(sheet: &[u8]) -> &[u8]
     ensures { λ r. ⌜ now r ≡ readName (now (sheet .entry)) ⌝ }
     ensures { λ r. ⌜ r .ptr ≡ placeOn (readFrom (now (sheet .entry))) (sheet .entry .ptr) ⌝ }
 {
-    let laid = lay_out(sheet);
-    if refused(laid.verdict) {
+    let judged = judge_sheet(sheet);
+    if refused(judged.verdict) {
         return &sheet[..0];
     }
-    let end = laid.top.end;
+    let end = judged.top.end;
     &sheet[5..end]
 }

@@ -24,7 +24,7 @@ use Rattle.texts.specs.Text.{isName}
 use Rattle.writers.specs.Writing.{rowVerdict}
 use Rattle.writers.specs.PlanSheet.{planLines, planText, planSheetVerdict}
 use Rattle.writers.specs.Private.{Wrote, planMost, PlanFits}
-use Rattle.writers.proofs.Sheets.{last-verdict, judged-refused, judged-passes, run-passes, good-run, name-short}
+use Rattle.writers.proofs.Sheets.{last-verdict, judged-refused, judged-passes, run-passes, good-run, name-fits}
 
 -- v is the run's verdict, w that of the run and the name, f whether w refuses.
 module _ (name : List ℕ) (run : Run) (froms tos row : List ℕ) (v w : Verdict) (v-is : v ≡ judgeOf run) (w-is : w ≡ firstOf (v ∷ refuseIf (not (isName name)) BadName ∷ [])) (f : Bool)
@@ -101,7 +101,7 @@ module _ (name : List ℕ) (run : Run) (froms tos row : List ℕ) (v w : Verdict
           plan-fits page wide =
               record {
                 room = wide;
-                short = name-short name run false v w v-is w-is f f-is good;
+                short = name-fits name run false v w v-is w-is f f-is good;
                 few = omega (arith, list-fits run plan-good froms tos good-list, plan-good .wants .few);
                 even = good-list .even;
                 wants = plan-good .wants .few;

@@ -128,8 +128,8 @@ module _ (name : List ℕ) (run : Run) (over : Bool) (v w : Verdict) (v-is : v �
     pub few-files : over ≡ false
     few-files = name-passes .0
 
-    pub name-short : length name ≤ 16
-    name-short = name-length name (not-false (isName name) (name-passes .1))
+    pub name-fits : length name ≤ 16
+    name-fits = name-length name (not-false (isName name) (name-passes .1))
 
 -- The run sheet writer.
 module _ (name : List ℕ) (rule : Rule) (run : Run) (row : List ℕ) (v w : Verdict) (v-is : v ≡ judgeOf run)
@@ -145,7 +145,7 @@ module _ (name : List ℕ) (rule : Rule) (run : Run) (row : List ℕ) (v w : Ver
         let g = good-run name run over v w v-is w-is f f-is good in
         record {
           room = room;
-          short = name-short name run over v w v-is w-is f f-is good;
+          short = name-fits name run over v w v-is w-is f f-is good;
           files = ltb-false mostSheetFiles (length (run .starts)) (few-files name run over v w v-is w-is f f-is good);
           table = g .files .table .equal;
           wants = g .wants .few;
@@ -157,3 +157,7 @@ module _ (name : List ℕ) (rule : Rule) (run : Run) (row : List ℕ) (v w : Ver
     sheet-last =
         judged-passes name run (ltb mostSheetFiles (length (run .starts))) v w v-is w-is f f-is good (rowVerdict (sheetText name rule run) row ∷ [])
         ∙ last-verdict (sheetText name rule run) row
+
+-- A writer's contract determines the answer and the row.
+pub handed-determined : (v : Verdict) (text row : List ℕ) (r s : Written) (row′ row″ : List ℕ) → Handed v text row r row′ → Handed v text row s row″ → (r ≡ s) × (row′ ≡ row″)
+handed-determined v text row r s row′ row″ p q = (p .answer ∙ sym (q .answer), p .left ∙ sym (q .left))

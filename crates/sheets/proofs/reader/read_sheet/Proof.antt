@@ -5,14 +5,31 @@ use borrow.Author.Needs.{needs}
 use Rattle.sheets.proofs.reader.read_sheet.Statement.{statement}
 use Rattle.sheets.proofs.reader.read_sheet.Tie as tie
 
-lay-out-requires : tie.Need-lay-out-requires
-lay-out-requires c κs = search needs
+-- What is answered and left in the rows: as many lines are filled as the whole verdict allows.
+returns : tie.Need-returns
+returns c =
+    let c4 = c .before .before .before .before in
+    let c8 = c4 .before .before .before .before in
+    let c12 = c8 .before .before .before .before in
+    let c16 = c12 .before .before .before .before in
+    let c20 = c16 .before .before .before .before in
+    let c24 = c20 .before .before .before .before in
+    let c28 = c24 .before .before .before .before in
+    let a = c28 .args in
+    sheet-read _ _
+    (c20 .before .before .judge-sheet .ensures)
+    (a .starts .now) (a .lengths .now) (a .numbers .now) (a .counts .now) _ _
+    (c20 .judge-pair .ensures) (c16 .before .before .before .judge-pair2 .ensures) _ (c16 .before .before .to-fill .ensures) _ (c16 .before .to-fill2 .ensures)
+    _ _ _ _ _ (c .reading-of .ensures) (c12 .before .fill-pair .ensures) (c4 .before .fill-pair2 .ensures)
 
-judge-rows-requires : tie.Need-judge-rows-requires
-judge-rows-requires c κs = search needs
+judge-sheet-requires : tie.Need-judge-sheet-requires
+judge-sheet-requires c κs = search needs
 
-judge-rows-requires-2 : tie.Need-judge-rows-requires-2
-judge-rows-requires-2 c κs = search needs
+judge-pair-requires : tie.Need-judge-pair-requires
+judge-pair-requires c κs = search needs
+
+judge-pair-requires-2 : tie.Need-judge-pair-requires-2
+judge-pair-requires-2 c κs = search needs
 
 to-fill-requires : tie.Need-to-fill-requires
 to-fill-requires c κs = search needs
@@ -20,31 +37,35 @@ to-fill-requires c κs = search needs
 to-fill-requires-2 : tie.Need-to-fill-requires-2
 to-fill-requires-2 c κs = search needs
 
-slice-aggregate-fill : tie.Need-slice-aggregate-fill
-slice-aggregate-fill c = search needs
+slice-aggregate-fill-pair : tie.Need-slice-aggregate-fill-pair
+slice-aggregate-fill-pair c = search needs
 
-fill-requires : tie.Need-fill-requires
-fill-requires c κs =
+fill-pair-requires : tie.Need-fill-pair-requires
+fill-pair-requires c κs =
     let c4 = c .before .before .before .before in
     let c8 = c4 .before .before .before .before in
     let c12 = c8 .before .before .before .before in
-    let c16 = c12 .before .before .before .before in
-    let a = c16 .before .before .args in
-    files-ready _ _ (c12 .lay-out .ensures) (a .starts .now) (a .lengths .now) (a .numbers .now) (a .counts .now) _ _ (c8 .judge-rows .ensures) (c4 .before .judge-rows2 .ensures) _ (c4 .to-fill .ensures)
+    let a = c12 .before .before .args in
+    files-ready _ _
+    (c8 .judge-sheet .ensures)
+    (a .starts .now) (a .lengths .now) (a .numbers .now) (a .counts .now) _ _
+    (c4 .before .before .judge-pair .ensures) (c4 .before .judge-pair2 .ensures) _ (c4 .to-fill .ensures)
 
-slice-aggregate-fill-2 : tie.Need-slice-aggregate-fill-2
-slice-aggregate-fill-2 c = search needs
+slice-aggregate-fill-pair-2 : tie.Need-slice-aggregate-fill-pair-2
+slice-aggregate-fill-pair-2 c = search needs
 
-fill-requires-2 : tie.Need-fill-requires-2
-fill-requires-2 c κs =
+fill-pair-requires-2 : tie.Need-fill-pair-requires-2
+fill-pair-requires-2 c κs =
     let c4 = c .before .before .before .before in
     let c8 = c4 .before .before .before .before in
     let c12 = c8 .before .before .before .before in
     let c16 = c12 .before .before .before .before in
     let c20 = c16 .before .before .before .before in
-    let c24 = c20 .before .before .before .before in
-    let a = c24 .before .before .args in
-    wants-ready _ _ (c20 .lay-out .ensures) (a .starts .now) (a .lengths .now) (a .numbers .now) (a .counts .now) _ _ (c16 .judge-rows .ensures) (c12 .before .judge-rows2 .ensures) _ (c12 .to-fill .ensures) _ (c8 .before .before .before .to-fill2 .ensures)
+    let a = c20 .before .before .args in
+    wants-ready _ _
+    (c16 .judge-sheet .ensures)
+    (a .starts .now) (a .lengths .now) (a .numbers .now) (a .counts .now) _ _
+    (c12 .before .before .judge-pair .ensures) (c12 .before .judge-pair2 .ensures) _ (c12 .to-fill .ensures) _ (c8 .before .before .before .to-fill2 .ensures)
 
 reading-of-requires : tie.Need-reading-of-requires
 reading-of-requires c κs = search needs
@@ -61,32 +82,19 @@ same-length-3 c = search needs
 same-length-4 : tie.Need-same-length-4
 same-length-4 c = search needs
 
-returns : tie.Need-returns
-returns c =
-    let c4 = c .before .before .before .before in
-    let c8 = c4 .before .before .before .before in
-    let c12 = c8 .before .before .before .before in
-    let c16 = c12 .before .before .before .before in
-    let c20 = c16 .before .before .before .before in
-    let c24 = c20 .before .before .before .before in
-    let c28 = c24 .before .before .before .before in
-    let c32 = c28 .before .before .before .before in
-    let a = c32 .args in
-    sheet-read _ _ (c24 .before .before .lay-out .ensures) (a .starts .now) (a .lengths .now) (a .numbers .now) (a .counts .now) _ _ (c20 .before .before .judge-rows .ensures) (c16 .before .before .before .judge-rows2 .ensures) _ (c16 .before .before .to-fill .ensures) _ (c16 .before .to-fill2 .ensures) _ _ _ _ _ (c .reading-of .ensures) (c12 .before .fill .ensures) (c4 .before .fill2 .ensures)
-
 pub read-sheet-spec : {M : Type 1} → statement M
 read-sheet-spec =
     tie.close
     (tie.spec
-    lay-out-requires
-    judge-rows-requires
-    judge-rows-requires-2
+    judge-sheet-requires
+    judge-pair-requires
+    judge-pair-requires-2
     to-fill-requires
     to-fill-requires-2
-    slice-aggregate-fill
-    fill-requires
-    slice-aggregate-fill-2
-    fill-requires-2
+    slice-aggregate-fill-pair
+    fill-pair-requires
+    slice-aggregate-fill-pair-2
+    fill-pair-requires-2
     reading-of-requires
     same-length
     same-length-2

@@ -6,8 +6,8 @@ use borrow.Author.Needs.{needs}
 use Rattle.sheets.proofs.reader.tape_name.Statement.{statement}
 use Rattle.sheets.proofs.reader.tape_name.Tie as tie
 
-lay-out-requires : tie.Need-lay-out-requires
-lay-out-requires c κs = search needs
+judge-sheet-requires : tie.Need-judge-sheet-requires
+judge-sheet-requires c κs = search needs
 
 refused-requires : tie.Need-refused-requires
 refused-requires c κs = search needs
@@ -16,25 +16,25 @@ slice-aggregate-result : tie.Need-slice-aggregate-result
 slice-aggregate-result c = search needs
 
 returns : tie.Need-returns
-returns c = (no-name _ _ (c .before .before .before .lay-out .ensures) _ (c .before .before .refused .ensures) (c .before .if1 .taken), no-name-from _ _ (c .before .before .before .lay-out .ensures) _ (c .before .before .refused .ensures) (c .before .if1 .taken) _)
+returns c = (no-name _ _ (c .before .before .before .judge-sheet .ensures) _ (c .before .before .refused .ensures) (c .before .if1 .taken), no-name-from _ _ (c .before .before .before .judge-sheet .ensures) _ (c .before .before .refused .ensures) (c .before .if1 .taken) _)
 
 sub-result : tie.Need-sub-result
-sub-result c = omega (arith, name-part _ _ (c .before .before .lay-out .ensures) _ (c .before .refused .ensures) (c .if1 .left) .ordered)
+sub-result c = omega (arith, name-part _ _ (c .before .before .judge-sheet .ensures) _ (c .before .refused .ensures) (c .if1 .left) .ordered)
 
 part-result-start : tie.Need-part-result-start
-part-result-start c = omega (arith, name-part _ _ (c .before .before .lay-out .ensures) _ (c .before .refused .ensures) (c .if1 .left) .ordered)
+part-result-start c = omega (arith, name-part _ _ (c .before .before .judge-sheet .ensures) _ (c .before .refused .ensures) (c .if1 .left) .ordered)
 
 part-result-end : tie.Need-part-result-end
-part-result-end c = omega (arith, name-part _ _ (c .before .before .lay-out .ensures) _ (c .before .refused .ensures) (c .if1 .left) .within)
+part-result-end c = omega (arith, name-part _ _ (c .before .before .judge-sheet .ensures) _ (c .before .refused .ensures) (c .if1 .left) .within)
 
 returns-2 : tie.Need-returns-2
-returns-2 c = (name-read _ _ (c .before .before .before .lay-out .ensures) _ (c .before .before .refused .ensures) (c .before .if1 .left), name-from _ _ (c .before .before .before .lay-out .ensures) _ (c .before .before .refused .ensures) (c .before .if1 .left) _)
+returns-2 c = (name-read _ _ (c .before .before .before .judge-sheet .ensures) _ (c .before .before .refused .ensures) (c .before .if1 .left), name-from _ _ (c .before .before .before .judge-sheet .ensures) _ (c .before .before .refused .ensures) (c .before .if1 .left) _)
 
 pub tape-name-spec : {M : Type 1} → statement M
 tape-name-spec =
     tie.close
     (tie.spec
-    lay-out-requires
+    judge-sheet-requires
     refused-requires
     slice-aggregate-result
     returns

@@ -28,7 +28,8 @@ returns c =
     let c12 = c8 .before .before .before .before in
     let a = c12 .before .args in
     let run = runOf (a .starts .now) (a .lengths .now) (a .numbers .now) (a .counts .now) (a .head) (a .turn) in
-    refused-handed _ _ _ _ _ _ (plan-refused (a .name .now) run (a .froms .now) (a .tos .now) (a .out .now) _ _ (c4 .judge .ensures) (c .before .before .before .judge-name .ensures) _ (c .before .before .refused .ensures) (c .before .if1 .taken)) (sym (c .before .before .refused .ensures) ∙ c .before .if1 .taken) (c .written .ensures)
+    refused-handed _ _ _ _ _ _ (plan-refused (a .name .now) run (a .froms .now) (a .tos .now) (a .out .now) _ _
+    (c4 .judge .ensures) (c .before .before .before .judge-name .ensures) _ (c .before .before .refused .ensures) (c .before .if1 .taken)) (sym (c .before .before .refused .ensures) ∙ c .before .if1 .taken) (c .written .ensures)
 
 slice-aggregate-price : tie.Need-slice-aggregate-price
 slice-aggregate-price c = search needs
@@ -50,7 +51,9 @@ returns-2 c =
     let c16 = c12 .before .before .before .before in
     let a = c16 .before .before .args in
     let run = runOf (a .starts .now) (a .lengths .now) (a .numbers .now) (a .counts .now) (a .head) (a .turn) in
-    refused-handed _ _ _ _ _ _ (plan-list-refused (a .name .now) run (a .froms .now) (a .tos .now) (a .out .now) _ _ (c8 .before .judge .ensures) (c8 .judge-name .ensures) _ (c4 .before .before .before .refused .ensures) (c4 .before .before .if1 .left) _ (search needs) (c4 .price .result) (c4 .price .ensures .0) _ (c .before .before .refused2 .ensures) (c .before .if2 .taken)) (sym (c .before .before .refused2 .ensures) ∙ c .before .if2 .taken) (c .written2 .ensures)
+    refused-handed _ _ _ _ _ _ (plan-list-refused (a .name .now) run (a .froms .now) (a .tos .now) (a .out .now) _ _
+    (c8 .before .judge .ensures) (c8 .judge-name .ensures) _ (c4 .before .before .before .refused .ensures) (c4 .before .before .if1 .left)
+    _ (search needs) (c4 .price .result) (c4 .price .ensures .0) _ (c .before .before .refused2 .ensures) (c .before .if2 .taken)) (sym (c .before .before .refused2 .ensures) ∙ c .before .if2 .taken) (c .written2 .ensures)
 
 slice-aggregate-put-plan : tie.Need-slice-aggregate-put-plan
 slice-aggregate-put-plan c = search needs
@@ -63,7 +66,8 @@ reads-of-requires c κs =
     let c16 = c12 .before .before .before .before in
     let a = c16 .before .before .args in
     let run = runOf (a .starts .now) (a .lengths .now) (a .numbers .now) (a .counts .now) (a .head) (a .turn) in
-    plan-good (a .name .now) run (a .froms .now) (a .tos .now) (a .out .now) _ _ (c8 .before .judge .ensures) (c8 .judge-name .ensures) _ (c4 .before .before .before .refused .ensures) (c4 .before .before .if1 .left) .wants .reads
+    plan-good (a .name .now) run (a .froms .now) (a .tos .now) (a .out .now) _ _
+    (c8 .before .judge .ensures) (c8 .judge-name .ensures) _ (c4 .before .before .before .refused .ensures) (c4 .before .before .if1 .left) .wants .reads
 
 array-share-prefix-times : tie.Need-array-share-prefix-times
 array-share-prefix-times c =
@@ -73,7 +77,8 @@ array-share-prefix-times c =
     let c16 = c12 .before .before .before .before in
     let a = c16 .before .before .before .args in
     let run = runOf (a .starts .now) (a .lengths .now) (a .numbers .now) (a .counts .now) (a .head) (a .turn) in
-    let few = plan-good (a .name .now) run (a .froms .now) (a .tos .now) (a .out .now) _ _ (c8 .before .before .judge .ensures) (c8 .before .judge-name .ensures) _ (c8 .refused .ensures) (c4 .before .before .before .if1 .left) .wants .few in
+    let few = plan-good (a .name .now) run (a .froms .now) (a .tos .now) (a .out .now) _ _
+    (c8 .before .before .judge .ensures) (c8 .before .judge-name .ensures) _ (c8 .refused .ensures) (c4 .before .before .before .if1 .left) .wants .few in
     omega (arith, few)
 
 slice-aggregate-put-plan-2 : tie.Need-slice-aggregate-put-plan-2
@@ -85,7 +90,9 @@ slice-aggregate-put-plan-2 c =
     let c20 = c16 .before .before .before .before in
     let a = c20 .args in
     let run = runOf (a .starts .now) (a .lengths .now) (a .numbers .now) (a .counts .now) (a .head) (a .turn) in
-    wants-length (a .name .now) run (a .froms .now) (a .tos .now) (a .out .now) _ _ (c8 .before .before .before .judge .ensures) (c8 .before .before .judge-name .ensures) _ (c8 .before .refused .ensures) (c8 .if1 .left) _ (search needs) (c4 .before .before .price .result) (c4 .before .before .price .ensures .0) _ (c4 .refused2 .ensures) (c .before .before .before .if2 .left) _ (c4 .before .before .price .ensures .1)
+    wants-length (a .name .now) run (a .froms .now) (a .tos .now) (a .out .now) _ _
+    (c8 .before .before .before .judge .ensures) (c8 .before .before .judge-name .ensures) _ (c8 .before .refused .ensures) (c8 .if1 .left)
+    _ (search needs) (c4 .before .before .price .result) (c4 .before .before .price .ensures .0) _ (c4 .refused2 .ensures) (c .before .before .before .if2 .left) _ (c4 .before .before .price .ensures .1)
 
 put-plan-requires : tie.Need-put-plan-requires
 put-plan-requires c κs =
@@ -96,7 +103,9 @@ put-plan-requires c κs =
     let c20 = c16 .before .before .before .before in
     let a = c20 .args in
     let run = runOf (a .starts .now) (a .lengths .now) (a .numbers .now) (a .counts .now) (a .head) (a .turn) in
-    plan-fits (a .name .now) run (a .froms .now) (a .tos .now) (a .out .now) _ _ (c8 .before .before .before .judge .ensures) (c8 .before .before .judge-name .ensures) _ (c8 .before .refused .ensures) (c8 .if1 .left) _ (search needs) (c4 .before .before .price .result) (c4 .before .before .price .ensures .0) _ (c4 .refused2 .ensures) (c .before .before .before .if2 .left) _ (c4 .before .before .price .ensures .1) _ (search needs)
+    plan-fits (a .name .now) run (a .froms .now) (a .tos .now) (a .out .now) _ _
+    (c8 .before .before .before .judge .ensures) (c8 .before .before .judge-name .ensures) _ (c8 .before .refused .ensures) (c8 .if1 .left)
+    _ (search needs) (c4 .before .before .price .result) (c4 .before .before .price .ensures .0) _ (c4 .refused2 .ensures) (c .before .before .before .if2 .left) _ (c4 .before .before .price .ensures .1) _ (search needs)
 
 array-share-prefix-page : tie.Need-array-share-prefix-page
 array-share-prefix-page c = search needs
@@ -120,8 +129,12 @@ returns-3 c =
     let c24 = c20 .before .before .before .before in
     let a = c24 .before .before .before .args in
     let run = runOf (a .starts .now) (a .lengths .now) (a .numbers .now) (a .counts .now) (a .head) (a .turn) in
-    let wrote = plan-wrote (a .name .now) run (a .froms .now) (a .tos .now) (a .out .now) _ _ (c16 .before .before .judge .ensures) (c16 .before .judge-name .ensures) _ (c16 .refused .ensures) (c12 .before .before .before .if1 .left) _ (search needs) (c12 .before .price .result) (c12 .before .price .ensures .0) _ (c8 .before .before .before .refused2 .ensures) (c8 .before .before .if2 .left) _ (c12 .before .price .ensures .1) _ (c8 .reads-of .ensures) _ _ _ (c4 .before .before .put-plan .ensures) in
-    page-handed _ _ _ _ _ wrote _ _ (plan-last (a .name .now) run (a .froms .now) (a .tos .now) (a .out .now) _ _ (c16 .before .before .judge .ensures) (c16 .before .judge-name .ensures) _ (c16 .refused .ensures) (c12 .before .before .before .if1 .left) _ (search needs) (c12 .before .price .result) (c12 .before .price .ensures .0) _ (c8 .before .before .before .refused2 .ensures) (c8 .before .before .if2 .left)) _ _ (c .before .before .hand-out .ensures)
+    let wrote = plan-wrote (a .name .now) run (a .froms .now) (a .tos .now) (a .out .now) _ _
+    (c16 .before .before .judge .ensures) (c16 .before .judge-name .ensures) _ (c16 .refused .ensures) (c12 .before .before .before .if1 .left)
+    _ (search needs) (c12 .before .price .result) (c12 .before .price .ensures .0) _ (c8 .before .before .before .refused2 .ensures) (c8 .before .before .if2 .left) _ (c12 .before .price .ensures .1) _ (c8 .reads-of .ensures) _ _ _ (c4 .before .before .put-plan .ensures) in
+    page-handed _ _ _ _ _ wrote _ _ (plan-last (a .name .now) run (a .froms .now) (a .tos .now) (a .out .now) _ _
+    (c16 .before .before .judge .ensures) (c16 .before .judge-name .ensures) _ (c16 .refused .ensures) (c12 .before .before .before .if1 .left)
+    _ (search needs) (c12 .before .price .result) (c12 .before .price .ensures .0) _ (c8 .before .before .before .refused2 .ensures) (c8 .before .before .if2 .left)) _ _ (c .before .before .hand-out .ensures)
 
 pub write-plan-spec : {M : Type 1} → statement M
 write-plan-spec =

@@ -2,10 +2,10 @@ use borrow.Author.Needs.{needs}
 use Prim.Native.Nat.{_-_}
 use native.Mathlib.Omega.{arith}
 use Rattle.sheets.proofs.Rows.{Filling, filling-none, left-long, right-long, filled, never-bad, pair-filled}
-use Rattle.sheets.proofs.reader.fill.Statement.{statement}
-use Rattle.sheets.proofs.reader.fill.Tie as tie
+use Rattle.sheets.proofs.reader.fill_pair.Statement.{statement}
+use Rattle.sheets.proofs.reader.fill_pair.Tie as tie
 
--- `sheets::reader::fill` meets its contract: the rows hold the pairs of the lines passed; as all are as described, none is met that is not.
+-- `sheets::reader::fill_pair` meets its contract: the rows hold the pairs of the lines passed; as all are as described, none is met that is not.
 -- Assumes nothing.
 
 abbrev Inv-loop : tie.InvT-loop
@@ -65,8 +65,8 @@ same-length-4 c = right-long _ _ _ _ _ _ (c .before .before .before .before .bef
 returns-2 : tie.Need-returns-2 Inv-loop μ-loop
 returns-2 c = filled _ _ _ _ _ _ (c .before .before .before .before .before .before .pre) _ _ _ _ (c .before .loop .inv) (c .loop-test .left)
 
-pub fill-spec : {M : Type 1} → statement M
-fill-spec =
+pub fill-pair-spec : {M : Type 1} → statement M
+fill-pair-spec =
     tie.close
     (tie.spec
     Inv-loop
