@@ -8,16 +8,17 @@ use native.Mathlib.Numerals.{add-one}
 use lib.ListN.{length}
 use borrow.Author.Tests.{eq-eqb, ne-eqb}
 use Rattle.texts.specs.Text.{isText, startsWith}
-use Rattle.ltfs.specs.declared.tokens.Place.{Place}
+use Rattle.markup.specs.declared.Place.{Place}
 use Rattle.ltfs.specs.declared.values.Field.{Field}
 use Rattle.ltfs.specs.declared.index.Extent.{Extent}
 use Rattle.ranges.specs.declared.File.{File}
 use Rattle.ltfs.specs.declared.index.Walk.{Walk}
 use Rattle.ltfs.specs.declared.index.Use.{Use}
-use Rattle.ltfs.specs.Tree.{Forest, none, element, headOf, tailOf, treeOf}
+use Rattle.markup.specs.Tree.{Forest, none, element, innermost, enclosing, treeOf}
 use Rattle.ltfs.specs.Index.{joined, isNone, charsOf, insides, under, valuesAt, partitionName, startBlockName, byteOffsetName, byteCountName, indexName, directoryName, contentsName, extentInfoName, extentName}
 use Rattle.ltfs.specs.Index.{Level, outside, inDirectory, inContents, Role, holds, file, other, roleOf, extentsOf, filesOfRole, filesIn}
-use Rattle.ltfs.specs.Private.Parts.{part, PlaceIn, tokensAt, framesAt, inside, Left, bare, ElementMet, NoElement, numberField, letterField, firstField, fieldFrom, withExtentBytes, extentFrom, withExtentPart, extentOf, withExtent, withExtents, fileOf}
+use Rattle.markup.specs.Places.{part, PlaceIn, tokensAt}
+use Rattle.ltfs.specs.Private.Parts.{framesAt, inside, Left, bare, ElementMet, NoElement, numberField, letterField, firstField, fieldFrom, withExtentBytes, extentFrom, withExtentPart, extentOf, withExtent, withExtents, fileOf}
 use Rattle.ltfs.specs.Private.Parts.{levelAt, RoleFound, filesUnder, filesLeft, WalkIn, FileMet}
 use Rattle.ltfs.proofs.Bare.{Reads, insides-bare, files-bare, under-bare, values-bare, under-named, under-other, under-none, insides-named, insides-other, other-name, field-named, field-other, field-split, field-over, met-here}
 
@@ -179,7 +180,7 @@ module _ (text : List ℕ) (here : Place) (p : IndexSought text here) where
 
   pub index-here : (from to : ℕ) (next : Place) → ElementMet text here from to next → isText indexName (part from to text) ≡ true → true ≡ not (isNone (insides indexName (treeOf text)))
   index-here from to next m e =
-      let l = insides-named indexName [] (part from to text) (inside text next) (headOf (tailOf (framesAt text next))) e in
+      let l = insides-named indexName [] (part from to text) (inside text next) (innermost (enclosing (framesAt text next))) e in
       sym (ap (λ (l : List Forest). not (isNone l)) (sym (p .same) ∙ sym (insides-bare indexName (inside text here)) ∙ ap (insides indexName) (m .here) ∙ l))
 
   pub index-later : (from to : ℕ) (next after : Place) → ElementMet text here from to next → Left text next after → isText indexName (part from to text) ≡ false → IndexSought text after
@@ -235,9 +236,9 @@ unfoldable outerFiles : ℕ → List Forest → List (List Forest)
 outerFiles zero left = []
 outerFiles (suc depth) left = filesUnder depth left
 
-under-split : (depth : ℕ) (left : List Forest) → filesUnder depth left ≡ filesIn (headOf left) (levelAt depth) ++ outerFiles depth (tailOf left)
+under-split : (depth : ℕ) (left : List Forest) → filesUnder depth left ≡ filesIn (innermost left) (levelAt depth) ++ outerFiles depth (enclosing left)
 unfolding filesUnder outerFiles levelAt
-under-split zero left = sym (append-nil (filesIn (headOf left) outside))
+under-split zero left = sym (append-nil (filesIn (innermost left) outside))
 under-split (suc depth) left = refl
 
 -- A reader of the index somewhere: the files left are those that were left at the start.
@@ -275,20 +276,20 @@ module _ (text : List ℕ) (depth₀ : ℕ) (here₀ : Place) (here : Place) whe
         files =
             ap (λ (k : ℕ). filesUnder k (framesAt text next)) e
             ∙ ap (filesUnder depth) (n .left .outer)
-            ∙ sym (ap (λ (l : List (List Forest)). l ++ filesUnder depth (tailOf (framesAt text here))) (no-files text here next (levelAt (suc depth)) n))
+            ∙ sym (ap (λ (l : List (List Forest)). l ++ filesUnder depth (enclosing (framesAt text here))) (no-files text here next (levelAt (suc depth)) n))
             ∙ p .files;
       }
 
   module _ (depth : ℕ) (p : WalkLeft text depth₀ here₀ depth here) (from to : ℕ) (next : Place) (m : ElementMet text here from to next) where
     -- The files left, by the role of the element met.
-    role-files : filesUnder depth (framesAt text here) ≡ filesOfRole (roleOf (levelAt depth) (part from to text)) (inside text next) (filesIn (inside text next)) ++ filesUnder depth (tailOf (framesAt text next))
+    role-files : filesUnder depth (framesAt text here) ≡ filesOfRole (roleOf (levelAt depth) (part from to text)) (inside text next) (filesIn (inside text next)) ++ filesUnder depth (enclosing (framesAt text next))
     unfolding filesIn
     role-files =
         under-split depth (framesAt text here)
-        ∙ ap (λ (l : List (List Forest)). l ++ outerFiles depth (tailOf (framesAt text here))) (sym (files-bare (inside text here) (levelAt depth)) ∙ ap (λ (f : Forest). filesIn f (levelAt depth)) (m .here))
-        ∙ append-assoc (filesOfRole (roleOf (levelAt depth) (part from to text)) (inside text next) (filesIn (inside text next))) (filesIn (headOf (tailOf (framesAt text next))) (levelAt depth)) (outerFiles depth (tailOf (framesAt text here)))
-        ∙ ap (λ (l : List Forest). filesOfRole (roleOf (levelAt depth) (part from to text)) (inside text next) (filesIn (inside text next)) ++ (filesIn (headOf (tailOf (framesAt text next))) (levelAt depth) ++ outerFiles depth l)) (m .outer)
-        ∙ ap (λ (l : List (List Forest)). filesOfRole (roleOf (levelAt depth) (part from to text)) (inside text next) (filesIn (inside text next)) ++ l) (sym (under-split depth (tailOf (framesAt text next))))
+        ∙ ap (λ (l : List (List Forest)). l ++ outerFiles depth (enclosing (framesAt text here))) (sym (files-bare (inside text here) (levelAt depth)) ∙ ap (λ (f : Forest). filesIn f (levelAt depth)) (m .here))
+        ∙ append-assoc (filesOfRole (roleOf (levelAt depth) (part from to text)) (inside text next) (filesIn (inside text next))) (filesIn (innermost (enclosing (framesAt text next))) (levelAt depth)) (outerFiles depth (enclosing (framesAt text here)))
+        ∙ ap (λ (l : List Forest). filesOfRole (roleOf (levelAt depth) (part from to text)) (inside text next) (filesIn (inside text next)) ++ (filesIn (innermost (enclosing (framesAt text next))) (levelAt depth) ++ outerFiles depth l)) (m .outer)
+        ∙ ap (λ (l : List (List Forest)). filesOfRole (roleOf (levelAt depth) (part from to text)) (inside text next) (filesIn (inside text next)) ++ l) (sym (under-split depth (enclosing (framesAt text next))))
 
     pub walk-in : roleOf (levelAt depth) (part from to text) ≡ holds (levelAt (suc depth)) → WalkLeft text depth₀ here₀ (depth + 1) next
     unfolding filesUnder
@@ -296,7 +297,7 @@ module _ (text : List ℕ) (depth₀ : ℕ) (here₀ : Place) (here : Place) whe
         let a = p .deep in
         let b = p .fewer in
         let d = m .fewer in
-        let f : filesUnder (suc depth) (framesAt text next) ≡ filesUnder depth (framesAt text here) = sym (role-files ∙ ap (λ (k : Role). filesOfRole k (inside text next) (filesIn (inside text next)) ++ filesUnder depth (tailOf (framesAt text next))) r) in
+        let f : filesUnder (suc depth) (framesAt text next) ≡ filesUnder depth (framesAt text here) = sym (role-files ∙ ap (λ (k : Role). filesOfRole k (inside text next) (filesIn (inside text next)) ++ filesUnder depth (enclosing (framesAt text next))) r) in
         record {
           within = m .within;
           deep = omega arith;
@@ -316,7 +317,7 @@ module _ (text : List ℕ) (depth₀ : ℕ) (here₀ : Place) (here : Place) whe
           fewer = omega arith;
           files =
               ap (filesUnder depth) (l .outer)
-              ∙ sym (role-files ∙ ap (λ (k : Role). filesOfRole k (inside text next) (filesIn (inside text next)) ++ filesUnder depth (tailOf (framesAt text next))) r)
+              ∙ sym (role-files ∙ ap (λ (k : Role). filesOfRole k (inside text next) (filesIn (inside text next)) ++ filesUnder depth (enclosing (framesAt text next))) r)
               ∙ p .files;
         }
 
@@ -333,7 +334,7 @@ module _ (text : List ℕ) (depth₀ : ℕ) (here₀ : Place) (here : Place) whe
           files =
               sym (p .files)
               ∙ role-files
-              ∙ ap (λ (k : Role). filesOfRole k (inside text next) (filesIn (inside text next)) ++ filesUnder depth (tailOf (framesAt text next))) r
+              ∙ ap (λ (k : Role). filesOfRole k (inside text next) (filesIn (inside text next)) ++ filesUnder depth (enclosing (framesAt text next))) r
               ∙ ap (λ (k : List Forest). extentsOf (inside text next) ∷ filesUnder depth k) (sym (l .outer));
           within = record { within = l .within; deep = omega arith };
           fewer = omega arith;

@@ -4,12 +4,13 @@ use mathlib.Core.Path.{_≡_, refl, ap, sym, _∙_}
 use mathlib.Core.Bool.{true, false}
 use mathlib.Core.List.{List, [], _∷_}
 use Rattle.texts.specs.Text.{isText}
-use Rattle.ltfs.specs.declared.tokens.Place.{Place}
+use Rattle.markup.specs.declared.Place.{Place}
 use Rattle.ltfs.specs.declared.values.Field.{Field}
 use Rattle.ltfs.specs.declared.label.Label.{Label}
-use Rattle.ltfs.specs.Tree.{Forest, none, element, treeOf}
+use Rattle.markup.specs.Tree.{Forest, none, element, treeOf}
 use Rattle.ltfs.specs.Index.{charsOf, valuesAt, labelName, blockSizeName, partitionsName, dataName, blockSizes, dataPartitions}
-use Rattle.ltfs.specs.Private.Parts.{tokensAt, framesAt, inside, bare, numberField, letterField, firstField, fieldFrom, withPartitions, withLabel, withLabelPart, labelOf}
+use Rattle.markup.specs.Places.{tokensAt}
+use Rattle.ltfs.specs.Private.Parts.{framesAt, inside, bare, numberField, letterField, firstField, fieldFrom, withPartitions, withLabel, withLabelPart, labelOf}
 use Rattle.ltfs.proofs.Bare.{Reads, values-bare, values-one, values-named, values-other, other-name, fields-append, field-named, field-other, field-split, field-over}
 
 -- The data partitions in a `partitions` element.

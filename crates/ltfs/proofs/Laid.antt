@@ -22,8 +22,8 @@ use Rattle.writers.specs.Writing.{topText, sheetText, rowVerdict, writeVerdict,
 use Rattle.writers.proofs.Sheets.{first-row}
 use Rattle.ltfs.specs.declared.Report.{Report}
 use Rattle.ranges.specs.declared.Tally.{Tally}
-use Rattle.ltfs.specs.Tree.{Forest, isBalanced, treeOf}
-use Rattle.ltfs.specs.Index.{every, some, isNone, insides, areGood, isPartition, letterOf, indexName, blockSizes, dataPartitions, isGoodLabel, blockSizeOf, dataPartitionOf, isGoodExtent, filesOf, isGoodIndex}
+use Rattle.markup.specs.Tree.{Forest, isBalanced, treeOf}
+use Rattle.ltfs.specs.Index.{every, some, isNone, insides, areGood, isPartition, letterOf, indexName, blockSizes, dataPartitions, isGoodLabel, blockSizeOf, dataPartitionOf, isGoodExtent, indexFiles, isGoodIndex}
 use Rattle.ranges.specs.Ranges.{Range}
 use Rattle.ltfs.specs.Table.{inSeveral, rangesOf, inTapeOrder, areFar, someOverlap, lastEnd, runOfTable, rangesIn, tableIn, areGoodTexts, ltfsSheet, ltfsVerdict, refusedReport, ltfsReport, ltfsRow}
 use Rattle.ranges.specs.Ranges.{rangesFrom, neighbourOverlap}
@@ -261,29 +261,29 @@ module _ (name label index row : List ℕ) where
     -- All these checks passed: the files of the index decide.
     module _ (bl : isBalanced label ≡ true) (bi : isBalanced index ≡ true) (gs : isValue ((labelOf (treeOf label)) .size) ≡ true)
         (gp : isValue ((labelOf (treeOf label)) .partition) ≡ true) (root : not (isNone (insides indexName (treeOf index))) ≡ true) where
-      texts-are : areGoodTexts label index ≡ every (every isGoodExtent) (filesOf (treeOf index))
+      texts-are : areGoodTexts label index ≡ every (every isGoodExtent) (indexFiles (treeOf index))
       unfolding areGoodTexts isGoodLabel isGoodIndex
       texts-are = rw (bl, bi, sym (label-size (treeOf label)) ∙ gs, sym (label-partition (treeOf label)) ∙ gp, root)
 
-      verdict-is : ltfsVerdict name label index row ≡ tableVerdict name (blockSizeOf (treeOf label)) (dataPartitionOf (treeOf label)) (filesOf (treeOf index)) row
+      verdict-is : ltfsVerdict name label index row ≡ tableVerdict name (blockSizeOf (treeOf label)) (dataPartitionOf (treeOf label)) (indexFiles (treeOf index)) row
       unfolding ltfsVerdict tableVerdict rangesIn tableIn ltfsSheet tableSheet
       verdict-is = rw (n, texts-are)
 
-      report-at : tableReport name (blockSizeOf (treeOf label)) (dataPartitionOf (treeOf label)) (filesOf (treeOf index)) row ≡ ltfsReport (ltfsVerdict name label index row) name label index
+      report-at : tableReport name (blockSizeOf (treeOf label)) (dataPartitionOf (treeOf label)) (indexFiles (treeOf index)) row ≡ ltfsReport (ltfsVerdict name label index row) name label index
       unfolding tableReport ltfsReport tableSheet ltfsSheet tableIn rangesIn tableVerdict rowVerdict
       report-at =
           rw verdict-is
-          (report-same (not (every (every isGoodExtent) (filesOf (treeOf index)))) (some inSeveral (filesOf (treeOf index)))
-          (areFar (rangesOf (blockSizeOf (treeOf label)) (dataPartitionOf (treeOf label)) (filesOf (treeOf index))))
-          (someOverlap (inTapeOrder (rangesOf (blockSizeOf (treeOf label)) (dataPartitionOf (treeOf label)) (filesOf (treeOf index)))))
-          (ltb (length row) (length (sheetText name Least (runOfTable (inTapeOrder (rangesOf (blockSizeOf (treeOf label)) (dataPartitionOf (treeOf label)) (filesOf (treeOf index)))))))) _ _ _)
+          (report-same (not (every (every isGoodExtent) (indexFiles (treeOf index)))) (some inSeveral (indexFiles (treeOf index)))
+          (areFar (rangesOf (blockSizeOf (treeOf label)) (dataPartitionOf (treeOf label)) (indexFiles (treeOf index))))
+          (someOverlap (inTapeOrder (rangesOf (blockSizeOf (treeOf label)) (dataPartitionOf (treeOf label)) (indexFiles (treeOf index)))))
+          (ltb (length row) (length (sheetText name Least (runOfTable (inTapeOrder (rangesOf (blockSizeOf (treeOf label)) (dataPartitionOf (treeOf label)) (indexFiles (treeOf index)))))))) _ _ _)
 
-      row-at-end : tableRow name (blockSizeOf (treeOf label)) (dataPartitionOf (treeOf label)) (filesOf (treeOf index)) row ≡ ltfsRow (ltfsVerdict name label index row) name label index row
+      row-at-end : tableRow name (blockSizeOf (treeOf label)) (dataPartitionOf (treeOf label)) (indexFiles (treeOf index)) row ≡ ltfsRow (ltfsVerdict name label index row) name label index row
       unfolding tableRow ltfsRow tableSheet ltfsSheet tableIn rangesIn
       row-at-end = rw verdict-is
 
       pub sheet-laid : (size partition : ℕ) → size ≡ valueIn ((labelOf (treeOf label)) .size) → partition ≡ valueIn ((labelOf (treeOf label)) .partition) → (r : Report) (row' : List ℕ)
-          → r ≡ tableReport name size partition (filesOf (treeOf index)) row → row' ≡ tableRow name size partition (filesOf (treeOf index)) row
+          → r ≡ tableReport name size partition (indexFiles (treeOf index)) row → row' ≡ tableRow name size partition (indexFiles (treeOf index)) row
           → (r ≡ ltfsReport (ltfsVerdict name label index row) name label index) × (row' ≡ ltfsRow (ltfsVerdict name label index row) name label index row)
       sheet-laid size partition se pe r row' re we =
           let s = se ∙ size-value (treeOf label) gs in

@@ -14,7 +14,7 @@ use Rattle.runs.specs.Judging.{badFile, endBefore, judgeOf}
 use Rattle.refusals.specs.Refusals.{firstWhere}
 use Rattle.runs.proofs.Search.{or-false-both, first-all}
 use Rattle.texts.proofs.Bytes.{and-true-both}
-use Rattle.ltfs.specs.Tree.{Forest}
+use Rattle.markup.specs.Tree.{Forest}
 use Rattle.ltfs.specs.Index.{every, some, isNone, byteCountOf, partitionOf}
 use Rattle.ranges.specs.Ranges.{Range, endOfRange}
 use Rattle.ltfs.specs.Table.{firstExtent, isEmptyFile, isAccepted, only, rangeOf, rangesOf, overlap, someOverlap, lastEnd, runOfTable}

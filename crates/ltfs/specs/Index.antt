@@ -4,7 +4,7 @@ use mathlib.Core.Bool.{Bool, true, false, cond, not, _&&_, _||_}
 use mathlib.Core.List.{List, [], _∷_, _++_, map}
 use lib.ListN.{getD}
 use Rattle.texts.specs.Text.{isText, between, isNumber, valueOf}
-use Rattle.ltfs.specs.Tree.{Forest, none, char, element}
+use Rattle.markup.specs.Tree.{Forest, none, char, element}
 
 -- What every element of a list says, and whether all or any of a list are of a kind.
 unfoldable pub joined : {A : Type 0} → List (List A) → List A
@@ -181,9 +181,9 @@ filesIn none level = []
 filesIn (char b rest) level = filesIn rest level
 filesIn (element name inside rest) level = filesOfRole (roleOf level name) inside (filesIn inside) ++ filesIn rest level
 
-unfoldable pub filesOf : Forest → List (List Forest)
-filesOf index = filesIn index outside
+unfoldable pub indexFiles : Forest → List (List Forest)
+indexFiles index = filesIn index outside
 
 -- An index has its root, and every extent of every file is good.
 unfoldable pub isGoodIndex : Forest → Bool
-isGoodIndex index = not (isNone (insides indexName index)) && every (every isGoodExtent) (filesOf index)
+isGoodIndex index = not (isNone (insides indexName index)) && every (every isGoodExtent) (indexFiles index)

@@ -2,20 +2,21 @@
 ghost use mathlib.Core.Path.{_≡_};
 ghost use mathlib.Core.Bool.{not, _&&_};
 ghost use Prim.Native.Nat.{suc};
-ghost use Rattle.ltfs.specs.Tree.{treeOf};
+ghost use Rattle.markup.specs.Tree.{treeOf};
 ghost use Rattle.ltfs.specs.Index.{isNone, insides, indexName, extentName, extentsOf, roleOf, inContents, inDirectory};
-ghost use Rattle.ltfs.specs.Private.Parts.{part, PlaceIn, NameIn, Left, inside, withExtentPart, withExtentBytes, extentOf, withExtent, withExtents, fileOf, extentIsGood, levelAt, RoleFound, NextFound, WalkIn};
+ghost use Rattle.markup.specs.Places.{part, PlaceIn, NameIn};
+ghost use Rattle.ltfs.specs.Private.Parts.{Left, inside, withExtentPart, withExtentBytes, extentOf, withExtent, withExtents, fileOf, extentIsGood, levelAt, RoleFound, NextFound, WalkIn};
 use crate::elements::Child;
 use crate::elements::is_named;
 use crate::elements::leave;
 use crate::elements::next_child;
-use crate::tokens::Place;
 use crate::values::Field;
 use crate::values::first_field;
 use crate::values::is_value;
 use crate::values::read_letter;
 use crate::values::read_number;
 use crate::values::value_in;
+use markup::Place;
 use ranges::File;
 
 pub(crate) struct Extent {

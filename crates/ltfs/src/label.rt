@@ -1,16 +1,17 @@
 // The label: block size and data partition.
 ghost use mathlib.Core.Path.{_≡_};
-ghost use Rattle.ltfs.specs.Tree.{treeOf};
-ghost use Rattle.ltfs.specs.Private.Parts.{PlaceIn, Left, inside, part, NameIn, labelOf, withLabel, withLabelPart, withPartitions};
+ghost use Rattle.markup.specs.Tree.{treeOf};
+ghost use Rattle.markup.specs.Places.{PlaceIn, part, NameIn};
+ghost use Rattle.ltfs.specs.Private.Parts.{Left, inside, labelOf, withLabel, withLabelPart, withPartitions};
 use crate::elements::Child;
 use crate::elements::is_named;
 use crate::elements::leave;
 use crate::elements::next_child;
-use crate::tokens::Place;
 use crate::values::Field;
 use crate::values::first_field;
 use crate::values::read_letter;
 use crate::values::read_number;
+use markup::Place;
 
 pub(crate) struct Label {
     pub size: Field,

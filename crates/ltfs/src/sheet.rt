@@ -8,18 +8,18 @@ ghost use Rattle.runs.specs.declared.Rule.the-variants.{Least};
 ghost use Rattle.runs.specs.Run.{runOf};
 ghost use Rattle.texts.specs.Text.{isName};
 ghost use Rattle.writers.specs.Writing.{sheetText, writeVerdict, writtenAnswer, writtenRow};
-ghost use Rattle.ltfs.specs.Tree.{treeOf};
-ghost use Rattle.ltfs.specs.Index.{filesOf};
+ghost use Rattle.markup.specs.Tree.{treeOf};
+ghost use Rattle.ltfs.specs.Index.{indexFiles};
 ghost use Rattle.ltfs.specs.Table.{lastEnd, ltfsVerdict, ltfsReport, ltfsRow};
 ghost use Rattle.ranges.specs.Ranges.{rangesFrom};
 ghost use Rattle.ltfs.specs.Private.Tallies.{RowsFit, EndsFit, refusedBy, reportOf, tableReport, tableRow};
 use crate::Report;
-use crate::balance::is_balanced;
 use crate::index::has_index;
 use crate::label::read_label;
 use crate::table::gather;
 use crate::values::is_value;
 use crate::values::value_in;
+use markup::is_balanced;
 use ranges::Tally;
 use ranges::neighbours_overlap;
 use refusals::Refusal;
@@ -92,8 +92,8 @@ fn report_of(written: Written, tally: Tally) -> Report
 // The files of an index, for a block size and a data partition: 20, 21, 23, 22 and 8.
 fn lay_out(name: &[u8], size: u64, partition: u64, index: &[u8], out: &mut [u8]) -> Report
     requires { ⌜ isName (now name) ≡ true ⌝ }
-    ensures { λ r. ⌜ r ≡ tableReport (now (name .entry)) size partition (filesOf (treeOf (now (index .entry)))) (now (out .entry)) ⌝ }
-    ensures { λ _. ⌜ now (out .exit) ≡ tableRow (now (name .entry)) size partition (filesOf (treeOf (now (index .entry)))) (now (out .entry)) ⌝ }
+    ensures { λ r. ⌜ r ≡ tableReport (now (name .entry)) size partition (indexFiles (treeOf (now (index .entry)))) (now (out .entry)) ⌝ }
+    ensures { λ _. ⌜ now (out .exit) ≡ tableRow (now (name .entry)) size partition (indexFiles (treeOf (now (index .entry)))) (now (out .entry)) ⌝ }
 {
     let mut starts = [0u64; 256];
     let mut lengths = [0u64; 256];

@@ -4,11 +4,12 @@ ghost use mathlib.Core.List.{List};
 ghost use mathlib.Core.Bool.{cond, _&&_};
 ghost use Prim.Native.Nat.{ℕ, _+_, _-_, _*_};
 ghost use Rattle.ltfs.specs.Index.{charsOf};
-ghost use Rattle.ltfs.specs.Private.Parts.{PlaceIn, Left, inside, withByte, charsFrom, noChars, numberField, letterField, firstField, isValue, valueIn, mayFollow, grows, GrownTo};
+ghost use Rattle.markup.specs.Places.{PlaceIn};
+ghost use Rattle.ltfs.specs.Private.Parts.{Left, inside, withByte, charsFrom, noChars, numberField, letterField, firstField, isValue, valueIn, mayFollow, grows, GrownTo};
 use crate::elements::leave;
 use crate::tokens::Met;
-use crate::tokens::Place;
 use crate::tokens::next_token;
+use markup::Place;
 
 // What the elements of one name say: the first counts, and one that is bad spoils all.
 pub(crate) enum Field {

@@ -16,7 +16,7 @@ use Rattle.writers.specs.Writing.{sheetText, rowVerdict, writtenRow}
 use Rattle.ltfs.specs.declared.Report.{Report}
 use Rattle.ranges.specs.declared.File.{File}
 use Rattle.ranges.specs.declared.Tally.{Tally}
-use Rattle.ltfs.specs.Tree.{Forest}
+use Rattle.markup.specs.Tree.{Forest}
 use Rattle.ltfs.specs.Index.{every, some, isGoodExtent}
 use Rattle.ranges.specs.Ranges.{Range}
 use Rattle.ltfs.specs.Table.{inSeveral, isEmptyFile, liesElsewhere, howMany, rangesOf, inTapeOrder, areFar, someOverlap, runOfTable}

@@ -2,7 +2,8 @@
 -- Assumes nothing.
 use mathlib.Core.Path.{sym, _∙_}
 use lib.ListN.{length}
-use Rattle.ltfs.specs.Private.Parts.{tokensAt, withPartitions}
+use Rattle.markup.specs.Places.{tokensAt}
+use Rattle.ltfs.specs.Private.Parts.{withPartitions}
 use Rattle.ltfs.proofs.Bare.{ReadTo, read-none, read-more, read-over, met-less}
 use Rattle.ltfs.proofs.Labels.{reads-partitions, partitions-data, partitions-other}
 use borrow.Author.Needs.{needs}
