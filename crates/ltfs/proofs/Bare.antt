@@ -16,7 +16,7 @@ use Rattle.markup.specs.Markup.{Open, Close, Char}
 use Rattle.markup.specs.Tree.{Forest, none, char, element, innermost, enclosing}
 use Rattle.ltfs.specs.Index.{joined, charsOf, insides, under, valuesAt, Level, filesIn}
 use Rattle.markup.specs.Places.{part, PlaceIn, tokensAt, Begins}
-use Rattle.ltfs.specs.Private.Parts.{framesAt, inside, Left, bare, ElementMet, NoElement, noChars, withByte, charsFrom, firstField, fieldFrom}
+use Rattle.ltfs.specs.Private.Parts.{framesAt, inside, Left, bare, ElementMet, NoElement, noChars, withByte, charsFrom, firstField, fieldNamed, fieldFrom}
 use Rattle.markup.proofs.Meets.{begins-fewer}
 use Rattle.markup.proofs.Names.{text-named}
 use Rattle.ltfs.proofs.Frames.{frames-first}
@@ -243,6 +243,14 @@ module _ (form : List ℕ → Field) (field : Field) (wanted name : List ℕ) (h
   pub field-other : (path : List (List ℕ)) → isText wanted name ≡ false → fieldFrom form field (valuesAt (wanted ∷ path) (element name held none)) ≡ field
   unfolding fieldFrom
   field-other path e = ap (fieldFrom form field) (values-no wanted path name held none e)
+
+  -- Whatever its name is.
+  pub field-told : (met later : Field) → met ≡ form (charsOf held) → later ≡ fieldNamed wanted name field met → later ≡ fieldFrom form field (valuesAt (wanted ∷ []) (element name held none))
+  field-told met later m l = by-test (isText wanted name) refl
+    where
+      by-test : (t : Bool) → isText wanted name ≡ t → later ≡ fieldFrom form field (valuesAt (wanted ∷ []) (element name held none))
+      by-test true e = (rw e at l) ∙ ap (firstField field) m ∙ sym (field-named e)
+      by-test false e = (rw e at l) ∙ sym (field-other [] e)
 
   pub field-split : (path : List (List ℕ)) → fieldFrom form field (valuesAt (wanted ∷ path) (element name held rest)) ≡ fieldFrom form (fieldFrom form field (valuesAt (wanted ∷ path) (element name held none))) (valuesAt (wanted ∷ path) rest)
   field-split path =

@@ -7,7 +7,7 @@ use native.Mathlib.Omega.{arith}
 use native.Mathlib.Numerals.{add-one}
 use lib.ListN.{length}
 use borrow.Author.Tests.{eq-eqb, ne-eqb}
-use Rattle.texts.specs.Text.{isText, startsWith}
+use Rattle.texts.specs.Text.{isText}
 use Rattle.markup.specs.declared.Place.{Place}
 use Rattle.ltfs.specs.declared.values.Field.{Field}
 use Rattle.ltfs.specs.declared.index.Extent.{Extent}
@@ -18,9 +18,9 @@ use Rattle.markup.specs.Tree.{Forest, none, element, innermost, enclosing, tree
 use Rattle.ltfs.specs.Index.{joined, isNone, charsOf, insides, under, valuesAt, partitionName, startBlockName, byteOffsetName, byteCountName, indexName, directoryName, contentsName, extentInfoName, extentName}
 use Rattle.ltfs.specs.Index.{Level, outside, inDirectory, inContents, Role, holds, file, other, roleOf, extentsOf, filesOfRole, filesIn}
 use Rattle.markup.specs.Places.{part, PlaceIn, tokensAt}
-use Rattle.ltfs.specs.Private.Parts.{framesAt, inside, Left, bare, ElementMet, NoElement, numberField, letterField, firstField, fieldFrom, withExtentBytes, extentFrom, withExtentPart, extentOf, withExtent, withExtents, fileOf}
-use Rattle.ltfs.specs.Private.Parts.{levelAt, RoleFound, filesUnder, filesLeft, WalkIn, FileMet}
-use Rattle.ltfs.proofs.Bare.{Reads, insides-bare, files-bare, under-bare, values-bare, under-named, under-other, under-none, insides-named, insides-other, other-name, field-named, field-other, field-split, field-over, met-here}
+use Rattle.ltfs.specs.Private.Parts.{framesAt, inside, Left, bare, ElementMet, NoElement, numberField, letterField, fieldNamed, fieldFrom, extentFrom, withExtentPart, extentOf, withExtent, withExtents, fileOf}
+use Rattle.ltfs.specs.Private.Parts.{levelAt, enterIf, RoleFound, filesUnder, filesLeft, WalkIn, FileMet}
+use Rattle.ltfs.proofs.Bare.{Reads, insides-bare, files-bare, under-bare, values-bare, under-named, under-other, under-none, insides-named, insides-other, field-told, field-split, field-over, met-here}
 
 -- An extent by its four fields.
 abbrev extentSaying : Field → Field → Field → Field → Extent
@@ -52,52 +52,20 @@ module _ (extent : Extent) (name : List ℕ) (held : Forest) where
       let c = field-split numberField (extent .count) byteCountName name held rest [] in
       rw (e, p, b, o, c)
 
-  -- What an element of a name adds, and what one of another name does not.
-  partition-other : isText partitionName name ≡ false → fieldFrom letterField (extent .partition) (valuesAt (partitionName ∷ []) (element name held none)) ≡ extent .partition
-  partition-other e = field-other letterField (extent .partition) partitionName name held none [] e
-
-  block-other : isText startBlockName name ≡ false → fieldFrom numberField (extent .block) (valuesAt (startBlockName ∷ []) (element name held none)) ≡ extent .block
-  block-other e = field-other numberField (extent .block) startBlockName name held none [] e
-
-  offset-other : isText byteOffsetName name ≡ false → fieldFrom numberField (extent .offset) (valuesAt (byteOffsetName ∷ []) (element name held none)) ≡ extent .offset
-  offset-other e = field-other numberField (extent .offset) byteOffsetName name held none [] e
-
-  count-other : isText byteCountName name ≡ false → fieldFrom numberField (extent .count) (valuesAt (byteCountName ∷ []) (element name held none)) ≡ extent .count
-  count-other e = field-other numberField (extent .count) byteCountName name held none [] e
-
-  pub extent-partition : (field partition : Field) → isText partitionName name ≡ true → field ≡ letterField (charsOf held) → partition ≡ firstField (extent .partition) field → extentSaying partition (extent .block) (extent .offset) (extent .count) ≡ withExtentPart extent name held
-  unfolding extentFrom startsWith
-  extent-partition field partition e f p =
-      let b = block-other (other-name partitionName startBlockName name e refl) in
-      let o = offset-other (other-name partitionName byteOffsetName name e refl) in
-      let c = count-other (other-name partitionName byteCountName name e refl) in
-      sym (rw (field-named letterField (extent .partition) partitionName name held none e, b, o, c, p, f))
-
-  pub extent-block : (field block : Field) → isText startBlockName name ≡ true → field ≡ numberField (charsOf held) → block ≡ firstField (extent .block) field → extentSaying (extent .partition) block (extent .offset) (extent .count) ≡ withExtentPart extent name held
-  unfolding extentFrom startsWith
-  extent-block field block e f p =
-      let b = partition-other (other-name startBlockName partitionName name e refl) in
-      let o = offset-other (other-name startBlockName byteOffsetName name e refl) in
-      let c = count-other (other-name startBlockName byteCountName name e refl) in
-      sym (rw (field-named numberField (extent .block) startBlockName name held none e, b, o, c, p, f))
-
-  pub extent-bytes : (later : Extent) → isText partitionName name ≡ false → isText startBlockName name ≡ false → later ≡ withExtentBytes extent name held → later ≡ withExtentPart extent name held
-  unfolding extentFrom withExtentBytes
-  extent-bytes later p b e = e ∙ sym (rw (partition-other p, block-other b))
-
-  pub bytes-offset : (field offset : Field) → isText byteOffsetName name ≡ true → field ≡ numberField (charsOf held) → offset ≡ firstField (extent .offset) field → extentSaying (extent .partition) (extent .block) offset (extent .count) ≡ withExtentBytes extent name held
-  unfolding withExtentBytes
-  bytes-offset field offset e f p =
-      let c = count-other (other-name byteOffsetName byteCountName name e refl) in
-      sym (rw (field-named numberField (extent .offset) byteOffsetName name held none e, c, p, f))
-
-  pub bytes-count : (field count : Field) → isText byteOffsetName name ≡ false → isText byteCountName name ≡ true → field ≡ numberField (charsOf held) → count ≡ firstField (extent .count) field → extentSaying (extent .partition) (extent .block) (extent .offset) count ≡ withExtentBytes extent name held
-  unfolding withExtentBytes
-  bytes-count field count o e f p = sym (rw (offset-other o, field-named numberField (extent .count) byteCountName name held none e, p, f))
-
-  pub bytes-other : isText byteOffsetName name ≡ false → isText byteCountName name ≡ false → extent ≡ withExtentBytes extent name held
-  unfolding withExtentBytes
-  bytes-other o e = sym (rw (offset-other o, count-other e))
+  pub extent-part : (letter number partition block offset count : Field) → letter ≡ letterField (charsOf held) → number ≡ numberField (charsOf held)
+      → partition ≡ fieldNamed partitionName name (extent .partition) letter
+      → block ≡ fieldNamed startBlockName name (extent .block) number
+      → offset ≡ fieldNamed byteOffsetName name (extent .offset) number
+      → count ≡ fieldNamed byteCountName name (extent .count) number
+      → extentSaying partition block offset count ≡ withExtentPart extent name held
+  unfolding extentFrom
+  extent-part letter number partition block offset count l n p b o c =
+      rw (
+        ← field-told letterField (extent .partition) partitionName name held none letter partition l p,
+        ← field-told numberField (extent .block) startBlockName name held none number block n b,
+        ← field-told numberField (extent .offset) byteOffsetName name held none number offset n o,
+        ← field-told numberField (extent .count) byteCountName name held none number count n c,
+      )
 
 -- The extents in an `extentinfo` element, and in a file.
 unfoldable pub infoExtents : File → Forest → File
@@ -208,6 +176,10 @@ unfolding levelAt
 odd-level zero z o e = absurd (z refl)
 odd-level (suc zero) z o e = absurd (o refl)
 odd-level (suc (suc d)) z o e = rw (ne-eqb (d % 2) 0 (λ h. e (omega arith)))
+
+pub role-entered : (role : Role) (below : Level) (t : Bool) (u : Use) → role ≡ cond t (holds below) other → u ≡ enterIf t → RoleFound role below u
+role-entered role below true u e f = rw f e
+role-entered role below false u e f = rw f e
 
 module _ (depth : ℕ) (name : List ℕ) where
   pub role-outside : (t : Bool) → depth ≡ 0 → isText indexName name ≡ t → roleOf (levelAt depth) name ≡ cond t (holds (levelAt (suc depth))) other

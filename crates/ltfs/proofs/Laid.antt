@@ -28,7 +28,7 @@ use Rattle.ranges.specs.Ranges.{Range}
 use Rattle.ltfs.specs.Table.{inSeveral, rangesOf, inTapeOrder, areFar, someOverlap, lastEnd, runOfTable, rangesIn, tableIn, areGoodTexts, ltfsSheet, ltfsVerdict, refusedReport, ltfsReport, ltfsRow}
 use Rattle.ranges.specs.Ranges.{rangesFrom, neighbourOverlap}
 use Rattle.ltfs.specs.Private.Parts.{isValue, valueIn, numberField, letterField, labelOf}
-use Rattle.ltfs.specs.Private.Tallies.{RowsFit, RowsHold, EndsFit, TallyHolds, refusedBy, reportOf, tableSheet, tableVerdict, tableReport, tableRow}
+use Rattle.ltfs.specs.Private.Tallies.{TableRows, RowsHold, EndsFit, TallyHolds, refusedBy, reportOf, tableSheet, tableVerdict, tableReport, tableRow}
 use Rattle.ltfs.proofs.Order.{some-kept, length-kept, tape-order-ascends, held-ranges}
 use Rattle.ltfs.proofs.Tallies.{field-good, field-value, number-form, letter-form, held-length}
 use Rattle.ltfs.proofs.Neighbours.{isVoid, isBeyond, same-overlap, none-void, ends-fit, passes}
@@ -109,7 +109,7 @@ module _ (name : List ℕ) (size partition : ℕ) (files : List (List Forest)) (
           let v : tableVerdict name size partition files row ≡ record { refusal = FarFile; place = 0 } = rw (sym (h .good) ∙ g, sym (h .several) ∙ s, sym far-is ∙ f) in
           refused-table FarFile refl v
 
-      module _ (f : tally .far ≡ false) (fits : RowsFit starts lengths) where
+      module _ (f : tally .far ≡ false) (fits : TableRows starts lengths) where
         held : RowsHold (tableFor size partition files) (tally .kept) starts lengths
         held = h .counted g .table f
 

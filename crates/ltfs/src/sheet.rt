@@ -12,7 +12,7 @@ ghost use Rattle.markup.specs.Tree.{treeOf};
 ghost use Rattle.ltfs.specs.Index.{indexFiles};
 ghost use Rattle.ltfs.specs.Table.{lastEnd, ltfsVerdict, ltfsReport, ltfsRow};
 ghost use Rattle.ranges.specs.Ranges.{rangesFrom};
-ghost use Rattle.ltfs.specs.Private.Tallies.{RowsFit, EndsFit, refusedBy, reportOf, tableReport, tableRow};
+ghost use Rattle.ltfs.specs.Private.Tallies.{TableRows, EndsFit, refusedBy, reportOf, tableReport, tableRow};
 use crate::Report;
 use crate::index::has_index;
 use crate::label::read_label;
@@ -42,7 +42,7 @@ fn refused(refusal: Refusal) -> Report
 // The end of the last file; 0 where there is none.
 fn last_end(starts: &[u64], lengths: &[u64], kept: usize) -> u64
     requires { ⌜ kept ≤ 256 ⌝ }
-    requires { ⌜ RowsFit (now starts) (now lengths) ⌝ }
+    requires { ⌜ TableRows (now starts) (now lengths) ⌝ }
     requires { ⌜ EndsFit (now starts) (now lengths) kept ⌝ }
     ensures { λ r. ⌜ r ≡ lastEnd (rangesFrom (take kept (now (starts .entry))) (take kept (now (lengths .entry)))) ⌝ }
 {

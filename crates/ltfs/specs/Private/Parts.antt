@@ -1,11 +1,12 @@
 -- What the functions that read parts of a text find, by cases of their answers. No public contract cites this file.
 use Prim.Native.Nat.{ℕ, suc, zero, _+_, _-_, _*_, _%_, _≤_, _<_, _^_}
+use Prim.Native.Char.{code}
 use mathlib.Core.Path.{_≡_}
 use mathlib.Core.Bool.{Bool, true, false, cond, _&&_}
 use mathlib.Core.List.{List, [], _∷_, _++_, map}
 use lib.ListN.{length, take, drop}
 use lib.Dec.{eqb, ltb}
-use Rattle.texts.specs.Text.{isNumber, valueOf, isDigit}
+use Rattle.texts.specs.Text.{isText, isNumber, valueOf, isDigit}
 use Rattle.markup.specs.declared.Place.{Place}
 use Rattle.ltfs.specs.declared.tokens.Met.{Met}
 use Rattle.ltfs.specs.declared.elements.Child.{Child}
@@ -70,10 +71,14 @@ abbrev pub noChars : Chars
 noChars = record { some = false; more = false; first = 0; good = false; value = 0 }
 
 abbrev pub mayFollow : Chars → Bool
-mayFollow chars = cond (chars .some) (cond (eqb (chars .first) 48) false (chars .good)) true
+mayFollow chars = cond (chars .some) (cond (eqb (chars .first) (code "0")) false (chars .good)) true
+
+-- The value of a byte that is a digit.
+abbrev pub digitOf : ℕ → ℕ
+digitOf byte = byte - code "0"
 
 abbrev pub grows : ℕ → ℕ → Bool
-grows value byte = isDigit byte && ltb (value * 10 + (byte - 48)) (2 ^ 64)
+grows value byte = isDigit byte && ltb (value * 10 + digitOf byte) (2 ^ 64)
 
 abbrev pub GrownTo : Bool → ℕ → Grown → Type 0
 GrownTo good number (Grown.To n) = (good ≡ true) × (n ≡ number)
@@ -86,7 +91,7 @@ withByte chars byte =
       more = chars .some;
       first = cond (chars .some) (chars .first) byte;
       good = mayFollow chars && grows (chars .value) byte;
-      value = cond (mayFollow chars && grows (chars .value) byte) (chars .value * 10 + (byte - 48)) 0;
+      value = cond (mayFollow chars && grows (chars .value) byte) (chars .value * 10 + digitOf byte) 0;
     }
 
 unfoldable pub charsFrom : Chars → List ℕ → Chars
@@ -106,6 +111,10 @@ firstField Field.Bad later = Field.Bad
 firstField (Field.Value n) Field.Missing = Field.Value n
 firstField (Field.Value n) (Field.Value m) = Field.Value n
 firstField (Field.Value n) Field.Bad = Field.Bad
+
+-- A field with what an element of a name says, where it has that name.
+abbrev pub fieldNamed : List ℕ → List ℕ → Field → Field → Field
+fieldNamed wanted name field met = cond (isText wanted name) (firstField field met) field
 
 unfoldable pub fieldFrom : (List ℕ → Field) → Field → List (List ℕ) → Field
 fieldFrom form field [] = field
@@ -143,15 +152,6 @@ labelOf label =
     }
 
 -- What an `extent` element adds to what is known.
-unfoldable pub withExtentBytes : Extent → List ℕ → Forest → Extent
-withExtentBytes extent name held =
-    record {
-      partition = extent .partition;
-      block = extent .block;
-      offset = fieldFrom numberField (extent .offset) (valuesIn byteOffsetName (element name held none));
-      count = fieldFrom numberField (extent .count) (valuesIn byteCountName (element name held none));
-    }
-
 unfoldable pub extentFrom : Extent → Forest → Extent
 extentFrom extent held =
     record {
@@ -218,6 +218,10 @@ unfoldable pub levelAt : ℕ → Level
 levelAt zero = outside
 levelAt (suc zero) = inIndex
 levelAt (suc (suc depth)) = cond (eqb (depth % 2) 0) inDirectory inContents
+
+abbrev pub enterIf : Bool → Use
+enterIf true = Use.Enter
+enterIf false = Use.Skip
 
 abbrev pub RoleFound : Role → Level → Use → Type 0
 RoleFound role below Use.Enter = role ≡ holds below

@@ -23,7 +23,7 @@ use Rattle.ltfs.specs.Table.{inSeveral, isEmptyFile, liesElsewhere, howM
 use Rattle.ltfs.specs.Private.Parts.{fileOf}
 
 -- The rows of a table have its size.
-pub record RowsFit (starts lengths : List ℕ) : Type 0 where
+pub record TableRows (starts lengths : List ℕ) : Type 0 where
   pub first : length starts ≡ 256
   pub second : length lengths ≡ 256
 
