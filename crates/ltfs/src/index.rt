@@ -100,7 +100,7 @@ fn read_extent(text: &[u8], place: Place) -> ExtentRead
     }
 }
 
-fn both(one: bool, another: bool) -> bool
+pub(crate) fn both(one: bool, another: bool) -> bool
     ensures { λ r. ⌜ r ≡ (one && another) ⌝ }
 {
     if one {
