@@ -47,16 +47,16 @@ module _ (name label index row : List ℕ) where
       ⊎ (some (λ range. ltb lastPlace (endOfRange range)) (rangesIn label index) ≡ true)
 
   tape-name : (p : ℕ) → Applies BadName p → (p ≡ 0) × (isName name ≡ false)
-  tape-name p (TapeApplies.name h) = (refl, h)
+  tape-name p (TapeApplies.noName h) = (refl, h)
 
   bad-text : (p : ℕ) → (p ≡ 0) × BadTexts → Applies BadText p
   bad-text p h =
       rw (h .0)
-      (⊎-elim TapeApplies.labelText (⊎-elim TapeApplies.indexText (⊎-elim TapeApplies.labelValues TapeApplies.indexValues)) (h .1))
+      (⊎-elim TapeApplies.labelUnbalanced (⊎-elim TapeApplies.indexUnbalanced (⊎-elim TapeApplies.labelValues TapeApplies.indexValues)) (h .1))
 
   tape-text : (p : ℕ) → Applies BadText p → (p ≡ 0) × BadTexts
-  tape-text p (TapeApplies.labelText h) = (refl, inl h)
-  tape-text p (TapeApplies.indexText h) = (refl, inr (inl h))
+  tape-text p (TapeApplies.labelUnbalanced h) = (refl, inl h)
+  tape-text p (TapeApplies.indexUnbalanced h) = (refl, inr (inl h))
   tape-text p (TapeApplies.labelValues h) = (refl, inr (inr (inl h)))
   tape-text p (TapeApplies.indexValues h) = (refl, inr (inr (inr h)))
 
@@ -71,7 +71,7 @@ module _ (name label index row : List ℕ) where
   tape-overlap p (TapeApplies.overlap h) = (refl, h)
 
   tape-row : (p : ℕ) → Applies ShortRow p → (p ≡ 0) × (length row < length (ltfsSheet name label index))
-  tape-row p (TapeApplies.row h) = (refl, h)
+  tape-row p (TapeApplies.shortRow h) = (refl, h)
 
   checks : List Verdict
   checks =
@@ -93,7 +93,7 @@ module _ (name label index row : List ℕ) where
       let several = refuseIf (some inSeveral (indexFiles (treeOf index))) ManyExtents in
       let bad = refuseIf (not (areGoodTexts label index)) BadText in
       finds-first Applies (bad ∷ several ∷ far ∷ overlaps ∷ short ∷ []) refl
-      (decides-reworded (λ p h. rw (h .0) (TapeApplies.name (h .1))) tape-name (decides-if _ BadName (tells-false (isName name))))
+      (decides-reworded (λ p h. rw (h .0) (TapeApplies.noName (h .1))) tape-name (decides-if _ BadName (tells-false (isName name))))
       (λ a. finds-first Applies (several ∷ far ∷ overlaps ∷ short ∷ []) refl
       (decides-reworded bad-text tape-text
       (decides-if _ BadText (not-all (isBalanced label) (isBalanced index) (isGoodLabel (treeOf label)) (isGoodIndex (treeOf index)))))
@@ -108,7 +108,7 @@ module _ (name label index row : List ℕ) where
       (λ d. finds-first Applies (short ∷ []) refl
       (decides-reworded (λ p h. rw (h .0) (TapeApplies.overlap (h .1))) tape-overlap (decides-if _ Overlap (tells-true (someOverlap (tableIn label index)))))
       (λ e. finds-first Applies [] refl
-      (decides-reworded (λ p h. rw (h .0) (TapeApplies.row (h .1))) tape-row (decides-if _ ShortRow (tells-below (length row) (length (ltfsSheet name label index)))))
+      (decides-reworded (λ p h. rw (h .0) (TapeApplies.shortRow (h .1))) tape-row (decides-if _ ShortRow (tells-below (length row) (length (ltfsSheet name label index)))))
       (λ f. finds-none Applies))))))
 
   tape-accepted : refuses (ltfsVerdict name label index row) ≡ false → ltfsVerdict name label index row ≡ accepted

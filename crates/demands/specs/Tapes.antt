@@ -22,16 +22,16 @@ abbrev pub tapeOrder : List Refusal
 tapeOrder = BadName ∷ BadText ∷ ManyExtents ∷ FarFile ∷ Overlap ∷ ShortRow ∷ []
 
 pub data TapeApplies (name label index row : List ℕ) : Refusal → ℕ → Type 0 where
-  name : isName name ≡ false → TapeApplies name label index row BadName 0
-  labelText : isBalanced label ≡ false → TapeApplies name label index row BadText 0
-  indexText : isBalanced index ≡ false → TapeApplies name label index row BadText 0
+  noName : isName name ≡ false → TapeApplies name label index row BadName 0
+  labelUnbalanced : isBalanced label ≡ false → TapeApplies name label index row BadText 0
+  indexUnbalanced : isBalanced index ≡ false → TapeApplies name label index row BadText 0
   labelValues : isGoodLabel (treeOf label) ≡ false → TapeApplies name label index row BadText 0
   indexValues : isGoodIndex (treeOf index) ≡ false → TapeApplies name label index row BadText 0
   several : some inSeveral (indexFiles (treeOf index)) ≡ true → TapeApplies name label index row ManyExtents 0
   many : mostSheetFiles < length (rangesIn label index) → TapeApplies name label index row FarFile 0
   far : some (λ range. ltb lastPlace (endOfRange range)) (rangesIn label index) ≡ true → TapeApplies name label index row FarFile 0
   overlap : someOverlap (tableIn label index) ≡ true → TapeApplies name label index row Overlap 0
-  row : length row < length (ltfsSheet name label index) → TapeApplies name label index row ShortRow 0
+  shortRow : length row < length (ltfsSheet name label index) → TapeApplies name label index row ShortRow 0
 
 pub record OnlyKind (answer : Report) : Type 0 where
   pub bytes : answer .bytes ≡ 0

@@ -1,9 +1,11 @@
 -- What the private functions ask and find. No public contract cites this file.
 use Prim.Native.Nat.{ℕ, _-_, _≤_, _<_}
+use Prim.Native.Char.{code}
 use mathlib.Core.Path.{_≡_}
-use mathlib.Core.Bool.{true, false}
+use mathlib.Core.Bool.{Bool, true, false, _&&_}
 use mathlib.Core.List.{List}
-use lib.ListN.{length}
+use lib.ListN.{length, getD}
+use lib.Dec.{eqb, ltb}
 use Rattle.texts.specs.Text.{startsWith}
 use Rattle.markup.specs.declared.Place.{Place}
 use Rattle.markup.specs.declared.Step.{Step}
@@ -20,6 +22,14 @@ pub record EndAt (end : End) (text : List ℕ) (at next : ℕ) : Type 0 where
 abbrev pub EndFound : End → List ℕ → ℕ → Ending → Type 0
 EndFound end text at (Ending.At next) = EndAt end text at next
 EndFound end text at Ending.Never = end ≡ never
+
+-- A tag whose name ends at one position and itself at another, with a `/` right before its `>`.
+abbrev pub isAlone : List ℕ → ℕ → ℕ → Bool
+isAlone text to end = ltb 1 (end - to) && eqb (getD text (end - 2) 0) (code "/")
+
+-- A byte that ends a declaration, with a quote and brackets open or not.
+abbrev pub endsDeclaration : ℕ → ℕ → ℕ → Bool
+endsDeclaration quote depth b = eqb quote 0 && eqb depth 0 && eqb b (code ">")
 
 abbrev pub pastTo : Ending → Step
 pastTo (Ending.At next) = Step.Past (Place.Text next)

@@ -5,7 +5,7 @@ ghost use mathlib.Core.Bool.{_&&_};
 ghost use lib.ListN.{length, drop};
 ghost use lib.Dec.{eqb};
 ghost use Rattle.markup.specs.Markup.{endBehind, tagEnd, declarationEnd, quoteAfter, depthAfter, frontOf, isBlank, beginsName, inName, nameSize};
-ghost use Rattle.markup.specs.Private.{EndFound};
+ghost use Rattle.markup.specs.Private.{EndFound, endsDeclaration};
 
 // The position behind what was looked for, or that it never ends.
 pub(crate) enum Ending {
@@ -100,7 +100,7 @@ fn depth_after(quote: u8, depth: usize, byte: u8) -> usize
 }
 
 fn ends_declaration(quote: u8, depth: usize, byte: u8) -> bool
-    ensures { λ r. ⌜ r ≡ (eqb quote 0 && eqb depth 0 && eqb byte 62) ⌝ }
+    ensures { λ r. ⌜ r ≡ endsDeclaration quote depth byte ⌝ }
 {
     if quote != 0 {
         return false;

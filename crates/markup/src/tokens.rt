@@ -1,12 +1,12 @@
 // Tokens: what a reader from left to right meets in a text, one step at a time.
 ghost use mathlib.Core.Path.{_≡_};
 ghost use mathlib.Core.Bool.{_&&_};
-ghost use Prim.Native.Nat.{_+_, _-_, _≤_, _<_};
-ghost use lib.ListN.{length, drop, getD};
-ghost use lib.Dec.{ltb, eqb};
+ghost use Prim.Native.Nat.{_+_, _≤_, _<_};
+ghost use lib.ListN.{length, drop};
+ghost use lib.Dec.{ltb};
 ghost use Rattle.markup.specs.Markup.{startTag, endTag, plainTo, plainEnd, endBehind, nameSize, pieceOf};
 ghost use Rattle.markup.specs.Steps.{pieceStep, stepAt};
-ghost use Rattle.markup.specs.Private.{OpeningMet, pastTo};
+ghost use Rattle.markup.specs.Private.{OpeningMet, isAlone, pastTo};
 use crate::Place;
 use crate::Step;
 use crate::scan::Ending;
@@ -54,7 +54,7 @@ fn plain_bytes(text: &[u8], at: usize) -> Step
 // Whether a tag whose name ends at one position and itself at another has a `/` right before its `>`.
 fn is_alone(text: &[u8], to: usize, end: usize) -> bool
     requires { ⌜ (to ≤ end) × (end ≤ length (now text)) ⌝ }
-    ensures { λ r. ⌜ r ≡ (ltb 1 (end - to) && eqb (getD (now (text .entry)) (end - 2) 0) 47) ⌝ }
+    ensures { λ r. ⌜ r ≡ isAlone (now (text .entry)) to end ⌝ }
 {
     if end - to < 2 {
         return false;
