@@ -37,7 +37,7 @@ fn line_end(input: &[u8], at: usize) -> usize
 {
     let mut i = at;
     while i < input.len() {
-        if input[i] == 10 {
+        if input[i] == b'\n' {
             return i;
         }
         i += 1;
@@ -54,7 +54,7 @@ fn count_at(input: &[u8], at: usize) -> Count {
     if end <= at {
         return Count::Bad;
     }
-    if input[at] == 48 {
+    if input[at] == b'0' {
         if end - at != 1 {
             return Count::Bad;
         }
@@ -63,16 +63,16 @@ fn count_at(input: &[u8], at: usize) -> Count {
     let mut i = at;
     while i < end {
         let byte = input[i];
-        if byte < 48 {
+        if byte < b'0' {
             return Count::Bad;
         }
-        if 57 < byte {
+        if b'9' < byte {
             return Count::Bad;
         }
         if 9999999 < bytes {
             return Count::Bad;
         }
-        bytes = bytes * 10 + ((byte - 48) as usize);
+        bytes = bytes * 10 + ((byte - b'0') as usize);
         i += 1;
     }
     Count::Of {

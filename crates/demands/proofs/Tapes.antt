@@ -15,8 +15,8 @@ use Rattle.refusals.proofs.Verdicts.{none-refuses, refuses}
 use Rattle.texts.specs.Text.{isName}
 use Rattle.sheets.specs.Sheet.{mostSheetFiles}
 use Rattle.writers.specs.Writing.{rowVerdict, writtenRow}
-use Rattle.ltfs.specs.Tree.{isBalanced, treeOf}
-use Rattle.ltfs.specs.Index.{some, isGoodLabel, isGoodIndex, filesOf}
+use Rattle.markup.specs.Tree.{isBalanced, treeOf}
+use Rattle.ltfs.specs.Index.{some, isGoodLabel, isGoodIndex, indexFiles}
 use Rattle.ranges.specs.Ranges.{endOfRange}
 use Rattle.ltfs.specs.Table.{inSeveral, areFar, someOverlap, rangesIn, tableIn, areGoodTexts, ltfsSheet, ltfsVerdict, ltfsReport, ltfsRow}
 use Rattle.demands.specs.Tapes.{TapeApplies, tapeOrder, TapeAnswers, Demand1Tape}
@@ -52,15 +52,15 @@ module _ (name label index row : List ℕ) where
   bad-text : (p : ℕ) → (p ≡ 0) × BadTexts → Applies BadText p
   bad-text p h =
       rw (h .0)
-      (⊎-elim TapeApplies.labelText (⊎-elim TapeApplies.indexText (⊎-elim TapeApplies.labelValues TapeApplies.indexValues)) (h .1))
+      (⊎-elim TapeApplies.label-unbalanced (⊎-elim TapeApplies.index-unbalanced (⊎-elim TapeApplies.label-values TapeApplies.index-values)) (h .1))
 
   tape-text : (p : ℕ) → Applies BadText p → (p ≡ 0) × BadTexts
-  tape-text p (TapeApplies.labelText h) = (refl, inl h)
-  tape-text p (TapeApplies.indexText h) = (refl, inr (inl h))
-  tape-text p (TapeApplies.labelValues h) = (refl, inr (inr (inl h)))
-  tape-text p (TapeApplies.indexValues h) = (refl, inr (inr (inr h)))
+  tape-text p (TapeApplies.label-unbalanced h) = (refl, inl h)
+  tape-text p (TapeApplies.index-unbalanced h) = (refl, inr (inl h))
+  tape-text p (TapeApplies.label-values h) = (refl, inr (inr (inl h)))
+  tape-text p (TapeApplies.index-values h) = (refl, inr (inr (inr h)))
 
-  tape-several : (p : ℕ) → Applies ManyExtents p → (p ≡ 0) × (some inSeveral (filesOf (treeOf index)) ≡ true)
+  tape-several : (p : ℕ) → Applies ManyExtents p → (p ≡ 0) × (some inSeveral (indexFiles (treeOf index)) ≡ true)
   tape-several p (TapeApplies.several h) = (refl, h)
 
   tape-far : (p : ℕ) → Applies FarFile p → (p ≡ 0) × IsFar
@@ -77,7 +77,7 @@ module _ (name label index row : List ℕ) where
   checks =
       refuseIf (not (isName name)) BadName
       ∷ refuseIf (not (areGoodTexts label index)) BadText
-      ∷ refuseIf (some inSeveral (filesOf (treeOf index))) ManyExtents
+      ∷ refuseIf (some inSeveral (indexFiles (treeOf index))) ManyExtents
       ∷ refuseIf (areFar (rangesIn label index)) FarFile
       ∷ refuseIf (someOverlap (tableIn label index)) Overlap
       ∷ rowVerdict (ltfsSheet name label index) row
@@ -90,7 +90,7 @@ module _ (name label index row : List ℕ) where
       let short = rowVerdict (ltfsSheet name label index) row in
       let overlaps = refuseIf (someOverlap (tableIn label index)) Overlap in
       let far = refuseIf (areFar ranges) FarFile in
-      let several = refuseIf (some inSeveral (filesOf (treeOf index))) ManyExtents in
+      let several = refuseIf (some inSeveral (indexFiles (treeOf index))) ManyExtents in
       let bad = refuseIf (not (areGoodTexts label index)) BadText in
       finds-first Applies (bad ∷ several ∷ far ∷ overlaps ∷ short ∷ []) refl
       (decides-reworded (λ p h. rw (h .0) (TapeApplies.bad-name (h .1))) tape-name (decides-if _ BadName (tells-false (isName name))))
@@ -98,7 +98,7 @@ module _ (name label index row : List ℕ) where
       (decides-reworded bad-text tape-text
       (decides-if _ BadText (not-all (isBalanced label) (isBalanced index) (isGoodLabel (treeOf label)) (isGoodIndex (treeOf index)))))
       (λ b. finds-first Applies (far ∷ overlaps ∷ short ∷ []) refl
-      (decides-reworded (λ p h. rw (h .0) (TapeApplies.several (h .1))) tape-several (decides-if _ ManyExtents (tells-true (some inSeveral (filesOf (treeOf index))))))
+      (decides-reworded (λ p h. rw (h .0) (TapeApplies.several (h .1))) tape-several (decides-if _ ManyExtents (tells-true (some inSeveral (indexFiles (treeOf index))))))
       (λ c. finds-first Applies (overlaps ∷ short ∷ []) refl
       (decides-reworded (λ p h. rw (h .0) (⊎-elim TapeApplies.many TapeApplies.far (h .1))) tape-far
       (decides-if _ FarFile

@@ -9,14 +9,17 @@ use lib.Dec.{eqb}
 use borrow.Author.Tests.{eqb-true}
 use Rattle.texts.specs.Text.{isText, startsWith}
 use Rattle.texts.proofs.Bytes.{and-true-both}
-use Rattle.ltfs.specs.declared.tokens.Place.{Place}
+use Rattle.markup.specs.declared.Place.{Place}
 use Rattle.ltfs.specs.declared.values.Chars.{Chars}
 use Rattle.ltfs.specs.declared.values.Field.{Field}
-use Rattle.ltfs.specs.Markup.{Open, Close, Char}
-use Rattle.ltfs.specs.Tree.{Forest, none, char, element, headOf, tailOf}
+use Rattle.markup.specs.Markup.{Open, Close, Char}
+use Rattle.markup.specs.Tree.{Forest, none, char, element, innermost, enclosing}
 use Rattle.ltfs.specs.Index.{joined, charsOf, insides, under, valuesAt, Level, filesIn}
-use Rattle.ltfs.specs.Private.Parts.{part, PlaceIn, tokensAt, framesAt, inside, Left, bare, ElementMet, NoElement, Begins, noChars, withByte, charsFrom, firstField, fieldFrom}
-use Rattle.ltfs.proofs.Frames.{begins-fewer, frames-first}
+use Rattle.markup.specs.Places.{part, PlaceIn, tokensAt, Begins}
+use Rattle.ltfs.specs.Private.Parts.{framesAt, inside, Left, bare, ElementMet, NoElement, noChars, withByte, charsFrom, firstField, fieldNamed, fieldFrom}
+use Rattle.markup.proofs.Meets.{begins-fewer}
+use Rattle.markup.proofs.Names.{text-named}
+use Rattle.ltfs.proofs.Frames.{frames-first}
 
 -- Bytes before the first element hold no element.
 pub insides-bare : (wanted : List ℕ) (f : Forest) → insides wanted (bare f) ≡ insides wanted f
@@ -42,7 +45,7 @@ values-bare name path f = ap (map charsOf) (under-bare name path f)
 -- A reader somewhere in the element around a place.
 pub record Within (text : List ℕ) (place here : Place) : Type 0 where
   pub within : PlaceIn text here
-  pub outer : tailOf (framesAt text here) ≡ tailOf (framesAt text place)
+  pub outer : enclosing (framesAt text here) ≡ enclosing (framesAt text place)
   pub fewer : length (tokensAt text here) ≤ length (tokensAt text place)
 
 pub within-none : (text : List ℕ) (place : Place) → PlaceIn text place → Within text place place
@@ -57,7 +60,7 @@ module _ (text : List ℕ) (place here : Place) (w : Within text place here) whe
       let h = l .fewer in
       record {
         within = l .within;
-        outer = ap tailOf (l .outer) ∙ sym (m .outer) ∙ w .outer;
+        outer = ap enclosing (l .outer) ∙ sym (m .outer) ∙ w .outer;
         fewer = omega arith;
       }
 
@@ -75,7 +78,7 @@ module _ (text : List ℕ) (place here : Place) (w : Within text place here) whe
 -- What an element met and left says of the place before it, and that fewer tokens are left.
 module _ (text : List ℕ) (here : Place) (from to : ℕ) (next after : Place) (m : ElementMet text here from to next) (l : Left text next after) where
   pub met-here : bare (inside text here) ≡ element (part from to text) (inside text next) (inside text after)
-  met-here = m .here ∙ ap (λ (f : Forest). element (part from to text) (inside text next) f) (ap headOf (sym (l .outer)))
+  met-here = m .here ∙ ap (λ (f : Forest). element (part from to text) (inside text next) f) (ap innermost (sym (l .outer)))
 
   pub met-less : length (tokensAt text after) < length (tokensAt text here)
   met-less =
@@ -101,10 +104,10 @@ module _ (text : List ℕ) (place : Place) (chars : Chars) (here : Place) (p : C
       record {
         around = record {
           within = m .within;
-          outer = sym (ap tailOf f) ∙ p .around .outer;
+          outer = sym (ap enclosing f) ∙ p .around .outer;
           fewer = omega arith;
         };
-        same = ap (λ (s : Chars). charsFrom s (charsOf (inside text next))) e ∙ sym (ap (λ (l : List Forest). charsFrom chars (charsOf (headOf l))) f) ∙ p .same;
+        same = ap (λ (s : Chars). charsFrom s (charsOf (inside text next))) e ∙ sym (ap (λ (l : List Forest). charsFrom chars (charsOf (innermost l))) f) ∙ p .same;
       }
 
   pub chars-start : (name : List ℕ) (next after : Place) → Begins (tokensAt text here) text (Open name) next → Left text next after → CharsLeft text place chars after
@@ -117,18 +120,18 @@ module _ (text : List ℕ) (place : Place) (chars : Chars) (here : Place) (p : C
       record {
         around = record {
           within = l .within;
-          outer = ap tailOf (l .outer) ∙ sym (ap tailOf f) ∙ p .around .outer;
+          outer = ap enclosing (l .outer) ∙ sym (ap enclosing f) ∙ p .around .outer;
           fewer = omega arith;
         };
-        same = ap (λ (l : List Forest). charsFrom chars (charsOf (headOf l))) (l .outer) ∙ sym (ap (λ (l : List Forest). charsFrom chars (charsOf (headOf l))) f) ∙ p .same;
+        same = ap (λ (l : List Forest). charsFrom chars (charsOf (innermost l))) (l .outer) ∙ sym (ap (λ (l : List Forest). charsFrom chars (charsOf (innermost l))) f) ∙ p .same;
       }
 
   -- The text ends, the markup goes wrong, or the element ends: what is known is what the whole makes.
   pub chars-over : framesAt text here ≡ [] → (chars ≡ charsFrom noChars (charsOf (inside text place))) × Left text place here
   unfolding charsFrom charsOf
   chars-over f = (
-    sym (ap (λ (l : List Forest). charsFrom chars (charsOf (headOf l))) f) ∙ p .same,
-    record { outer = f ∙ sym (ap tailOf f) ∙ p .around .outer; within = p .around .within; fewer = p .around .fewer },
+    sym (ap (λ (l : List Forest). charsFrom chars (charsOf (innermost l))) f) ∙ p .same,
+    record { outer = f ∙ sym (ap enclosing f) ∙ p .around .outer; within = p .around .within; fewer = p .around .fewer },
   )
 
   pub chars-finish : (name : List ℕ) (next : Place) → Begins (tokensAt text here) text (Close name) next → (chars ≡ charsFrom noChars (charsOf (inside text place))) × Left text place next
@@ -137,8 +140,8 @@ module _ (text : List ℕ) (place : Place) (chars : Chars) (here : Place) (p : C
       let f = frames-first text here next (Close name) m in
       let g = begins-fewer text here next (Close name) m in
       let w = p .around .fewer in (
-        sym (ap (λ (l : List Forest). charsFrom chars (charsOf (headOf l))) f) ∙ p .same,
-        record { outer = sym (ap tailOf f) ∙ p .around .outer; within = m .within; fewer = omega arith },
+        sym (ap (λ (l : List Forest). charsFrom chars (charsOf (innermost l))) f) ∙ p .same,
+        record { outer = sym (ap enclosing f) ∙ p .around .outer; within = m .within; fewer = omega arith },
       )
 
 -- Reading the elements of an element one by one: `whole` says what they all add to what is known.
@@ -223,23 +226,6 @@ module _ (wanted : List ℕ) (path : List (List ℕ)) (name : List ℕ) (held re
       by-test true e = values-named wanted path name held rest e ∙ ap (λ (l : List (List ℕ)). l ++ valuesAt (wanted ∷ path) rest) (sym (values-one e))
       by-test false e = values-other wanted path name held rest e ∙ ap (λ (l : List (List ℕ)). l ++ valuesAt (wanted ∷ path) rest) (sym (values-no e))
 
--- A text that is one name is no other.
-text-is : (wanted text : List ℕ) → length wanted ≡ length text → startsWith wanted text ≡ true → text ≡ wanted
-unfolding startsWith
-text-is [] [] l e = refl
-text-is [] (b ∷ text) l e = absurd (omega arith)
-text-is (k ∷ wanted) [] l e = absurd (omega arith)
-text-is (k ∷ wanted) (b ∷ text) l e =
-    let both = and-true-both (eqb k b) (startsWith wanted text) e in
-    let h : b ≡ k = sym (eqb-true k b (both .0)) in
-    let t : text ≡ wanted = text-is wanted text (omega arith) (both .1) in
-    rw (h, t)
-
-pub text-named : (wanted text : List ℕ) → isText wanted text ≡ true → text ≡ wanted
-text-named wanted text e =
-    let both = and-true-both (eqb (length wanted) (length text)) (startsWith wanted text) e in
-    text-is wanted text (eqb-true (length wanted) (length text) (both .0)) (both .1)
-
 pub other-name : (wanted other text : List ℕ) → isText wanted text ≡ true → isText other wanted ≡ false → isText other text ≡ false
 other-name wanted other text e d = rw (text-named wanted text e) d
 
@@ -257,6 +243,14 @@ module _ (form : List ℕ → Field) (field : Field) (wanted name : List ℕ) (h
   pub field-other : (path : List (List ℕ)) → isText wanted name ≡ false → fieldFrom form field (valuesAt (wanted ∷ path) (element name held none)) ≡ field
   unfolding fieldFrom
   field-other path e = ap (fieldFrom form field) (values-no wanted path name held none e)
+
+  -- Whatever its name is.
+  pub field-told : (met later : Field) → met ≡ form (charsOf held) → later ≡ fieldNamed wanted name field met → later ≡ fieldFrom form field (valuesAt (wanted ∷ []) (element name held none))
+  field-told met later m l = by-test (isText wanted name) refl
+    where
+      by-test : (t : Bool) → isText wanted name ≡ t → later ≡ fieldFrom form field (valuesAt (wanted ∷ []) (element name held none))
+      by-test true e = (rw e at l) ∙ ap (firstField field) m ∙ sym (field-named e)
+      by-test false e = (rw e at l) ∙ sym (field-other [] e)
 
   pub field-split : (path : List (List ℕ)) → fieldFrom form field (valuesAt (wanted ∷ path) (element name held rest)) ≡ fieldFrom form (fieldFrom form field (valuesAt (wanted ∷ path) (element name held none))) (valuesAt (wanted ∷ path) rest)
   field-split path =

@@ -7,19 +7,20 @@ use native.Mathlib.Omega.{arith}
 use native.Mathlib.Numerals.{add-one}
 use lib.ListN.{length}
 use borrow.Author.Tests.{eq-eqb, ne-eqb}
-use Rattle.texts.specs.Text.{isText, startsWith}
-use Rattle.ltfs.specs.declared.tokens.Place.{Place}
+use Rattle.texts.specs.Text.{isText}
+use Rattle.markup.specs.declared.Place.{Place}
 use Rattle.ltfs.specs.declared.values.Field.{Field}
 use Rattle.ltfs.specs.declared.index.Extent.{Extent}
 use Rattle.ranges.specs.declared.File.{File}
 use Rattle.ltfs.specs.declared.index.Walk.{Walk}
 use Rattle.ltfs.specs.declared.index.Use.{Use}
-use Rattle.ltfs.specs.Tree.{Forest, none, element, headOf, tailOf, treeOf}
+use Rattle.markup.specs.Tree.{Forest, none, element, innermost, enclosing, treeOf}
 use Rattle.ltfs.specs.Index.{joined, isNone, charsOf, insides, under, valuesAt, partitionName, startBlockName, byteOffsetName, byteCountName, indexName, directoryName, contentsName, extentInfoName, extentName}
 use Rattle.ltfs.specs.Index.{Level, outside, inDirectory, inContents, Role, holds, file, other, roleOf, extentsOf, filesOfRole, filesIn}
-use Rattle.ltfs.specs.Private.Parts.{part, PlaceIn, tokensAt, framesAt, inside, Left, bare, ElementMet, NoElement, numberField, letterField, firstField, fieldFrom, withExtentBytes, extentFrom, withExtentPart, extentOf, withExtent, withExtents, fileOf}
-use Rattle.ltfs.specs.Private.Parts.{levelAt, RoleFound, filesUnder, filesLeft, WalkIn, FileMet}
-use Rattle.ltfs.proofs.Bare.{Reads, insides-bare, files-bare, under-bare, values-bare, under-named, under-other, under-none, insides-named, insides-other, other-name, field-named, field-other, field-split, field-over, met-here}
+use Rattle.markup.specs.Places.{part, PlaceIn, tokensAt}
+use Rattle.ltfs.specs.Private.Parts.{framesAt, inside, Left, bare, ElementMet, NoElement, numberField, letterField, fieldNamed, fieldFrom, extentFrom, withExtentPart, extentOf, withExtent, withExtents, fileOf}
+use Rattle.ltfs.specs.Private.Parts.{levelAt, enterIf, RoleFound, filesUnder, filesLeft, WalkIn, FileMet}
+use Rattle.ltfs.proofs.Bare.{Reads, insides-bare, files-bare, under-bare, values-bare, under-named, under-other, under-none, insides-named, insides-other, field-told, field-split, field-over, met-here}
 
 -- An extent by its four fields.
 abbrev extentSaying : Field → Field → Field → Field → Extent
@@ -51,52 +52,20 @@ module _ (extent : Extent) (name : List ℕ) (held : Forest) where
       let c = field-split numberField (extent .count) byteCountName name held rest [] in
       rw (e, p, b, o, c)
 
-  -- What an element of a name adds, and what one of another name does not.
-  partition-other : isText partitionName name ≡ false → fieldFrom letterField (extent .partition) (valuesAt (partitionName ∷ []) (element name held none)) ≡ extent .partition
-  partition-other e = field-other letterField (extent .partition) partitionName name held none [] e
-
-  block-other : isText startBlockName name ≡ false → fieldFrom numberField (extent .block) (valuesAt (startBlockName ∷ []) (element name held none)) ≡ extent .block
-  block-other e = field-other numberField (extent .block) startBlockName name held none [] e
-
-  offset-other : isText byteOffsetName name ≡ false → fieldFrom numberField (extent .offset) (valuesAt (byteOffsetName ∷ []) (element name held none)) ≡ extent .offset
-  offset-other e = field-other numberField (extent .offset) byteOffsetName name held none [] e
-
-  count-other : isText byteCountName name ≡ false → fieldFrom numberField (extent .count) (valuesAt (byteCountName ∷ []) (element name held none)) ≡ extent .count
-  count-other e = field-other numberField (extent .count) byteCountName name held none [] e
-
-  pub extent-partition : (field partition : Field) → isText partitionName name ≡ true → field ≡ letterField (charsOf held) → partition ≡ firstField (extent .partition) field → extentSaying partition (extent .block) (extent .offset) (extent .count) ≡ withExtentPart extent name held
-  unfolding extentFrom startsWith
-  extent-partition field partition e f p =
-      let b = block-other (other-name partitionName startBlockName name e refl) in
-      let o = offset-other (other-name partitionName byteOffsetName name e refl) in
-      let c = count-other (other-name partitionName byteCountName name e refl) in
-      sym (rw (field-named letterField (extent .partition) partitionName name held none e, b, o, c, p, f))
-
-  pub extent-block : (field block : Field) → isText startBlockName name ≡ true → field ≡ numberField (charsOf held) → block ≡ firstField (extent .block) field → extentSaying (extent .partition) block (extent .offset) (extent .count) ≡ withExtentPart extent name held
-  unfolding extentFrom startsWith
-  extent-block field block e f p =
-      let b = partition-other (other-name startBlockName partitionName name e refl) in
-      let o = offset-other (other-name startBlockName byteOffsetName name e refl) in
-      let c = count-other (other-name startBlockName byteCountName name e refl) in
-      sym (rw (field-named numberField (extent .block) startBlockName name held none e, b, o, c, p, f))
-
-  pub extent-bytes : (later : Extent) → isText partitionName name ≡ false → isText startBlockName name ≡ false → later ≡ withExtentBytes extent name held → later ≡ withExtentPart extent name held
-  unfolding extentFrom withExtentBytes
-  extent-bytes later p b e = e ∙ sym (rw (partition-other p, block-other b))
-
-  pub bytes-offset : (field offset : Field) → isText byteOffsetName name ≡ true → field ≡ numberField (charsOf held) → offset ≡ firstField (extent .offset) field → extentSaying (extent .partition) (extent .block) offset (extent .count) ≡ withExtentBytes extent name held
-  unfolding withExtentBytes
-  bytes-offset field offset e f p =
-      let c = count-other (other-name byteOffsetName byteCountName name e refl) in
-      sym (rw (field-named numberField (extent .offset) byteOffsetName name held none e, c, p, f))
-
-  pub bytes-count : (field count : Field) → isText byteOffsetName name ≡ false → isText byteCountName name ≡ true → field ≡ numberField (charsOf held) → count ≡ firstField (extent .count) field → extentSaying (extent .partition) (extent .block) (extent .offset) count ≡ withExtentBytes extent name held
-  unfolding withExtentBytes
-  bytes-count field count o e f p = sym (rw (offset-other o, field-named numberField (extent .count) byteCountName name held none e, p, f))
-
-  pub bytes-other : isText byteOffsetName name ≡ false → isText byteCountName name ≡ false → extent ≡ withExtentBytes extent name held
-  unfolding withExtentBytes
-  bytes-other o e = sym (rw (offset-other o, count-other e))
+  pub extent-part : (letter number partition block offset count : Field) → letter ≡ letterField (charsOf held) → number ≡ numberField (charsOf held)
+      → partition ≡ fieldNamed partitionName name (extent .partition) letter
+      → block ≡ fieldNamed startBlockName name (extent .block) number
+      → offset ≡ fieldNamed byteOffsetName name (extent .offset) number
+      → count ≡ fieldNamed byteCountName name (extent .count) number
+      → extentSaying partition block offset count ≡ withExtentPart extent name held
+  unfolding extentFrom
+  extent-part letter number partition block offset count l n p b o c =
+      rw (
+        ← field-told letterField (extent .partition) partitionName name held none letter partition l p,
+        ← field-told numberField (extent .block) startBlockName name held none number block n b,
+        ← field-told numberField (extent .offset) byteOffsetName name held none number offset n o,
+        ← field-told numberField (extent .count) byteCountName name held none number count n c,
+      )
 
 -- The extents in an `extentinfo` element, and in a file.
 unfoldable pub infoExtents : File → Forest → File
@@ -179,7 +148,7 @@ module _ (text : List ℕ) (here : Place) (p : IndexSought text here) where
 
   pub index-here : (from to : ℕ) (next : Place) → ElementMet text here from to next → isText indexName (part from to text) ≡ true → true ≡ not (isNone (insides indexName (treeOf text)))
   index-here from to next m e =
-      let l = insides-named indexName [] (part from to text) (inside text next) (headOf (tailOf (framesAt text next))) e in
+      let l = insides-named indexName [] (part from to text) (inside text next) (innermost (enclosing (framesAt text next))) e in
       sym (ap (λ (l : List Forest). not (isNone l)) (sym (p .same) ∙ sym (insides-bare indexName (inside text here)) ∙ ap (insides indexName) (m .here) ∙ l))
 
   pub index-later : (from to : ℕ) (next after : Place) → ElementMet text here from to next → Left text next after → isText indexName (part from to text) ≡ false → IndexSought text after
@@ -208,6 +177,10 @@ odd-level zero z o e = absurd (z refl)
 odd-level (suc zero) z o e = absurd (o refl)
 odd-level (suc (suc d)) z o e = rw (ne-eqb (d % 2) 0 (λ h. e (omega arith)))
 
+pub role-entered : (role : Role) (below : Level) (t : Bool) (u : Use) → role ≡ cond t (holds below) other → u ≡ enterIf t → RoleFound role below u
+role-entered role below true u e f = rw f e
+role-entered role below false u e f = rw f e
+
 module _ (depth : ℕ) (name : List ℕ) where
   pub role-outside : (t : Bool) → depth ≡ 0 → isText indexName name ≡ t → roleOf (levelAt depth) name ≡ cond t (holds (levelAt (suc depth))) other
   unfolding levelAt
@@ -235,9 +208,9 @@ unfoldable outerFiles : ℕ → List Forest → List (List Forest)
 outerFiles zero left = []
 outerFiles (suc depth) left = filesUnder depth left
 
-under-split : (depth : ℕ) (left : List Forest) → filesUnder depth left ≡ filesIn (headOf left) (levelAt depth) ++ outerFiles depth (tailOf left)
+under-split : (depth : ℕ) (left : List Forest) → filesUnder depth left ≡ filesIn (innermost left) (levelAt depth) ++ outerFiles depth (enclosing left)
 unfolding filesUnder outerFiles levelAt
-under-split zero left = sym (append-nil (filesIn (headOf left) outside))
+under-split zero left = sym (append-nil (filesIn (innermost left) outside))
 under-split (suc depth) left = refl
 
 -- A reader of the index somewhere: the files left are those that were left at the start.
@@ -275,20 +248,20 @@ module _ (text : List ℕ) (depth₀ : ℕ) (here₀ : Place) (here : Place) whe
         files =
             ap (λ (k : ℕ). filesUnder k (framesAt text next)) e
             ∙ ap (filesUnder depth) (n .left .outer)
-            ∙ sym (ap (λ (l : List (List Forest)). l ++ filesUnder depth (tailOf (framesAt text here))) (no-files text here next (levelAt (suc depth)) n))
+            ∙ sym (ap (λ (l : List (List Forest)). l ++ filesUnder depth (enclosing (framesAt text here))) (no-files text here next (levelAt (suc depth)) n))
             ∙ p .files;
       }
 
   module _ (depth : ℕ) (p : WalkLeft text depth₀ here₀ depth here) (from to : ℕ) (next : Place) (m : ElementMet text here from to next) where
     -- The files left, by the role of the element met.
-    role-files : filesUnder depth (framesAt text here) ≡ filesOfRole (roleOf (levelAt depth) (part from to text)) (inside text next) (filesIn (inside text next)) ++ filesUnder depth (tailOf (framesAt text next))
+    role-files : filesUnder depth (framesAt text here) ≡ filesOfRole (roleOf (levelAt depth) (part from to text)) (inside text next) (filesIn (inside text next)) ++ filesUnder depth (enclosing (framesAt text next))
     unfolding filesIn
     role-files =
         under-split depth (framesAt text here)
-        ∙ ap (λ (l : List (List Forest)). l ++ outerFiles depth (tailOf (framesAt text here))) (sym (files-bare (inside text here) (levelAt depth)) ∙ ap (λ (f : Forest). filesIn f (levelAt depth)) (m .here))
-        ∙ append-assoc (filesOfRole (roleOf (levelAt depth) (part from to text)) (inside text next) (filesIn (inside text next))) (filesIn (headOf (tailOf (framesAt text next))) (levelAt depth)) (outerFiles depth (tailOf (framesAt text here)))
-        ∙ ap (λ (l : List Forest). filesOfRole (roleOf (levelAt depth) (part from to text)) (inside text next) (filesIn (inside text next)) ++ (filesIn (headOf (tailOf (framesAt text next))) (levelAt depth) ++ outerFiles depth l)) (m .outer)
-        ∙ ap (λ (l : List (List Forest)). filesOfRole (roleOf (levelAt depth) (part from to text)) (inside text next) (filesIn (inside text next)) ++ l) (sym (under-split depth (tailOf (framesAt text next))))
+        ∙ ap (λ (l : List (List Forest)). l ++ outerFiles depth (enclosing (framesAt text here))) (sym (files-bare (inside text here) (levelAt depth)) ∙ ap (λ (f : Forest). filesIn f (levelAt depth)) (m .here))
+        ∙ append-assoc (filesOfRole (roleOf (levelAt depth) (part from to text)) (inside text next) (filesIn (inside text next))) (filesIn (innermost (enclosing (framesAt text next))) (levelAt depth)) (outerFiles depth (enclosing (framesAt text here)))
+        ∙ ap (λ (l : List Forest). filesOfRole (roleOf (levelAt depth) (part from to text)) (inside text next) (filesIn (inside text next)) ++ (filesIn (innermost (enclosing (framesAt text next))) (levelAt depth) ++ outerFiles depth l)) (m .outer)
+        ∙ ap (λ (l : List (List Forest)). filesOfRole (roleOf (levelAt depth) (part from to text)) (inside text next) (filesIn (inside text next)) ++ l) (sym (under-split depth (enclosing (framesAt text next))))
 
     pub walk-in : roleOf (levelAt depth) (part from to text) ≡ holds (levelAt (suc depth)) → WalkLeft text depth₀ here₀ (depth + 1) next
     unfolding filesUnder
@@ -296,7 +269,7 @@ module _ (text : List ℕ) (depth₀ : ℕ) (here₀ : Place) (here : Place) whe
         let a = p .deep in
         let b = p .fewer in
         let d = m .fewer in
-        let f : filesUnder (suc depth) (framesAt text next) ≡ filesUnder depth (framesAt text here) = sym (role-files ∙ ap (λ (k : Role). filesOfRole k (inside text next) (filesIn (inside text next)) ++ filesUnder depth (tailOf (framesAt text next))) r) in
+        let f : filesUnder (suc depth) (framesAt text next) ≡ filesUnder depth (framesAt text here) = sym (role-files ∙ ap (λ (k : Role). filesOfRole k (inside text next) (filesIn (inside text next)) ++ filesUnder depth (enclosing (framesAt text next))) r) in
         record {
           within = m .within;
           deep = omega arith;
@@ -316,7 +289,7 @@ module _ (text : List ℕ) (depth₀ : ℕ) (here₀ : Place) (here : Place) whe
           fewer = omega arith;
           files =
               ap (filesUnder depth) (l .outer)
-              ∙ sym (role-files ∙ ap (λ (k : Role). filesOfRole k (inside text next) (filesIn (inside text next)) ++ filesUnder depth (tailOf (framesAt text next))) r)
+              ∙ sym (role-files ∙ ap (λ (k : Role). filesOfRole k (inside text next) (filesIn (inside text next)) ++ filesUnder depth (enclosing (framesAt text next))) r)
               ∙ p .files;
         }
 
@@ -333,7 +306,7 @@ module _ (text : List ℕ) (depth₀ : ℕ) (here₀ : Place) (here : Place) whe
           files =
               sym (p .files)
               ∙ role-files
-              ∙ ap (λ (k : Role). filesOfRole k (inside text next) (filesIn (inside text next)) ++ filesUnder depth (tailOf (framesAt text next))) r
+              ∙ ap (λ (k : Role). filesOfRole k (inside text next) (filesIn (inside text next)) ++ filesUnder depth (enclosing (framesAt text next))) r
               ∙ ap (λ (k : List Forest). extentsOf (inside text next) ∷ filesUnder depth k) (sym (l .outer));
           within = record { within = l .within; deep = omega arith };
           fewer = omega arith;

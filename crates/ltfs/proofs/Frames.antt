@@ -5,14 +5,12 @@ use mathlib.Core.List.{List, [], _∷_}
 use native.Mathlib.Omega.{arith}
 use native.Mathlib.Numerals.{add-one}
 use lib.ListN.{length}
-use Rattle.ltfs.specs.declared.tokens.Place.{Place}
-use Rattle.ltfs.specs.Markup.{Token, Open, Close, Char, Broken}
-use Rattle.ltfs.specs.Tree.{Forest, headOf, tailOf, frame, frames}
-use Rattle.ltfs.specs.Private.Parts.{part, NameIn, PlaceIn, tokensAt, Begins, framesAt, inside, Left, bare, ElementMet, NoElement}
-
--- One token fewer.
-pub begins-fewer : (text : List ℕ) (here next : Place) (token : Token) → Begins (tokensAt text here) text token next → length (tokensAt text next) < length (tokensAt text here)
-begins-fewer text here next token p = omega (arith, ap length (p .first))
+use Rattle.markup.specs.declared.Place.{Place}
+use Rattle.markup.specs.Markup.{Token, Open, Close, Char, Broken}
+use Rattle.markup.specs.Tree.{Forest, innermost, enclosing, frame, frames}
+use Rattle.markup.proofs.Meets.{begins-fewer}
+use Rattle.markup.specs.Places.{part, NameIn, PlaceIn, tokensAt, Begins}
+use Rattle.ltfs.specs.Private.Parts.{framesAt, inside, Left, bare, ElementMet, NoElement}
 
 -- What is left, by the tokens from a place on.
 pub frames-none : (text : List ℕ) (here : Place) → tokensAt text here ≡ [] → framesAt text here ≡ []
@@ -31,7 +29,7 @@ frames-first text here next token p = ap frames (p .first)
 pub record Seeking (text : List ℕ) (place here : Place) : Type 0 where
   pub within : PlaceIn text here
   pub held : bare (inside text place) ≡ bare (inside text here)
-  pub outer : tailOf (framesAt text place) ≡ tailOf (framesAt text here)
+  pub outer : enclosing (framesAt text place) ≡ enclosing (framesAt text here)
   pub fewer : length (tokensAt text here) ≤ length (tokensAt text place)
 
 pub seeking-none : (text : List ℕ) (place : Place) → PlaceIn text place → Seeking text place place
@@ -43,8 +41,8 @@ module _ (text : List ℕ) (place here : Place) (p : Seeking text place here) wh
   nothing-left e =
       let f = p .fewer in
       record {
-        none = p .held ∙ ap (λ (l : List Forest). bare (headOf l)) e;
-        left = record { outer = e ∙ sym (ap tailOf e) ∙ sym (p .outer); within = p .within; fewer = f };
+        none = p .held ∙ ap (λ (l : List Forest). bare (innermost l)) e;
+        left = record { outer = e ∙ sym (ap enclosing e) ∙ sym (p .outer); within = p .within; fewer = f };
       }
 
   pub seek-end : tokensAt text here ≡ [] → NoElement text place here
@@ -59,8 +57,8 @@ module _ (text : List ℕ) (place here : Place) (p : Seeking text place here) wh
       let e = frames-first text here next (Char b) q in
       record {
         within = q .within;
-        held = p .held ∙ ap (λ (l : List Forest). bare (headOf l)) e;
-        outer = p .outer ∙ ap tailOf e;
+        held = p .held ∙ ap (λ (l : List Forest). bare (innermost l)) e;
+        outer = p .outer ∙ ap enclosing e;
         fewer = omega (arith, begins-fewer text here next (Char b) q, p .fewer);
       }
 
@@ -71,8 +69,8 @@ module _ (text : List ℕ) (place here : Place) (p : Seeking text place here) wh
       record {
         name = n;
         within = q .within;
-        here = p .held ∙ ap (λ (l : List Forest). bare (headOf l)) e;
-        outer = p .outer ∙ ap tailOf e;
+        here = p .held ∙ ap (λ (l : List Forest). bare (innermost l)) e;
+        outer = p .outer ∙ ap enclosing e;
         fewer = omega (arith, begins-fewer text here next (Open (part from to text)) q, p .fewer);
       }
 
@@ -81,9 +79,9 @@ module _ (text : List ℕ) (place here : Place) (p : Seeking text place here) wh
   seek-finish name next q =
       let e = frames-first text here next (Close name) q in
       record {
-        none = p .held ∙ ap (λ (l : List Forest). bare (headOf l)) e;
+        none = p .held ∙ ap (λ (l : List Forest). bare (innermost l)) e;
         left = record {
-          outer = sym (p .outer ∙ ap tailOf e);
+          outer = sym (p .outer ∙ ap enclosing e);
           within = q .within;
           fewer = omega (arith, begins-fewer text here next (Close name) q, p .fewer);
         };
@@ -92,12 +90,12 @@ module _ (text : List ℕ) (place here : Place) (p : Seeking text place here) wh
 -- So many elements outwards.
 unfoldable pub outwards : ℕ → List Forest → List Forest
 outwards zero left = left
-outwards (suc n) left = outwards n (tailOf left)
+outwards (suc n) left = outwards n (enclosing left)
 
 -- Leaving an element, so many elements inside of it.
 pub record Leaving (text : List ℕ) (place here : Place) (depth : ℕ) : Type 0 where
   pub within : PlaceIn text here
-  pub outer : outwards depth (tailOf (framesAt text here)) ≡ tailOf (framesAt text place)
+  pub outer : outwards depth (enclosing (framesAt text here)) ≡ enclosing (framesAt text place)
   pub deep : depth + length (tokensAt text here) ≤ length (tokensAt text place)
 
 pub leaving-none : (text : List ℕ) (place : Place) → PlaceIn text place → Leaving text place place 0
@@ -126,15 +124,15 @@ module _ (text : List ℕ) (place here : Place) (depth : ℕ) (p : Leaving text 
       step : (d : ℕ) → suc d - 1 ≡ d
       step d = omega arith
 
-      by-depth : (d : ℕ) → (d ≡ 0 → ⊥) → outwards d (tailOf (framesAt text here)) ≡ tailOf (framesAt text place) → outwards (d - 1) (tailOf (framesAt text next)) ≡ tailOf (framesAt text place)
+      by-depth : (d : ℕ) → (d ≡ 0 → ⊥) → outwards d (enclosing (framesAt text here)) ≡ enclosing (framesAt text place) → outwards (d - 1) (enclosing (framesAt text next)) ≡ enclosing (framesAt text place)
       by-depth zero m e = absurd (omega arith)
-      by-depth (suc d) m e = rw (step d) (ap (λ (l : List Forest). outwards d (tailOf l)) (q .left .outer) ∙ e)
+      by-depth (suc d) m e = rw (step d) (ap (λ (l : List Forest). outwards d (enclosing l)) (q .left .outer) ∙ e)
 
   pub leave-done : (next : Place) → NoElement text here next → depth ≡ 0 → Left text place next
   unfolding outwards
   leave-done next q z =
       record {
-        outer = q .left .outer ∙ ap (λ (d : ℕ). outwards d (tailOf (framesAt text here))) (sym z) ∙ p .outer;
+        outer = q .left .outer ∙ ap (λ (d : ℕ). outwards d (enclosing (framesAt text here))) (sym z) ∙ p .outer;
         within = q .left .within;
         fewer = omega (arith, q .left .fewer, p .deep);
       }

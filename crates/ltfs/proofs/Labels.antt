@@ -3,14 +3,15 @@ use Prim.Native.Nat.{ℕ}
 use mathlib.Core.Path.{_≡_, refl, ap, sym, _∙_}
 use mathlib.Core.Bool.{true, false}
 use mathlib.Core.List.{List, [], _∷_}
-use Rattle.texts.specs.Text.{isText}
-use Rattle.ltfs.specs.declared.tokens.Place.{Place}
+use Rattle.texts.specs.Text.{isText, startsWith}
+use Rattle.markup.specs.declared.Place.{Place}
 use Rattle.ltfs.specs.declared.values.Field.{Field}
 use Rattle.ltfs.specs.declared.label.Label.{Label}
-use Rattle.ltfs.specs.Tree.{Forest, none, element, treeOf}
+use Rattle.markup.specs.Tree.{Forest, none, element, treeOf}
 use Rattle.ltfs.specs.Index.{charsOf, valuesAt, labelName, blockSizeName, partitionsName, dataName, blockSizes, dataPartitions}
-use Rattle.ltfs.specs.Private.Parts.{tokensAt, framesAt, inside, bare, numberField, letterField, firstField, fieldFrom, withPartitions, withLabel, withLabelPart, labelOf}
-use Rattle.ltfs.proofs.Bare.{Reads, values-bare, values-one, values-named, values-other, other-name, fields-append, field-named, field-other, field-split, field-over}
+use Rattle.markup.specs.Places.{tokensAt}
+use Rattle.ltfs.specs.Private.Parts.{framesAt, inside, bare, numberField, letterField, fieldNamed, fieldFrom, withPartitions, withLabel, withLabelPart, labelOf}
+use Rattle.ltfs.proofs.Bare.{Reads, values-bare, values-one, values-named, values-other, other-name, fields-append, field-told, field-other, field-split, field-over}
 
 -- The data partitions in a `partitions` element.
 pub reads-partitions : Reads withPartitions
@@ -22,16 +23,11 @@ reads-partitions =
     }
 
 module _ (known : Field) (name : List ℕ) (held rest : Forest) where
-  pub partitions-data : (field later : Field) → isText dataName name ≡ true → field ≡ letterField (charsOf held) → later ≡ firstField known field → withPartitions known (element name held rest) ≡ withPartitions later rest
+  pub partitions-more : (letter later : Field) → letter ≡ letterField (charsOf held) → later ≡ fieldNamed dataName name known letter → withPartitions known (element name held rest) ≡ withPartitions later rest
   unfolding withPartitions
-  partitions-data field later e f l =
+  partitions-more letter later f l =
       field-split letterField known dataName name held rest []
-      ∙ ap (λ (k : Field). fieldFrom letterField k (valuesAt (dataName ∷ []) rest))
-      (field-named letterField known dataName name held none e ∙ ap (firstField known) (sym f) ∙ sym l)
-
-  pub partitions-other : isText dataName name ≡ false → withPartitions known (element name held rest) ≡ withPartitions known rest
-  unfolding withPartitions
-  partitions-other e = ap (fieldFrom letterField known) (values-other dataName [] name held rest e)
+      ∙ ap (λ (k : Field). fieldFrom letterField k (valuesAt (dataName ∷ []) rest)) (sym (field-told letterField known dataName name held rest letter later f l))
 
 -- The elements in a `ltfslabel` element.
 pub reads-label : Reads withLabel
@@ -49,21 +45,17 @@ module _ (label : Label) (name : List ℕ) (held : Forest) where
   unfolding withLabel
   label-more rest later e = rw (e, field-split numberField (label .size) blockSizeName name held rest [], field-split letterField (label .partition) partitionsName name held rest (dataName ∷ []))
 
-  pub label-size : (field size : Field) → isText blockSizeName name ≡ true → field ≡ numberField (charsOf held) → size ≡ firstField (label .size) field → record { size = size; partition = label .partition } ≡ withLabelPart label name held
-  unfolding withLabel
-  label-size field size e f s =
-      let o = other-name blockSizeName partitionsName name e refl in
-      sym (rw (field-named numberField (label .size) blockSizeName name held none e, field-other letterField (label .partition) partitionsName name held none (dataName ∷ []) o, s, f))
-
-  pub label-partitions : (partition : Field) → isText blockSizeName name ≡ false → isText partitionsName name ≡ true → partition ≡ withPartitions (label .partition) held → record { size = label .size; partition = partition } ≡ withLabelPart label name held
-  unfolding withLabel withPartitions
-  label-partitions partition o e p =
+  pub label-partitions : (partition : Field) → isText partitionsName name ≡ true → partition ≡ withPartitions (label .partition) held → record { size = label .size; partition = partition } ≡ withLabelPart label name held
+  unfolding withLabel withPartitions startsWith
+  label-partitions partition e p =
+      let o = other-name partitionsName blockSizeName name e refl in
       sym (rw (field-other numberField (label .size) blockSizeName name held none [] o, values-one partitionsName (dataName ∷ []) name held none e, p))
 
-  pub label-other : isText blockSizeName name ≡ false → isText partitionsName name ≡ false → label ≡ withLabelPart label name held
+  pub label-size : (number size : Field) → isText partitionsName name ≡ false → number ≡ numberField (charsOf held) → size ≡ fieldNamed blockSizeName name (label .size) number → record { size = size; partition = label .partition } ≡ withLabelPart label name held
   unfolding withLabel
-  label-other b p =
-      sym (rw (field-other numberField (label .size) blockSizeName name held none [] b, field-other letterField (label .partition) partitionsName name held none (dataName ∷ []) p))
+  label-size number size o f s =
+      let t = field-told numberField (label .size) blockSizeName name held none number size f s in
+      sym (rw (field-other letterField (label .partition) partitionsName name held none (dataName ∷ []) o, ← t))
 
 -- The whole label, from what is known on.
 unfoldable pub labelFrom : Label → Forest → Label

@@ -1,34 +1,35 @@
 -- What is answered for the files of an index and for a label and an index, check by check.
 use Prim.Native.Nat.{ℕ, _≤_}
 use mathlib.Core.Path.{_≡_, refl, ap, sym, _∙_}
-use mathlib.Core.Bool.{Bool, true, false, cond, not, _&&_, and-false}
+use mathlib.Core.Bool.{Bool, true, false, not, _&&_, and-assoc, true≢false}
 use mathlib.Core.List.{List, [], _∷_}
 use native.Mathlib.Omega.{arith}
 use lib.ListN.{length, take, length-map}
 use lib.Dec.{ltb}
-use borrow.Author.Tests.{ltb-false, le-ltb, ne-eqb}
-use Rattle.refusals.specs.declared.Refusal.{Refusal}
-use Rattle.refusals.specs.declared.Refusal.the-variants.{Accepted, BadName, BadText, ManyExtents, Overlap, FarFile, ShortRow}
+use borrow.Author.Tests.{ltb-false, le-ltb, ne-eqb, not-false}
+use Rattle.refusals.specs.declared.Refusal.the-variants.{BadName, BadText, ManyExtents, Overlap, FarFile, ShortRow}
 use Rattle.runs.specs.declared.Rule.{Rule}
 use Rattle.runs.specs.declared.Rule.the-variants.{Least}
 use Rattle.refusals.specs.declared.Verdict.{Verdict}
-use Rattle.refusals.specs.Refusals.{isRefusal, accepted, refuseIf, firstOf}
+use Rattle.refusals.specs.Refusals.{accepted, refuseIf, firstOf}
+use Rattle.refusals.proofs.Verdicts.{refuses, all-accept, accepts-if}
 use Rattle.runs.specs.Run.{Run, runOf}
 use Rattle.runs.specs.Judging.{judgeOf}
 use Rattle.runs.proofs.Search.{or-false-both}
 use Rattle.writers.specs.declared.Written.{Written}
 use Rattle.texts.specs.Text.{isName, isNumber, valueOf}
+use Rattle.texts.proofs.Bytes.{and-true-both}
 use Rattle.writers.specs.Writing.{topText, sheetText, rowVerdict, writeVerdict, writtenAnswer, writtenRow}
 use Rattle.writers.proofs.Sheets.{first-row}
 use Rattle.ltfs.specs.declared.Report.{Report}
 use Rattle.ranges.specs.declared.Tally.{Tally}
-use Rattle.ltfs.specs.Tree.{Forest, isBalanced, treeOf}
-use Rattle.ltfs.specs.Index.{every, some, isNone, insides, areGood, isPartition, letterOf, indexName, blockSizes, dataPartitions, isGoodLabel, blockSizeOf, dataPartitionOf, isGoodExtent, filesOf, isGoodIndex}
+use Rattle.markup.specs.Tree.{Forest, isBalanced, treeOf}
+use Rattle.ltfs.specs.Index.{every, some, isNone, insides, areGood, isPartition, letterOf, indexName, blockSizes, dataPartitions, isGoodLabel, blockSizeOf, dataPartitionOf, isGoodExtent, indexFiles, isGoodIndex}
 use Rattle.ranges.specs.Ranges.{Range}
 use Rattle.ltfs.specs.Table.{inSeveral, rangesOf, inTapeOrder, areFar, someOverlap, lastEnd, runOfTable, rangesIn, tableIn, areGoodTexts, ltfsSheet, ltfsVerdict, refusedReport, ltfsReport, ltfsRow}
 use Rattle.ranges.specs.Ranges.{rangesFrom, neighbourOverlap}
 use Rattle.ltfs.specs.Private.Parts.{isValue, valueIn, numberField, letterField, labelOf}
-use Rattle.ltfs.specs.Private.Tallies.{RowsFit, RowsHold, EndsFit, TallyHolds, refusedBy, reportOf, tableSheet, tableVerdict, tableReport, tableRow}
+use Rattle.ltfs.specs.Private.Tallies.{TableRows, RowsHold, EndsFit, TallyHolds, textsRead, textChecks, fileChecks, reportOf, tableSheet, tableVerdict, tableReport, tableRow}
 use Rattle.ltfs.proofs.Order.{some-kept, length-kept, tape-order-ascends, held-ranges}
 use Rattle.ltfs.proofs.Tallies.{field-good, field-value, number-form, letter-form, held-length}
 use Rattle.ltfs.proofs.Neighbours.{isVoid, isBeyond, same-overlap, none-void, ends-fit, passes}
@@ -73,12 +74,9 @@ module _ (size partition : ℕ) (files : List (List Forest)) where
 
 -- The checks of the files of an index.
 module _ (name : List ℕ) (size partition : ℕ) (files : List (List Forest)) (row : List ℕ) where
-  abbrev Answered : Report → List ℕ → Type 0
-  Answered report row' = (report ≡ tableReport name size partition files row) × (row' ≡ tableRow name size partition files row)
-
-  refused-table : (k : Refusal) → isRefusal k ≡ true → tableVerdict name size partition files row ≡ record { refusal = k; place = 0 } → Answered (refusedBy k) row
+  refused-table : (v : Verdict) → refuses v ≡ true → tableVerdict name size partition files row ≡ v → (refusedReport v ≡ tableReport name size partition files row) × (row ≡ tableRow name size partition files row)
   unfolding tableReport tableRow writtenRow
-  refused-table k r v = (rw (v, r), rw (v, r))
+  refused-table v r e = (rw (e, r), rw (e, r))
 
   row-table : every (every isGoodExtent) files ≡ true → some inSeveral files ≡ false → areFar (rangesOf size partition files) ≡ false
       → someOverlap (inTapeOrder (rangesOf size partition files)) ≡ false
@@ -87,29 +85,26 @@ module _ (name : List ℕ) (size partition : ℕ) (files : List (List Forest)) (
   row-table g s f o = rw (g, s, f, o) (first-row (ltb (length row) (length (tableSheet name size partition files))))
 
   module _ (tally : Tally) (starts lengths : List ℕ) (h : TallyHolds size partition files tally starts lengths) where
-    pub laid-bad : tally .good ≡ false → (refusedBy BadText ≡ tableReport name size partition files row) × (row ≡ tableRow name size partition files row)
-    unfolding tableVerdict
-    laid-bad g =
-        let v : tableVerdict name size partition files row ≡ record { refusal = BadText; place = 0 } = rw (sym (h .good) ∙ g) in
-        refused-table BadText refl v
+    abbrev FilesDecide : Type 0
+    FilesDecide = tableVerdict name size partition files row ≡ firstOf (fileChecks tally starts lengths)
 
-    pub laid-several : tally .good ≡ true → tally .several ≡ true → (refusedBy ManyExtents ≡ tableReport name size partition files row) × (row ≡ tableRow name size partition files row)
+    same-bad : tally .good ≡ false → FilesDecide
     unfolding tableVerdict
-    laid-several g s =
-        let v : tableVerdict name size partition files row ≡ record { refusal = ManyExtents; place = 0 } = rw (sym (h .good) ∙ g, sym (h .several) ∙ s) in
-        refused-table ManyExtents refl v
+    same-bad g = rw (sym (h .good) ∙ g, g)
+
+    same-several : tally .good ≡ true → tally .several ≡ true → FilesDecide
+    unfolding tableVerdict
+    same-several g s = rw (sym (h .good) ∙ g, sym (h .several) ∙ s, g, s)
 
     module _ (g : tally .good ≡ true) (s : tally .several ≡ false) where
       far-is : tally .far ≡ areFar (rangesOf size partition files)
       far-is = h .counted g .far
 
-      pub laid-far : tally .far ≡ true → (refusedBy FarFile ≡ tableReport name size partition files row) × (row ≡ tableRow name size partition files row)
+      same-far : tally .far ≡ true → FilesDecide
       unfolding tableVerdict
-      laid-far f =
-          let v : tableVerdict name size partition files row ≡ record { refusal = FarFile; place = 0 } = rw (sym (h .good) ∙ g, sym (h .several) ∙ s, sym far-is ∙ f) in
-          refused-table FarFile refl v
+      same-far f = rw (sym (h .good) ∙ g, sym (h .several) ∙ s, sym far-is ∙ f, g, s, f)
 
-      module _ (f : tally .far ≡ false) (fits : RowsFit starts lengths) where
+      module _ (f : tally .far ≡ false) (fits : TableRows starts lengths) where
         held : RowsHold (tableFor size partition files) (tally .kept) starts lengths
         held = h .counted g .table f
 
@@ -122,13 +117,9 @@ module _ (name : List ℕ) (size partition : ℕ) (files : List (List Forest)) (
         overlap-seen : (b : Bool) → b ≡ neighbourOverlap (rangesFrom (take (tally .kept) starts) (take (tally .kept) lengths)) → someOverlap (tableFor size partition files) ≡ b
         overlap-seen b e = overlap-is size partition files ∙ sym (e ∙ ap neighbourOverlap (held-ranges (tableFor size partition files) (tally .kept) starts lengths held))
 
-        pub laid-overlap : true ≡ neighbourOverlap (rangesFrom (take (tally .kept) starts) (take (tally .kept) lengths))
-            → (refusedBy Overlap ≡ tableReport name size partition files row) × (row ≡ tableRow name size partition files row)
+        same-overlaps : neighbourOverlap (rangesFrom (take (tally .kept) starts) (take (tally .kept) lengths)) ≡ true → FilesDecide
         unfolding tableVerdict
-        laid-overlap e =
-            let v : tableVerdict name size partition files row ≡ record { refusal = Overlap; place = 0 } =
-            rw (sym (h .good) ∙ g, sym (h .several) ∙ s, sym far-is ∙ f, overlap-seen true e) in
-            refused-table Overlap refl v
+        same-overlaps o = rw (sym (h .good) ∙ g, sym (h .several) ∙ s, sym far-is ∙ f, overlap-seen true (sym o), g, s, f, o)
 
         laid-run : (head : ℕ) → head ≡ lastEnd (rangesFrom (take (tally .kept) starts) (take (tally .kept) lengths))
             → runOf (take (tally .kept) starts) (take (tally .kept) lengths) [] [] head 0 ≡ runOfTable (tableFor size partition files)
@@ -164,6 +155,41 @@ module _ (name : List ℕ) (size partition : ℕ) (files : List (List Forest)) (
                   ∙ ap (λ (v : Verdict). writtenRow v (sheetText name Least (runOfTable (tableFor size partition files))) row) (wv ∙ sym tv),
             )
 
+    -- A check refuses: that is the verdict.
+    files-refused : TableRows starts lengths → refuses (firstOf (fileChecks tally starts lengths)) ≡ true → FilesDecide
+    files-refused fits e = by-good (tally .good) refl
+      where
+        by-overlap : (b : Bool) → neighbourOverlap (rangesFrom (take (tally .kept) starts) (take (tally .kept) lengths)) ≡ b → tally .good ≡ true → tally .several ≡ false → tally .far ≡ false → FilesDecide
+        by-overlap true o g s f = same-overlaps g s f fits o
+        by-overlap false o g s f = absurd (true≢false (sym (rw (g, s, f, o) at e)))
+
+        by-far : (b : Bool) → tally .far ≡ b → tally .good ≡ true → tally .several ≡ false → FilesDecide
+        by-far true f g s = same-far g s f
+        by-far false f g s = by-overlap (neighbourOverlap (rangesFrom (take (tally .kept) starts) (take (tally .kept) lengths))) refl g s f
+
+        by-several : (b : Bool) → tally .several ≡ b → tally .good ≡ true → FilesDecide
+        by-several true s g = same-several g s
+        by-several false s g = by-far (tally .far) refl g s
+
+        by-good : (b : Bool) → tally .good ≡ b → FilesDecide
+        by-good true g = by-several (tally .several) refl g
+        by-good false g = same-bad g
+
+    pub laid-refused : (v : Verdict) → TableRows starts lengths → v ≡ firstOf (fileChecks tally starts lengths) → refuses v ≡ true
+        → (refusedReport v ≡ tableReport name size partition files row) × (row ≡ tableRow name size partition files row)
+    laid-refused v fits e r = refused-table v r (files-refused fits (rw e at r) ∙ sym e)
+
+    -- No check refuses.
+    pub laid-passed : (v : Verdict) → v ≡ firstOf (fileChecks tally starts lengths) → refuses v ≡ false
+        → (tally .good ≡ true) × (tally .several ≡ false) × (tally .far ≡ false) × (neighbourOverlap (rangesFrom (take (tally .kept) starts) (take (tally .kept) lengths)) ≡ false)
+    laid-passed v e r =
+        let a = all-accept (fileChecks tally starts lengths) (rw e at r) in (
+          not-false (tally .good) (accepts-if (not (tally .good)) BadText refl (a .0)),
+          accepts-if (tally .several) ManyExtents refl (a .1 .0),
+          accepts-if (tally .far) FarFile refl (a .1 .1 .0),
+          accepts-if (neighbourOverlap (rangesFrom (take (tally .kept) starts) (take (tally .kept) lengths))) Overlap refl (a .1 .1 .1 .0),
+        )
+
 -- A label that was read is good where its fields are values, and then says the same.
 pub label-size : (label : Forest) → isValue ((labelOf label) .size) ≡ areGood isNumber (blockSizes label)
 unfolding labelOf
@@ -181,113 +207,87 @@ partition-value : (label : Forest) → isValue ((labelOf label) .partition) ≡ 
 unfolding labelOf dataPartitionOf
 partition-value label e = field-value letterField isPartition letterOf letter-form (dataPartitions label) (sym (label-partition label) ∙ e)
 
--- Of four tests, one that fails.
-second-fails : (a b c d : Bool) → b ≡ false → (a && b && c && d) ≡ false
-second-fails true b c d e = rw e
-second-fails false b c d e = refl
-
-third-fails : (a b c d : Bool) → c ≡ false → (a && b && c && d) ≡ false
-third-fails true true c d e = rw e
-third-fails true false c d e = refl
-third-fails false b c d e = refl
-
-last-fails : (a b c d : Bool) → d ≡ false → (a && b && c && d) ≡ false
-last-fails a b c d e = rw (e, and-false (a && b && c))
-
--- A report by its verdict: the two ways to say it are one where a refusal has no place.
-report-same : (a b c d e : Bool) (bytes empty other : ℕ)
-    → cond (isRefusal ((firstOf (refuseIf a BadText ∷ refuseIf b ManyExtents ∷ refuseIf c FarFile ∷ refuseIf d Overlap ∷ refuseIf e ShortRow ∷ [])) .refusal))
-    (refusedBy ((firstOf (refuseIf a BadText ∷ refuseIf b ManyExtents ∷ refuseIf c FarFile ∷ refuseIf d Overlap ∷ refuseIf e ShortRow ∷ [])) .refusal))
-    (record { refusal = (firstOf (refuseIf a BadText ∷ refuseIf b ManyExtents ∷ refuseIf c FarFile ∷ refuseIf d Overlap ∷ refuseIf e ShortRow ∷ [])) .refusal; place = 0; bytes = bytes; empty = empty; other = other })
-    ≡ cond (isRefusal ((firstOf (refuseIf a BadText ∷ refuseIf b ManyExtents ∷ refuseIf c FarFile ∷ refuseIf d Overlap ∷ refuseIf e ShortRow ∷ [])) .refusal))
-    (refusedReport (firstOf (refuseIf a BadText ∷ refuseIf b ManyExtents ∷ refuseIf c FarFile ∷ refuseIf d Overlap ∷ refuseIf e ShortRow ∷ [])))
-    (record { refusal = Accepted; place = 0; bytes = bytes; empty = empty; other = other })
-report-same true b c d e bytes empty other = refl
-report-same false true c d e bytes empty other = refl
-report-same false false true d e bytes empty other = refl
-report-same false false false true e bytes empty other = refl
-report-same false false false false true bytes empty other = refl
-report-same false false false false false bytes empty other = refl
-
 -- The checks of a name, a label and an index.
 module _ (name label index row : List ℕ) where
-  refused-sheet : (k : Refusal) → isRefusal k ≡ true → ltfsVerdict name label index row ≡ record { refusal = k; place = 0 }
-      → (refusedBy k ≡ ltfsReport (ltfsVerdict name label index row) name label index) × (row ≡ ltfsRow (ltfsVerdict name label index row) name label index row)
-  unfolding ltfsReport ltfsRow writtenRow
-  refused-sheet k r v = (rw (v, r), rw (v, r))
+  -- What the two texts say themselves, and the extents of the index.
+  texts-are : areGoodTexts label index ≡ (textsRead label index (labelOf (treeOf label)) && every (every isGoodExtent) (indexFiles (treeOf index)))
+  unfolding areGoodTexts isGoodLabel isGoodIndex
+  texts-are =
+      rw (label-size (treeOf label), label-partition (treeOf label))
+      (sym (and-assoc (isBalanced label && isBalanced index && (areGood isNumber (blockSizes (treeOf label)) && areGood isPartition (dataPartitions (treeOf label))))
+      (not (isNone (insides indexName (treeOf index)))) (every (every isGoodExtent) (indexFiles (treeOf index)))))
 
-  pub bad-name : isName name ≡ false
-      → (refusedBy BadName ≡ ltfsReport (ltfsVerdict name label index row) name label index) × (row ≡ ltfsRow (ltfsVerdict name label index row) name label index row)
+  abbrev TextsDecide : Type 0
+  TextsDecide = ltfsVerdict name label index row ≡ firstOf (textChecks name label index (labelOf (treeOf label)))
+
+  same-name : isName name ≡ false → TextsDecide
   unfolding ltfsVerdict
-  bad-name e =
-      let v : ltfsVerdict name label index row ≡ record { refusal = BadName; place = 0 } = rw e in
-      refused-sheet BadName refl v
+  same-name n = rw n
 
-  module _ (n : isName name ≡ true) where
-    bad-texts : areGoodTexts label index ≡ false
-        → (refusedBy BadText ≡ ltfsReport (ltfsVerdict name label index row) name label index) × (row ≡ ltfsRow (ltfsVerdict name label index row) name label index row)
-    unfolding ltfsVerdict
-    bad-texts e =
-        let v : ltfsVerdict name label index row ≡ record { refusal = BadText; place = 0 } = rw (n, e) in
-        refused-sheet BadText refl v
+  same-texts : isName name ≡ true → textsRead label index (labelOf (treeOf label)) ≡ false → TextsDecide
+  unfolding ltfsVerdict
+  same-texts n t =
+      let g : areGoodTexts label index ≡ false = texts-are ∙ (rw t) in
+      rw (n, g, t)
 
-    pub unbalanced-label : isBalanced label ≡ false
-        → (refusedBy BadText ≡ ltfsReport (ltfsVerdict name label index row) name label index) × (row ≡ ltfsRow (ltfsVerdict name label index row) name label index row)
-    unfolding areGoodTexts
-    unbalanced-label e = bad-texts (rw e)
+  texts-refused : refuses (firstOf (textChecks name label index (labelOf (treeOf label)))) ≡ true → TextsDecide
+  texts-refused e = by-name (isName name) refl
+    where
+      by-texts : (b : Bool) → textsRead label index (labelOf (treeOf label)) ≡ b → isName name ≡ true → TextsDecide
+      by-texts true t n = absurd (true≢false (sym (rw (n, t) at e)))
+      by-texts false t n = same-texts n t
 
-    pub unbalanced-index : isBalanced index ≡ false
-        → (refusedBy BadText ≡ ltfsReport (ltfsVerdict name label index row) name label index) × (row ≡ ltfsRow (ltfsVerdict name label index row) name label index row)
-    unfolding areGoodTexts
-    unbalanced-index e = bad-texts (second-fails (isBalanced label) (isBalanced index) (isGoodLabel (treeOf label)) (isGoodIndex (treeOf index)) e)
+      by-name : (b : Bool) → isName name ≡ b → TextsDecide
+      by-name true n = by-texts (textsRead label index (labelOf (treeOf label))) refl n
+      by-name false n = same-name n
 
-    pub bad-size : isValue ((labelOf (treeOf label)) .size) ≡ false
-        → (refusedBy BadText ≡ ltfsReport (ltfsVerdict name label index row) name label index) × (row ≡ ltfsRow (ltfsVerdict name label index row) name label index row)
-    unfolding areGoodTexts isGoodLabel
-    bad-size e = bad-texts (third-fails (isBalanced label) (isBalanced index) (isGoodLabel (treeOf label)) (isGoodIndex (treeOf index)) (rw (sym (label-size (treeOf label)) ∙ e)))
+  refused-sheet : (v : Verdict) → refuses v ≡ true → ltfsVerdict name label index row ≡ v
+      → (refusedReport v ≡ ltfsReport (ltfsVerdict name label index row) name label index) × (row ≡ ltfsRow (ltfsVerdict name label index row) name label index row)
+  unfolding ltfsReport ltfsRow writtenRow
+  refused-sheet v r e = (rw (e, r), rw (e, r))
 
-    pub bad-partition : isValue ((labelOf (treeOf label)) .partition) ≡ false
-        → (refusedBy BadText ≡ ltfsReport (ltfsVerdict name label index row) name label index) × (row ≡ ltfsRow (ltfsVerdict name label index row) name label index row)
-    unfolding areGoodTexts isGoodLabel
-    bad-partition e =
-        bad-texts (third-fails (isBalanced label) (isBalanced index) (isGoodLabel (treeOf label)) (isGoodIndex (treeOf index))
-        (rw (sym (label-partition (treeOf label)) ∙ e) (and-false (areGood isNumber (blockSizes (treeOf label))))))
+  pub sheet-refused : (v : Verdict) → v ≡ firstOf (textChecks name label index (labelOf (treeOf label))) → refuses v ≡ true
+      → (refusedReport v ≡ ltfsReport (ltfsVerdict name label index row) name label index) × (row ≡ ltfsRow (ltfsVerdict name label index row) name label index row)
+  sheet-refused v e r = refused-sheet v r (texts-refused (rw e at r) ∙ sym e)
 
-    pub no-root : not (isNone (insides indexName (treeOf index))) ≡ false
-        → (refusedBy BadText ≡ ltfsReport (ltfsVerdict name label index row) name label index) × (row ≡ ltfsRow (ltfsVerdict name label index row) name label index row)
-    unfolding areGoodTexts isGoodIndex
-    no-root e = bad-texts (last-fails (isBalanced label) (isBalanced index) (isGoodLabel (treeOf label)) (isGoodIndex (treeOf index)) (rw e))
+  pub sheet-passed : (v : Verdict) → v ≡ firstOf (textChecks name label index (labelOf (treeOf label))) → refuses v ≡ false → (isName name ≡ true) × (textsRead label index (labelOf (treeOf label)) ≡ true)
+  sheet-passed v e r =
+      let a = all-accept (textChecks name label index (labelOf (treeOf label))) (rw e at r) in (
+        not-false (isName name) (accepts-if (not (isName name)) BadName refl (a .0)),
+        not-false (textsRead label index (labelOf (treeOf label))) (accepts-if (not (textsRead label index (labelOf (treeOf label)))) BadText refl (a .1 .0)),
+      )
 
-    -- All these checks passed: the files of the index decide.
-    module _ (bl : isBalanced label ≡ true) (bi : isBalanced index ≡ true) (gs : isValue ((labelOf (treeOf label)) .size) ≡ true)
-        (gp : isValue ((labelOf (treeOf label)) .partition) ≡ true) (root : not (isNone (insides indexName (treeOf index))) ≡ true) where
-      texts-are : areGoodTexts label index ≡ every (every isGoodExtent) (filesOf (treeOf index))
-      unfolding areGoodTexts isGoodLabel isGoodIndex
-      texts-are = rw (bl, bi, sym (label-size (treeOf label)) ∙ gs, sym (label-partition (treeOf label)) ∙ gp, root)
+  -- All these checks passed: the files of the index decide.
+  module _ (n : isName name ≡ true) (t : textsRead label index (labelOf (treeOf label)) ≡ true) where
+    values-are : (isValue ((labelOf (treeOf label)) .size) ≡ true) × (isValue ((labelOf (treeOf label)) .partition) ≡ true)
+    values-are =
+        let balanced = isBalanced label && isBalanced index in
+        let size = isValue ((labelOf (treeOf label)) .size) in
+        let partition = isValue ((labelOf (treeOf label)) .partition) in
+        let texts = and-true-both (balanced && (size && partition)) (not (isNone (insides indexName (treeOf index)))) t in
+        and-true-both size partition (and-true-both balanced (size && partition) (texts .0) .1)
 
-      verdict-is : ltfsVerdict name label index row ≡ tableVerdict name (blockSizeOf (treeOf label)) (dataPartitionOf (treeOf label)) (filesOf (treeOf index)) row
-      unfolding ltfsVerdict tableVerdict rangesIn tableIn ltfsSheet tableSheet
-      verdict-is = rw (n, texts-are)
+    extents-are : areGoodTexts label index ≡ every (every isGoodExtent) (indexFiles (treeOf index))
+    extents-are = texts-are ∙ (rw t)
 
-      report-at : tableReport name (blockSizeOf (treeOf label)) (dataPartitionOf (treeOf label)) (filesOf (treeOf index)) row ≡ ltfsReport (ltfsVerdict name label index row) name label index
-      unfolding tableReport ltfsReport tableSheet ltfsSheet tableIn rangesIn tableVerdict rowVerdict
-      report-at =
-          rw verdict-is
-          (report-same (not (every (every isGoodExtent) (filesOf (treeOf index)))) (some inSeveral (filesOf (treeOf index)))
-          (areFar (rangesOf (blockSizeOf (treeOf label)) (dataPartitionOf (treeOf label)) (filesOf (treeOf index))))
-          (someOverlap (inTapeOrder (rangesOf (blockSizeOf (treeOf label)) (dataPartitionOf (treeOf label)) (filesOf (treeOf index)))))
-          (ltb (length row) (length (sheetText name Least (runOfTable (inTapeOrder (rangesOf (blockSizeOf (treeOf label)) (dataPartitionOf (treeOf label)) (filesOf (treeOf index)))))))) _ _ _)
+    verdict-is : ltfsVerdict name label index row ≡ tableVerdict name (blockSizeOf (treeOf label)) (dataPartitionOf (treeOf label)) (indexFiles (treeOf index)) row
+    unfolding ltfsVerdict tableVerdict rangesIn tableIn ltfsSheet tableSheet
+    verdict-is = rw (n, extents-are)
 
-      row-at-end : tableRow name (blockSizeOf (treeOf label)) (dataPartitionOf (treeOf label)) (filesOf (treeOf index)) row ≡ ltfsRow (ltfsVerdict name label index row) name label index row
-      unfolding tableRow ltfsRow tableSheet ltfsSheet tableIn rangesIn
-      row-at-end = rw verdict-is
+    report-at : tableReport name (blockSizeOf (treeOf label)) (dataPartitionOf (treeOf label)) (indexFiles (treeOf index)) row ≡ ltfsReport (ltfsVerdict name label index row) name label index
+    unfolding tableReport ltfsReport tableSheet ltfsSheet tableIn rangesIn
+    report-at = rw verdict-is
 
-      pub sheet-laid : (size partition : ℕ) → size ≡ valueIn ((labelOf (treeOf label)) .size) → partition ≡ valueIn ((labelOf (treeOf label)) .partition) → (r : Report) (row' : List ℕ)
-          → r ≡ tableReport name size partition (filesOf (treeOf index)) row → row' ≡ tableRow name size partition (filesOf (treeOf index)) row
-          → (r ≡ ltfsReport (ltfsVerdict name label index row) name label index) × (row' ≡ ltfsRow (ltfsVerdict name label index row) name label index row)
-      sheet-laid size partition se pe r row' re we =
-          let s = se ∙ size-value (treeOf label) gs in
-          let p = pe ∙ partition-value (treeOf label) gp in (
-            re ∙ (rw (s, p) report-at),
-            we ∙ (rw (s, p) row-at-end),
-          )
+    row-at-end : tableRow name (blockSizeOf (treeOf label)) (dataPartitionOf (treeOf label)) (indexFiles (treeOf index)) row ≡ ltfsRow (ltfsVerdict name label index row) name label index row
+    unfolding tableRow ltfsRow tableSheet ltfsSheet tableIn rangesIn
+    row-at-end = rw verdict-is
+
+    pub sheet-laid : (size partition : ℕ) → size ≡ valueIn ((labelOf (treeOf label)) .size) → partition ≡ valueIn ((labelOf (treeOf label)) .partition) → (r : Report) (row' : List ℕ)
+        → r ≡ tableReport name size partition (indexFiles (treeOf index)) row → row' ≡ tableRow name size partition (indexFiles (treeOf index)) row
+        → (r ≡ ltfsReport (ltfsVerdict name label index row) name label index) × (row' ≡ ltfsRow (ltfsVerdict name label index row) name label index row)
+    sheet-laid size partition se pe r row' re we =
+        let s = se ∙ size-value (treeOf label) (values-are .0) in
+        let p = pe ∙ partition-value (treeOf label) (values-are .1) in (
+          re ∙ (rw (s, p) report-at),
+          we ∙ (rw (s, p) row-at-end),
+        )

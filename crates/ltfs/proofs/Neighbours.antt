@@ -14,12 +14,12 @@ use Rattle.runs.specs.Judging.{badFile, endBefore, judgeOf}
 use Rattle.refusals.specs.Refusals.{firstWhere}
 use Rattle.runs.proofs.Search.{or-false-both, first-all}
 use Rattle.texts.proofs.Bytes.{and-true-both}
-use Rattle.ltfs.specs.Tree.{Forest}
+use Rattle.markup.specs.Tree.{Forest}
 use Rattle.ltfs.specs.Index.{every, some, isNone, byteCountOf, partitionOf}
 use Rattle.ranges.specs.Ranges.{Range, endOfRange}
 use Rattle.ltfs.specs.Table.{firstExtent, isEmptyFile, isAccepted, only, rangeOf, rangesOf, overlap, someOverlap, lastEnd, runOfTable}
 use Rattle.ranges.specs.Ranges.{rangesFrom, neighbourOverlap}
-use Rattle.ltfs.specs.Private.Tallies.{RowsFit, RowsHold, EndsFit}
+use Rattle.ltfs.specs.Private.Tallies.{TableRows, RowsHold, EndsFit}
 use Rattle.ltfs.specs.Promises.{ascending}
 use Rattle.ltfs.proofs.Order.{behind}
 
@@ -39,7 +39,7 @@ pub last-none : (starts lengths : List ℕ) (kept : ℕ) → kept ≡ 0 → 0 �
 unfolding lastEnd rangesFrom
 last-none starts lengths kept e = rw e
 
-pub last-found : (starts lengths : List ℕ) (kept : ℕ) → RowsFit starts lengths → kept ≤ 256 → (kept ≡ 0 → ⊥)
+pub last-found : (starts lengths : List ℕ) (kept : ℕ) → TableRows starts lengths → kept ≤ 256 → (kept ≡ 0 → ⊥)
     → getD starts (kept - 1) 0 + getD lengths (kept - 1) 0 ≡ lastEnd (rangesFrom (take kept starts) (take kept lengths))
 last-found starts lengths kept fits few n =
     let z : kept ≡ suc (kept - 1) = omega arith in

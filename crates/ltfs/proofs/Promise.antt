@@ -16,8 +16,8 @@ use Rattle.refusals.proofs.Verdicts.{all-accept, accepts-if}
 use Rattle.texts.specs.Text.{isName}
 use Rattle.writers.specs.Writing.{rowVerdict}
 use Rattle.writers.proofs.RoundTrip.{round-trip}
-use Rattle.ltfs.specs.Tree.{Forest, treeOf}
-use Rattle.ltfs.specs.Index.{some, blockSizeOf, dataPartitionOf, partitionOf, filesOf}
+use Rattle.markup.specs.Tree.{Forest, treeOf}
+use Rattle.ltfs.specs.Index.{some, blockSizeOf, dataPartitionOf, partitionOf, indexFiles}
 use Rattle.ltfs.specs.Table.{firstExtent, inSeveral, isEmptyFile, liesElsewhere, isAccepted, howMany, only, rangeOf, rangesOf, areFar, someOverlap, runOfTable, rangesIn, tableIn, areGoodTexts, ltfsSheet, ltfsVerdict, ltfsReport}
 use Rattle.ltfs.specs.Promises.{NoFileIsLost, AnswerCountsAll, SheetReadsBack}
 use Rattle.ltfs.proofs.Order.{oneIf, counted-cons, counted-none, length-kept}
@@ -54,7 +54,7 @@ pub answer-counts-all : AnswerCountsAll
 unfolding ltfsReport tableIn rangesIn rangesOf
 answer-counts-all name label index row e =
     let partition = dataPartitionOf (treeOf label) in
-    let files = filesOf (treeOf index) in
+    let files = indexFiles (treeOf index) in
     let kept = length-kept (rangesOf (blockSizeOf (treeOf label)) partition files) in
     let ranges = length-map (only (isAccepted partition) files) (rangeOf (blockSizeOf (treeOf label))) in
     let empty : (ltfsReport (ltfsVerdict name label index row) name label index) .empty ≡ howMany isEmptyFile files = rw e in
@@ -67,12 +67,12 @@ unfolding ltfsVerdict ltfsSheet tableIn rangesIn runOfTable
 sheet-reads-back name label index row e =
     let size = blockSizeOf (treeOf label) in
     let partition = dataPartitionOf (treeOf label) in
-    let files = filesOf (treeOf index) in
+    let files = indexFiles (treeOf index) in
     let all =
     all-accept
     (refuseIf (not (isName name)) BadName
     ∷ refuseIf (not (areGoodTexts label index)) BadText
-    ∷ refuseIf (some inSeveral (filesOf (treeOf index))) ManyExtents
+    ∷ refuseIf (some inSeveral (indexFiles (treeOf index))) ManyExtents
     ∷ refuseIf (areFar (rangesIn label index)) FarFile
     ∷ refuseIf (someOverlap (tableIn label index)) Overlap
     ∷ rowVerdict (ltfsSheet name label index) row

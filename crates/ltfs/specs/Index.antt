@@ -1,10 +1,11 @@
 -- What the elements of a label and of an index say. Only the elements named here are interpreted; any other is passed over with what it holds.
 use Prim.Native.Nat.{ℕ}
+use Prim.Native.Char.{code}
 use mathlib.Core.Bool.{Bool, true, false, cond, not, _&&_, _||_}
 use mathlib.Core.List.{List, [], _∷_, _++_, map}
 use lib.ListN.{getD}
-use Rattle.texts.specs.Text.{isText, between, isNumber, valueOf}
-use Rattle.ltfs.specs.Tree.{Forest, none, char, element}
+use Rattle.texts.specs.Text.{bytes, isText, between, isNumber, valueOf}
+use Rattle.markup.specs.Tree.{Forest, none, char, element}
 
 -- What every element of a list says, and whether all or any of a list are of a kind.
 unfoldable pub joined : {A : Type 0} → List (List A) → List A
@@ -54,24 +55,24 @@ firstValue (value ∷ values) = value
 -- A partition is one byte, a to z.
 abbrev pub isPartition : List ℕ → Bool
 isPartition [] = false
-isPartition (b ∷ []) = between 97 122 b
+isPartition (b ∷ []) = between (code "a") (code "z") b
 isPartition (b ∷ c ∷ text) = false
 
 abbrev pub letterOf : List ℕ → ℕ
 letterOf text = getD text 0 0
 
--- The names: `ltfslabel`, `blocksize`, `partitions`, `data`.
+-- The names in a label.
 abbrev pub labelName : List ℕ
-labelName = 108 ∷ 116 ∷ 102 ∷ 115 ∷ 108 ∷ 97 ∷ 98 ∷ 101 ∷ 108 ∷ []
+labelName = bytes "ltfslabel"
 
 abbrev pub blockSizeName : List ℕ
-blockSizeName = 98 ∷ 108 ∷ 111 ∷ 99 ∷ 107 ∷ 115 ∷ 105 ∷ 122 ∷ 101 ∷ []
+blockSizeName = bytes "blocksize"
 
 abbrev pub partitionsName : List ℕ
-partitionsName = 112 ∷ 97 ∷ 114 ∷ 116 ∷ 105 ∷ 116 ∷ 105 ∷ 111 ∷ 110 ∷ 115 ∷ []
+partitionsName = bytes "partitions"
 
 abbrev pub dataName : List ℕ
-dataName = 100 ∷ 97 ∷ 116 ∷ 97 ∷ []
+dataName = bytes "data"
 
 -- The label: its block size and its data partition.
 unfoldable pub blockSizes : Forest → List (List ℕ)
@@ -89,18 +90,18 @@ blockSizeOf label = valueOf (firstValue (blockSizes label))
 unfoldable pub dataPartitionOf : Forest → ℕ
 dataPartitionOf label = letterOf (firstValue (dataPartitions label))
 
--- `partition`, `startblock`, `byteoffset`, `bytecount`.
+-- The names in an extent.
 abbrev pub partitionName : List ℕ
-partitionName = 112 ∷ 97 ∷ 114 ∷ 116 ∷ 105 ∷ 116 ∷ 105 ∷ 111 ∷ 110 ∷ []
+partitionName = bytes "partition"
 
 abbrev pub startBlockName : List ℕ
-startBlockName = 115 ∷ 116 ∷ 97 ∷ 114 ∷ 116 ∷ 98 ∷ 108 ∷ 111 ∷ 99 ∷ 107 ∷ []
+startBlockName = bytes "startblock"
 
 abbrev pub byteOffsetName : List ℕ
-byteOffsetName = 98 ∷ 121 ∷ 116 ∷ 101 ∷ 111 ∷ 102 ∷ 102 ∷ 115 ∷ 101 ∷ 116 ∷ []
+byteOffsetName = bytes "byteoffset"
 
 abbrev pub byteCountName : List ℕ
-byteCountName = 98 ∷ 121 ∷ 116 ∷ 101 ∷ 99 ∷ 111 ∷ 117 ∷ 110 ∷ 116 ∷ []
+byteCountName = bytes "bytecount"
 
 -- An extent, by what its element holds.
 abbrev pub valuesIn : List ℕ → Forest → List (List ℕ)
@@ -116,36 +117,36 @@ isGoodExtent extent =
 unfoldable pub partitionOf : Forest → ℕ
 partitionOf extent = letterOf (firstValue (valuesIn partitionName extent))
 
-abbrev pub numberIn : List ℕ → Forest → ℕ
-numberIn name extent = valueOf (firstValue (valuesIn name extent))
+abbrev pub extentNumber : List ℕ → Forest → ℕ
+extentNumber name extent = valueOf (firstValue (valuesIn name extent))
 
 unfoldable pub startBlockOf : Forest → ℕ
-startBlockOf extent = numberIn startBlockName extent
+startBlockOf extent = extentNumber startBlockName extent
 
 unfoldable pub byteOffsetOf : Forest → ℕ
-byteOffsetOf extent = numberIn byteOffsetName extent
+byteOffsetOf extent = extentNumber byteOffsetName extent
 
 unfoldable pub byteCountOf : Forest → ℕ
-byteCountOf extent = numberIn byteCountName extent
+byteCountOf extent = extentNumber byteCountName extent
 
--- `ltfsindex`, `directory`, `contents`, `file`, `extentinfo`, `extent`.
+-- The names in an index.
 abbrev pub indexName : List ℕ
-indexName = 108 ∷ 116 ∷ 102 ∷ 115 ∷ 105 ∷ 110 ∷ 100 ∷ 101 ∷ 120 ∷ []
+indexName = bytes "ltfsindex"
 
 abbrev pub directoryName : List ℕ
-directoryName = 100 ∷ 105 ∷ 114 ∷ 101 ∷ 99 ∷ 116 ∷ 111 ∷ 114 ∷ 121 ∷ []
+directoryName = bytes "directory"
 
 abbrev pub contentsName : List ℕ
-contentsName = 99 ∷ 111 ∷ 110 ∷ 116 ∷ 101 ∷ 110 ∷ 116 ∷ 115 ∷ []
+contentsName = bytes "contents"
 
 abbrev pub fileName : List ℕ
-fileName = 102 ∷ 105 ∷ 108 ∷ 101 ∷ []
+fileName = bytes "file"
 
 abbrev pub extentInfoName : List ℕ
-extentInfoName = 101 ∷ 120 ∷ 116 ∷ 101 ∷ 110 ∷ 116 ∷ 105 ∷ 110 ∷ 102 ∷ 111 ∷ []
+extentInfoName = bytes "extentinfo"
 
 abbrev pub extentName : List ℕ
-extentName = 101 ∷ 120 ∷ 116 ∷ 101 ∷ 110 ∷ 116 ∷ []
+extentName = bytes "extent"
 
 -- Where an element stands in an index: outside of all, in the index, in a directory, in a directory's contents.
 pub data Level : Type 0 where
@@ -181,9 +182,9 @@ filesIn none level = []
 filesIn (char b rest) level = filesIn rest level
 filesIn (element name inside rest) level = filesOfRole (roleOf level name) inside (filesIn inside) ++ filesIn rest level
 
-unfoldable pub filesOf : Forest → List (List Forest)
-filesOf index = filesIn index outside
+unfoldable pub indexFiles : Forest → List (List Forest)
+indexFiles index = filesIn index outside
 
 -- An index has its root, and every extent of every file is good.
 unfoldable pub isGoodIndex : Forest → Bool
-isGoodIndex index = not (isNone (insides indexName index)) && every (every isGoodExtent) (filesOf index)
+isGoodIndex index = not (isNone (insides indexName index)) && every (every isGoodExtent) (indexFiles index)

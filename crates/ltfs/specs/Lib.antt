@@ -1,6 +1,4 @@
 -- What a reader of tape tables must believe, in request L1's words. Read in this order; Private, which only private contracts cite, can be left out.
-pub mod Markup
-pub mod Tree
 pub mod Index
 pub mod Table
 pub mod Promises

@@ -4,10 +4,11 @@ ghost use mathlib.Core.Path.{_≡_};
 ghost use Prim.Native.Nat.{_≤_};
 ghost use lib.ListN.{length};
 ghost use Rattle.texts.specs.Text.{isText};
-ghost use Rattle.ltfs.specs.Private.Parts.{part, PlaceIn, Left, ChildMet};
+ghost use Rattle.markup.specs.Places.{part, PlaceIn};
+ghost use Rattle.ltfs.specs.Private.Parts.{Left, ChildMet};
 use crate::tokens::Met;
-use crate::tokens::Place;
 use crate::tokens::next_token;
+use markup::Place;
 
 // An element with its name and where its inside begins; or none is left, and the reader is past the end.
 pub(crate) enum Child {

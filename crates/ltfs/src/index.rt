@@ -2,20 +2,20 @@
 ghost use mathlib.Core.Path.{_≡_};
 ghost use mathlib.Core.Bool.{not, _&&_};
 ghost use Prim.Native.Nat.{suc};
-ghost use Rattle.ltfs.specs.Tree.{treeOf};
+ghost use Rattle.markup.specs.Tree.{treeOf};
 ghost use Rattle.ltfs.specs.Index.{isNone, insides, indexName, extentName, extentsOf, roleOf, inContents, inDirectory};
-ghost use Rattle.ltfs.specs.Private.Parts.{part, PlaceIn, NameIn, Left, inside, withExtentPart, withExtentBytes, extentOf, withExtent, withExtents, fileOf, extentIsGood, levelAt, RoleFound, NextFound, WalkIn};
+ghost use Rattle.markup.specs.Places.{part, PlaceIn, NameIn};
+ghost use Rattle.ltfs.specs.Private.Parts.{Left, inside, withExtentPart, extentOf, withExtent, withExtents, fileOf, extentIsGood, levelAt, enterIf, RoleFound, NextFound, WalkIn};
 use crate::elements::Child;
 use crate::elements::is_named;
 use crate::elements::leave;
 use crate::elements::next_child;
-use crate::tokens::Place;
 use crate::values::Field;
-use crate::values::first_field;
+use crate::values::field_named;
 use crate::values::is_value;
-use crate::values::read_letter;
-use crate::values::read_number;
+use crate::values::read_value;
 use crate::values::value_in;
+use markup::Place;
 use ranges::File;
 
 pub(crate) struct Extent {
@@ -53,87 +53,26 @@ enum Use {
     Skip,
 }
 
-// One element in an `extent` element.
+// One element in an `extent` element: it counts for the field of its name.
 fn read_extent_part(text: &[u8], from: usize, to: usize, place: Place, extent: Extent) -> ExtentRead
     requires { ⌜ PlaceIn (now text) place ⌝ }
     requires { ⌜ NameIn (now text) from to ⌝ }
     ensures { λ r. ⌜ (r .extent ≡ withExtentPart extent (part from to (now (text .entry))) (inside (now (text .entry)) place)) × Left (now (text .entry)) place (r .next) ⌝ }
 {
+    let read = read_value(text, place);
+    let letter = read.letter;
+    let number = read.number;
+    let next = read.next;
     let partition = extent.partition;
     let block = extent.block;
     let offset = extent.offset;
     let count = extent.count;
-    if is_named(text, from, to, b"partition") {
-        let read = read_letter(text, place);
-        let field = read.field;
-        let next = read.next;
-        let partition = first_field(partition, field);
-        let extent = Extent {
-            partition,
-            block,
-            offset,
-            count,
-        };
-        return ExtentRead { extent, next };
-    }
-    if is_named(text, from, to, b"startblock") {
-        let read = read_number(text, place);
-        let field = read.field;
-        let next = read.next;
-        let block = first_field(block, field);
-        let extent = Extent {
-            partition,
-            block,
-            offset,
-            count,
-        };
-        return ExtentRead { extent, next };
-    }
-    read_extent_bytes(text, from, to, place, extent)
-}
-
-fn read_extent_bytes(
-    text: &[u8],
-    from: usize,
-    to: usize,
-    place: Place,
-    extent: Extent,
-) -> ExtentRead
-    requires { ⌜ PlaceIn (now text) place ⌝ }
-    requires { ⌜ NameIn (now text) from to ⌝ }
-    ensures { λ r. ⌜ (r .extent ≡ withExtentBytes extent (part from to (now (text .entry))) (inside (now (text .entry)) place)) × Left (now (text .entry)) place (r .next) ⌝ }
-{
-    let partition = extent.partition;
-    let block = extent.block;
-    let offset = extent.offset;
-    let count = extent.count;
-    if is_named(text, from, to, b"byteoffset") {
-        let read = read_number(text, place);
-        let field = read.field;
-        let next = read.next;
-        let offset = first_field(offset, field);
-        let extent = Extent {
-            partition,
-            block,
-            offset,
-            count,
-        };
-        return ExtentRead { extent, next };
-    }
-    if is_named(text, from, to, b"bytecount") {
-        let read = read_number(text, place);
-        let field = read.field;
-        let next = read.next;
-        let count = first_field(count, field);
-        let extent = Extent {
-            partition,
-            block,
-            offset,
-            count,
-        };
-        return ExtentRead { extent, next };
-    }
-    let next = leave(text, place);
+    let extent = Extent {
+        partition: field_named(text, from, to, b"partition", partition, letter),
+        block: field_named(text, from, to, b"startblock", block, number),
+        offset: field_named(text, from, to, b"byteoffset", offset, number),
+        count: field_named(text, from, to, b"bytecount", count, number),
+    };
     ExtentRead { extent, next }
 }
 
@@ -161,6 +100,15 @@ fn read_extent(text: &[u8], place: Place) -> ExtentRead
     }
 }
 
+pub(crate) fn both(one: bool, another: bool) -> bool
+    ensures { λ r. ⌜ r ≡ (one && another) ⌝ }
+{
+    if one {
+        return another;
+    }
+    false
+}
+
 fn extent_is_good(extent: Extent) -> bool
     ensures { λ r. ⌜ r ≡ extentIsGood extent ⌝ }
 {
@@ -168,33 +116,15 @@ fn extent_is_good(extent: Extent) -> bool
     let block = extent.block;
     let offset = extent.offset;
     let count = extent.count;
-    if !is_value(partition) {
-        return false;
-    }
-    if !is_value(block) {
-        return false;
-    }
-    if !is_value(offset) {
-        return false;
-    }
-    is_value(count)
-}
-
-// Whether the extents of a file are all good, with one more.
-fn still_good(file: File, extent: Extent) -> bool
-    ensures { λ r. ⌜ r ≡ (file .good && extentIsGood extent) ⌝ }
-{
-    if !file.good {
-        return false;
-    }
-    extent_is_good(extent)
+    let three = both(both(is_value(partition), is_value(block)), is_value(offset));
+    both(three, is_value(count))
 }
 
 // A file with one more extent.
 fn with_extent(file: File, extent: Extent) -> File
     ensures { λ r. ⌜ r ≡ withExtent file extent ⌝ }
 {
-    let good = still_good(file, extent);
+    let good = both(file.good, extent_is_good(extent));
     if file.some {
         return File {
             some: true,
@@ -277,6 +207,15 @@ fn read_file(text: &[u8], place: Place) -> FileRead
     }
 }
 
+fn enter_if(named: bool) -> Use
+    ensures { λ r. ⌜ r ≡ enterIf named ⌝ }
+{
+    if named {
+        return Use::Enter;
+    }
+    Use::Skip
+}
+
 // What a name means in the contents of a directory.
 fn use_in_contents(text: &[u8], from: usize, to: usize) -> Use
     requires { ⌜ NameIn (now text) from to ⌝ }
@@ -297,22 +236,13 @@ fn use_at(text: &[u8], from: usize, to: usize, depth: usize) -> Use
     ensures { λ r. ⌜ RoleFound (roleOf (levelAt depth) (part from to (now (text .entry)))) (levelAt (suc depth)) r ⌝ }
 {
     if depth == 0 {
-        if is_named(text, from, to, b"ltfsindex") {
-            return Use::Enter;
-        }
-        return Use::Skip;
+        return enter_if(is_named(text, from, to, b"ltfsindex"));
     }
     if depth == 1 {
-        if is_named(text, from, to, b"directory") {
-            return Use::Enter;
-        }
-        return Use::Skip;
+        return enter_if(is_named(text, from, to, b"directory"));
     }
     if depth % 2 == 0 {
-        if is_named(text, from, to, b"contents") {
-            return Use::Enter;
-        }
-        return Use::Skip;
+        return enter_if(is_named(text, from, to, b"contents"));
     }
     use_in_contents(text, from, to)
 }

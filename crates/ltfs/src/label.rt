@@ -1,16 +1,16 @@
 // The label: block size and data partition.
 ghost use mathlib.Core.Path.{_≡_};
-ghost use Rattle.ltfs.specs.Tree.{treeOf};
-ghost use Rattle.ltfs.specs.Private.Parts.{PlaceIn, Left, inside, part, NameIn, labelOf, withLabel, withLabelPart, withPartitions};
+ghost use Rattle.markup.specs.Tree.{treeOf};
+ghost use Rattle.markup.specs.Places.{PlaceIn, part, NameIn};
+ghost use Rattle.ltfs.specs.Private.Parts.{Left, inside, labelOf, withLabel, withLabelPart, withPartitions};
 use crate::elements::Child;
 use crate::elements::is_named;
 use crate::elements::leave;
 use crate::elements::next_child;
-use crate::tokens::Place;
 use crate::values::Field;
-use crate::values::first_field;
-use crate::values::read_letter;
-use crate::values::read_number;
+use crate::values::field_named;
+use crate::values::read_value;
+use markup::Place;
 
 pub(crate) struct Label {
     pub size: Field,
@@ -39,14 +39,10 @@ fn read_partitions(text: &[u8], place: Place, partition: Field) -> PartitionRead
         match child {
             Child::Done(next) => return PartitionRead { partition, next },
             Child::Element { from, to, next } => {
-                if is_named(text, from, to, b"data") {
-                    let read = read_letter(text, next);
-                    let field = read.field;
-                    partition = first_field(partition, field);
-                    here = read.next;
-                } else {
-                    here = leave(text, next);
-                }
+                let read = read_value(text, next);
+                let letter = read.letter;
+                partition = field_named(text, from, to, b"data", partition, letter);
+                here = read.next;
             }
         }
     }
@@ -60,14 +56,6 @@ fn read_label_part(text: &[u8], from: usize, to: usize, place: Place, label: Lab
 {
     let size = label.size;
     let partition = label.partition;
-    if is_named(text, from, to, b"blocksize") {
-        let read = read_number(text, place);
-        let field = read.field;
-        let next = read.next;
-        let size = first_field(size, field);
-        let label = Label { size, partition };
-        return LabelRead { label, next };
-    }
     if is_named(text, from, to, b"partitions") {
         let read = read_partitions(text, place, partition);
         let partition = read.partition;
@@ -75,7 +63,13 @@ fn read_label_part(text: &[u8], from: usize, to: usize, place: Place, label: Lab
         let label = Label { size, partition };
         return LabelRead { label, next };
     }
-    let next = leave(text, place);
+    let read = read_value(text, place);
+    let number = read.number;
+    let next = read.next;
+    let label = Label {
+        size: field_named(text, from, to, b"blocksize", size, number),
+        partition,
+    };
     LabelRead { label, next }
 }
 

@@ -1,20 +1,15 @@
 // ltfs: tape tables from LTFS labels and indexes, as run sheets.
 // For the program and the tools, which see only this contract. What the words mean stands in specs/; the public function
 // answers every input, and its contract gives the answer and the lent row by a definition there.
-mod balance;
 mod elements;
 mod index;
 mod label;
-mod scan;
 mod sheet;
 mod table;
 mod tokens;
 mod values;
 
 pub use sheet::table_sheet;
-
-// The elements that may be open at once, the outermost among them.
-pub const MOST_OPEN: usize = 32;
 
 // What is answered: the size of the sheet, and how many files were left out. Every number is 0 on a refusal.
 pub struct Report {

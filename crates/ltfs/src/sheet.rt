@@ -4,35 +4,42 @@ ghost use mathlib.Core.Bool.{true};
 ghost use mathlib.Core.List.{[]};
 ghost use Prim.Native.Nat.{_≤_};
 ghost use lib.ListN.{take};
+ghost use Rattle.refusals.specs.Refusals.{firstOf};
 ghost use Rattle.runs.specs.declared.Rule.the-variants.{Least};
 ghost use Rattle.runs.specs.Run.{runOf};
 ghost use Rattle.texts.specs.Text.{isName};
 ghost use Rattle.writers.specs.Writing.{sheetText, writeVerdict, writtenAnswer, writtenRow};
-ghost use Rattle.ltfs.specs.Tree.{treeOf};
-ghost use Rattle.ltfs.specs.Index.{filesOf};
-ghost use Rattle.ltfs.specs.Table.{lastEnd, ltfsVerdict, ltfsReport, ltfsRow};
+ghost use Rattle.markup.specs.Tree.{treeOf};
+ghost use Rattle.ltfs.specs.Index.{indexFiles};
+ghost use Rattle.ltfs.specs.Table.{lastEnd, refusedReport, ltfsVerdict, ltfsReport, ltfsRow};
 ghost use Rattle.ranges.specs.Ranges.{rangesFrom};
-ghost use Rattle.ltfs.specs.Private.Tallies.{RowsFit, EndsFit, refusedBy, reportOf, tableReport, tableRow};
+ghost use Rattle.ltfs.specs.Private.Tallies.{TableRows, EndsFit, textsRead, textChecks, fileChecks, reportOf, tableReport, tableRow};
 use crate::Report;
-use crate::balance::is_balanced;
+use crate::index::both;
 use crate::index::has_index;
+use crate::label::Label;
 use crate::label::read_label;
 use crate::table::gather;
 use crate::values::is_value;
 use crate::values::value_in;
+use markup::is_balanced;
 use ranges::Tally;
 use ranges::neighbours_overlap;
 use refusals::Refusal;
+use refusals::Verdict;
+use refusals::refuse_if;
+use refusals::refused;
 use runs::Rule;
 use writers::Written;
 
-// The answer of a refusal: its kind, and every number 0.
-fn refused(refusal: Refusal) -> Report
-    ensures { λ r. ⌜ r ≡ refusedBy refusal ⌝ }
+// The answer of a refusal: its kind and place, and every other number 0.
+fn refusal_of(v: Verdict) -> Report
+    ensures { λ r. ⌜ r ≡ refusedReport v ⌝ }
 {
+    let refusal = v.refusal;
     Report {
         refusal,
-        place: 0,
+        place: v.place,
         bytes: 0,
         empty: 0,
         other: 0,
@@ -42,7 +49,7 @@ fn refused(refusal: Refusal) -> Report
 // The end of the last file; 0 where there is none.
 fn last_end(starts: &[u64], lengths: &[u64], kept: usize) -> u64
     requires { ⌜ kept ≤ 256 ⌝ }
-    requires { ⌜ RowsFit (now starts) (now lengths) ⌝ }
+    requires { ⌜ TableRows (now starts) (now lengths) ⌝ }
     requires { ⌜ EndsFit (now starts) (now lengths) kept ⌝ }
     ensures { λ r. ⌜ r ≡ lastEnd (rangesFrom (take kept (now (starts .entry))) (take kept (now (lengths .entry)))) ⌝ }
 {
@@ -78,10 +85,13 @@ fn report_of(written: Written, tally: Tally) -> Report
 {
     let refusal = written.refusal;
     if written.bytes == 0 {
-        return refused(refusal);
+        return refusal_of(Verdict {
+            refusal,
+            place: written.place,
+        });
     }
     Report {
-        refusal,
+        refusal: Refusal::Accepted,
         place: 0,
         bytes: written.bytes,
         empty: tally.empty,
@@ -89,31 +99,70 @@ fn report_of(written: Written, tally: Tally) -> Report
     }
 }
 
+// The files counted: 20, 21, 23 and 22.
+fn judge_files(tally: Tally, starts: &[u64], lengths: &[u64]) -> Verdict
+    requires { ⌜ tally .kept ≤ 256 ⌝ }
+    requires { ⌜ TableRows (now starts) (now lengths) ⌝ }
+    ensures { λ r. ⌜ r ≡ firstOf (fileChecks tally (now (starts .entry)) (now (lengths .entry))) ⌝ }
+{
+    let values = refuse_if(!tally.good, Refusal::BadText);
+    if refused(values) {
+        return values;
+    }
+    let several = refuse_if(tally.several, Refusal::ManyExtents);
+    if refused(several) {
+        return several;
+    }
+    let far = refuse_if(tally.far, Refusal::FarFile);
+    if refused(far) {
+        return far;
+    }
+    let kept = tally.kept;
+    refuse_if(
+        neighbours_overlap(&starts[..kept], &lengths[..kept]),
+        Refusal::Overlap,
+    )
+}
+
 // The files of an index, for a block size and a data partition: 20, 21, 23, 22 and 8.
 fn lay_out(name: &[u8], size: u64, partition: u64, index: &[u8], out: &mut [u8]) -> Report
     requires { ⌜ isName (now name) ≡ true ⌝ }
-    ensures { λ r. ⌜ r ≡ tableReport (now (name .entry)) size partition (filesOf (treeOf (now (index .entry)))) (now (out .entry)) ⌝ }
-    ensures { λ _. ⌜ now (out .exit) ≡ tableRow (now (name .entry)) size partition (filesOf (treeOf (now (index .entry)))) (now (out .entry)) ⌝ }
+    ensures { λ r. ⌜ r ≡ tableReport (now (name .entry)) size partition (indexFiles (treeOf (now (index .entry)))) (now (out .entry)) ⌝ }
+    ensures { λ _. ⌜ now (out .exit) ≡ tableRow (now (name .entry)) size partition (indexFiles (treeOf (now (index .entry)))) (now (out .entry)) ⌝ }
 {
     let mut starts = [0u64; 256];
     let mut lengths = [0u64; 256];
     let tally = gather(index, size, partition, &mut starts, &mut lengths);
-    if !tally.good {
-        return refused(Refusal::BadText);
-    }
-    if tally.several {
-        return refused(Refusal::ManyExtents);
-    }
-    if tally.far {
-        return refused(Refusal::FarFile);
+    let verdict = judge_files(tally, &starts, &lengths);
+    if refused(verdict) {
+        return refusal_of(verdict);
     }
     let kept = tally.kept;
-    if neighbours_overlap(&starts[..kept], &lengths[..kept]) {
-        return refused(Refusal::Overlap);
-    }
     let head = last_end(&starts, &lengths, kept);
     let written = write_table(name, &starts[..kept], &lengths[..kept], head, out);
     report_of(written, tally)
+}
+
+// Whether both texts are balanced, the label has its two values, and the index its root.
+fn texts_are_good(label: &[u8], index: &[u8], read: Label) -> bool
+    ensures { λ r. ⌜ r ≡ textsRead (now (label .entry)) (now (index .entry)) read ⌝ }
+{
+    let size = read.size;
+    let partition = read.partition;
+    let balanced = both(is_balanced(label), is_balanced(index));
+    let values = both(is_value(size), is_value(partition));
+    both(both(balanced, values), has_index(index))
+}
+
+// The name and the two texts: 13 and 20.
+fn judge_texts(name: &[u8], label: &[u8], index: &[u8], read: Label) -> Verdict
+    ensures { λ r. ⌜ r ≡ firstOf (textChecks (now (name .entry)) (now (label .entry)) (now (index .entry)) read) ⌝ }
+{
+    let named = refuse_if(!texts::is_name(name), Refusal::BadName);
+    if refused(named) {
+        return named;
+    }
+    refuse_if(!texts_are_good(label, index, read), Refusal::BadText)
 }
 
 // The sheet of a tape's files in the first bytes of a row, and a report of those left out.
@@ -121,27 +170,13 @@ pub fn table_sheet(name: &[u8], label: &[u8], index: &[u8], out: &mut [u8]) -> R
     ensures { λ r. ⌜ r ≡ ltfsReport (ltfsVerdict (now (name .entry)) (now (label .entry)) (now (index .entry)) (now (out .entry))) (now (name .entry)) (now (label .entry)) (now (index .entry)) ⌝ }
     ensures { λ _. ⌜ now (out .exit) ≡ ltfsRow (ltfsVerdict (now (name .entry)) (now (label .entry)) (now (index .entry)) (now (out .entry))) (now (name .entry)) (now (label .entry)) (now (index .entry)) (now (out .entry)) ⌝ }
 {
-    if !texts::is_name(name) {
-        return refused(Refusal::BadName);
-    }
-    if !is_balanced(label) {
-        return refused(Refusal::BadText);
-    }
-    if !is_balanced(index) {
-        return refused(Refusal::BadText);
-    }
     let read = read_label(label);
+    let verdict = judge_texts(name, label, index, read);
+    if refused(verdict) {
+        return refusal_of(verdict);
+    }
     let size_field = read.size;
     let partition_field = read.partition;
-    if !is_value(size_field) {
-        return refused(Refusal::BadText);
-    }
-    if !is_value(partition_field) {
-        return refused(Refusal::BadText);
-    }
-    if !has_index(index) {
-        return refused(Refusal::BadText);
-    }
     let size = value_in(size_field);
     let partition = value_in(partition_field);
     lay_out(name, size, partition, index, out)

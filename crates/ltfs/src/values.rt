@@ -4,11 +4,13 @@ ghost use mathlib.Core.List.{List};
 ghost use mathlib.Core.Bool.{cond, _&&_};
 ghost use Prim.Native.Nat.{ℕ, _+_, _-_, _*_};
 ghost use Rattle.ltfs.specs.Index.{charsOf};
-ghost use Rattle.ltfs.specs.Private.Parts.{PlaceIn, Left, inside, withByte, charsFrom, noChars, numberField, letterField, firstField, isValue, valueIn, mayFollow, grows, GrownTo};
+ghost use Rattle.markup.specs.Places.{part, NameIn, PlaceIn};
+ghost use Rattle.ltfs.specs.Private.Parts.{Left, inside, withByte, charsFrom, noChars, numberField, letterField, firstField, fieldNamed, isValue, valueIn, mayFollow, grows, digitOf, GrownTo};
+use crate::elements::is_named;
 use crate::elements::leave;
 use crate::tokens::Met;
-use crate::tokens::Place;
 use crate::tokens::next_token;
+use markup::Place;
 
 // What the elements of one name say: the first counts, and one that is bad spoils all.
 pub(crate) enum Field {
@@ -32,18 +34,20 @@ enum Grown {
     No,
 }
 
-pub(crate) struct CharsRead {
-    pub chars: Chars,
-    pub next: Place,
+struct CharsRead {
+    chars: Chars,
+    next: Place,
 }
 
-pub(crate) struct FieldRead {
-    pub field: Field,
+// A value in both forms: as a partition's letter and as a number.
+pub(crate) struct ValueRead {
+    pub letter: Field,
+    pub number: Field,
     pub next: Place,
 }
 
 // The second of two fields counts only where the first is missing, but is judged all the same.
-pub(crate) fn first_field(field: Field, later: Field) -> Field
+fn first_field(field: Field, later: Field) -> Field
     ensures { λ r. ⌜ r ≡ firstField field later ⌝ }
 {
     match field {
@@ -86,12 +90,12 @@ fn wide(byte: u8) -> u64
 
 // A number with one more digit, or that it is none below 2 to the 64.
 fn grow(value: u64, byte: u8) -> Grown
-    ensures { λ r. ⌜ GrownTo (grows value byte) (value * 10 + (byte - 48)) r ⌝ }
+    ensures { λ r. ⌜ GrownTo (grows value byte) (value * 10 + digitOf byte) r ⌝ }
 {
-    if !texts::is_between(48, 57, byte) {
+    if !texts::is_between(b'0', b'9', byte) {
         return Grown::No;
     }
-    let digit = wide(byte - 48);
+    let digit = wide(byte - b'0');
     if (18446744073709551615 - digit) / 10 < value {
         return Grown::No;
     }
@@ -105,14 +109,14 @@ fn may_follow(chars: Chars) -> bool
     if !chars.some {
         return true;
     }
-    if chars.first == 48 {
+    if chars.first == b'0' {
         return false;
     }
     chars.good
 }
 
 fn number_with(chars: Chars, byte: u8) -> Grown
-    ensures { λ r. ⌜ GrownTo (mayFollow chars && grows (chars .value) byte) (chars .value * 10 + (byte - 48)) r ⌝ }
+    ensures { λ r. ⌜ GrownTo (mayFollow chars && grows (chars .value) byte) (chars .value * 10 + digitOf byte) r ⌝ }
 {
     if !may_follow(chars) {
         return Grown::No;
@@ -153,7 +157,7 @@ fn with_byte(chars: Chars, byte: u8) -> Chars
 }
 
 // The bytes directly in the element that the reader stands in, to its end.
-pub(crate) fn read_chars(text: &[u8], place: Place) -> CharsRead
+fn read_chars(text: &[u8], place: Place) -> CharsRead
     requires { ⌜ PlaceIn (now text) place ⌝ }
     ensures { λ r. ⌜ (r .chars ≡ charsFrom noChars (charsOf (inside (now (text .entry)) place))) × Left (now (text .entry)) place (r .next) ⌝ }
 {
@@ -212,30 +216,43 @@ fn letter_in(chars: Chars) -> Field
         return Field::Bad;
     }
     let first = chars.first;
-    if !texts::is_between(97, 122, first) {
+    if !texts::is_between(b'a', b'z', first) {
         return Field::Bad;
     }
     Field::Value(wide(first))
 }
 
-pub(crate) fn read_number(text: &[u8], place: Place) -> FieldRead
+// The value of the element that the reader stands in.
+pub(crate) fn read_value(text: &[u8], place: Place) -> ValueRead
     requires { ⌜ PlaceIn (now text) place ⌝ }
-    ensures { λ r. ⌜ (r .field ≡ numberField (charsOf (inside (now (text .entry)) place))) × Left (now (text .entry)) place (r .next) ⌝ }
+    ensures { λ r. ⌜ (r .letter ≡ letterField (charsOf (inside (now (text .entry)) place))) × (r .number ≡ numberField (charsOf (inside (now (text .entry)) place))) × Left (now (text .entry)) place (r .next) ⌝ }
 {
     let read = read_chars(text, place);
     let chars = read.chars;
     let next = read.next;
-    let field = number_in(chars);
-    FieldRead { field, next }
+    let letter = letter_in(chars);
+    let number = number_in(chars);
+    ValueRead {
+        letter,
+        number,
+        next,
+    }
 }
 
-pub(crate) fn read_letter(text: &[u8], place: Place) -> FieldRead
-    requires { ⌜ PlaceIn (now text) place ⌝ }
-    ensures { λ r. ⌜ (r .field ≡ letterField (charsOf (inside (now (text .entry)) place))) × Left (now (text .entry)) place (r .next) ⌝ }
+// A field with what an element says that has been met, if it is of that name.
+pub(crate) fn field_named(
+    text: &[u8],
+    from: usize,
+    to: usize,
+    name: &[u8],
+    field: Field,
+    met: Field,
+) -> Field
+    requires { ⌜ NameIn (now text) from to ⌝ }
+    ensures { λ r. ⌜ r ≡ fieldNamed (now (name .entry)) (part from to (now (text .entry))) field met ⌝ }
 {
-    let read = read_chars(text, place);
-    let chars = read.chars;
-    let next = read.next;
-    let field = letter_in(chars);
-    FieldRead { field, next }
+    if is_named(text, from, to, name) {
+        return first_field(field, met);
+    }
+    field
 }

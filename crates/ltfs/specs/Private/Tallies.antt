@@ -1,29 +1,30 @@
 -- What the functions that count files, fill the table and answer for it ask and leave. No public contract cites this file.
 use Prim.Native.Nat.{ℕ, _+_, _≤_, _<_, _^_}
 use mathlib.Core.Path.{_≡_}
-use mathlib.Core.Bool.{true, false, cond, not}
+use mathlib.Core.Bool.{Bool, true, false, cond, not, _&&_}
 use mathlib.Core.List.{List, [], _∷_, _++_, map}
 use lib.ListN.{length, take, getD}
 use lib.Dec.{eqb}
-use Rattle.refusals.specs.declared.Refusal.{Refusal}
-use Rattle.refusals.specs.declared.Refusal.the-variants.{BadText, ManyExtents, Overlap, FarFile}
+use Rattle.refusals.specs.declared.Refusal.the-variants.{Accepted, BadName, BadText, ManyExtents, Overlap, FarFile}
 use Rattle.runs.specs.declared.Rule.the-variants.{Least}
 use Rattle.refusals.specs.declared.Verdict.{Verdict}
 use Rattle.refusals.specs.Refusals.{isRefusal, refuseIf, firstOf}
 use Rattle.runs.specs.Run.{lastPlace}
+use Rattle.texts.specs.Text.{isName}
 use Rattle.writers.specs.declared.Written.{Written}
 use Rattle.writers.specs.Writing.{sheetText, rowVerdict, writtenRow}
 use Rattle.ltfs.specs.declared.Report.{Report}
+use Rattle.ltfs.specs.declared.label.Label.{Label}
 use Rattle.ranges.specs.declared.File.{File}
 use Rattle.ranges.specs.declared.Tally.{Tally}
-use Rattle.ltfs.specs.Tree.{Forest}
-use Rattle.ltfs.specs.Index.{every, some, isGoodExtent}
-use Rattle.ranges.specs.Ranges.{Range}
-use Rattle.ltfs.specs.Table.{inSeveral, isEmptyFile, liesElsewhere, howMany, rangesOf, inTapeOrder, areFar, someOverlap, runOfTable}
-use Rattle.ltfs.specs.Private.Parts.{fileOf}
+use Rattle.markup.specs.Tree.{Forest, isBalanced, treeOf}
+use Rattle.ltfs.specs.Index.{every, some, isNone, insides, indexName, isGoodExtent}
+use Rattle.ranges.specs.Ranges.{Range, rangesFrom, neighbourOverlap}
+use Rattle.ltfs.specs.Table.{inSeveral, isEmptyFile, liesElsewhere, howMany, rangesOf, inTapeOrder, areFar, someOverlap, runOfTable, refusedReport}
+use Rattle.ltfs.specs.Private.Parts.{isValue, fileOf}
 
 -- The rows of a table have its size.
-pub record RowsFit (starts lengths : List ℕ) : Type 0 where
+pub record TableRows (starts lengths : List ℕ) : Type 0 where
   pub first : length starts ≡ 256
   pub second : length lengths ≡ 256
 
@@ -60,15 +61,29 @@ pub record FileCounted (tally : Tally) (f : File) (size partition : ℕ) (starts
 abbrev pub EndsFit : List ℕ → List ℕ → ℕ → Type 0
 EndsFit starts lengths kept = (i : ℕ) → i < kept → getD starts i 0 + getD lengths i 0 ≤ lastPlace
 
--- The answer of a refusal, and of a sheet that was written or refused.
-abbrev pub refusedBy : Refusal → Report
-refusedBy kind = record { refusal = kind; place = 0; bytes = 0; empty = 0; other = 0 }
+-- 20 for what the texts say themselves: not balanced, a value of the label that is missing or bad, no outermost `ltfsindex`.
+abbrev pub textsRead : List ℕ → List ℕ → Label → Bool
+textsRead label index read =
+    isBalanced label && isBalanced index && (isValue (read .size) && isValue (read .partition)) && not (isNone (insides indexName (treeOf index)))
 
+abbrev pub textChecks : List ℕ → List ℕ → List ℕ → Label → List Verdict
+textChecks name label index read = refuseIf (not (isName name)) BadName ∷ refuseIf (not (textsRead label index read)) BadText ∷ []
+
+-- 20, 21, 23 and 22 for the files that were counted.
+abbrev pub fileChecks : Tally → List ℕ → List ℕ → List Verdict
+fileChecks tally starts lengths =
+    refuseIf (not (tally .good)) BadText
+    ∷ refuseIf (tally .several) ManyExtents
+    ∷ refuseIf (tally .far) FarFile
+    ∷ refuseIf (neighbourOverlap (rangesFrom (take (tally .kept) starts) (take (tally .kept) lengths))) Overlap
+    ∷ []
+
+-- The answer of a sheet that was written or refused.
 unfoldable pub reportOf : Written → Tally → Report
 reportOf written tally =
-    cond (eqb (written .bytes) 0) (refusedBy (written .refusal))
+    cond (eqb (written .bytes) 0) (refusedReport (record { refusal = written .refusal; place = written .place }))
     (record {
-      refusal = written .refusal;
+      refusal = Accepted;
       place = 0;
       bytes = written .bytes;
       empty = tally .empty;
@@ -91,9 +106,9 @@ tableVerdict name size partition files row =
 
 unfoldable pub tableReport : List ℕ → ℕ → ℕ → List (List Forest) → List ℕ → Report
 tableReport name size partition files row =
-    cond (isRefusal ((tableVerdict name size partition files row) .refusal)) (refusedBy ((tableVerdict name size partition files row) .refusal))
+    cond (isRefusal ((tableVerdict name size partition files row) .refusal)) (refusedReport (tableVerdict name size partition files row))
     (record {
-      refusal = (tableVerdict name size partition files row) .refusal;
+      refusal = Accepted;
       place = 0;
       bytes = length (tableSheet name size partition files);
       empty = howMany isEmptyFile files;

@@ -2,8 +2,8 @@
 -- Assumes nothing.
 use Prim.Native.Nat.{_+_, _*_}
 use lib.ListN.{length}
-use Rattle.ltfs.specs.Private.Parts.{tokensAt}
-use Rattle.ltfs.proofs.Counts.{few-tokens}
+use Rattle.markup.specs.Places.{tokensAt}
+use Rattle.markup.proofs.Counts.{few-tokens}
 use Rattle.ltfs.proofs.Frames.{Leaving, leaving-none, leave-deeper, leave-out, leave-done}
 use borrow.Author.Needs.{needs}
 use native.Mathlib.Omega.{arith}

@@ -1,8 +1,9 @@
 -- `ltfs::elements::next_child` meets its contract: bytes are passed, and the first tag decides.
 -- Assumes nothing.
 use lib.ListN.{length}
-use Rattle.ltfs.specs.Private.Parts.{tokensAt}
-use Rattle.ltfs.proofs.Frames.{Seeking, seeking-none, seek-end, seek-broken, seek-byte, seek-start, seek-finish, begins-fewer}
+use Rattle.markup.specs.Places.{tokensAt}
+use Rattle.markup.proofs.Meets.{begins-fewer}
+use Rattle.ltfs.proofs.Frames.{Seeking, seeking-none, seek-end, seek-broken, seek-byte, seek-start, seek-finish}
 use borrow.Author.Needs.{needs}
 use Rattle.ltfs.proofs.elements.next_child.Statement.{statement}
 use Rattle.ltfs.proofs.elements.next_child.Tie as tie

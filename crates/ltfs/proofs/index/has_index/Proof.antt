@@ -2,7 +2,7 @@
 -- Assumes nothing.
 use mathlib.Core.Path.{sym, _∙_}
 use lib.ListN.{length}
-use Rattle.ltfs.specs.Private.Parts.{tokensAt}
+use Rattle.markup.specs.Places.{tokensAt}
 use Rattle.ltfs.proofs.Bare.{met-less}
 use Rattle.ltfs.proofs.Files.{IndexSought, index-start, index-nowhere, index-here, index-later}
 use borrow.Author.Needs.{needs}

@@ -2,7 +2,8 @@
 -- Assumes nothing.
 use Prim.Native.Nat.{_+_}
 use lib.ListN.{length}
-use Rattle.ltfs.specs.Private.Parts.{tokensAt, filesLeft}
+use Rattle.markup.specs.Places.{tokensAt}
+use Rattle.ltfs.specs.Private.Parts.{filesLeft}
 use Rattle.ltfs.proofs.Files.{WalkLeft, walk-start, walk-done, walk-out, walk-in, walk-past, walk-file}
 use borrow.Author.Needs.{needs}
 use native.Mathlib.Omega.{arith}

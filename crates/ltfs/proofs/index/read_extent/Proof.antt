@@ -1,7 +1,8 @@
 -- `ltfs::index::read_extent` meets its contract: the elements left add to what is known what all add.
 -- Assumes nothing.
 use lib.ListN.{length}
-use Rattle.ltfs.specs.Private.Parts.{tokensAt, extentFrom}
+use Rattle.markup.specs.Places.{tokensAt}
+use Rattle.ltfs.specs.Private.Parts.{extentFrom}
 use Rattle.ltfs.proofs.Bare.{ReadTo, read-none, read-more, read-over, met-less}
 use Rattle.ltfs.proofs.Files.{reads-extent, extent-more}
 use borrow.Author.Needs.{needs}

@@ -1,73 +1,59 @@
--- `ltfs::index::read_extent_part` meets its contract.
+-- `ltfs::index::read_extent_part` meets its contract: each field by its name.
 -- Assumes nothing.
-use mathlib.Core.Path.{sym, _∙_}
-use Rattle.ltfs.proofs.Files.{extent-partition, extent-block, extent-bytes}
+use Rattle.ltfs.proofs.Files.{extent-part}
 use borrow.Author.Needs.{needs}
 use Rattle.ltfs.proofs.index.read_extent_part.Statement.{statement}
 use Rattle.ltfs.proofs.index.read_extent_part.Tie as tie
 
-slice-aggregate-is-named : tie.Need-slice-aggregate-is-named
-slice-aggregate-is-named c = search needs
+read-value-requires : tie.Need-read-value-requires
+read-value-requires c κs = search needs
 
-is-named-requires : tie.Need-is-named-requires
-is-named-requires c κs = search needs
+slice-aggregate-field-named : tie.Need-slice-aggregate-field-named
+slice-aggregate-field-named c = search needs
 
-read-letter-requires : tie.Need-read-letter-requires
-read-letter-requires c κs = search needs
+field-named-requires : tie.Need-field-named-requires
+field-named-requires c κs = search needs
 
-first-field-requires : tie.Need-first-field-requires
-first-field-requires c κs = search needs
+slice-aggregate-field-named-2 : tie.Need-slice-aggregate-field-named-2
+slice-aggregate-field-named-2 c = search needs
+
+field-named-requires-2 : tie.Need-field-named-requires-2
+field-named-requires-2 c κs = search needs
+
+slice-aggregate-field-named-3 : tie.Need-slice-aggregate-field-named-3
+slice-aggregate-field-named-3 c = search needs
+
+field-named-requires-3 : tie.Need-field-named-requires-3
+field-named-requires-3 c κs = search needs
+
+slice-aggregate-field-named-4 : tie.Need-slice-aggregate-field-named-4
+slice-aggregate-field-named-4 c = search needs
+
+field-named-requires-4 : tie.Need-field-named-requires-4
+field-named-requires-4 c κs = search needs
 
 returns : tie.Need-returns
 returns c =
-    let c1 = c .before in
-    let c2 = c1 .before in
-    let c3 = c2 .before in
-    (extent-partition _ _ _ _ _ (sym (c3 .is-named .ensures) ∙ c2 .if1 .taken) (c1 .read-letter .ensures .0) (c .first-field .ensures), c1 .read-letter .ensures .1)
-
-slice-aggregate-is-named-2 : tie.Need-slice-aggregate-is-named-2
-slice-aggregate-is-named-2 c = search needs
-
-is-named-requires-2 : tie.Need-is-named-requires-2
-is-named-requires-2 c κs = search needs
-
-read-number-requires : tie.Need-read-number-requires
-read-number-requires c κs = search needs
-
-first-field-requires-2 : tie.Need-first-field-requires-2
-first-field-requires-2 c κs = search needs
-
-returns-2 : tie.Need-returns-2
-returns-2 c =
-    let c1 = c .before in
-    let c2 = c1 .before in
-    let c3 = c2 .before in
-    (extent-block _ _ _ _ _ (sym (c3 .is-named2 .ensures) ∙ c2 .if2 .taken) (c1 .read-number .ensures .0) (c .first-field2 .ensures), c1 .read-number .ensures .1)
-
-read-extent-bytes-requires : tie.Need-read-extent-bytes-requires
-read-extent-bytes-requires c κs = search needs
-
-returns-3 : tie.Need-returns-3
-returns-3 c =
-    let c1 = c .before in
-    let c2 = c1 .before in
+    let c2 = c .before .before in
     let c4 = c2 .before .before in
-    let c5 = c4 .before in
-    (extent-bytes _ _ _ _ (sym (c5 .is-named .ensures) ∙ c4 .if1 .left) (sym (c2 .is-named2 .ensures) ∙ c1 .if2 .left) (c .read-extent-bytes .ensures .0), c .read-extent-bytes .ensures .1)
+    let c6 = c4 .before .before in
+    let read = c6 .before .before in (
+      extent-part _ _ _ _ _ _ _ _ _ (read .read-value .ensures .0) (read .read-value .ensures .1) (c6 .field-named .ensures) (c4 .field-named2 .ensures) (c2 .field-named3 .ensures)
+          (c .field-named4 .ensures),
+      read .read-value .ensures .2,
+    )
 
 pub read-extent-part-spec : {M : Type 1} → statement M
 read-extent-part-spec =
     tie.close
     (tie.spec
-    slice-aggregate-is-named
-    is-named-requires
-    read-letter-requires
-    first-field-requires
-    returns
-    slice-aggregate-is-named-2
-    is-named-requires-2
-    read-number-requires
-    first-field-requires-2
-    returns-2
-    read-extent-bytes-requires
-    returns-3)
+    read-value-requires
+    slice-aggregate-field-named
+    field-named-requires
+    slice-aggregate-field-named-2
+    field-named-requires-2
+    slice-aggregate-field-named-3
+    field-named-requires-3
+    slice-aggregate-field-named-4
+    field-named-requires-4
+    returns)

@@ -2,7 +2,7 @@
 -- Assumes nothing.
 use mathlib.Core.Path.{sym, _∙_}
 use lib.ListN.{length}
-use Rattle.ltfs.specs.Private.Parts.{tokensAt}
+use Rattle.markup.specs.Places.{tokensAt}
 use Rattle.ltfs.proofs.Bare.{ReadTo, read-none, read-more, read-over, met-less}
 use Rattle.ltfs.proofs.Files.{fileExtents, info-extents, file-extents, reads-file, file-named, file-other}
 use borrow.Author.Needs.{needs}

@@ -1,7 +1,8 @@
 -- `ltfs::label::read_label_inside` meets its contract: the elements left add to what is known what all add.
 -- Assumes nothing.
 use lib.ListN.{length}
-use Rattle.ltfs.specs.Private.Parts.{tokensAt, withLabel}
+use Rattle.markup.specs.Places.{tokensAt}
+use Rattle.ltfs.specs.Private.Parts.{withLabel}
 use Rattle.ltfs.proofs.Bare.{ReadTo, read-none, read-more, read-over, met-less}
 use Rattle.ltfs.proofs.Labels.{reads-label, label-more}
 use borrow.Author.Needs.{needs}

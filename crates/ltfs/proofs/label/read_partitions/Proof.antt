@@ -1,10 +1,10 @@
 -- `ltfs::label::read_partitions` meets its contract: the elements left add to what is known what all add.
 -- Assumes nothing.
-use mathlib.Core.Path.{sym, _∙_}
 use lib.ListN.{length}
-use Rattle.ltfs.specs.Private.Parts.{tokensAt, withPartitions}
+use Rattle.markup.specs.Places.{tokensAt}
+use Rattle.ltfs.specs.Private.Parts.{withPartitions}
 use Rattle.ltfs.proofs.Bare.{ReadTo, read-none, read-more, read-over, met-less}
-use Rattle.ltfs.proofs.Labels.{reads-partitions, partitions-data, partitions-other}
+use Rattle.ltfs.proofs.Labels.{reads-partitions, partitions-more}
 use borrow.Author.Needs.{needs}
 use Rattle.ltfs.proofs.label.read_partitions.Statement.{statement}
 use Rattle.ltfs.proofs.label.read_partitions.Tie as tie
@@ -37,68 +37,39 @@ returns c =
 enum-known-child-2 : tie.Need-enum-known-child-2 Inv-loop μ-loop
 enum-known-child-2 c = search needs
 
-slice-aggregate-is-named : tie.Need-slice-aggregate-is-named Inv-loop μ-loop
-slice-aggregate-is-named c = search needs
-
-is-named-requires : tie.Need-is-named-requires Inv-loop μ-loop
-is-named-requires c κs =
-    let c2 = c .before .before in
-    let c4 = c2 .before .before in
-    let m = rw (c2 .child2 .given .1) at (c4 .next-child .ensures) in
-    (m .name .ordered, m .name .within)
-
-read-letter-requires : tie.Need-read-letter-requires Inv-loop μ-loop
-read-letter-requires c κs =
-    let c4 = c .before .before .before .before in
-    let c6 = c4 .before .before in
-    let m = rw (c4 .child2 .given .1) at (c6 .next-child .ensures) in
+read-value-requires : tie.Need-read-value-requires Inv-loop μ-loop
+read-value-requires c κs =
+    let c1 = c .before in
+    let c3 = c1 .before .before in
+    let m = rw (c1 .child2 .given .1) at (c3 .next-child .ensures) in
     m .within
 
-first-field-requires : tie.Need-first-field-requires Inv-loop μ-loop
-first-field-requires c κs = search needs
+slice-aggregate-field-named : tie.Need-slice-aggregate-field-named Inv-loop μ-loop
+slice-aggregate-field-named c = search needs
+
+field-named-requires : tie.Need-field-named-requires Inv-loop μ-loop
+field-named-requires c κs =
+    let c3 = c .before .before .before in
+    let c5 = c3 .before .before in
+    let m = rw (c3 .child2 .given .1) at (c5 .next-child .ensures) in
+    m .name
 
 loop-less : tie.Need-loop-less Inv-loop μ-loop
 loop-less c =
-    let c1 = c .before in
-    let c6 = c1 .before .before .before .before .before in
-    let c8 = c6 .before .before in
-    let m = rw (c6 .child2 .given .1) at (c8 .next-child .ensures) in
-    met-less _ _ _ _ _ _ m (c1 .read-letter .ensures .1)
+    let c2 = c .before .before in
+    let c4 = c2 .before .before in
+    let c6 = c4 .before .before in
+    let m = rw (c4 .child2 .given .1) at (c6 .next-child .ensures) in
+    met-less _ _ _ _ _ _ m (c2 .read-value .ensures .2)
 
 loop-again : tie.Need-loop-again Inv-loop μ-loop
 loop-again c =
-    let c1 = c .before in
-    let c2 = c1 .before in
-    let c3 = c2 .before in
-    let c6 = c3 .before .before .before in
-    let c8 = c6 .before .before in
-    let c9 = c8 .before in
-    let m = rw (c6 .child2 .given .1) at (c8 .next-child .ensures) in
-    read-more withPartitions reads-partitions _ _ _ _ _ (c9 .loop .inv) _ _ _ _ _ m (c1 .read-letter .ensures .1) (partitions-data _ _ _ _ _ _ (sym (c3 .is-named .ensures) ∙ c2 .if1 .taken) (c1 .read-letter .ensures .0) (c .first-field .ensures))
-
-leave-requires : tie.Need-leave-requires Inv-loop μ-loop
-leave-requires c κs =
-    let c4 = c .before .before .before .before in
+    let c2 = c .before .before in
+    let c4 = c2 .before .before in
     let c6 = c4 .before .before in
     let m = rw (c4 .child2 .given .1) at (c6 .next-child .ensures) in
-    m .within
-
-loop-less-2 : tie.Need-loop-less-2 Inv-loop μ-loop
-loop-less-2 c =
-    let c5 = c .before .before .before .before .before in
-    let c7 = c5 .before .before in
-    let m = rw (c5 .child2 .given .1) at (c7 .next-child .ensures) in
-    met-less _ _ _ _ _ _ m (c .leave .ensures)
-
-loop-again-2 : tie.Need-loop-again-2 Inv-loop μ-loop
-loop-again-2 c =
-    let c1 = c .before in
-    let c2 = c1 .before in
-    let c5 = c2 .before .before .before in
-    let c7 = c5 .before .before in
-    let c8 = c7 .before in
-    let m = rw (c5 .child2 .given .1) at (c7 .next-child .ensures) in
-    read-more withPartitions reads-partitions _ _ _ _ _ (c8 .loop .inv) _ _ _ _ _ m (c .leave .ensures) (partitions-other _ _ _ _ (sym (c2 .is-named .ensures) ∙ c1 .if1 .left))
+    read-more withPartitions reads-partitions _ _ _ _ _ (c6 .before .loop .inv) _ _ _ _ _ m (c2 .read-value .ensures .2)
+    (partitions-more _ _ _ _ _ _ (c2 .read-value .ensures .0) (c .field-named .ensures))
 
 pub read-partitions-spec : {M : Type 1} → statement M
 read-partitions-spec =
@@ -111,12 +82,8 @@ read-partitions-spec =
     enum-known-child
     returns
     enum-known-child-2
-    slice-aggregate-is-named
-    is-named-requires
-    read-letter-requires
-    first-field-requires
+    read-value-requires
+    slice-aggregate-field-named
+    field-named-requires
     loop-less
-    loop-again
-    leave-requires
-    loop-less-2
-    loop-again-2)
+    loop-again)

@@ -6,16 +6,16 @@ use borrow.Author.Needs.{needs}
 use Rattle.ltfs.proofs.sheet.report_of.Statement.{statement}
 use Rattle.ltfs.proofs.sheet.report_of.Tie as tie
 
-refused-requires : tie.Need-refused-requires
-refused-requires c κs = search needs
+refusal-of-requires : tie.Need-refusal-of-requires
+refusal-of-requires c κs = search needs
 
 returns : tie.Need-returns
 unfolding reportOf
-returns c = simp (eq-eqb _ _ (c .before .if1 .taken)) (c .refused .ensures)
+returns c = simp (eq-eqb _ _ (c .before .if1 .taken)) (c .refusal-of .ensures)
 
 returns-2 : tie.Need-returns-2
 unfolding reportOf
 returns-2 c = simp (ne-eqb _ _ (c .if1 .left))
 
 pub report-of-spec : {M : Type 1} → statement M
-report-of-spec = tie.close (tie.spec refused-requires returns returns-2)
+report-of-spec = tie.close (tie.spec refusal-of-requires returns returns-2)

@@ -1,9 +1,10 @@
 -- `ltfs::values::read_chars` meets its contract: the bytes left make, with what is known, what all make.
 -- Assumes nothing.
 use lib.ListN.{length}
-use Rattle.ltfs.specs.Private.Parts.{tokensAt}
+use Rattle.markup.specs.Places.{tokensAt}
 use Rattle.ltfs.proofs.Bare.{CharsLeft, chars-none, chars-byte, chars-start, chars-over, chars-finish}
-use Rattle.ltfs.proofs.Frames.{begins-fewer, frames-none, frames-broken}
+use Rattle.markup.proofs.Meets.{begins-fewer}
+use Rattle.ltfs.proofs.Frames.{frames-none, frames-broken}
 use borrow.Author.Needs.{needs}
 use native.Mathlib.Omega.{arith}
 use Rattle.ltfs.proofs.values.read_chars.Statement.{statement}
