@@ -26,7 +26,7 @@ use Rattle.texts.specs.Text.{allOf, isName}
 use Rattle.demands.specs.Sheets.{GivesBack}
 use Rattle.demands.specs.Demand2.{listIn, IsTheWalk, IsLeast}
 use Rattle.demands.specs.Demand3.{AsksNoLess}
-use Rattle.demands.specs.Cases.{sheetRun, fourFiles}
+use Rattle.demands.specs.Cases.{exampleRun, fourFiles}
 use Rattle.demands.proofs.Demand1.{demand1-price, demand1-plan}
 use Rattle.demands.proofs.Demand2.{demand2-walk, demand2-least, demand2-sweep}
 use Rattle.demands.proofs.Demand3.{demand3, demand3-same}
@@ -38,16 +38,16 @@ abbrev pub sheetRows : ℕ → Rows
 sheetRows words = rowsOf (7 ∷ 7 ∷ []) (7 ∷ 7 ∷ []) (7 ∷ 7 ∷ 7 ∷ []) (replicate words 7)
 
 abbrev pub sheetAnswer : ℕ → Answer
-sheetAnswer words = planAnswer sheetRun Least (sheetRows words)
+sheetAnswer words = planAnswer exampleRun Least (sheetRows words)
 
 abbrev pub sheetAfter : ℕ → Rows
-sheetAfter words = planRows sheetRun Least (sheetRows words)
+sheetAfter words = planRows exampleRun Least (sheetRows words)
 
 pub sheet-accepted : sheetAnswer 54 .refusal ≡ Accepted
 unfolding planAnswer planVerdict judgeOf firstWhere stopsFrom rightEnd pricedAnswer
 sheet-accepted = refl
 
-sweep-accepted : planAnswer sheetRun Sweep (sheetRows 54) .refusal ≡ Accepted
+sweep-accepted : planAnswer exampleRun Sweep (sheetRows 54) .refusal ≡ Accepted
 unfolding planAnswer planVerdict judgeOf firstWhere stopsFrom rightEnd pricedAnswer
 sweep-accepted = refl
 
@@ -82,14 +82,14 @@ no-fewer-reads false true c = omega arith
 no-fewer-reads false false true = omega arith
 no-fewer-reads false false false = omega arith
 
-more-asks-no-less : AsksNoLess moreAsked sheetRun
+more-asks-no-less : AsksNoLess moreAsked exampleRun
 unfolding stopsFrom readsOf
 more-asks-no-less = record { starts = refl; lengths = refl; reads = λ f. no-fewer-reads (eqb 1 f) (eqb 2 f) (eqb 3 f); turn = omega arith; head = omega arith }
 
 wanderings-move : (head : ℕ) → 18 ≤ head → Moves head wanderings
 wanderings-move head far = omega arith
 
-wanderings-serve : ServesAll wanderings (stopsOf moreAsked) × ServesAll wanderings (stopsOf sheetRun)
+wanderings-serve : ServesAll wanderings (stopsOf moreAsked) × ServesAll wanderings (stopsOf exampleRun)
 unfolding ServesAll served stopsFrom
 wanderings-serve = ((tt, (tt, (tt, tt))), (tt, (tt, (tt, tt))))
 
@@ -112,12 +112,12 @@ wanderings-no-list list e =
     omega arith
 
 -- So each demand speaks of something.
-sheet-plans : (words : ℕ) → Plans sheetRun Least (sheetRows words) (sheetAnswer words) (sheetAfter words)
-sheet-plans words = plans-for-every-input sheetRun Least (sheetRows words)
+sheet-plans : (words : ℕ) → Plans exampleRun Least (sheetRows words) (sheetAnswer words) (sheetAfter words)
+sheet-plans words = plans-for-every-input exampleRun Least (sheetRows words)
 
 pub short-room-keeps-rows : sheetAfter 53 ≡ sheetRows 53
 short-room-keeps-rows =
-    demand1-plan sheetRun Least (sheetRows 53) (sheetAnswer 53) (sheetAfter 53) (sheet-plans 53) .kept
+    demand1-plan exampleRun Least (sheetRows 53) (sheetAnswer 53) (sheetAfter 53) (sheet-plans 53) .kept
     (λ e. true≢false (ap isRefusal (sym short-room-refused ∙ e))) .1
 
 pub crossing-list-keeps-row : priceRow fourFiles (3 ∷ 2 ∷ []) (4 ∷ 4 ∷ []) (0 ∷ 0 ∷ 0 ∷ 0 ∷ []) ≡ 0 ∷ 0 ∷ 0 ∷ 0 ∷ []
@@ -127,31 +127,31 @@ crossing-list-keeps-row =
     (sym crossing-list-refused) refl .kept
     (λ e. true≢false (ap isRefusal e)) .1
 
-pub sheet-is-the-walk : IsTheWalk sheetRun (sheetAnswer 54) (sheetAfter 54)
-sheet-is-the-walk = demand2-walk sheetRun Least (sheetRows 54) (sheetAnswer 54) (sheetAfter 54) (sheet-plans 54) sheet-accepted
+pub sheet-is-the-walk : IsTheWalk exampleRun (sheetAnswer 54) (sheetAfter 54)
+sheet-is-the-walk = demand2-walk exampleRun Least (sheetRows 54) (sheetAnswer 54) (sheetAfter 54) (sheet-plans 54) sheet-accepted
 
-pub sheet-swept : listIn (planAnswer sheetRun Sweep (sheetRows 54)) (planRows sheetRun Sweep (sheetRows 54)) ≡ []
+pub sheet-swept : listIn (planAnswer exampleRun Sweep (sheetRows 54)) (planRows exampleRun Sweep (sheetRows 54)) ≡ []
 sheet-swept =
-    demand2-sweep sheetRun (sheetRows 54) (planAnswer sheetRun Sweep (sheetRows 54)) (planRows sheetRun Sweep (sheetRows 54))
-    (plans-for-every-input sheetRun Sweep (sheetRows 54)) sweep-accepted
+    demand2-sweep exampleRun (sheetRows 54) (planAnswer exampleRun Sweep (sheetRows 54)) (planRows exampleRun Sweep (sheetRows 54))
+    (plans-for-every-input exampleRun Sweep (sheetRows 54)) sweep-accepted
 
-pub sheet-is-least : IsLeast sheetRun (sheetAnswer 54) (sheetAfter 54)
-sheet-is-least = demand2-least sheetRun (sheetRows 54) (sheetAnswer 54) (sheetAfter 54) (sheet-plans 54) sheet-accepted
+pub sheet-is-least : IsLeast exampleRun (sheetAnswer 54) (sheetAfter 54)
+sheet-is-least = demand2-least exampleRun (sheetRows 54) (sheetAnswer 54) (sheetAfter 54) (sheet-plans 54) sheet-accepted
 
 pub wanderings-beat-nothing : 367 ≤ sumOf (moreAsked .turn) (headAt (moreAsked .head)) wanderings (stopsOf moreAsked)
 wanderings-beat-nothing =
     rw
     sheet-reports at
-    (demand3 moreAsked sheetRun (sheetRows 54) (sheetAnswer 54) (sheetAfter 54) more-accepted (sheet-plans 54) sheet-accepted more-asks-no-less wanderings (wanderings-move 70 (omega arith)) (wanderings-serve .0))
+    (demand3 moreAsked exampleRun (sheetRows 54) (sheetAnswer 54) (sheetAfter 54) more-accepted (sheet-plans 54) sheet-accepted more-asks-no-less wanderings (wanderings-move 70 (omega arith)) (wanderings-serve .0))
 
-pub wanderings-beat-nothing-there : 367 ≤ sumOf (sheetRun .turn) (headAt (sheetRun .head)) wanderings (stopsOf sheetRun)
+pub wanderings-beat-nothing-there : 367 ≤ sumOf (exampleRun .turn) (headAt (exampleRun .head)) wanderings (stopsOf exampleRun)
 wanderings-beat-nothing-there =
     rw
     sheet-reports at
-    (demand3-same sheetRun (sheetRows 54) (sheetAnswer 54) (sheetAfter 54) (sheet-plans 54) sheet-accepted wanderings (wanderings-move 60 (omega arith)) (wanderings-serve .1))
+    (demand3-same exampleRun (sheetRows 54) (sheetAnswer 54) (sheetAfter 54) (sheet-plans 54) sheet-accepted wanderings (wanderings-move 60 (omega arith)) (wanderings-serve .1))
 
 -- The sheet's run is written, and read back into rows that are just long enough.
-sheet-judged : refuses (judgeOf sheetRun) ≡ false
+sheet-judged : refuses (judgeOf exampleRun) ≡ false
 unfolding judgeOf firstWhere stopsFrom rightEnd
 sheet-judged = refl
 
@@ -159,7 +159,7 @@ sheet-named : isName (86 ∷ 88 ∷ 48 ∷ 48 ∷ 52 ∷ 49 ∷ []) ≡ true
 unfolding isName allOf
 sheet-named = refl
 
-pub sheet-reads-back : GivesBack (86 ∷ 88 ∷ 48 ∷ 48 ∷ 52 ∷ 49 ∷ []) Least sheetRun (7 ∷ 7 ∷ 7 ∷ []) (7 ∷ 7 ∷ 7 ∷ []) (7 ∷ 7 ∷ 7 ∷ []) (7 ∷ 7 ∷ 7 ∷ [])
+pub sheet-reads-back : GivesBack (86 ∷ 88 ∷ 48 ∷ 48 ∷ 52 ∷ 49 ∷ []) Least exampleRun (7 ∷ 7 ∷ 7 ∷ []) (7 ∷ 7 ∷ 7 ∷ []) (7 ∷ 7 ∷ 7 ∷ []) (7 ∷ 7 ∷ 7 ∷ [])
 sheet-reads-back =
-    demand2-round-trip (86 ∷ 88 ∷ 48 ∷ 48 ∷ 52 ∷ 49 ∷ []) Least sheetRun sheet-judged (omega arith) sheet-named (7 ∷ 7 ∷ 7 ∷ []) (7 ∷ 7 ∷ 7 ∷ []) (7 ∷ 7 ∷ 7 ∷ []) (7 ∷ 7 ∷ 7 ∷ [])
+    demand2-round-trip (86 ∷ 88 ∷ 48 ∷ 48 ∷ 52 ∷ 49 ∷ []) Least exampleRun sheet-judged (omega arith) sheet-named (7 ∷ 7 ∷ 7 ∷ []) (7 ∷ 7 ∷ 7 ∷ []) (7 ∷ 7 ∷ 7 ∷ []) (7 ∷ 7 ∷ 7 ∷ [])
     (omega arith) (omega arith) (omega arith) (omega arith)

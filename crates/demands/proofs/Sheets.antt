@@ -21,7 +21,7 @@ use Rattle.runs.specs.Lists.{listVerdict}
 use Rattle.refusals.proofs.Verdicts.{none-refuses, refuses}
 use Rattle.runs.proofs.Judged.{accepted-run}
 use Rattle.texts.specs.Text.{isName}
-use Rattle.sheets.specs.Sheet.{longestSheet, mostSheetFiles, firstBadLine, filesOf, wantsOf, headOf, turnOf, runIn}
+use Rattle.sheets.specs.Sheet.{longestSheet, mostSheetFiles, firstBadLine, sheetFiles, sheetWants, sheetHead, sheetTurn, sheetRun}
 use Rattle.sheets.specs.Reading.{sheetVerdict, shortPairRows, readVerdict, readAnswer, readRow}
 use Rattle.writers.specs.declared.Written.{Written}
 use Rattle.writers.specs.Writing.{refusedWriting, sheetText, rowVerdict, writeVerdict, writtenAnswer, writtenRow}
@@ -54,7 +54,7 @@ module _ (sheet starts lengths numbers counts : List ℕ) where
       go (suc n) e = refused (suc n) (rw e) (ReadApplies.bad-line e)
 
   abbrev IsShort : Type 0
-  IsShort = ((length starts < filesOf sheet) ⊎ (length lengths < filesOf sheet)) ⊎ ((length numbers < wantsOf sheet) ⊎ (length counts < wantsOf sheet))
+  IsShort = ((length starts < sheetFiles sheet) ⊎ (length lengths < sheetFiles sheet)) ⊎ ((length numbers < sheetWants sheet) ⊎ (length counts < sheetWants sheet))
 
   short-row : (p : ℕ) → (p ≡ 0) × IsShort → Applies ShortRow p
   short-row p h = rw (h .0) (⊎-elim (⊎-elim ReadApplies.short-starts ReadApplies.short-lengths) (⊎-elim ReadApplies.short-numbers ReadApplies.short-counts) (h .1))
@@ -74,7 +74,7 @@ module _ (sheet starts lengths numbers counts : List ℕ) where
   read-finds =
       let long = refuseIf (ltb longestSheet (length sheet)) LongSheet in
       let line = refuseAt (firstBadLine sheet) BadLine in
-      let short = refuseIf (shortPairRows (filesOf sheet) starts lengths || shortPairRows (wantsOf sheet) numbers counts) ShortRow in
+      let short = refuseIf (shortPairRows (sheetFiles sheet) starts lengths || shortPairRows (sheetWants sheet) numbers counts) ShortRow in
       rw
       (first-of-joined (long ∷ line ∷ []) (short ∷ []))
       (finds-first Applies (line ∷ short ∷ []) refl
@@ -83,15 +83,15 @@ module _ (sheet starts lengths numbers counts : List ℕ) where
       (λ b. finds-first Applies [] refl
       (decides-reworded short-row row-short
       (decides-if _ ShortRow
-      (tells-either (shortPairRows (filesOf sheet) starts lengths) (shortPairRows (wantsOf sheet) numbers counts)
-      (tells-short (filesOf sheet) starts lengths)
-      (tells-short (wantsOf sheet) numbers counts))))
+      (tells-either (shortPairRows (sheetFiles sheet) starts lengths) (shortPairRows (sheetWants sheet) numbers counts)
+      (tells-short (sheetFiles sheet) starts lengths)
+      (tells-short (sheetWants sheet) numbers counts))))
       (λ c. finds-none Applies))))
 
   read-accepted : refuses (readVerdict sheet starts lengths numbers counts) ≡ false → readVerdict sheet starts lengths numbers counts ≡ accepted
   unfolding readVerdict
   read-accepted e =
-      none-refuses (sheetVerdict sheet ∷ refuseIf (shortPairRows (filesOf sheet) starts lengths || shortPairRows (wantsOf sheet) numbers counts) ShortRow ∷ []) e
+      none-refuses (sheetVerdict sheet ∷ refuseIf (shortPairRows (sheetFiles sheet) starts lengths || shortPairRows (sheetWants sheet) numbers counts) ShortRow ∷ []) e
 
   read-says : (b : Bool) → refuses (readVerdict sheet starts lengths numbers counts) ≡ b
       → ReadAnswers sheet starts lengths numbers counts (readAnswer (readVerdict sheet starts lengths numbers counts) sheet)
@@ -213,29 +213,29 @@ judged-accepted r e =
     none-refuses (firstOf (tableChecks (r .starts) (r .lengths)) ∷ firstOf (wantsChecks (length (r .starts)) (r .numbers) (r .counts)) ∷ firstOf (headChecks (r .turn) (r .head) (rightEnd (stopsOf r))) ∷ []) e
 
 -- The counts of a sheet are the lengths of its rows.
-files-in : (sheet : List ℕ) → filesOf sheet ≡ length (runIn sheet .starts)
-unfolding runIn
-files-in sheet = sym (length-each _ (filesOf sheet))
+files-in : (sheet : List ℕ) → sheetFiles sheet ≡ length (sheetRun sheet .starts)
+unfolding sheetRun
+files-in sheet = sym (length-each _ (sheetFiles sheet))
 
-wants-in : (sheet : List ℕ) → wantsOf sheet ≡ length (runIn sheet .numbers)
-unfolding runIn
-wants-in sheet = sym (length-each _ (wantsOf sheet))
+wants-in : (sheet : List ℕ) → sheetWants sheet ≡ length (sheetRun sheet .numbers)
+unfolding sheetRun
+wants-in sheet = sym (length-each _ (sheetWants sheet))
 
-head-in : (sheet : List ℕ) → headOf sheet ≡ runIn sheet .head
-unfolding runIn
+head-in : (sheet : List ℕ) → sheetHead sheet ≡ sheetRun sheet .head
+unfolding sheetRun
 head-in sheet = refl
 
-turn-in : (sheet : List ℕ) → turnOf sheet ≡ runIn sheet .turn
-unfolding runIn
+turn-in : (sheet : List ℕ) → sheetTurn sheet ≡ sheetRun sheet .turn
+unfolding sheetRun
 turn-in sheet = refl
 
 -- A sheet that is as described is read wherever the four rows are long enough.
 reads-sheet : (sheet starts lengths numbers counts : List ℕ) → sheetVerdict sheet ≡ accepted
-    → filesOf sheet ≤ length starts → filesOf sheet ≤ length lengths → wantsOf sheet ≤ length numbers → wantsOf sheet ≤ length counts
+    → sheetFiles sheet ≤ length starts → sheetFiles sheet ≤ length lengths → sheetWants sheet ≤ length numbers → sheetWants sheet ≤ length counts
     → readVerdict sheet starts lengths numbers counts ≡ accepted
 unfolding readVerdict
 reads-sheet sheet starts lengths numbers counts e a b c d =
-    rw (e, le-ltb (length starts) (filesOf sheet) a, le-ltb (length lengths) (filesOf sheet) b, le-ltb (length numbers) (wantsOf sheet) c, le-ltb (length counts) (wantsOf sheet) d)
+    rw (e, le-ltb (length starts) (sheetFiles sheet) a, le-ltb (length lengths) (sheetFiles sheet) b, le-ltb (length numbers) (sheetWants sheet) c, le-ltb (length counts) (sheetWants sheet) d)
 
 pub demand2-written : Demand2Written
 unfolding writtenAnswer writtenRow
@@ -255,13 +255,13 @@ demand2-round-trip name rule r e few named starts lengths numbers counts a b c d
     let sheet = sheetText name rule r in
     let back = round-trip name rule r (judged-accepted r e) few named in
     let good = accepted-run r e in
-    let files : filesOf sheet ≡ length (r .starts) = files-in sheet ∙ ap (λ run. length (run .starts)) (back .same-run) in
-    let wants : wantsOf sheet ≡ length (r .numbers) = wants-in sheet ∙ ap (λ run. length (run .numbers)) (back .same-run) in
+    let files : sheetFiles sheet ≡ length (r .starts) = files-in sheet ∙ ap (λ run. length (run .starts)) (back .same-run) in
+    let wants : sheetWants sheet ≡ length (r .numbers) = wants-in sheet ∙ ap (λ run. length (run .numbers)) (back .same-run) in
     let even : length (r .starts) ≡ length (r .lengths) = good .files .table .equal in
     let pairs : length (r .numbers) ≡ length (r .counts) = good .wants .equal in
     let reads = reads-sheet sheet starts lengths numbers counts (back .accepts) (rw files a) (rw (files, even) b) (rw wants c) (rw (wants, pairs) d) in
-    let head : headOf sheet ≡ r .head = head-in sheet ∙ ap (λ run. run .head) (back .same-run) in
-    let turn : turnOf sheet ≡ r .turn = turn-in sheet ∙ ap (λ run. run .turn) (back .same-run) in
+    let head : sheetHead sheet ≡ r .head = head-in sheet ∙ ap (λ run. run .head) (back .same-run) in
+    let turn : sheetTurn sheet ≡ r .turn = turn-in sheet ∙ ap (λ run. run .turn) (back .same-run) in
     record {
       answer = rw (reads, head, turn, back .same-rule, files, wants);
       startsAre = rw (reads, back .same-run);

@@ -44,8 +44,8 @@ twoFiles numbers counts turn = runOf (0 ∷ 10 ∷ []) (10 ∷ 10 ∷ []) number
 abbrev pub sheet : List ℕ → List ℕ → Run
 sheet numbers counts = runOf (0 ∷ 10 ∷ 20 ∷ []) (10 ∷ 4 ∷ 30 ∷ []) numbers counts 60 1
 
-abbrev pub sheetRun : Run
-sheetRun = sheet (1 ∷ 2 ∷ 3 ∷ []) (1 ∷ 3 ∷ 1 ∷ [])
+abbrev pub exampleRun : Run
+exampleRun = sheet (1 ∷ 2 ∷ 3 ∷ []) (1 ∷ 3 ∷ 1 ∷ [])
 
 abbrev pub fourFiles : Run
 fourFiles = runOf (0 ∷ 2 ∷ 4 ∷ 6 ∷ []) (2 ∷ 2 ∷ 2 ∷ 2 ∷ []) (1 ∷ 2 ∷ 3 ∷ 4 ∷ []) (1 ∷ 1 ∷ 1 ∷ 1 ∷ []) 8 1
@@ -61,11 +61,11 @@ cases =
     ∷ case (twoFiles (1 ∷ 2 ∷ []) (1 ∷ 1 ∷ []) 1) [] 72 (31 ∷ 41 ∷ []) true
     ∷ case (twoFiles (1 ∷ 2 ∷ []) (1 ∷ 1 ∷ []) 1) (detour 2 2 ∷ []) 74 (53 ∷ 21 ∷ []) false
     ∷ case (twoFiles (2 ∷ []) (1 ∷ []) 0) [] 20 (20 ∷ []) true
-    ∷ case sheetRun [] 407 (71 ∷ 75 ∷ 111 ∷ []) false
-    ∷ case sheetRun (detour 2 2 ∷ []) 367 (81 ∷ 55 ∷ 121 ∷ []) true
-    ∷ case sheetRun (detour 2 3 ∷ []) 409 (153 ∷ 55 ∷ 91 ∷ []) false
-    ∷ case sheetRun (detour 3 3 ∷ []) 615 (133 ∷ 137 ∷ 71 ∷ []) false
-    ∷ case sheetRun (detour 3 3 ∷ detour 2 2 ∷ []) 565 (143 ∷ 117 ∷ 71 ∷ []) false
+    ∷ case exampleRun [] 407 (71 ∷ 75 ∷ 111 ∷ []) false
+    ∷ case exampleRun (detour 2 2 ∷ []) 367 (81 ∷ 55 ∷ 121 ∷ []) true
+    ∷ case exampleRun (detour 2 3 ∷ []) 409 (153 ∷ 55 ∷ 91 ∷ []) false
+    ∷ case exampleRun (detour 3 3 ∷ []) 615 (133 ∷ 137 ∷ 71 ∷ []) false
+    ∷ case exampleRun (detour 3 3 ∷ detour 2 2 ∷ []) 565 (143 ∷ 117 ∷ 71 ∷ []) false
     ∷ case fourFiles (detour 3 3 ∷ detour 2 4 ∷ []) 72 (31 ∷ 15 ∷ 7 ∷ 19 ∷ []) false
     ∷ case fourFiles [] 56 (11 ∷ 13 ∷ 15 ∷ 17 ∷ []) true
     ∷ []

@@ -15,7 +15,7 @@ use Rattle.runs.specs.Judging.{judgeOf}
 use Rattle.sheets.specs.declared.Reading.{Reading}
 use Rattle.writers.specs.declared.Written.{Written}
 use Rattle.texts.specs.Text.{isName}
-use Rattle.sheets.specs.Sheet.{longestSheet, mostSheetFiles, firstBadLine, filesOf, wantsOf, runIn}
+use Rattle.sheets.specs.Sheet.{longestSheet, mostSheetFiles, firstBadLine, sheetFiles, sheetWants, sheetRun}
 use Rattle.sheets.specs.Reading.{readVerdict, readAnswer, readRow, readName}
 use Rattle.writers.specs.Writing.{sheetText, writeVerdict, writtenAnswer, writtenRow}
 use Rattle.writers.specs.PlanSheet.{planText, planSheetVerdict}
@@ -28,10 +28,10 @@ readOrder = LongSheet ∷ BadLine ∷ ShortRow ∷ []
 pub data ReadApplies (sheet starts lengths numbers counts : List ℕ) : Refusal → ℕ → Type 0 where
   too-long : longestSheet < length sheet → ReadApplies sheet starts lengths numbers counts LongSheet 0
   bad-line : {n : ℕ} → firstBadLine sheet ≡ suc n → ReadApplies sheet starts lengths numbers counts BadLine (suc n)
-  short-starts : length starts < filesOf sheet → ReadApplies sheet starts lengths numbers counts ShortRow 0
-  short-lengths : length lengths < filesOf sheet → ReadApplies sheet starts lengths numbers counts ShortRow 0
-  short-numbers : length numbers < wantsOf sheet → ReadApplies sheet starts lengths numbers counts ShortRow 0
-  short-counts : length counts < wantsOf sheet → ReadApplies sheet starts lengths numbers counts ShortRow 0
+  short-starts : length starts < sheetFiles sheet → ReadApplies sheet starts lengths numbers counts ShortRow 0
+  short-lengths : length lengths < sheetFiles sheet → ReadApplies sheet starts lengths numbers counts ShortRow 0
+  short-numbers : length numbers < sheetWants sheet → ReadApplies sheet starts lengths numbers counts ShortRow 0
+  short-counts : length counts < sheetWants sheet → ReadApplies sheet starts lengths numbers counts ShortRow 0
 
 -- A refusal of the reader: every other number 0, the rule least, and the four rows as they were.
 pub record ReadKept (sheet starts lengths numbers counts : List ℕ) (answer : Reading) : Type 0 where
@@ -40,10 +40,10 @@ pub record ReadKept (sheet starts lengths numbers counts : List ℕ) (answer : R
   pub rule : answer .rule ≡ Least
   pub files : answer .files ≡ 0
   pub wants : answer .wants ≡ 0
-  pub keptStarts : readRow (readVerdict sheet starts lengths numbers counts) (runIn sheet .starts) starts ≡ starts
-  pub keptLengths : readRow (readVerdict sheet starts lengths numbers counts) (runIn sheet .lengths) lengths ≡ lengths
-  pub keptNumbers : readRow (readVerdict sheet starts lengths numbers counts) (runIn sheet .numbers) numbers ≡ numbers
-  pub keptCounts : readRow (readVerdict sheet starts lengths numbers counts) (runIn sheet .counts) counts ≡ counts
+  pub keptStarts : readRow (readVerdict sheet starts lengths numbers counts) (sheetRun sheet .starts) starts ≡ starts
+  pub keptLengths : readRow (readVerdict sheet starts lengths numbers counts) (sheetRun sheet .lengths) lengths ≡ lengths
+  pub keptNumbers : readRow (readVerdict sheet starts lengths numbers counts) (sheetRun sheet .numbers) numbers ≡ numbers
+  pub keptCounts : readRow (readVerdict sheet starts lengths numbers counts) (sheetRun sheet .counts) counts ≡ counts
 
 pub record ReadAnswers (sheet starts lengths numbers counts : List ℕ) (answer : Reading) : Type 0 where
   pub first : FirstThatApplies (ReadApplies sheet starts lengths numbers counts) readOrder (answer .refusal) (answer .place)
@@ -106,10 +106,10 @@ Demand2Written =
 pub record GivesBack (name : List ℕ) (rule : Rule) (r : Run) (starts lengths numbers counts : List ℕ) : Type 0 where
   pub answer : readAnswer (readVerdict (sheetText name rule r) starts lengths numbers counts) (sheetText name rule r)
       ≡ record { refusal = Accepted; place = 0; head = r .head; turn = r .turn; rule = rule; files = length (r .starts); wants = length (r .numbers) }
-  pub startsAre : readRow (readVerdict (sheetText name rule r) starts lengths numbers counts) (runIn (sheetText name rule r) .starts) starts ≡ r .starts ++ drop (length (r .starts)) starts
-  pub lengthsAre : readRow (readVerdict (sheetText name rule r) starts lengths numbers counts) (runIn (sheetText name rule r) .lengths) lengths ≡ r .lengths ++ drop (length (r .lengths)) lengths
-  pub numbersAre : readRow (readVerdict (sheetText name rule r) starts lengths numbers counts) (runIn (sheetText name rule r) .numbers) numbers ≡ r .numbers ++ drop (length (r .numbers)) numbers
-  pub countsAre : readRow (readVerdict (sheetText name rule r) starts lengths numbers counts) (runIn (sheetText name rule r) .counts) counts ≡ r .counts ++ drop (length (r .counts)) counts
+  pub startsAre : readRow (readVerdict (sheetText name rule r) starts lengths numbers counts) (sheetRun (sheetText name rule r) .starts) starts ≡ r .starts ++ drop (length (r .starts)) starts
+  pub lengthsAre : readRow (readVerdict (sheetText name rule r) starts lengths numbers counts) (sheetRun (sheetText name rule r) .lengths) lengths ≡ r .lengths ++ drop (length (r .lengths)) lengths
+  pub numbersAre : readRow (readVerdict (sheetText name rule r) starts lengths numbers counts) (sheetRun (sheetText name rule r) .numbers) numbers ≡ r .numbers ++ drop (length (r .numbers)) numbers
+  pub countsAre : readRow (readVerdict (sheetText name rule r) starts lengths numbers counts) (sheetRun (sheetText name rule r) .counts) counts ≡ r .counts ++ drop (length (r .counts)) counts
   pub nameIs : readName (sheetText name rule r) ≡ name
 
 abbrev pub Demand2RoundTrip : Type 0

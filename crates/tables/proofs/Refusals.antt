@@ -17,7 +17,7 @@ use Rattle.runs.specs.Judging.{judgeOf}
 use Rattle.runs.proofs.Search.{or-false-both}
 use Rattle.tables.specs.declared.Listed.{Listed}
 use Rattle.tables.specs.Listing.{ListRows, Lists, IsListed, listingVerdict, shortListRows, roomSize}
-use Rattle.tables.specs.Private.{LongRows, tableSize, rowsVerdict}
+use Rattle.tables.specs.Private.{LongRows, tableSize, listRowsVerdict}
 
 one-more : (k n : ℕ) → k - 1 ≤ n → k ≤ n + 1
 one-more k n h = omega arith
@@ -51,9 +51,9 @@ module _ (r : Run) (rule : Rule) (rows : ListRows) where
     unfolding listingVerdict after-run
     passes-run e = first-passes (judgeOf r) after-run (test-says v-is f-is e)
 
-    module _ (reads : ℕ) (reads-is : reads ≡ total (r .counts)) (u : Verdict) (u-is : u ≡ rowsVerdict (length (r .numbers)) reads (length (rows .froms)) (length (rows .tos)) (length (rows .room))) (g : Bool) (g-is : g ≡ isRefusal (u .refusal)) (passed : f ≡ false) where
+    module _ (reads : ℕ) (reads-is : reads ≡ total (r .counts)) (u : Verdict) (u-is : u ≡ listRowsVerdict (length (r .numbers)) reads (length (rows .froms)) (length (rows .tos)) (length (rows .room))) (g : Bool) (g-is : g ≡ isRefusal (u .refusal)) (passed : f ≡ false) where
       rows-decide : u ≡ listingVerdict r rows
-      unfolding after-run rowsVerdict
+      unfolding after-run listRowsVerdict
       rows-decide = rw (u-is, reads-is) (sym (passes-run passed))
 
       pub rows-refused : g ≡ true → Lists r rule rows (record { verdict = u; detours = 0 }) rows
@@ -61,13 +61,13 @@ module _ (r : Run) (rule : Rule) (rows : ListRows) where
 
       -- Where the rows pass, the verdict is acceptance.
       pub rows-accepted : g ≡ false → u ≡ accepted
-      unfolding rowsVerdict
+      unfolding listRowsVerdict
       rows-accepted e =
           u-is
           ∙ none-refuses (refuseIf (shortListRows (length (r .numbers)) rows) ShortRow ∷ refuseIf (ltb (length (rows .room)) (tableSize (length (r .numbers)) reads)) ShortRoom ∷ []) (rw (← u-is, ← g-is) e)
 
       rows-pass : g ≡ false → (shortListRows (length (r .numbers)) rows ≡ false) × (ltb (length (rows .room)) (tableSize (length (r .numbers)) reads) ≡ false)
-      unfolding rowsVerdict
+      unfolding listRowsVerdict
       rows-pass e = both-pass _ _ (rw (← u-is, ← g-is) e)
 
       pub rows-long : g ≡ false → LongRows (length (r .numbers)) (length (rows .froms)) (length (rows .tos))

@@ -198,8 +198,8 @@ pub record LongRows (wants froms tos : ℕ) : Type 0 where
   pub for-ends : wants ≤ tos + 1
 
 -- 8, then 9, by the rows' lengths.
-unfoldable pub rowsVerdict : ℕ → ℕ → ℕ → ℕ → ℕ → Verdict
-rowsVerdict wants reads froms tos room =
+unfoldable pub listRowsVerdict : ℕ → ℕ → ℕ → ℕ → ℕ → Verdict
+listRowsVerdict wants reads froms tos room =
     firstOf
     (refuseIf (ltb froms (wants - 1) || ltb tos (wants - 1)) ShortRow
     ∷ refuseIf (ltb room (tableSize wants reads)) ShortRoom

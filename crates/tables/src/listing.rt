@@ -7,7 +7,7 @@ ghost use lib.Dec.{ltb};
 ghost use Rattle.least.specs.Recurrence.{leastList};
 ghost use Rattle.runs.specs.Run.{runAt, stopsAt, mostReads};
 ghost use Rattle.tables.specs.Listing.{Lists, listRowsBefore, listRowsAfter};
-ghost use Rattle.tables.specs.Private.{Judged, ListWritten, Beyond, tableSize, ruleList, rowsVerdict};
+ghost use Rattle.tables.specs.Private.{Judged, ListWritten, Beyond, tableSize, ruleList, listRowsVerdict};
 use crate::Listed;
 use crate::filling::clear;
 use crate::filling::fill;
@@ -45,7 +45,7 @@ fn table_words(wants: usize, reads: usize) -> usize
 fn judge_rows(wants: usize, reads: usize, froms: usize, tos: usize, room: usize) -> Verdict
     requires { ⌜ wants ≤ 64 ⌝ }
     requires { ⌜ reads ≤ mostReads ⌝ }
-    ensures { λ r. ⌜ r ≡ rowsVerdict wants reads froms tos room ⌝ }
+    ensures { λ r. ⌜ r ≡ listRowsVerdict wants reads froms tos room ⌝ }
 {
     let rows = refuse_if(short_rows(wants, froms, tos), Refusal::ShortRow);
     if refused(rows) {

@@ -6,7 +6,7 @@ use Rattle.refusals.specs.declared.Refusal.the-variants.{ShortRow, ShortRoom}
 use Rattle.refusals.specs.Refusals.{refuseIf}
 use Rattle.refusals.proofs.Verdicts.{test-says, last-if}
 use borrow.Author.Needs.{needs}
-use Rattle.tables.specs.Private.{rowsVerdict}
+use Rattle.tables.specs.Private.{listRowsVerdict}
 use Rattle.tables.proofs.listing.judge_rows.Statement.{statement}
 use Rattle.tables.proofs.listing.judge_rows.Tie as tie
 
@@ -20,7 +20,7 @@ refused-requires : tie.Need-refused-requires
 refused-requires c κs = search needs
 
 returns : tie.Need-returns
-unfolding rowsVerdict
+unfolding listRowsVerdict
 returns c =
     let rows = c .before .before in
     let is = rows .refuse-if .ensures ∙ ap (λ b. refuseIf b ShortRow) (rows .before .short-rows .ensures) in
@@ -33,7 +33,7 @@ refuse-if-requires-2 : tie.Need-refuse-if-requires-2
 refuse-if-requires-2 c κs = search needs
 
 returns-2 : tie.Need-returns-2
-unfolding rowsVerdict
+unfolding listRowsVerdict
 returns-2 c =
     let passed = c .before .before in
     let rows = passed .before .before in
