@@ -15,11 +15,11 @@ use Rattle.ltfs.specs.declared.values.Field.{Field}
 use Rattle.markup.specs.Markup.{Open, Close, Char}
 use Rattle.markup.specs.Tree.{Forest, none, char, element, innermost, enclosing}
 use Rattle.ltfs.specs.Index.{joined, charsOf, insides, under, valuesAt, Level, filesIn}
-use Rattle.markup.specs.Places.{part, PlaceIn, tokensAt, Begins}
+use Rattle.markup.specs.Places.{part, PlaceIn, tokensAt, Begins, placeAt, Passes}
 use Rattle.ltfs.specs.Private.Parts.{framesAt, inside, Left, bare, ElementMet, NoElement, noChars, withByte, charsFrom, firstField, fieldNamed, fieldFrom}
 use Rattle.markup.proofs.Meets.{begins-fewer}
 use Rattle.markup.proofs.Names.{text-named}
-use Rattle.ltfs.proofs.Frames.{frames-first}
+use Rattle.ltfs.proofs.Frames.{frames-first, frames-past}
 
 -- Bytes before the first element hold no element.
 pub insides-bare : (wanted : List ℕ) (f : Forest) → insides wanted (bare f) ≡ insides wanted f
@@ -108,6 +108,19 @@ module _ (text : List ℕ) (place : Place) (chars : Chars) (here : Place) (p : C
           fewer = omega arith;
         };
         same = ap (λ (s : Chars). charsFrom s (charsOf (inside text next))) e ∙ sym (ap (λ (l : List Forest). charsFrom chars (charsOf (innermost l))) f) ∙ p .same;
+      }
+
+  pub chars-past : (next : Place) → Passes (tokensAt text here) text (placeAt here) next → CharsLeft text place chars next
+  chars-past next q =
+      let f = frames-past text here next q in
+      let w = p .around .fewer in
+      record {
+        around = record {
+          within = q .within;
+          outer = sym (ap enclosing f) ∙ p .around .outer;
+          fewer = omega (arith, ap length (q .same));
+        };
+        same = sym (ap (λ (l : List Forest). charsFrom chars (charsOf (innermost l))) f) ∙ p .same;
       }
 
   pub chars-start : (name : List ℕ) (next after : Place) → Begins (tokensAt text here) text (Open name) next → Left text next after → CharsLeft text place chars after

@@ -9,7 +9,7 @@ use Rattle.markup.specs.declared.Place.{Place}
 use Rattle.markup.specs.Markup.{Token, Open, Close, Char, Broken}
 use Rattle.markup.specs.Tree.{Forest, innermost, enclosing, frame, frames}
 use Rattle.markup.proofs.Meets.{begins-fewer}
-use Rattle.markup.specs.Places.{part, NameIn, PlaceIn, tokensAt, Begins}
+use Rattle.markup.specs.Places.{part, NameIn, PlaceIn, placeAt, tokensAt, Begins, Passes}
 use Rattle.ltfs.specs.Private.Parts.{framesAt, inside, Left, bare, ElementMet, NoElement}
 
 -- What is left, by the tokens from a place on.
@@ -24,6 +24,10 @@ frames-broken text here e = ap frames e
 pub frames-first : (text : List ℕ) (here next : Place) (token : Token) → Begins (tokensAt text here) text token next → framesAt text here ≡ frame token (framesAt text next)
 unfolding framesAt frames
 frames-first text here next token p = ap frames (p .first)
+
+pub frames-past : (text : List ℕ) (here next : Place) → Passes (tokensAt text here) text (placeAt here) next → framesAt text here ≡ framesAt text next
+unfolding framesAt
+frames-past text here next p = ap frames (p .same)
 
 -- Looking for the next element: the bytes passed are not of it.
 pub record Seeking (text : List ℕ) (place here : Place) : Type 0 where
@@ -50,6 +54,16 @@ module _ (text : List ℕ) (place here : Place) (p : Seeking text place here) wh
 
   pub seek-broken : tokensAt text here ≡ Broken ∷ [] → NoElement text place here
   seek-broken e = nothing-left (frames-broken text here e)
+
+  pub seek-past : (next : Place) → Passes (tokensAt text here) text (placeAt here) next → Seeking text place next
+  seek-past next q =
+      let e = frames-past text here next q in
+      record {
+        within = q .within;
+        held = p .held ∙ ap (λ (l : List Forest). bare (innermost l)) e;
+        outer = p .outer ∙ ap enclosing e;
+        fewer = omega (arith, ap length (q .same), p .fewer);
+      }
 
   pub seek-byte : (b : ℕ) (next : Place) → Begins (tokensAt text here) text (Char b) next → Seeking text place next
   unfolding bare

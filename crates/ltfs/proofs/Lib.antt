@@ -1,5 +1,4 @@
 -- Laws that this crate's proofs share, and those that other crates cite.
-pub mod Steps
 pub mod Frames
 pub mod Digits
 pub mod Bare

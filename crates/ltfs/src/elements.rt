@@ -6,9 +6,9 @@ ghost use lib.ListN.{length};
 ghost use Rattle.texts.specs.Text.{isText};
 ghost use Rattle.markup.specs.Places.{part, PlaceIn};
 ghost use Rattle.ltfs.specs.Private.Parts.{Left, ChildMet};
-use crate::tokens::Met;
-use crate::tokens::next_token;
 use markup::Place;
+use markup::Step;
+use markup::step_from;
 
 // An element with its name and where its inside begins; or none is left, and the reader is past the end.
 pub(crate) enum Child {
@@ -30,17 +30,18 @@ pub(crate) fn next_child(text: &[u8], place: Place) -> Child
 {
     let mut here = place;
     loop {
-        let met = next_token(text, here);
-        match met {
-            Met::End => return Child::Done(here),
-            Met::Broken => return Child::Done(here),
-            Met::Byte { byte: _, next } => here = next,
-            Met::Start { from, to, next } => return Child::Element { from, to, next },
-            Met::Finish {
+        let step = step_from(text, here);
+        match step {
+            Step::End => return Child::Done(here),
+            Step::Broken => return Child::Done(here),
+            Step::Byte { byte: _, next } => here = next,
+            Step::Start { from, to, next } => return Child::Element { from, to, next },
+            Step::Finish {
                 from: _,
                 to: _,
                 next,
             } => return Child::Done(next),
+            Step::Past(next) => here = next,
         }
     }
 }

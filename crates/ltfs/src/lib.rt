@@ -6,7 +6,6 @@ mod index;
 mod label;
 mod sheet;
 mod table;
-mod tokens;
 mod values;
 
 pub use sheet::table_sheet;

@@ -8,9 +8,9 @@ ghost use Rattle.markup.specs.Places.{part, NameIn, PlaceIn};
 ghost use Rattle.ltfs.specs.Private.Parts.{Left, inside, withByte, charsFrom, noChars, numberField, letterField, firstField, fieldNamed, isValue, valueIn, mayFollow, grows, digitOf, GrownTo};
 use crate::elements::is_named;
 use crate::elements::leave;
-use crate::tokens::Met;
-use crate::tokens::next_token;
 use markup::Place;
+use markup::Step;
+use markup::step_from;
 
 // What the elements of one name say: the first counts, and one that is bad spoils all.
 pub(crate) enum Field {
@@ -170,26 +170,27 @@ fn read_chars(text: &[u8], place: Place) -> CharsRead
     };
     let mut here = place;
     loop {
-        let met = next_token(text, here);
-        match met {
-            Met::End => return CharsRead { chars, next: here },
-            Met::Broken => return CharsRead { chars, next: here },
-            Met::Byte { byte, next } => {
+        let step = step_from(text, here);
+        match step {
+            Step::End => return CharsRead { chars, next: here },
+            Step::Broken => return CharsRead { chars, next: here },
+            Step::Byte { byte, next } => {
                 chars = with_byte(chars, byte);
                 here = next;
             }
-            Met::Start {
+            Step::Start {
                 from: _,
                 to: _,
                 next,
             } => {
                 here = leave(text, next);
             }
-            Met::Finish {
+            Step::Finish {
                 from: _,
                 to: _,
                 next,
             } => return CharsRead { chars, next },
+            Step::Past(next) => here = next,
         }
     }
 }

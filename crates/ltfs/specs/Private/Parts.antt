@@ -8,7 +8,6 @@ use lib.ListN.{length, take, drop}
 use lib.Dec.{eqb, ltb}
 use Rattle.texts.specs.Text.{isText, isNumber, valueOf, isDigit}
 use Rattle.markup.specs.declared.Place.{Place}
-use Rattle.ltfs.specs.declared.tokens.Met.{Met}
 use Rattle.ltfs.specs.declared.elements.Child.{Child}
 use Rattle.ltfs.specs.declared.values.Field.{Field}
 use Rattle.ltfs.specs.declared.values.Chars.{Chars}
@@ -19,18 +18,9 @@ use Rattle.ranges.specs.declared.File.{File}
 use Rattle.ltfs.specs.declared.index.Walk.{Walk}
 use Rattle.ltfs.specs.declared.index.NextFile.{NextFile}
 use Rattle.ltfs.specs.declared.index.Use.{Use}
-use Rattle.markup.specs.Markup.{Token, Open, Close, Char, Broken}
-use Rattle.markup.specs.Places.{part, NameIn, PlaceIn, tokensAt, Begins}
+use Rattle.markup.specs.Places.{part, NameIn, PlaceIn, tokensAt}
 use Rattle.markup.specs.Tree.{Forest, none, char, element, innermost, enclosing, frames}
 use Rattle.ltfs.specs.Index.{some, valuesAt, valuesIn, isPartition, letterOf, blockSizeName, partitionsName, dataName, blockSizes, dataPartitions, partitionName, startBlockName, byteOffsetName, byteCountName, Level, outside, inIndex, inDirectory, inContents, Role, holds, file, other, filesIn}
-
--- The next token from a place on, markup that has none passed over.
-abbrev pub TokenMet : List Token → List ℕ → Met → Type 0
-TokenMet tokens text Met.End = tokens ≡ []
-TokenMet tokens text Met.Broken = tokens ≡ Broken ∷ []
-TokenMet tokens text (Met.Byte byte next) = Begins tokens text (Char byte) next
-TokenMet tokens text (Met.Start from to next) = Begins tokens text (Open (part from to text)) next × NameIn text from to
-TokenMet tokens text (Met.Finish from to next) = Begins tokens text (Close (part from to text)) next × NameIn text from to
 
 -- What is left from a place on: in the element around it, and outwards.
 unfoldable pub framesAt : List ℕ → Place → List Forest
