@@ -1,21 +1,13 @@
 -- The planner's contract determines its answer and every row; and no well-formed list has a smaller sum than a least plan's.
 use mathlib.Core.Path.{_≡_, refl, sym, ap, _∙_}
 use mathlib.Core.Bool.{Bool, true, false}
-use mathlib.Core.List.{List}
 use Rattle.walk.specs.declared.Answer.{Answer}
 use Rattle.refusals.specs.Refusals.{isRefusal}
-use Rattle.runs.specs.Run.{Run, stopsOf}
-use Rattle.runs.specs.Lists.{Detour}
+use Rattle.runs.specs.Run.{Run}
 use Rattle.walk.specs.Price.{pricedAnswer}
-use Rattle.least.specs.Least.{ByRule}
-use Rattle.least.proofs.LeastList.{least-unique}
+use Rattle.tables.proofs.Determined.{rule-unique}
 use Rattle.runs.specs.declared.Rule.{Rule}
-use Rattle.runs.specs.declared.Rule.the-variants.{Sweep, Least}
 use Rattle.planner.specs.Plan.{Rows, Plans, Planned, Refused, planVerdict, rowsWith}
-
-rule-unique : (rule : Rule) (r : Run) (l l′ : List Detour) → ByRule rule r l → ByRule rule r l′ → l ≡ l′
-rule-unique Sweep r l l′ h h′ = h ∙ sym h′
-rule-unique Least r l l′ h h′ = least-unique (r .turn) (r .head) (stopsOf r) l l′ h h′
 
 module _ (r : Run) (rule : Rule) (before : Rows) (a a′ : Answer) (after after′ : Rows) where
   pub planned-once : Planned r rule before a after → Planned r rule before a′ after′ → (a ≡ a′) × (after ≡ after′)

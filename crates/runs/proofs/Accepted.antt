@@ -1,6 +1,6 @@
 -- The loops that look for a bad file and a bad want, and what is known of a file or a want that is not bad.
 use Prim.Native.Nat.{ℕ, _+_, _-_, _≤_, _<_}
-use mathlib.Core.Path.{_≡_, sym, _∙_}
+use mathlib.Core.Path.{_≡_, refl, sym, _∙_}
 use mathlib.Core.Bool.{Bool, true, false, _||_}
 use mathlib.Core.List.{List}
 use native.Mathlib.Omega.{arith}
@@ -10,7 +10,7 @@ use lib.Seq.{drop-cons}
 use lib.Dec.{ltb, leb, eqb}
 use borrow.Author.Tests.{eqb-false, ltb-false, leb-false, lt-ltb, le-ltb}
 use Rattle.refusals.specs.Refusals.{firstWhere}
-use Rattle.runs.specs.Run.{endAt, lastPlace, mostReads, total}
+use Rattle.runs.specs.Run.{endAt, lastPlace, mostReads, total, countedReads}
 use Rattle.runs.specs.Judging.{badFile, badWant, endBefore, numberBefore}
 use Rattle.runs.proofs.Search.{first-more, first-here, or-false-both}
 
@@ -122,3 +122,14 @@ module _ (counts : List ℕ) (sum i : ℕ) (p : Counted counts sum i) (l : i < l
 
 pub within-limit : (counts : List ℕ) (sum i : ℕ) → Counted counts sum i → length counts ≤ i → false ≡ ltb mostReads (total counts)
 within-limit counts sum i p l = sym (le-ltb mostReads (total counts) (omega (arith, total-end counts i l)))
+
+-- Within the limit the count is exact; and it passes the limit where the reads do.
+pub counted-exact : (counts : List ℕ) → total counts ≤ mostReads → countedReads counts ≡ total counts
+counted-exact counts h = rw (le-ltb mostReads (total counts) h)
+
+pub counted-over : (counts : List ℕ) → ltb mostReads (countedReads counts) ≡ ltb mostReads (total counts)
+counted-over counts = go (ltb mostReads (total counts)) refl
+  where
+    go : (b : Bool) → ltb mostReads (total counts) ≡ b → ltb mostReads (countedReads counts) ≡ ltb mostReads (total counts)
+    go true e = rw e
+    go false e = rw e e

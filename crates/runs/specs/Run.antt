@@ -1,7 +1,9 @@
 -- The tape and the run, and the stops: the wanted files with their places and counts, left to right.
 use Prim.Native.Nat.{ℕ, _+_, _-_}
 use mathlib.Core.List.{List, [], _∷_}
+use mathlib.Core.Bool.{cond}
 use lib.ListN.{getD}
+use lib.Dec.{ltb}
 use denote.Ref.{RefT, now}
 use denote.Triple.Both.{Both}
 
@@ -51,6 +53,10 @@ highestTurn = 4294967296
 abbrev pub total : List ℕ → ℕ
 total [] = 0
 total (c ∷ cs) = c + total cs
+
+-- The reads of a row of counts as code counts them: one more than the limit where they pass it.
+abbrev pub countedReads : List ℕ → ℕ
+countedReads counts = cond (ltb mostReads (total counts)) (mostReads + 1) (total counts)
 
 -- The end of the file at an index of the table, r = l + s, as a whole number.
 abbrev pub endAt : List ℕ → List ℕ → ℕ → ℕ

@@ -6,7 +6,7 @@ ghost use mathlib.Core.List.{List};
 ghost use lib.ListN.{length, getD};
 ghost use lib.Dec.{eqb, ltb, leb};
 ghost use Rattle.refusals.specs.Refusals.{firstWhere, firstOf};
-ghost use Rattle.runs.specs.Run.{runAt, total, lastPlace, mostReads, rightEnd, stopsFrom};
+ghost use Rattle.runs.specs.Run.{runAt, countedReads, lastPlace, rightEnd, stopsFrom};
 ghost use Rattle.runs.specs.Private.{SoundTable, InTable};
 ghost use Rattle.runs.specs.Judging.{badFile, badWant, tableChecks, wantsChecks, headChecks, judgeOf};
 use crate::HIGHEST_TURN;
@@ -98,21 +98,23 @@ fn first_bad_want(files: u64, numbers: &[u64], counts: &[u64]) -> u64
     0
 }
 
-// Whether the counts pass the limit. The adding stops there, so that it cannot wrap.
-fn too_many(counts: &[u64]) -> bool
-    ensures { λ r. ⌜ r ≡ ltb mostReads (total (now (counts .entry))) ⌝ }
+const PAST_MOST_READS: u64 = MOST_READS + 1;
+
+// The reads of a row of counts; one more than the limit where they pass it. The adding stops there, so that it cannot wrap.
+pub fn count_reads(counts: &[u64]) -> u64
+    ensures { λ r. ⌜ r ≡ countedReads (now (counts .entry)) ⌝ }
 {
     let mut sum: u64 = 0;
     let mut i: usize = 0;
     while i < counts.len() {
         let count = counts[i];
         if MOST_READS - sum < count {
-            return true;
+            return PAST_MOST_READS;
         }
         sum += count;
         i += 1;
     }
-    false
+    sum // all of them
 }
 
 // The end of the rightmost wanted file; 0 where nothing is wanted.
@@ -168,7 +170,7 @@ fn judge_wants(files: u64, numbers: &[u64], counts: &[u64]) -> Verdict
     if refused(want) {
         return want;
     }
-    refuse_if(too_many(counts), Refusal::TooManyReads)
+    refuse_if(MOST_READS < count_reads(counts), Refusal::TooManyReads)
 }
 
 // Whether the head stands off the tape, or left of the rightmost wanted end.

@@ -4,6 +4,7 @@
 mod judging;
 mod lists;
 
+pub use judging::count_reads;
 pub use judging::judge;
 pub use lists::judge_list;
 

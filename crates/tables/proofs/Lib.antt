@@ -1,4 +1,4 @@
--- Laws that this crate's proofs share; ListRules for the planner, which prices the list.
+-- Laws that this crate's proofs share; Determined for the planner, which prices the list.
 pub mod Words
 pub mod Sizes
 pub mod Facts
@@ -12,3 +12,4 @@ pub mod Stack
 pub mod ReadLoop
 pub mod Outcome
 pub mod Refusals
+pub mod Determined

@@ -3,17 +3,22 @@ use Prim.Native.Nat.{ℕ, zero, suc, _+_, _*_, _≤_, _<_, _^_}
 use native.Mathlib.Omega.{arith}
 use native.Mathlib.Nat.{mul-le-mul, mul-le-mul-left}
 use native.Mathlib.Numerals.{add-one}
-use mathlib.Core.Path.{_≡_, refl, ap}
+use mathlib.Core.Path.{_≡_, refl, ap, _∙_}
 use mathlib.Core.List.{List, [], _∷_}
-use lib.ListN.{length, getD, drop}
-use Rattle.runs.specs.Run.{lastPlace, mostReads, total}
-use Rattle.runs.proofs.Accepted.{total-drop, total-end}
+use lib.ListN.{length, getD, take, drop}
+use Rattle.runs.specs.Run.{lastPlace, mostReads, total, countedReads}
+use Rattle.runs.proofs.Accepted.{total-drop, counted-exact}
 use Rattle.least.proofs.Sums.{W-zero, W-suc, W-rises}
 use Rattle.tables.specs.Private.{RowFits, readsIn}
 
 drop-none : (xs : List ℕ) → drop 0 xs ≡ xs
 drop-none [] = refl
 drop-none (x ∷ xs) = refl
+
+total-parts : (xs : List ℕ) (n : ℕ) → total (take n xs) + total (drop n xs) ≡ total xs
+total-parts xs zero = omega (arith, ap (λ ys. total ys) (drop-none xs))
+total-parts [] (suc n) = refl
+total-parts (x ∷ xs) (suc n) = omega (arith, total-parts xs n)
 
 -- The rows' first words.
 module _ (k reads a b : ℕ) (ok : RowFits k reads a b) where
@@ -49,8 +54,11 @@ module _ (counts : List ℕ) where
   pub reads-within : (i : ℕ) → i ≤ length counts → readsIn counts i ≤ total counts
   reads-within i h = omega (arith, reads-split i h)
 
-  pub reads-whole : readsIn counts (length counts) ≡ total counts
-  reads-whole = omega (arith, reads-split (length counts) (omega arith), total-end counts (length counts) (omega arith))
+  -- The first n counts by themselves are the reads of the first n stops.
+  pub reads-of-part : (n : ℕ) → n ≤ length counts → total counts ≤ mostReads → countedReads (take n counts) ≡ readsIn counts n
+  reads-of-part n h small =
+      let part : total (take n counts) ≡ readsIn counts n = omega (arith, reads-split n h, total-parts counts n) in
+      counted-exact (take n counts) (omega (arith, part, reads-within n h)) ∙ part
 
 pub reads-rise : (counts : List ℕ) (i j : ℕ) → i ≤ j → readsIn counts i ≤ readsIn counts j
 unfolding readsIn

@@ -12,7 +12,6 @@ use crate::Listed;
 use crate::filling::clear;
 use crate::filling::fill;
 use crate::reading::read_off;
-use crate::stops::reads_before;
 use refusals::Refusal;
 use refusals::Verdict;
 use refusals::refuse_if;
@@ -148,7 +147,7 @@ pub fn list(
             detours: 0,
         };
     }
-    let reads = reads_before(counts, counts.len()) as usize;
+    let reads = runs::count_reads(counts) as usize;
     let k = numbers.len();
     let rows = judge_rows(k, reads, froms.len(), tos.len(), room.len());
     if refused(rows) {

@@ -54,13 +54,7 @@ pub(crate) fn reads_before(counts: &[u64], n: usize) -> u64
     requires { ⌜ total (now counts) ≤ mostReads ⌝ }
     ensures { λ r. ⌜ r ≡ readsIn (now (counts .entry)) n ⌝ }
 {
-    let mut sum: u64 = 0;
-    let mut i: usize = 0;
-    while i < n {
-        sum += counts[i];
-        i += 1;
-    }
-    sum
+    runs::count_reads(&counts[..n])
 }
 
 // The first word of the table's row (a, b).

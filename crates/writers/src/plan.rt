@@ -2,7 +2,7 @@
 ghost use mathlib.Core.Path.{_≡_};
 ghost use Prim.Native.Nat.{_≤_};
 ghost use lib.ListN.{length};
-ghost use Rattle.runs.specs.Run.{runOf, total, mostReads};
+ghost use Rattle.runs.specs.Run.{runAt};
 ghost use Rattle.writers.specs.PlanSheet.{planTop, planLines, PlanWritten};
 ghost use Rattle.writers.specs.Private.{Wrote, planMost, PlanFits};
 use crate::Written;
@@ -15,20 +15,6 @@ use crate::page::written;
 use refusals::Verdict;
 use refusals::refused;
 use walk::Answer;
-
-// The number of reads of an accepted run.
-fn reads_of(counts: &[u64]) -> u64
-    requires { ⌜ total (now counts) ≤ mostReads ⌝ }
-    ensures { λ r. ⌜ r ≡ total (now (counts .entry)) ⌝ }
-{
-    let mut reads: u64 = 0;
-    let mut i: usize = 0;
-    while i < counts.len() {
-        reads += counts[i];
-        i += 1;
-    }
-    reads
-}
 
 fn put_plan_top(page: &mut [u8], name: &[u8], reads: u64, answer: Answer) -> usize
     requires { ⌜ length (now name) ≤ 16 ⌝ }
@@ -73,7 +59,7 @@ pub fn write_plan(
     tos: &[u64],
     out: &mut [u8],
 ) -> Written
-    ensures { λ r. ⌜ PlanWritten (now (name .entry)) (runOf (now (starts .entry)) (now (lengths .entry)) (now (numbers .entry)) (now (counts .entry)) head turn) (now (froms .entry)) (now (tos .entry)) (now (out .entry)) r (now (out .exit)) ⌝ }
+    ensures { λ r. ⌜ PlanWritten (now (name .entry)) (runAt starts lengths numbers counts head turn) (now (froms .entry)) (now (tos .entry)) (now (out .entry)) r (now (out .exit)) ⌝ }
 {
     let run = runs::judge(starts, lengths, numbers, counts, head, turn);
     let named = judge_name(run, false, name);
@@ -105,7 +91,7 @@ pub fn write_plan(
     let bytes = put_plan(
         &mut page,
         name,
-        reads_of(counts),
+        runs::count_reads(counts),
         answer,
         froms,
         tos,

@@ -1,7 +1,7 @@
 // The run sheet writer.
 ghost use Prim.Native.Nat.{_+_, _≤_};
 ghost use lib.ListN.{length};
-ghost use Rattle.runs.specs.Run.{runOf};
+ghost use Rattle.runs.specs.Run.{runAt};
 ghost use Rattle.sheets.specs.Lines.{ruleKey, ruleText};
 ghost use Rattle.sheets.specs.Sheet.{longestSheet};
 ghost use Rattle.writers.specs.Writing.{line, topText, sheetText, SheetWritten};
@@ -51,7 +51,7 @@ fn put_sheet(
     turn: u64,
 ) -> usize
     requires { ⌜ SheetFits (now page) (now name) (now starts) (now lengths) (now numbers) (now counts) ⌝ }
-    ensures { λ r. ⌜ Wrote (now (page .entry)) 0 (sheetText (now (name .entry)) rule (runOf (now (starts .entry)) (now (lengths .entry)) (now (numbers .entry)) (now (counts .entry)) head turn)) longestSheet (now (page .exit)) r ⌝ }
+    ensures { λ r. ⌜ Wrote (now (page .entry)) 0 (sheetText (now (name .entry)) rule (runAt starts lengths numbers counts head turn)) longestSheet (now (page .exit)) r ⌝ }
 {
     let file_at = put_top(page, name, head, turn, rule, starts.len() as u64);
     let wants_at = put_pairs(page, file_at, b"file=", starts, lengths);
@@ -70,7 +70,7 @@ pub fn write_sheet(
     turn: u64,
     out: &mut [u8],
 ) -> Written
-    ensures { λ r. ⌜ SheetWritten (now (name .entry)) rule (runOf (now (starts .entry)) (now (lengths .entry)) (now (numbers .entry)) (now (counts .entry)) head turn) (now (out .entry)) r (now (out .exit)) ⌝ }
+    ensures { λ r. ⌜ SheetWritten (now (name .entry)) rule (runAt starts lengths numbers counts head turn) (now (out .entry)) r (now (out .exit)) ⌝ }
 {
     let run = runs::judge(starts, lengths, numbers, counts, head, turn);
     let verdict = judge_name(run, MOST_SHEET_FILES < starts.len() as u64, name);

@@ -4,6 +4,9 @@ use mathlib.Core.Path.{refl, ap, _∙_}
 use Rattle.refusals.specs.declared.Refusal.the-variants.{WantRows, BadWant, TooManyReads}
 use Rattle.refusals.specs.Refusals.{refuseIf, refuseAt}
 use Rattle.refusals.proofs.Verdicts.{test-says, accepts-if, last-if}
+use lib.Dec.{ltb}
+use Rattle.runs.specs.Run.{mostReads}
+use Rattle.runs.proofs.Accepted.{counted-over}
 use Rattle.runs.proofs.Judged.{rows-fit}
 use borrow.Author.Needs.{needs}
 use Rattle.runs.proofs.judging.judge_wants.Statement.{statement}
@@ -45,8 +48,8 @@ returns-2 c =
     let next = want .refuse-at .ensures ∙ ap (λ p. refuseAt p BadWant) (want .before .first-bad-want .ensures) in
     rw (test-says is (passed .before .refused .ensures) (passed .if1 .left), test-says next (c .before .refused2 .ensures) (c .if2 .taken)) next
 
-too-many-requires : tie.Need-too-many-requires
-too-many-requires c κs = search needs
+count-reads-requires : tie.Need-count-reads-requires
+count-reads-requires c κs = search needs
 
 refuse-if-requires-2 : tie.Need-refuse-if-requires-2
 refuse-if-requires-2 c κs = search needs
@@ -60,9 +63,9 @@ returns-3 c =
     let is = rows .refuse-if .ensures ∙ ap (λ b. refuseIf b WantRows) (rows .before .uneven .ensures) in
     let next = want .refuse-at .ensures ∙ ap (λ p. refuseAt p BadWant) (want .before .first-bad-want .ensures) in
     rw (test-says is (passed .before .refused .ensures) (passed .if1 .left), test-says next (sound .before .refused2 .ensures) (sound .if2 .left))
-    (last-if TooManyReads refl (c .refuse-if2 .ensures) (c .before .too-many .ensures))
+    (last-if TooManyReads refl (c .refuse-if2 .ensures) (ap (λ n. ltb mostReads n) (c .before .count-reads .ensures) ∙ counted-over (rows .before .before .before .before .args .counts .now)))
 
 pub judge-wants-spec : {M : Type 1} → statement M
 judge-wants-spec =
     tie.close
-    (tie.spec uneven-requires refuse-if-requires refused-requires returns first-bad-want-requires refuse-at-requires refused-requires-2 returns-2 too-many-requires refuse-if-requires-2 returns-3)
+    (tie.spec uneven-requires refuse-if-requires refused-requires returns first-bad-want-requires refuse-at-requires refused-requires-2 returns-2 count-reads-requires refuse-if-requires-2 returns-3)

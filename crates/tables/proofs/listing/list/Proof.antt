@@ -11,7 +11,7 @@ use Rattle.runs.specs.Judging.{judgeOf}
 use Rattle.runs.proofs.Judged.{accepted-run}
 use Rattle.tables.specs.Listing.{ListRows, listRows}
 use Rattle.tables.specs.Private.{LongRows, tableSize}
-use Rattle.tables.proofs.Sizes.{reads-whole}
+use Rattle.runs.proofs.Accepted.{counted-exact}
 use Rattle.tables.proofs.Outcome.{reads-small, still-fits, listed-so}
 use Rattle.tables.proofs.Refusals.{run-refused, run-accepted, rows-refused, rows-accepted, rows-long, room-big, run-listed}
 use borrow.Author.Needs.{needs}
@@ -40,12 +40,12 @@ rows e = let a = start e .args in listRows (a .froms .now) (a .tos .now) (a .roo
 passed : (e : tie.Else1) → isRefusal (judgeOf (run e) .refusal) ≡ false
 passed e = run-accepted (run e) (start e .args .rule) (rows e) _ _ (e .before .before .judge .ensures) (e .before .refused .ensures) (e .if1 .left)
 
-reads-before-requires : tie.Need-reads-before-requires
-reads-before-requires c κs = (search needs, reads-small (run c) (passed c))
+count-reads-requires : tie.Need-count-reads-requires
+count-reads-requires c κs = search needs
 
 -- The reads, and that a table for them has a size.
-reads-are : (n : tie.After-reads-before) → n .reads-before .result ≡ total (run (n .before) .counts)
-reads-are n = n .reads-before .ensures ∙ reads-whole _
+reads-are : (n : tie.After-count-reads) → n .count-reads .result ≡ total (run (n .before) .counts)
+reads-are n = n .count-reads .ensures ∙ counted-exact (run (n .before) .counts) (reads-small (run (n .before)) (passed (n .before)))
 
 judge-rows-requires : tie.Need-judge-rows-requires
 judge-rows-requires c κs =
@@ -72,7 +72,7 @@ long d =
     rows-long (run e) (start e .args .rule) (rows e) _ _ (e .before .before .judge .ensures) (e .before .refused .ensures)
     _ (reads-are n) _ (d .before .before .judge-rows .ensures) _ (d .before .refused2 .ensures) (e .if1 .left) (d .if2 .left)
 
-big : (d : tie.Else2) → tableSize (length (run (first d) .numbers)) (d .before .before .before .reads-before .result) ≤ length (rows (first d) .room)
+big : (d : tie.Else2) → tableSize (length (run (first d) .numbers)) (d .before .before .before .count-reads .result) ≤ length (rows (first d) .room)
 big d =
     let n = d .before .before .before in
     let e = n .before in
@@ -122,4 +122,4 @@ returns-3 c =
 pub list-spec : {M : Type 1} → statement M
 list-spec =
     tie.close
-    (tie.spec judge-requires refused-requires returns reads-before-requires judge-rows-requires refused-requires-2 returns-2 list-by-requires table-words-requires clear-requires same-length same-length-2 same-length-3 returns-3)
+    (tie.spec judge-requires refused-requires returns count-reads-requires judge-rows-requires refused-requires-2 returns-2 list-by-requires table-words-requires clear-requires same-length same-length-2 same-length-3 returns-3)

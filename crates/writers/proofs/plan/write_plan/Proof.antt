@@ -6,6 +6,7 @@ use Rattle.runs.specs.Run.{runOf}
 use Rattle.writers.proofs.Sheets.{refused-handed, part-length, page-handed}
 use Rattle.writers.proofs.Plans.{plan-refused, plan-good, plan-list-refused, plan-last, wants-length, plan-fits, plan-wrote}
 use borrow.Author.Needs.{needs}
+use Rattle.runs.proofs.Accepted.{counted-exact}
 use Rattle.writers.proofs.plan.write_plan.Statement.{statement}
 use Rattle.writers.proofs.plan.write_plan.Tie as tie
 
@@ -58,16 +59,8 @@ returns-2 c =
 slice-aggregate-put-plan : tie.Need-slice-aggregate-put-plan
 slice-aggregate-put-plan c = search needs
 
-reads-of-requires : tie.Need-reads-of-requires
-reads-of-requires c κs =
-    let c4 = c .before .before .before .before in
-    let c8 = c4 .before .before .before .before in
-    let c12 = c8 .before .before .before .before in
-    let c16 = c12 .before .before .before .before in
-    let a = c16 .before .before .args in
-    let run = runOf (a .starts .now) (a .lengths .now) (a .numbers .now) (a .counts .now) (a .head) (a .turn) in
-    plan-good (a .name .now) run (a .froms .now) (a .tos .now) (a .out .now) _ _
-    (c8 .before .judge .ensures) (c8 .judge-name .ensures) _ (c4 .before .before .before .refused .ensures) (c4 .before .before .if1 .left) .wants .reads
+count-reads-requires : tie.Need-count-reads-requires
+count-reads-requires c κs = search needs
 
 array-share-prefix-times : tie.Need-array-share-prefix-times
 array-share-prefix-times c =
@@ -131,7 +124,7 @@ returns-3 c =
     let run = runOf (a .starts .now) (a .lengths .now) (a .numbers .now) (a .counts .now) (a .head) (a .turn) in
     let wrote = plan-wrote (a .name .now) run (a .froms .now) (a .tos .now) (a .out .now) _ _
     (c16 .before .before .judge .ensures) (c16 .before .judge-name .ensures) _ (c16 .refused .ensures) (c12 .before .before .before .if1 .left)
-    _ (search needs) (c12 .before .price .result) (c12 .before .price .ensures .0) _ (c8 .before .before .before .refused2 .ensures) (c8 .before .before .if2 .left) _ (c12 .before .price .ensures .1) _ (c8 .reads-of .ensures) _ _ _ (c4 .before .before .put-plan .ensures) in
+    _ (search needs) (c12 .before .price .result) (c12 .before .price .ensures .0) _ (c8 .before .before .before .refused2 .ensures) (c8 .before .before .if2 .left) _ (c12 .before .price .ensures .1) _ (c8 .count-reads .ensures ∙ counted-exact (a .counts .now) (plan-good (a .name .now) run (a .froms .now) (a .tos .now) (a .out .now) _ _ (c16 .before .before .judge .ensures) (c16 .before .judge-name .ensures) _ (c16 .refused .ensures) (c12 .before .before .before .if1 .left) .wants .reads)) _ _ _ (c4 .before .before .put-plan .ensures) in
     page-handed _ _ _ _ _ wrote _ _ (plan-last (a .name .now) run (a .froms .now) (a .tos .now) (a .out .now) _ _
     (c16 .before .before .judge .ensures) (c16 .before .judge-name .ensures) _ (c16 .refused .ensures) (c12 .before .before .before .if1 .left)
     _ (search needs) (c12 .before .price .result) (c12 .before .price .ensures .0) _ (c8 .before .before .before .refused2 .ensures) (c8 .before .before .if2 .left)) _ _ (c .before .before .hand-out .ensures)
@@ -151,7 +144,7 @@ write-plan-spec =
     written-requires-2
     returns-2
     slice-aggregate-put-plan
-    reads-of-requires
+    count-reads-requires
     array-share-prefix-times
     slice-aggregate-put-plan-2
     put-plan-requires

@@ -1,12 +1,12 @@
--- `runs::judging::too_many` meets its contract: the sum so far and what is left make the total, and the sum has not passed the limit.
+-- `runs::judging::count_reads` meets its contract: the sum so far and what is left make the total, and the sum has not passed the limit.
 -- Assumes nothing.
 use borrow.Author.Needs.{needs}
 use Prim.Native.Nat.{_-_}
 use lib.ListN.{length}
 use native.Mathlib.Omega.{arith}
-use Rattle.runs.proofs.Accepted.{Counted, over-limit, counted-more, within-limit}
-use Rattle.runs.proofs.judging.too_many.Statement.{statement}
-use Rattle.runs.proofs.judging.too_many.Tie as tie
+use Rattle.runs.proofs.Accepted.{Counted, over-limit, counted-more, within-limit, total-end}
+use Rattle.runs.proofs.judging.count_reads.Statement.{statement}
+use Rattle.runs.proofs.judging.count_reads.Tie as tie
 
 abbrev Inv-loop : tie.InvT-loop
 Inv-loop counts sum₀ i₀ sum i = Counted counts sum i
@@ -27,7 +27,7 @@ sub-if1 : tie.Need-sub-if1 Inv-loop μ-loop
 sub-if1 c = search needs
 
 returns : tie.Need-returns Inv-loop μ-loop
-returns c = over-limit _ _ _ (c .before .before .before .loop .inv) (search needs) (c .if1 .taken)
+returns c = rw (← over-limit _ _ _ (c .before .before .before .loop .inv) (search needs) (c .if1 .taken))
 
 add-sum : tie.Need-add-sum Inv-loop μ-loop
 add-sum c = search needs
@@ -42,10 +42,12 @@ loop-again : tie.Need-loop-again Inv-loop μ-loop
 loop-again c = counted-more _ _ _ (c .before .before .before .loop .inv) (search needs) (c .if1 .left)
 
 returns-2 : tie.Need-returns-2 Inv-loop μ-loop
-returns-2 c = within-limit _ _ _ (c .before .loop .inv) (c .loop-test .left)
+returns-2 c =
+    let counts = c .before .before .args .counts .now in
+    rw (← within-limit _ _ _ (c .before .loop .inv) (c .loop-test .left)) (omega (arith, c .before .loop .inv .whole, total-end counts (c .before .loop .i) (c .loop-test .left)))
 
-pub too-many-spec : {M : Type 1} → statement M
-too-many-spec =
+pub count-reads-spec : {M : Type 1} → statement M
+count-reads-spec =
     tie.close
     (tie.spec
     Inv-loop
