@@ -5,3 +5,4 @@ pub mod Meets
 pub mod Counts
 pub mod Names
 pub mod Spelled
+pub mod Balanced

@@ -9,7 +9,7 @@ use native.Mathlib.Numerals.{add-one}
 use lib.ListN.{length, getD, set, length-set}
 use lib.Seq.{getD-set-same, getD-set-other}
 use lib.Dec.{eqb, ltb}
-use borrow.Author.Tests.{lt-ltb, le-ltb, ne-eqb, eqb-true}
+use borrow.Author.Tests.{lt-ltb, le-ltb, eq-eqb, ne-eqb, eqb-true}
 use Rattle.texts.specs.Text.{startsWith, isText}
 use Rattle.texts.proofs.Bytes.{and-true-both}
 use Rattle.markup.specs.declared.Place.{Place}
@@ -34,6 +34,14 @@ text-named wanted text e =
     let both = and-true-both (eqb (length wanted) (length text)) (startsWith wanted text) e in
     text-is wanted text (eqb-true (length wanted) (length text) (both .0)) (both .1)
 
+text-begins-itself : (text : List ℕ) → startsWith text text ≡ true
+unfolding startsWith
+text-begins-itself [] = refl
+text-begins-itself (b ∷ text) = rw (eq-eqb b b refl, text-begins-itself text)
+
+text-names-itself : (text : List ℕ) → isText text text ≡ true
+text-names-itself text = rw (eq-eqb (length text) (length text) refl, text-begins-itself text)
+
 -- The first names of two rows, the last of them first.
 unfoldable pub names : List ℕ → List ℕ → List ℕ → ℕ → List (List ℕ)
 names text froms tos zero = []
@@ -53,15 +61,19 @@ names-set text froms tos i from to (suc n) l =
     rw (names-set text froms tos i from to n (omega arith), getD-set-other froms i n from 0 other, getD-set-other tos i n to 0 other)
 
 -- What each token asks of the open names.
-closes-open : (opened : List (List ℕ)) (name : List ℕ) (tokens : List Token) → closesAll opened (Open name ∷ tokens) ≡ (ltb (length opened) mostOpen && closesAll (name ∷ opened) tokens)
+pub closes-open : (opened : List (List ℕ)) (name : List ℕ) (tokens : List Token) → closesAll opened (Open name ∷ tokens) ≡ (ltb (length opened) mostOpen && closesAll (name ∷ opened) tokens)
 unfolding closesAll
 closes-open [] name tokens = refl
 closes-open (first ∷ opened) name tokens = refl
 
-closes-byte : (opened : List (List ℕ)) (b : ℕ) (tokens : List Token) → closesAll opened (Char b ∷ tokens) ≡ closesAll opened tokens
+pub closes-byte : (opened : List (List ℕ)) (b : ℕ) (tokens : List Token) → closesAll opened (Char b ∷ tokens) ≡ closesAll opened tokens
 unfolding closesAll
 closes-byte [] b tokens = refl
 closes-byte (first ∷ opened) b tokens = refl
+
+pub closes-same : (opened : List (List ℕ)) (name : List ℕ) (tokens : List Token) → closesAll (name ∷ opened) (Close name ∷ tokens) ≡ closesAll opened tokens
+unfolding closesAll
+closes-same opened name tokens = rw (text-names-itself name)
 
 closes-broken : (opened : List (List ℕ)) (tokens : List Token) → closesAll opened (Broken ∷ tokens) ≡ false
 unfolding closesAll
