@@ -1,6 +1,6 @@
 -- Demand 1 for the tape tables of LTFS indexes.
 use Prim.Native.Nat.{ℕ, _<_}
-use mathlib.Core.Path.{_≡_, refl, sym}
+use mathlib.Core.Path.{_≡_, refl, sym, _∙_}
 use mathlib.Core.Bool.{Bool, true, false, not, _&&_, true≢false}
 use mathlib.Core.Logic.{_⊎_, inl, inr, ⊎-elim}
 use mathlib.Core.List.{List, [], _∷_}
@@ -16,6 +16,8 @@ use Rattle.texts.specs.Text.{isName}
 use Rattle.sheets.specs.Sheet.{mostSheetFiles}
 use Rattle.writers.specs.Writing.{rowVerdict, writtenRow}
 use Rattle.markup.specs.Tree.{isBalanced, treeOf}
+use Rattle.markup.specs.Promises.{SaysForest}
+use Rattle.markup.proofs.Balanced.{balanced-exactly}
 use Rattle.ltfs.specs.Index.{some, isGoodLabel, isGoodIndex, indexFiles}
 use Rattle.ranges.specs.Ranges.{endOfRange}
 use Rattle.ltfs.specs.Table.{inSeveral, areFar, someOverlap, rangesIn, tableIn, areGoodTexts, ltfsSheet, ltfsVerdict, ltfsReport, ltfsRow}
@@ -31,6 +33,17 @@ not-all true true false d = record { when-true = λ e. inr (inr (inl refl)); whe
 not-all true true true false = record { when-true = λ e. inr (inr (inr refl)); when-false = λ e. absurd (true≢false e) }
 not-all true true true true =
     record { when-true = λ e. absurd (true≢false (sym e)); when-false = λ e. ⊎-elim true≢false (⊎-elim true≢false (⊎-elim true≢false true≢false)) }
+
+-- The test for balance tells whether a forest at most 32 deep spells the text.
+says-none : (text : List ℕ) → isBalanced text ≡ false → SaysForest text → ⊥
+says-none text e forest = true≢false (sym (balanced-exactly text .1 forest) ∙ e)
+
+not-balanced : (text : List ℕ) → (SaysForest text → ⊥) → isBalanced text ≡ false
+not-balanced text n = go (isBalanced text) refl
+  where
+    go : (b : Bool) → isBalanced text ≡ b → isBalanced text ≡ false
+    go true e = absurd (n (balanced-exactly text .0 e))
+    go false e = e
 
 module _ (name label index row : List ℕ) where
   abbrev Applies : Refusal → ℕ → Type 0
@@ -52,11 +65,11 @@ module _ (name label index row : List ℕ) where
   bad-text : (p : ℕ) → (p ≡ 0) × BadTexts → Applies BadText p
   bad-text p h =
       rw (h .0)
-      (⊎-elim TapeApplies.label-unbalanced (⊎-elim TapeApplies.index-unbalanced (⊎-elim TapeApplies.label-values TapeApplies.index-values)) (h .1))
+      (⊎-elim (λ e. TapeApplies.label-unbalanced (says-none label e)) (⊎-elim (λ e. TapeApplies.index-unbalanced (says-none index e)) (⊎-elim TapeApplies.label-values TapeApplies.index-values)) (h .1))
 
   tape-text : (p : ℕ) → Applies BadText p → (p ≡ 0) × BadTexts
-  tape-text p (TapeApplies.label-unbalanced h) = (refl, inl h)
-  tape-text p (TapeApplies.index-unbalanced h) = (refl, inr (inl h))
+  tape-text p (TapeApplies.label-unbalanced h) = (refl, inl (not-balanced label h))
+  tape-text p (TapeApplies.index-unbalanced h) = (refl, inr (inl (not-balanced index h)))
   tape-text p (TapeApplies.label-values h) = (refl, inr (inr (inl h)))
   tape-text p (TapeApplies.index-values h) = (refl, inr (inr (inr h)))
 

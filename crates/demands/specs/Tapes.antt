@@ -12,7 +12,8 @@ use Rattle.runs.specs.Run.{lastPlace}
 use Rattle.texts.specs.Text.{isName}
 use Rattle.sheets.specs.Sheet.{mostSheetFiles}
 use Rattle.ltfs.specs.declared.Report.{Report}
-use Rattle.markup.specs.Tree.{isBalanced, treeOf}
+use Rattle.markup.specs.Tree.{treeOf}
+use Rattle.markup.specs.Promises.{SaysForest}
 use Rattle.ltfs.specs.Index.{some, isGoodLabel, isGoodIndex, indexFiles}
 use Rattle.ranges.specs.Ranges.{endOfRange}
 use Rattle.ltfs.specs.Table.{inSeveral, someOverlap, rangesIn, tableIn, ltfsSheet, ltfsVerdict, ltfsReport, ltfsRow}
@@ -23,8 +24,8 @@ tapeOrder = BadName ∷ BadText ∷ ManyExtents ∷ FarFile ∷ Overlap ∷ Shor
 
 pub data TapeApplies (name label index row : List ℕ) : Refusal → ℕ → Type 0 where
   bad-name : isName name ≡ false → TapeApplies name label index row BadName 0
-  label-unbalanced : isBalanced label ≡ false → TapeApplies name label index row BadText 0
-  index-unbalanced : isBalanced index ≡ false → TapeApplies name label index row BadText 0
+  label-unbalanced : (SaysForest label → ⊥) → TapeApplies name label index row BadText 0
+  index-unbalanced : (SaysForest index → ⊥) → TapeApplies name label index row BadText 0
   label-values : isGoodLabel (treeOf label) ≡ false → TapeApplies name label index row BadText 0
   index-values : isGoodIndex (treeOf index) ≡ false → TapeApplies name label index row BadText 0
   several : some inSeveral (indexFiles (treeOf index)) ≡ true → TapeApplies name label index row ManyExtents 0
