@@ -157,12 +157,14 @@ run header_example
 run daemon
 run installed
 run c/threads
+run c/stack
 run bench
 run c/compare ${calls:+--calls "$calls"}
 run rust/compare ${calls:+--calls "$calls"}
 run python/plan
 run python/ltfs --cases 2000
 run python/prices
+run python/pricer_rows
 
 [ "$tests_run" -gt 0 ] || fail "no test is called $only"
 printf 'tests/run.sh: all as it must be; tests run: %d\n' "$tests_run"

@@ -1,0 +1,248 @@
+/* How much of the stack violstream_price takes, with all that it calls: at the limits, for the empty list, for the longest
+ * and the deepest list, and for every refusal. Fails where a call takes more than MOST bytes, or does not give the result
+ * that its case is there for. For violstream_plan the figure is printed and not judged.
+ *
+ * A figure is what a call writes on a stack painted before (bench/stack.c), less what the same call writes if it reaches a
+ * function that does nothing. So it holds the return address, which is added again, and every word below it. It does not
+ * hold the caller's frame, to which the arguments beyond the sixth belong (x86-64: twelve words for violstream_price,
+ * fifteen for violstream_plan).
+ *
+ * make -C tests/c stack      (Makefile beside this file says against what)
+ * target/tests/stack [MOST]  exit status: 0 none above MOST (default 1,024), 1 some, or a wrong result */
+#include <inttypes.h>
+#include <stdbool.h>
+#include <stdio.h>
+#include <stdlib.h>
+#include <violstream.h>
+#include "stack.h"
+
+enum { FILES = VIOLSTREAM_MAX_FILES, WANTS = VIOLSTREAM_MAX_WANTS, MOST = 1024 };
+
+static _Noreturn void fail(const char *why, const char *what)
+{
+    fprintf(stderr, "stack.c: %s: %s\n", why, what);
+    exit(1);
+}
+
+/* ---- Calls ---- */
+
+/* A row, with room for one entry over the limit. */
+#define ROW(name, most) uint64_t name[(most) + 1]; size_t name##_len
+#define LEND(name) call.name, call.name##_len
+
+static struct {
+    ROW(starts, FILES);
+    ROW(lengths, FILES);
+    ROW(numbers, WANTS);
+    ROW(counts, WANTS);
+    ROW(from, WANTS);
+    ROW(to, WANTS);
+    ROW(times, WANTS);
+    ROW(sums, VIOLSTREAM_SUMS);
+    uint64_t head, turn, result;
+} call;
+static uint64_t *room;
+
+/* Read at each call, so that both callees are reached by the same instructions, from the same frame. */
+static __typeof__(&violstream_price) volatile price;
+static __typeof__(&violstream_plan) volatile plan;
+
+static void call_price(void)
+{
+    call.result = price(LEND(starts), LEND(lengths), LEND(numbers), LEND(counts), call.head, call.turn, LEND(from), LEND(to),
+                        LEND(times), LEND(sums));
+}
+
+static void call_plan(void)
+{
+    call.result = plan(LEND(starts), LEND(lengths), LEND(numbers), LEND(counts), call.head, call.turn, VIOLSTREAM_LEAST,
+                       LEND(from), LEND(to), LEND(times), LEND(sums), room, VIOLSTREAM_ROOM_MOST);
+}
+
+/* In the place of either function. It looks at no argument, the caller clears them away; compiled with -O2 it writes no word. */
+static uint64_t nothing(void)
+{
+    return 0;
+}
+
+static void call_nothing(void)
+{
+    nothing();
+}
+
+/* What `made` takes, which has reached a library function, against `idle`: the same call that reached `nothing`. */
+static size_t taken(size_t made, size_t idle)
+{
+    if (idle <= stack_bytes(call_nothing))
+        fail("the stack cannot be measured", "a call with arguments seems to take no more than one without");
+    return made - idle + sizeof(void *);
+}
+
+static size_t price_bytes(void)
+{
+    price = (__typeof__(price))(void (*)(void))nothing;
+    size_t idle = stack_bytes(call_price);
+    price = violstream_price;
+    return taken(stack_bytes(call_price), idle);
+}
+
+static size_t plan_bytes(void)
+{
+    plan = (__typeof__(plan))(void (*)(void))nothing;
+    size_t idle = stack_bytes(call_plan);
+    plan = violstream_plan;
+    return taken(stack_bytes(call_plan), idle);
+}
+
+/* ---- Cases ---- */
+
+/* The tape is full and as long as can be; every 64th file is wanted, 16 times each. No list. */
+static void at_the_limits(void)
+{
+    const uint64_t part = VIOLSTREAM_MAX_POSITION / FILES;
+    for (size_t i = 0; i <= FILES; i++) {
+        call.starts[i] = i * part;
+        call.lengths[i] = part;
+    }
+    for (size_t i = 0; i <= WANTS; i++) {
+        call.numbers[i] = (i + 1) * (FILES / WANTS);
+        call.counts[i] = VIOLSTREAM_MAX_READS / WANTS;
+    }
+    call.starts_len = call.lengths_len = FILES;
+    call.numbers_len = call.counts_len = call.times_len = WANTS;
+    call.from_len = call.to_len = 0;
+    call.sums_len = VIOLSTREAM_SUMS;
+    call.head = VIOLSTREAM_MAX_POSITION;
+    call.turn = VIOLSTREAM_MAX_TURN;
+}
+
+static void no_wants(void)
+{
+    call.numbers_len = call.counts_len = call.times_len = 0;
+}
+
+static void no_files(void)
+{
+    no_wants();
+    call.starts_len = call.lengths_len = 0;
+}
+
+/* A detour for each want but the leftmost, from the right: no longer list is well formed. */
+static void apart(void)
+{
+    for (size_t i = 0; i + 1 < WANTS; i++)
+        call.from[i] = call.to[i] = call.numbers[WANTS - 1 - i];
+    call.from_len = call.to_len = WANTS - 1;
+}
+
+/* Each detour around the one before it, from the middle to both ends: starts and ends are then all different, but for the
+ * innermost, and 63 wants have room for 32. */
+static void nested(void)
+{
+    for (size_t i = 0; i < WANTS / 2; i++) {
+        call.from[i] = call.numbers[WANTS / 2 - i];
+        call.to[i] = call.numbers[WANTS / 2 + i];
+    }
+    call.from_len = call.to_len = WANTS / 2;
+}
+
+static void file_over(void) { call.starts_len = call.lengths_len = FILES + 1; }
+static void lengths_short(void) { call.lengths_len--; }
+static void file_empty(void) { call.lengths[FILES - 1] = 0; }
+static void file_early(void) { call.starts[FILES - 1]--; }
+static void file_far(void) { call.lengths[FILES - 1]++; }
+static void file_past(void) { call.starts[FILES - 1] = UINT64_MAX; }
+static void want_over(void) { call.numbers_len = call.counts_len = WANTS + 1; }
+static void counts_short(void) { call.counts_len--; }
+static void want_unknown(void) { call.numbers[WANTS - 1]++; }
+static void want_twice(void) { call.numbers[WANTS - 1] = call.numbers[WANTS - 2]; }
+static void count_zero(void) { call.counts[WANTS - 1] = 0; }
+static void reads_over(void) { call.counts[WANTS - 1]++; }
+static void turn_over(void) { call.turn++; }
+static void head_over(void) { call.head++; }
+static void head_left(void) { call.head--; }
+static void ends_short(void) { apart(); call.to_len--; }
+static void last_unwanted(void) { apart(); call.from[WANTS - 2]--; }
+static void last_backwards(void) { apart(); call.to[WANTS - 2] = call.numbers[0]; }
+static void last_leftmost(void) { apart(); call.from[WANTS - 2] = call.numbers[0]; }
+static void last_again(void) { nested(); call.to[WANTS / 2 - 1] = call.to[WANTS / 2 - 2]; }
+static void last_not_falling(void) { apart(); call.from[WANTS - 2] = call.to[WANTS - 2] = call.from[WANTS - 3]; }
+static void times_short(void) { apart(); call.times_len--; }
+
+#define AT(number, place) ((number) + UINT64_C(256) * (place))
+
+static const struct {
+    const char *what;
+    void (*change)(void);
+    uint64_t result;
+} cases[] = {
+    {"no detours", at_the_limits, 0},
+    {"63 detours apart", apart, 0},
+    {"32 detours nested", nested, 0},
+    {"no wants", no_wants, 0},
+    {"no files", no_files, 0},
+    {"1: 4,097 files", file_over, VIOLSTREAM_FILE_ROWS},
+    {"1: a length too few", lengths_short, VIOLSTREAM_FILE_ROWS},
+    {"2: the last file is empty", file_empty, AT(VIOLSTREAM_BAD_FILE, FILES)},
+    {"2: the last file starts too early", file_early, AT(VIOLSTREAM_BAD_FILE, FILES)},
+    {"2: the last file ends past the tape", file_far, AT(VIOLSTREAM_BAD_FILE, FILES)},
+    {"2: the last file starts past the tape", file_past, AT(VIOLSTREAM_BAD_FILE, FILES)},
+    {"3: 65 wants", want_over, VIOLSTREAM_WANT_ROWS},
+    {"3: a count too few", counts_short, VIOLSTREAM_WANT_ROWS},
+    {"4: the last want is not in the table", want_unknown, AT(VIOLSTREAM_BAD_WANT, WANTS)},
+    {"4: the last want stands there twice", want_twice, AT(VIOLSTREAM_BAD_WANT, WANTS)},
+    {"4: the last count is 0", count_zero, AT(VIOLSTREAM_BAD_WANT, WANTS)},
+    {"5: 1,025 reads", reads_over, VIOLSTREAM_TOO_MANY_READS},
+    {"6: a turn price over the limit", turn_over, VIOLSTREAM_TURN_PRICE},
+    {"7: the head past the tape", head_over, VIOLSTREAM_HEAD_PLACE},
+    {"7: the head left of the last end", head_left, VIOLSTREAM_HEAD_PLACE},
+    {"10: an end too few", ends_short, VIOLSTREAM_BAD_ENTRY},
+    {"10: the last entry starts at an unwanted file", last_unwanted, AT(VIOLSTREAM_BAD_ENTRY, WANTS - 1)},
+    {"10: the last entry ends left of its start", last_backwards, AT(VIOLSTREAM_BAD_ENTRY, WANTS - 1)},
+    {"10: the last entry starts at the leftmost want", last_leftmost, AT(VIOLSTREAM_BAD_ENTRY, WANTS - 1)},
+    {"10: the last start does not fall", last_not_falling, AT(VIOLSTREAM_BAD_ENTRY, WANTS - 1)},
+    {"10: the last entry ends where one inside it does", last_again, AT(VIOLSTREAM_BAD_ENTRY, WANTS / 2)},
+    {"8: a time too few", times_short, VIOLSTREAM_SHORT_ROW},
+};
+
+enum { CASES = sizeof cases / sizeof *cases };
+
+/* A case by itself, or with a row of sums that is too short: then whatever is not refused before is refused with 8. */
+static size_t case_bytes(size_t i, bool short_sums)
+{
+    at_the_limits();
+    cases[i].change();
+    call.sums_len -= short_sums;
+    size_t bytes = price_bytes();
+    if (call.result != (short_sums && cases[i].result == 0 ? VIOLSTREAM_SHORT_ROW : cases[i].result))
+        fail("not the result that the case is there for", cases[i].what);
+    return bytes;
+}
+
+int main(int argc, char **argv)
+{
+    size_t bar = argc > 1 ? strtoul(argv[1], NULL, 10) : MOST, largest = 0;
+    const char *where = "", *how = "";
+    for (size_t i = 0; i < 2 * CASES; i++) {
+        size_t bytes = case_bytes(i / 2, i % 2);
+        if (bytes > largest) {
+            largest = bytes;
+            where = cases[i / 2].what;
+            how = i % 2 ? ", sums too short" : "";
+        }
+    }
+    room = calloc(VIOLSTREAM_ROOM_MOST, sizeof *room);
+    if (room == NULL)
+        fail("no memory", "room");
+    at_the_limits();
+    call.from_len = call.to_len = WANTS - 1;
+    size_t planned = plan_bytes();
+    if (call.result != 0)
+        fail("refused", "a plan at the limits");
+    free(room);
+    printf("stack.c: violstream_price takes at most %zu bytes of stack in %d calls (first so: %s%s), allowed are %zu; "
+           "violstream_plan takes %zu\n", largest, 2 * CASES, where, how, bar, planned);
+    if (largest > bar)
+        fail("violstream_price takes too much of the stack", where);
+    return 0;
+}
