@@ -24,11 +24,11 @@ use Rattle.least.specs.Recurrence.{planDetours, W, lowest, scan, filledTo, fill
 use Rattle.planner.specs.Plan.{Rows, rowsOf, Plans, planVerdict}
 use Rattle.texts.specs.Text.{allOf, isName}
 use Rattle.demands.specs.Sheets.{GivesBack}
-use Rattle.demands.specs.Demand2.{listIn, IsTheWalk, IsLeast}
+use Rattle.demands.specs.Demand2.{listIn, IsTheWalk, IsPriceOf, IsLeast}
 use Rattle.demands.specs.Demand3.{AsksNoLess}
 use Rattle.demands.specs.Cases.{exampleRun, fourFiles}
 use Rattle.demands.proofs.Demand1.{demand1-price, demand1-plan}
-use Rattle.demands.proofs.Demand2.{demand2-walk, demand2-least, demand2-sweep}
+use Rattle.demands.proofs.Demand2.{demand2-price, demand2-walk, demand2-least, demand2-sweep}
 use Rattle.demands.proofs.Demand3.{demand3, demand3-same}
 use Rattle.demands.proofs.Sheets.{demand2-round-trip}
 use Rattle.demands.proofs.Fits.{ruleList, planAnswer, planRows, plans-for-every-input}
@@ -126,6 +126,16 @@ crossing-list-keeps-row =
     (priceRow fourFiles (3 ∷ 2 ∷ []) (4 ∷ 4 ∷ []) (0 ∷ 0 ∷ 0 ∷ 0 ∷ []))
     (sym crossing-list-refused) refl .kept
     (λ e. true≢false (ap isRefusal e)) .1
+
+-- The pricer accepts (2,2) on the sheet's run.
+detour-accepted : priceAnswer exampleRun (2 ∷ []) (2 ∷ []) (7 ∷ 7 ∷ 7 ∷ []) .refusal ≡ Accepted
+unfolding priceAnswer priceVerdict judgeOf firstWhere stopsFrom rightEnd listVerdict listOf firstBadEntry wanted anyBelow pricedAnswer
+detour-accepted = refl
+
+pub detour-is-priced : IsPriceOf exampleRun (2 ∷ []) (2 ∷ []) (priceRow exampleRun (2 ∷ []) (2 ∷ []) (7 ∷ 7 ∷ 7 ∷ [])) (priceAnswer exampleRun (2 ∷ []) (2 ∷ []) (7 ∷ 7 ∷ 7 ∷ []))
+detour-is-priced =
+    demand2-price exampleRun (2 ∷ []) (2 ∷ []) (7 ∷ 7 ∷ 7 ∷ []) (priceAnswer exampleRun (2 ∷ []) (2 ∷ []) (7 ∷ 7 ∷ 7 ∷ []))
+    (priceRow exampleRun (2 ∷ []) (2 ∷ []) (7 ∷ 7 ∷ 7 ∷ [])) refl refl detour-accepted
 
 pub sheet-is-the-walk : IsTheWalk exampleRun (sheetAnswer 54) (sheetAfter 54)
 sheet-is-the-walk = demand2-walk exampleRun Least (sheetRows 54) (sheetAnswer 54) (sheetAfter 54) (sheet-plans 54) sheet-accepted
