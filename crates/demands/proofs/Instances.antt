@@ -22,14 +22,17 @@ use Rattle.refusals.proofs.Verdicts.{refuses}
 use Rattle.least.specs.Wants.{readsOf}
 use Rattle.least.specs.Recurrence.{planDetours, W, lowest, scan, filledTo, filled, candidate, next, value, choice, built, nextPlan, best, leastList}
 use Rattle.planner.specs.Plan.{Rows, rowsOf, Plans, planVerdict}
+use Rattle.boundary.specs.Boundary.{codeOf, sumsWith, priceCall, priceTimes, priceSums, planCall, PlanCalled}
 use Rattle.texts.specs.Text.{allOf, isName}
 use Rattle.demands.specs.Sheets.{GivesBack}
 use Rattle.demands.specs.Demand2.{listIn, IsTheWalk, IsPriceOf, IsLeast}
 use Rattle.demands.specs.Demand3.{AsksNoLess}
+use Rattle.demands.specs.Calls.{PriceCallWalks, PlanCallWalks}
 use Rattle.demands.specs.Cases.{exampleRun, fourFiles}
 use Rattle.demands.proofs.Demand1.{demand1-price, demand1-plan}
 use Rattle.demands.proofs.Demand2.{demand2-price, demand2-walk, demand2-least, demand2-sweep}
 use Rattle.demands.proofs.Demand3.{demand3, demand3-same}
+use Rattle.demands.proofs.Called.{demand2-price-call, demand2-plan-call, demand3-plan-call}
 use Rattle.demands.proofs.Sheets.{demand2-round-trip}
 use Rattle.demands.proofs.Fits.{ruleList, planAnswer, planRows, plans-for-every-input}
 
@@ -159,6 +162,47 @@ wanderings-beat-nothing-there =
     rw
     sheet-reports at
     (demand3-same exampleRun (sheetRows 54) (sheetAnswer 54) (sheetAfter 54) (sheet-plans 54) sheet-accepted wanderings (wanderings-move 60 (omega arith)) (wanderings-serve .1))
+
+-- At the C boundary the same, with a row of sums of five words.
+abbrev fiveWords : List ℕ
+fiveWords = 7 ∷ 7 ∷ 7 ∷ 7 ∷ 7 ∷ []
+
+detour-called-accepted : codeOf (priceCall exampleRun (2 ∷ []) (2 ∷ []) (7 ∷ 7 ∷ 7 ∷ []) fiveWords) ≡ 0
+unfolding priceCall priceVerdict judgeOf firstWhere stopsFrom rightEnd listVerdict listOf firstBadEntry wanted anyBelow
+detour-called-accepted = refl
+
+pub detour-called : PriceCallWalks exampleRun (2 ∷ []) (2 ∷ [])
+    (priceTimes exampleRun (2 ∷ []) (2 ∷ []) (7 ∷ 7 ∷ 7 ∷ []) fiveWords) (priceSums exampleRun (2 ∷ []) (2 ∷ []) (7 ∷ 7 ∷ 7 ∷ []) fiveWords)
+detour-called =
+    demand2-price-call exampleRun (2 ∷ []) (2 ∷ []) (7 ∷ 7 ∷ 7 ∷ []) fiveWords
+    (codeOf (priceCall exampleRun (2 ∷ []) (2 ∷ []) (7 ∷ 7 ∷ 7 ∷ []) fiveWords))
+    (priceTimes exampleRun (2 ∷ []) (2 ∷ []) (7 ∷ 7 ∷ 7 ∷ []) fiveWords) (priceSums exampleRun (2 ∷ []) (2 ∷ []) (7 ∷ 7 ∷ 7 ∷ []) fiveWords)
+    (record { says = refl; timesAre = refl; sumsAre = refl })
+    detour-called-accepted
+
+call-passes : refuses (planCall exampleRun 1 (sheetRows 54) fiveWords) ≡ false
+unfolding planCall judgeOf firstWhere stopsFrom rightEnd
+call-passes = refl
+
+plan-passes : refuses (planVerdict exampleRun (sheetRows 54)) ≡ false
+unfolding planVerdict judgeOf firstWhere stopsFrom rightEnd
+plan-passes = refl
+
+sheet-called : PlanCalled exampleRun 1 (sheetRows 54) fiveWords 0 (sheetAfter 54) (sumsWith (sheetAnswer 54) fiveWords)
+sheet-called =
+    record {
+      refused = λ e. absurd (true≢false (sym e ∙ call-passes));
+      planned = λ e. record { says = refl; answer = sheetAnswer 54; planned = sheet-plans 54 .planned plan-passes; sumsAre = refl };
+    }
+
+pub sheet-call-walks : PlanCallWalks exampleRun 1 (sheetAfter 54) (sumsWith (sheetAnswer 54) fiveWords)
+sheet-call-walks = demand2-plan-call exampleRun 1 (sheetRows 54) fiveWords 0 (sheetAfter 54) (sumsWith (sheetAnswer 54) fiveWords) sheet-called refl
+
+pub wanderings-beat-no-call : 367 ≤ sumOf (moreAsked .turn) (headAt (moreAsked .head)) wanderings (stopsOf moreAsked)
+wanderings-beat-no-call =
+    rw
+    sheet-reports at
+    (demand3-plan-call moreAsked exampleRun (sheetRows 54) fiveWords 0 (sheetAfter 54) (sumsWith (sheetAnswer 54) fiveWords) more-accepted sheet-called refl more-asks-no-less wanderings (wanderings-move 70 (omega arith)) (wanderings-serve .0))
 
 -- The sheet's run is written, and read back into rows that are just long enough.
 sheet-judged : refuses (judgeOf exampleRun) ≡ false

@@ -9,6 +9,7 @@ pub mod Calls
 pub mod Planned
 pub mod Demand2
 pub mod Demand3
+pub mod Called
 pub mod Cases
 pub mod Sheets
 pub mod Tapes
