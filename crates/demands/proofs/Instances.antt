@@ -25,10 +25,12 @@ use Rattle.planner.specs.Plan.{Rows, rowsOf, Plans, planVerdict}
 use Rattle.boundary.specs.Boundary.{codeOf, sumsWith, priceCall, priceTimes, priceSums, planCall, PlanCalled}
 use Rattle.texts.specs.Text.{allOf, isName}
 use Rattle.demands.specs.Sheets.{GivesBack}
+use Rattle.demands.specs.Formed.{ObeysTheRules}
 use Rattle.demands.specs.Demand2.{listIn, IsTheWalk, IsPriceOf, IsLeast}
 use Rattle.demands.specs.Demand3.{AsksNoLess}
 use Rattle.demands.specs.Calls.{PriceCallWalks, PlanCallWalks}
 use Rattle.demands.specs.Cases.{exampleRun, fourFiles}
+use Rattle.demands.proofs.Formed.{formed-by-the-rules}
 use Rattle.demands.proofs.Demand1.{demand1-price, demand1-plan}
 use Rattle.demands.proofs.Demand2.{demand2-price, demand2-walk, demand2-least, demand2-sweep}
 use Rattle.demands.proofs.Demand3.{demand3, demand3-same}
@@ -66,6 +68,18 @@ short-room-refused = refl
 pub crossing-list-refused : priceAnswer fourFiles (3 ∷ 2 ∷ []) (4 ∷ 4 ∷ []) (0 ∷ 0 ∷ 0 ∷ 0 ∷ []) ≡ refusalAnswer (record { refusal = BadEntry; place = 2 })
 unfolding priceAnswer priceVerdict judgeOf firstWhere stopsFrom rightEnd listVerdict listOf firstBadEntry wanted anyBelow
 crossing-list-refused = refl
+
+-- 01's rules: (3,3)(2,4) obeys them, (3,4)(2,4) with its equal ends does not.
+abbrev twoDetours : ℕ → ℕ → ℕ → ℕ → List Detour
+twoDetours a b c d = record { from = a; to = b } ∷ record { from = c; to = d } ∷ []
+
+pub nested-obeys : ObeysTheRules (stopsOf fourFiles) (twoDetours 3 3 2 4)
+unfolding firstBadEntry firstWhere stopsFrom wanted anyBelow
+nested-obeys = formed-by-the-rules (stopsOf fourFiles) (twoDetours 3 3 2 4) .0 refl
+
+pub equal-ends-break : ObeysTheRules (stopsOf fourFiles) (twoDetours 3 4 2 4) → ⊥
+unfolding firstBadEntry firstWhere stopsFrom wanted anyBelow
+equal-ends-break rules = let formed : _≡_ {A = ℕ} 2 0 = formed-by-the-rules (stopsOf fourFiles) (twoDetours 3 4 2 4) .1 rules in omega arith
 
 -- Demand 3. The first run asks more than the sheet's: one more read of file 2, a higher price, a head further right.
 abbrev pub moreAsked : Run

@@ -4,6 +4,7 @@ pub mod Checks
 pub mod Conditions
 pub mod Judged
 pub mod Listed
+pub mod Formed
 pub mod Demand1
 pub mod Calls
 pub mod Planned
