@@ -5,9 +5,11 @@ use mathlib.Core.Path.{_≡_, refl, sym, ap, _∙_}
 use mathlib.Core.Bool.{Bool, true, false, cond, true≢false}
 use mathlib.Core.List.{List, [], _∷_, _++_, map}
 use native.Mathlib.Omega.{arith}
-use lib.ListN.{replicate}
+use lib.ListN.{length, take, replicate, length-replicate}
+use native.Mathlib.Nat.{le-refl}
+use borrow.Author.Tests.{le-ltb}
 use lib.Dec.{eqb}
-use Rattle.refusals.specs.declared.Refusal.the-variants.{Accepted, BadEntry, ShortRoom}
+use Rattle.refusals.specs.declared.Refusal.the-variants.{Accepted, BadEntry, BadLine, ShortRoom}
 use Rattle.walk.specs.declared.Answer.{Answer}
 use Rattle.walk.specs.declared.Leg.{Leg}
 use Rattle.runs.specs.declared.Rule.the-variants.{Sweep, Least}
@@ -23,8 +25,14 @@ use Rattle.least.specs.Wants.{readsOf}
 use Rattle.least.specs.Recurrence.{planDetours, W, lowest, scan, filledTo, filled, candidate, next, value, choice, built, nextPlan, best, leastList}
 use Rattle.planner.specs.Plan.{Rows, rowsOf, Plans, planVerdict}
 use Rattle.boundary.specs.Boundary.{codeOf, sumsWith, priceCall, priceTimes, priceSums, planCall, PlanCalled}
-use Rattle.texts.specs.Text.{allOf, isName}
-use Rattle.demands.specs.Sheets.{GivesBack}
+use Rattle.texts.specs.Text.{allOf, isName, startsWith, has}
+use Rattle.sheets.specs.declared.Reading.{Reading}
+use Rattle.sheets.specs.Lines.{lineOf, afterLines, isTapeLine}
+use Rattle.sheets.specs.Sheet.{firstBadTop, firstBadLine, sheetRun}
+use Rattle.sheets.specs.Reading.{sheetVerdict, readVerdict, readAnswer, readRow, RunRows, runRows, rowsVerdict}
+use Rattle.writers.specs.declared.Written.{Written}
+use Rattle.writers.specs.Writing.{sheetText, rowVerdict, writeVerdict, writtenAnswer, writtenRow}
+use Rattle.demands.specs.Sheets.{GivesBack, ComesBack}
 use Rattle.demands.specs.Formed.{ObeysTheRules}
 use Rattle.demands.specs.Demand2.{listIn, IsTheWalk, IsPriceOf, IsLeast}
 use Rattle.demands.specs.Demand3.{AsksNoLess}
@@ -35,7 +43,7 @@ use Rattle.demands.proofs.Demand1.{demand1-price, demand1-plan}
 use Rattle.demands.proofs.Demand2.{demand2-price, demand2-walk, demand2-least, demand2-sweep}
 use Rattle.demands.proofs.Demand3.{demand3, demand3-same}
 use Rattle.demands.proofs.Called.{demand2-price-call, demand2-plan-call, demand3-plan-call}
-use Rattle.demands.proofs.Sheets.{demand2-round-trip}
+use Rattle.demands.proofs.Sheets.{demand1-read, demand2-round-trip, write-then-read}
 use Rattle.demands.proofs.Fits.{ruleList, planAnswer, planRows, plans-for-every-input}
 
 -- The sheet's run with rows and room that just suffice: the planner accepts, and reports 367.
@@ -223,11 +231,63 @@ sheet-judged : refuses (judgeOf exampleRun) ≡ false
 unfolding judgeOf firstWhere stopsFrom rightEnd
 sheet-judged = refl
 
-sheet-named : isName (86 ∷ 88 ∷ 48 ∷ 48 ∷ 52 ∷ 49 ∷ []) ≡ true
+abbrev sheetName : List ℕ
+sheetName = 86 ∷ 88 ∷ 48 ∷ 48 ∷ 52 ∷ 49 ∷ []
+
+sheet-named : isName sheetName ≡ true
 unfolding isName allOf
 sheet-named = refl
 
-pub sheet-reads-back : GivesBack (86 ∷ 88 ∷ 48 ∷ 48 ∷ 52 ∷ 49 ∷ []) Least exampleRun (7 ∷ 7 ∷ 7 ∷ []) (7 ∷ 7 ∷ 7 ∷ []) (7 ∷ 7 ∷ 7 ∷ []) (7 ∷ 7 ∷ 7 ∷ [])
+pub sheet-reads-back : GivesBack sheetName Least exampleRun (7 ∷ 7 ∷ 7 ∷ []) (7 ∷ 7 ∷ 7 ∷ []) (7 ∷ 7 ∷ 7 ∷ []) (7 ∷ 7 ∷ 7 ∷ [])
 sheet-reads-back =
-    demand2-round-trip (86 ∷ 88 ∷ 48 ∷ 48 ∷ 52 ∷ 49 ∷ []) Least exampleRun sheet-judged (omega arith) sheet-named (7 ∷ 7 ∷ 7 ∷ []) (7 ∷ 7 ∷ 7 ∷ []) (7 ∷ 7 ∷ 7 ∷ []) (7 ∷ 7 ∷ 7 ∷ [])
+    demand2-round-trip sheetName Least exampleRun sheet-judged (omega arith) sheet-named (7 ∷ 7 ∷ 7 ∷ []) (7 ∷ 7 ∷ 7 ∷ []) (7 ∷ 7 ∷ 7 ∷ []) (7 ∷ 7 ∷ 7 ∷ [])
     (omega arith) (omega arith) (omega arith) (omega arith)
+
+-- Written into a row that is just long enough, and that row read.
+abbrev sevens : RunRows
+sevens = runRows (7 ∷ 7 ∷ 7 ∷ []) (7 ∷ 7 ∷ 7 ∷ []) (7 ∷ 7 ∷ 7 ∷ []) (7 ∷ 7 ∷ 7 ∷ 7 ∷ [])
+
+abbrev sheetRow : List ℕ
+sheetRow = replicate (length (sheetText sheetName Least exampleRun)) 7
+
+abbrev sheetWritten : Written
+sheetWritten = writtenAnswer (writeVerdict sheetName Least exampleRun sheetRow) (sheetText sheetName Least exampleRun)
+
+abbrev sheetOut : List ℕ
+sheetOut = writtenRow (writeVerdict sheetName Least exampleRun sheetRow) (sheetText sheetName Least exampleRun) sheetRow
+
+write-passes : refuses (writeVerdict sheetName Least exampleRun sheetRow) ≡ false
+unfolding writeVerdict rowVerdict
+write-passes =
+    let size = length (sheetText sheetName Least exampleRun) in
+    rw (sheet-judged, sheet-named, length-replicate {A = ℕ} size 7, le-ltb size size (le-refl size))
+
+write-accepted : sheetWritten .refusal ≡ Accepted
+unfolding writtenAnswer
+write-accepted = rw write-passes
+
+abbrev readBack : List ℕ → Reading
+readBack sheet = readAnswer (rowsVerdict sheet sevens) sheet
+
+abbrev rowsBack : List ℕ → RunRows
+rowsBack sheet =
+    let v = rowsVerdict sheet sevens in
+    let run = sheetRun sheet in
+    runRows (readRow v (run .starts) (sevens .starts)) (readRow v (run .lengths) (sevens .lengths)) (readRow v (run .numbers) (sevens .numbers)) (readRow v (run .counts) (sevens .counts))
+
+pub written-comes-back : ComesBack sheetName Least exampleRun (take (sheetWritten .bytes) sheetOut) (readBack (take (sheetWritten .bytes) sheetOut)) (rowsBack (take (sheetWritten .bytes) sheetOut))
+written-comes-back =
+    let sheet = take (sheetWritten .bytes) sheetOut in
+    write-then-read sheetName Least exampleRun sheetRow sheetWritten sheetOut (record { answer = refl; left = refl }) write-accepted sevens (readBack sheet) (rowsBack sheet)
+    (record { starts = omega arith; lengths = omega arith; numbers = omega arith; counts = omega arith })
+    (record { answer = refl; starts = refl; lengths = refl; numbers = refl; counts = refl })
+
+-- An empty sheet is refused at line 1, and the rows stay.
+empty-refused : readBack [] .refusal ≡ BadLine
+unfolding readAnswer readVerdict sheetVerdict firstBadLine firstBadTop isTapeLine startsWith lineOf has afterLines
+empty-refused = refl
+
+pub empty-keeps-rows : rowsBack [] ≡ sevens
+empty-keeps-rows =
+    demand1-read [] sevens (readBack []) (rowsBack []) (record { answer = refl; starts = refl; lengths = refl; numbers = refl; counts = refl }) .kept
+    (λ e. true≢false (ap isRefusal (sym empty-refused ∙ e))) .1
