@@ -1,23 +1,30 @@
--- Demand 2: the planner's numbers are the walk's, its list is the least under the least rule and empty under the sweep rule, and its contract fits one answer.
-use mathlib.Core.Path.{_≡_, sym, ap, _∙_}
-use mathlib.Core.List.{List}
+-- Demand 2: the pricer's and the planner's numbers are the walk's, the planner's list is the least under the least rule and empty under the sweep rule, and its contract fits one answer.
+use Prim.Native.Nat.{ℕ}
+use mathlib.Core.Path.{_≡_, refl, sym, ap, _∙_}
+use mathlib.Core.Bool.{Bool, true, false, not, true≢false}
+use mathlib.Core.List.{List, [], _∷_, _++_}
 use lib.ListN.{length, drop}
 use lib.Seq.{take-at}
+use lib.Dec.{ltb, eqb}
+use borrow.Author.Tests.{eqb-true, not-false}
+use Rattle.refusals.specs.declared.Refusal.the-variants.{BadEntry, ShortRow}
 use Rattle.walk.specs.declared.Answer.{Answer}
 use Rattle.runs.specs.declared.Rule.{Rule}
 use Rattle.runs.specs.declared.Rule.the-variants.{Sweep, Least}
-use Rattle.refusals.specs.Refusals.{firstWhere}
+use Rattle.refusals.specs.Refusals.{isRefusal, refuseIf, refuseAt, firstWhere}
 use Rattle.runs.specs.Run.{Run, stopsOf}
-use Rattle.runs.specs.Lists.{Detour, WellFormed, firstBadEntry}
-use Rattle.walk.specs.Price.{pricedAnswer, pricedTimes}
+use Rattle.runs.specs.Judging.{judgeOf}
+use Rattle.runs.specs.Lists.{Detour, WellFormed, listOf, firstBadEntry, listVerdict}
+use Rattle.walk.specs.Price.{pricedAnswer, pricedTimes, priceVerdict, priceAnswer, priceRow}
+use Rattle.refusals.proofs.Verdicts.{refuses, AllAccept, all-accept, accepts-if, accepts-at}
 use Rattle.runs.proofs.Judged.{accepted-run}
 use Rattle.walk.proofs.Filling.{one-time-each, stops-length}
-use Rattle.least.specs.Least.{listSum, LeastFor}
+use Rattle.least.specs.Least.{LeastFor}
 use Rattle.planner.specs.Plan.{Rows, rowsWith}
 use Rattle.least.specs.Least.{ByRule}
 use Rattle.planner.proofs.Determined.{plan-determined}
-use Rattle.demands.specs.Demand2.{listIn, IsTheWalk, IsLeast, Demand2Walk, Demand2Least, Demand2Sweep, Demand2One}
-use Rattle.demands.proofs.Planned.{plan-in-rows, run-accepted, list-in-rows, reported-sum}
+use Rattle.demands.specs.Demand2.{listIn, IsWalkOf, IsTheWalk, IsPriceOf, IsLeast, Demand2Price, Demand2Walk, Demand2Least, Demand2Sweep, Demand2One}
+use Rattle.demands.proofs.Planned.{plan-in-rows, run-accepted, list-in-rows}
 
 -- A list by either rule is well formed.
 by-rule-formed : (rule : Rule) (r : Run) (list : List Detour) → ByRule rule r list → WellFormed (stopsOf r) list
@@ -25,27 +32,64 @@ unfolding firstBadEntry firstWhere
 by-rule-formed Sweep r list e = rw e
 by-rule-formed Least r list least = least .formed
 
+-- The pricer's numbers and times for a well-formed list, in a row that has its times in front.
+priced-walk : (r : Run) (list : List Detour) (row rest : List ℕ) (answer : Answer) → answer ≡ pricedAnswer r list → row ≡ pricedTimes r list ++ rest
+    → WellFormed (stopsOf r) list → length (r .counts) ≡ length (r .numbers) → IsWalkOf r list row answer
+unfolding pricedAnswer pricedTimes
+priced-walk r list row rest answer says fills formed same =
+    let size = one-time-each _ _ _ (stopsOf r) ∙ stops-length (r .starts) (r .lengths) (r .numbers) (r .counts) same in
+    record {
+      number = rw says;
+      formed = formed;
+      times = rw fills (take-at (pricedTimes r list) rest (length (r .numbers)) size);
+      sum = rw says;
+      finish = rw says;
+      end = rw says;
+    }
+
 module _ (r : Run) (list : List Detour) (before : Rows) (answer : Answer) (after : Rows) (says : answer ≡ pricedAnswer r list) (rows : after ≡ rowsWith r list before) where
   in-rows : listIn answer after ≡ list
   in-rows = list-in-rows r list before answer after says rows
 
   walk-of-list : WellFormed (stopsOf r) list → length (r .counts) ≡ length (r .numbers) → IsTheWalk r answer after
-  unfolding pricedAnswer pricedTimes
   walk-of-list formed same =
-      let size = one-time-each _ _ _ (stopsOf r) ∙ stops-length (r .starts) (r .lengths) (r .numbers) (r .counts) same in
-      record {
-        number = rw (in-rows, says);
-        formed = rw in-rows formed;
-        times = rw (in-rows, rows) (take-at (pricedTimes r list) (drop (length (r .numbers)) (before .times)) (length (r .numbers)) size);
-        sum = reported-sum r list answer says ∙ ap (listSum (r .turn) (r .head) (stopsOf r)) (sym in-rows);
-        finish = rw (in-rows, says);
-        end = rw (in-rows, says);
-      }
+      rw in-rows (priced-walk r list (after .times) (drop (length (r .numbers)) (before .times)) answer says (ap (λ rows. rows .times) rows) formed same)
 
   least-of-list : LeastFor (r .turn) (r .head) (stopsOf r) list → IsLeast r answer after
   unfolding pricedAnswer
   least-of-list least =
       record { smallest = λ other v. rw says (least .smallest other v); first = λ other v e. rw in-rows (least .first other v (rw says at e)) }
+
+-- What an accepted verdict of the pricer says of the run and the list.
+module _ (r : Run) (froms tos row : List ℕ) (e : refuses (priceVerdict r froms tos row) ≡ false) where
+  checks-pass : AllAccept (judgeOf r ∷ listVerdict (stopsOf r) froms tos ∷ refuseIf (ltb (length row) (length (r .numbers))) ShortRow ∷ [])
+  unfolding priceVerdict
+  checks-pass = all-accept (judgeOf r ∷ listVerdict (stopsOf r) froms tos ∷ refuseIf (ltb (length row) (length (r .numbers))) ShortRow ∷ []) e
+
+  list-passes : AllAccept (refuseIf (not (eqb (length froms) (length tos))) BadEntry ∷ refuseAt (firstBadEntry (stopsOf r) (listOf froms tos)) BadEntry ∷ [])
+  unfolding listVerdict
+  list-passes =
+      all-accept (refuseIf (not (eqb (length froms) (length tos))) BadEntry ∷ refuseAt (firstBadEntry (stopsOf r) (listOf froms tos)) BadEntry ∷ []) (checks-pass .1 .0)
+
+  -- So the numbers are those of the walk of that list.
+  pub price-of-list : (answer : Answer) (out : List ℕ) → answer ≡ pricedAnswer r (listOf froms tos)
+      → out ≡ pricedTimes r (listOf froms tos) ++ drop (length (r .numbers)) row → IsPriceOf r froms tos out answer
+  price-of-list answer out says fills =
+      record {
+        even = eqb-true (length froms) (length tos) (not-false _ (accepts-if _ BadEntry refl (list-passes .0)));
+        walk =
+            priced-walk r (listOf froms tos) out (drop (length (r .numbers)) row) answer says fills
+            (accepts-at _ BadEntry refl (list-passes .1 .0))
+            (sym (accepted-run r (checks-pass .0) .wants .equal));
+      }
+
+pub demand2-price : Demand2Price
+unfolding priceAnswer priceRow
+demand2-price r froms tos row answer out says fills accepts = go (refuses (priceVerdict r froms tos row)) refl
+  where
+    go : (b : Bool) → refuses (priceVerdict r froms tos row) ≡ b → IsPriceOf r froms tos out answer
+    go true e = absurd (true≢false (sym e ∙ ap isRefusal (sym (ap (λ (a : Answer). a .refusal) (rw e at says)) ∙ accepts)))
+    go false e = price-of-list r froms tos row e answer out (rw e at says) (rw e at fills)
 
 pub demand2-walk : Demand2Walk
 demand2-walk r rule before answer after plans accepts =

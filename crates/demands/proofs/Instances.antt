@@ -5,9 +5,11 @@ use mathlib.Core.Path.{_≡_, refl, sym, ap, _∙_}
 use mathlib.Core.Bool.{Bool, true, false, cond, true≢false}
 use mathlib.Core.List.{List, [], _∷_, _++_, map}
 use native.Mathlib.Omega.{arith}
-use lib.ListN.{replicate}
+use lib.ListN.{length, take, replicate, length-replicate}
+use native.Mathlib.Nat.{le-refl}
+use borrow.Author.Tests.{le-ltb}
 use lib.Dec.{eqb}
-use Rattle.refusals.specs.declared.Refusal.the-variants.{Accepted, BadEntry, ShortRoom}
+use Rattle.refusals.specs.declared.Refusal.the-variants.{Accepted, BadEntry, BadLine, ShortRoom}
 use Rattle.walk.specs.declared.Answer.{Answer}
 use Rattle.walk.specs.declared.Leg.{Leg}
 use Rattle.runs.specs.declared.Rule.the-variants.{Sweep, Least}
@@ -22,15 +24,26 @@ use Rattle.refusals.proofs.Verdicts.{refuses}
 use Rattle.least.specs.Wants.{readsOf}
 use Rattle.least.specs.Recurrence.{planDetours, W, lowest, scan, filledTo, filled, candidate, next, value, choice, built, nextPlan, best, leastList}
 use Rattle.planner.specs.Plan.{Rows, rowsOf, Plans, planVerdict}
-use Rattle.texts.specs.Text.{allOf, isName}
-use Rattle.demands.specs.Sheets.{GivesBack}
-use Rattle.demands.specs.Demand2.{listIn, IsTheWalk, IsLeast}
+use Rattle.boundary.specs.Boundary.{codeOf, sumsWith, priceCall, priceTimes, priceSums, planCall, PlanCalled}
+use Rattle.texts.specs.Text.{allOf, isName, startsWith, has}
+use Rattle.sheets.specs.declared.Reading.{Reading}
+use Rattle.sheets.specs.Lines.{lineOf, afterLines, isTapeLine}
+use Rattle.sheets.specs.Sheet.{firstBadTop, firstBadLine, sheetRun}
+use Rattle.sheets.specs.Reading.{sheetVerdict, readVerdict, readAnswer, readRow, RunRows, runRows, rowsVerdict}
+use Rattle.writers.specs.declared.Written.{Written}
+use Rattle.writers.specs.Writing.{sheetText, rowVerdict, writeVerdict, writtenAnswer, writtenRow}
+use Rattle.demands.specs.Sheets.{GivesBack, ComesBack}
+use Rattle.demands.specs.Formed.{ObeysTheRules}
+use Rattle.demands.specs.Demand2.{listIn, IsTheWalk, IsPriceOf, IsLeast}
 use Rattle.demands.specs.Demand3.{AsksNoLess}
+use Rattle.demands.specs.Calls.{PriceCallWalks, PlanCallWalks}
 use Rattle.demands.specs.Cases.{exampleRun, fourFiles}
+use Rattle.demands.proofs.Formed.{formed-by-the-rules}
 use Rattle.demands.proofs.Demand1.{demand1-price, demand1-plan}
-use Rattle.demands.proofs.Demand2.{demand2-walk, demand2-least, demand2-sweep}
+use Rattle.demands.proofs.Demand2.{demand2-price, demand2-walk, demand2-least, demand2-sweep}
 use Rattle.demands.proofs.Demand3.{demand3, demand3-same}
-use Rattle.demands.proofs.Sheets.{demand2-round-trip}
+use Rattle.demands.proofs.Called.{demand2-price-call, demand2-plan-call, demand3-plan-call}
+use Rattle.demands.proofs.Sheets.{demand1-read, demand2-round-trip, write-then-read}
 use Rattle.demands.proofs.Fits.{ruleList, planAnswer, planRows, plans-for-every-input}
 
 -- The sheet's run with rows and room that just suffice: the planner accepts, and reports 367.
@@ -63,6 +76,18 @@ short-room-refused = refl
 pub crossing-list-refused : priceAnswer fourFiles (3 ∷ 2 ∷ []) (4 ∷ 4 ∷ []) (0 ∷ 0 ∷ 0 ∷ 0 ∷ []) ≡ refusalAnswer (record { refusal = BadEntry; place = 2 })
 unfolding priceAnswer priceVerdict judgeOf firstWhere stopsFrom rightEnd listVerdict listOf firstBadEntry wanted anyBelow
 crossing-list-refused = refl
+
+-- 01's rules: (3,3)(2,4) obeys them, (3,4)(2,4) with its equal ends does not.
+abbrev twoDetours : ℕ → ℕ → ℕ → ℕ → List Detour
+twoDetours a b c d = record { from = a; to = b } ∷ record { from = c; to = d } ∷ []
+
+pub nested-obeys : ObeysTheRules (stopsOf fourFiles) (twoDetours 3 3 2 4)
+unfolding firstBadEntry firstWhere stopsFrom wanted anyBelow
+nested-obeys = formed-by-the-rules (stopsOf fourFiles) (twoDetours 3 3 2 4) .0 refl
+
+pub equal-ends-break : ObeysTheRules (stopsOf fourFiles) (twoDetours 3 4 2 4) → ⊥
+unfolding firstBadEntry firstWhere stopsFrom wanted anyBelow
+equal-ends-break rules = let formed : _≡_ {A = ℕ} 2 0 = formed-by-the-rules (stopsOf fourFiles) (twoDetours 3 4 2 4) .1 rules in omega arith
 
 -- Demand 3. The first run asks more than the sheet's: one more read of file 2, a higher price, a head further right.
 abbrev pub moreAsked : Run
@@ -127,6 +152,16 @@ crossing-list-keeps-row =
     (sym crossing-list-refused) refl .kept
     (λ e. true≢false (ap isRefusal e)) .1
 
+-- The pricer accepts (2,2) on the sheet's run.
+detour-accepted : priceAnswer exampleRun (2 ∷ []) (2 ∷ []) (7 ∷ 7 ∷ 7 ∷ []) .refusal ≡ Accepted
+unfolding priceAnswer priceVerdict judgeOf firstWhere stopsFrom rightEnd listVerdict listOf firstBadEntry wanted anyBelow pricedAnswer
+detour-accepted = refl
+
+pub detour-is-priced : IsPriceOf exampleRun (2 ∷ []) (2 ∷ []) (priceRow exampleRun (2 ∷ []) (2 ∷ []) (7 ∷ 7 ∷ 7 ∷ [])) (priceAnswer exampleRun (2 ∷ []) (2 ∷ []) (7 ∷ 7 ∷ 7 ∷ []))
+detour-is-priced =
+    demand2-price exampleRun (2 ∷ []) (2 ∷ []) (7 ∷ 7 ∷ 7 ∷ []) (priceAnswer exampleRun (2 ∷ []) (2 ∷ []) (7 ∷ 7 ∷ 7 ∷ []))
+    (priceRow exampleRun (2 ∷ []) (2 ∷ []) (7 ∷ 7 ∷ 7 ∷ [])) refl refl detour-accepted
+
 pub sheet-is-the-walk : IsTheWalk exampleRun (sheetAnswer 54) (sheetAfter 54)
 sheet-is-the-walk = demand2-walk exampleRun Least (sheetRows 54) (sheetAnswer 54) (sheetAfter 54) (sheet-plans 54) sheet-accepted
 
@@ -150,16 +185,109 @@ wanderings-beat-nothing-there =
     sheet-reports at
     (demand3-same exampleRun (sheetRows 54) (sheetAnswer 54) (sheetAfter 54) (sheet-plans 54) sheet-accepted wanderings (wanderings-move 60 (omega arith)) (wanderings-serve .1))
 
+-- At the C boundary the same, with a row of sums of five words.
+abbrev fiveWords : List ℕ
+fiveWords = 7 ∷ 7 ∷ 7 ∷ 7 ∷ 7 ∷ []
+
+detour-called-accepted : codeOf (priceCall exampleRun (2 ∷ []) (2 ∷ []) (7 ∷ 7 ∷ 7 ∷ []) fiveWords) ≡ 0
+unfolding priceCall priceVerdict judgeOf firstWhere stopsFrom rightEnd listVerdict listOf firstBadEntry wanted anyBelow
+detour-called-accepted = refl
+
+pub detour-called : PriceCallWalks exampleRun (2 ∷ []) (2 ∷ [])
+    (priceTimes exampleRun (2 ∷ []) (2 ∷ []) (7 ∷ 7 ∷ 7 ∷ []) fiveWords) (priceSums exampleRun (2 ∷ []) (2 ∷ []) (7 ∷ 7 ∷ 7 ∷ []) fiveWords)
+detour-called =
+    demand2-price-call exampleRun (2 ∷ []) (2 ∷ []) (7 ∷ 7 ∷ 7 ∷ []) fiveWords
+    (codeOf (priceCall exampleRun (2 ∷ []) (2 ∷ []) (7 ∷ 7 ∷ 7 ∷ []) fiveWords))
+    (priceTimes exampleRun (2 ∷ []) (2 ∷ []) (7 ∷ 7 ∷ 7 ∷ []) fiveWords) (priceSums exampleRun (2 ∷ []) (2 ∷ []) (7 ∷ 7 ∷ 7 ∷ []) fiveWords)
+    (record { says = refl; timesAre = refl; sumsAre = refl })
+    detour-called-accepted
+
+call-passes : refuses (planCall exampleRun 1 (sheetRows 54) fiveWords) ≡ false
+unfolding planCall judgeOf firstWhere stopsFrom rightEnd
+call-passes = refl
+
+plan-passes : refuses (planVerdict exampleRun (sheetRows 54)) ≡ false
+unfolding planVerdict judgeOf firstWhere stopsFrom rightEnd
+plan-passes = refl
+
+sheet-called : PlanCalled exampleRun 1 (sheetRows 54) fiveWords 0 (sheetAfter 54) (sumsWith (sheetAnswer 54) fiveWords)
+sheet-called =
+    record {
+      refused = λ e. absurd (true≢false (sym e ∙ call-passes));
+      planned = λ e. record { says = refl; answer = sheetAnswer 54; planned = sheet-plans 54 .planned plan-passes; sumsAre = refl };
+    }
+
+pub sheet-call-walks : PlanCallWalks exampleRun 1 (sheetAfter 54) (sumsWith (sheetAnswer 54) fiveWords)
+sheet-call-walks = demand2-plan-call exampleRun 1 (sheetRows 54) fiveWords 0 (sheetAfter 54) (sumsWith (sheetAnswer 54) fiveWords) sheet-called refl
+
+pub wanderings-beat-no-call : 367 ≤ sumOf (moreAsked .turn) (headAt (moreAsked .head)) wanderings (stopsOf moreAsked)
+wanderings-beat-no-call =
+    rw
+    sheet-reports at
+    (demand3-plan-call moreAsked exampleRun (sheetRows 54) fiveWords 0 (sheetAfter 54) (sumsWith (sheetAnswer 54) fiveWords) more-accepted sheet-called refl more-asks-no-less wanderings (wanderings-move 70 (omega arith)) (wanderings-serve .0))
+
 -- The sheet's run is written, and read back into rows that are just long enough.
 sheet-judged : refuses (judgeOf exampleRun) ≡ false
 unfolding judgeOf firstWhere stopsFrom rightEnd
 sheet-judged = refl
 
-sheet-named : isName (86 ∷ 88 ∷ 48 ∷ 48 ∷ 52 ∷ 49 ∷ []) ≡ true
+abbrev sheetName : List ℕ
+sheetName = 86 ∷ 88 ∷ 48 ∷ 48 ∷ 52 ∷ 49 ∷ []
+
+sheet-named : isName sheetName ≡ true
 unfolding isName allOf
 sheet-named = refl
 
-pub sheet-reads-back : GivesBack (86 ∷ 88 ∷ 48 ∷ 48 ∷ 52 ∷ 49 ∷ []) Least exampleRun (7 ∷ 7 ∷ 7 ∷ []) (7 ∷ 7 ∷ 7 ∷ []) (7 ∷ 7 ∷ 7 ∷ []) (7 ∷ 7 ∷ 7 ∷ [])
+pub sheet-reads-back : GivesBack sheetName Least exampleRun (7 ∷ 7 ∷ 7 ∷ []) (7 ∷ 7 ∷ 7 ∷ []) (7 ∷ 7 ∷ 7 ∷ []) (7 ∷ 7 ∷ 7 ∷ [])
 sheet-reads-back =
-    demand2-round-trip (86 ∷ 88 ∷ 48 ∷ 48 ∷ 52 ∷ 49 ∷ []) Least exampleRun sheet-judged (omega arith) sheet-named (7 ∷ 7 ∷ 7 ∷ []) (7 ∷ 7 ∷ 7 ∷ []) (7 ∷ 7 ∷ 7 ∷ []) (7 ∷ 7 ∷ 7 ∷ [])
+    demand2-round-trip sheetName Least exampleRun sheet-judged (omega arith) sheet-named (7 ∷ 7 ∷ 7 ∷ []) (7 ∷ 7 ∷ 7 ∷ []) (7 ∷ 7 ∷ 7 ∷ []) (7 ∷ 7 ∷ 7 ∷ [])
     (omega arith) (omega arith) (omega arith) (omega arith)
+
+-- Written into a row that is just long enough, and that row read.
+abbrev sevens : RunRows
+sevens = runRows (7 ∷ 7 ∷ 7 ∷ []) (7 ∷ 7 ∷ 7 ∷ []) (7 ∷ 7 ∷ 7 ∷ []) (7 ∷ 7 ∷ 7 ∷ 7 ∷ [])
+
+abbrev sheetRow : List ℕ
+sheetRow = replicate (length (sheetText sheetName Least exampleRun)) 7
+
+abbrev sheetWritten : Written
+sheetWritten = writtenAnswer (writeVerdict sheetName Least exampleRun sheetRow) (sheetText sheetName Least exampleRun)
+
+abbrev sheetOut : List ℕ
+sheetOut = writtenRow (writeVerdict sheetName Least exampleRun sheetRow) (sheetText sheetName Least exampleRun) sheetRow
+
+write-passes : refuses (writeVerdict sheetName Least exampleRun sheetRow) ≡ false
+unfolding writeVerdict rowVerdict
+write-passes =
+    let size = length (sheetText sheetName Least exampleRun) in
+    rw (sheet-judged, sheet-named, length-replicate {A = ℕ} size 7, le-ltb size size (le-refl size))
+
+write-accepted : sheetWritten .refusal ≡ Accepted
+unfolding writtenAnswer
+write-accepted = rw write-passes
+
+abbrev readBack : List ℕ → Reading
+readBack sheet = readAnswer (rowsVerdict sheet sevens) sheet
+
+abbrev rowsBack : List ℕ → RunRows
+rowsBack sheet =
+    let v = rowsVerdict sheet sevens in
+    let run = sheetRun sheet in
+    runRows (readRow v (run .starts) (sevens .starts)) (readRow v (run .lengths) (sevens .lengths)) (readRow v (run .numbers) (sevens .numbers)) (readRow v (run .counts) (sevens .counts))
+
+pub written-comes-back : ComesBack sheetName Least exampleRun (take (sheetWritten .bytes) sheetOut) (readBack (take (sheetWritten .bytes) sheetOut)) (rowsBack (take (sheetWritten .bytes) sheetOut))
+written-comes-back =
+    let sheet = take (sheetWritten .bytes) sheetOut in
+    write-then-read sheetName Least exampleRun sheetRow sheetWritten sheetOut (record { answer = refl; left = refl }) write-accepted sevens (readBack sheet) (rowsBack sheet)
+    (record { starts = omega arith; lengths = omega arith; numbers = omega arith; counts = omega arith })
+    (record { answer = refl; starts = refl; lengths = refl; numbers = refl; counts = refl })
+
+-- An empty sheet is refused at line 1, and the rows stay.
+empty-refused : readBack [] .refusal ≡ BadLine
+unfolding readAnswer readVerdict sheetVerdict firstBadLine firstBadTop isTapeLine startsWith lineOf has afterLines
+empty-refused = refl
+
+pub empty-keeps-rows : rowsBack [] ≡ sevens
+empty-keeps-rows =
+    demand1-read [] sevens (readBack []) (rowsBack []) (record { answer = refl; starts = refl; lengths = refl; numbers = refl; counts = refl }) .kept
+    (λ e. true≢false (ap isRefusal (sym empty-refused ∙ e))) .1

@@ -4,11 +4,13 @@ pub mod Checks
 pub mod Conditions
 pub mod Judged
 pub mod Listed
+pub mod Formed
 pub mod Demand1
 pub mod Calls
 pub mod Planned
 pub mod Demand2
 pub mod Demand3
+pub mod Called
 pub mod Cases
 pub mod Sheets
 pub mod Tapes

@@ -1,15 +1,15 @@
 -- The sheets' share of the demands: the reader's and the writers' verdicts are the first of the table that applies and a refusal changes
 -- nothing (demand 1); what the run sheet writer writes reads back (demand 2).
 use Prim.Native.Nat.{ℕ, zero, suc, _≤_, _<_}
-use mathlib.Core.Path.{_≡_, refl, sym, ap, _∙_}
+use mathlib.Core.Path.{_≡_, refl, sym, ap, ap₂, _∙_}
 use mathlib.Core.Bool.{Bool, true, false, not, _||_, true≢false}
 use mathlib.Core.Logic.{_⊎_, inl, inr, ⊎-elim}
 use mathlib.Core.List.{List, [], _∷_}
 use native.Mathlib.Omega.{arith}
 use lib.ListN.{length, take, drop}
-use lib.Seq.{take-append-seam}
+use lib.Seq.{take-append-seam, take-at}
 use lib.Dec.{ltb}
-use borrow.Author.Tests.{le-ltb}
+use borrow.Author.Tests.{le-ltb, ltb-false, not-false}
 use Rattle.refusals.specs.declared.Refusal.{Refusal}
 use Rattle.refusals.specs.declared.Refusal.the-variants.{Accepted, BadEntry, BadName, BadLine, LongSheet, ShortRow}
 use Rattle.runs.specs.declared.Rule.{Rule}
@@ -18,27 +18,33 @@ use Rattle.refusals.specs.Refusals.{numberOf, isRefusal, accepted, refuseIf, re
 use Rattle.runs.specs.Run.{Run, stopsOf, rightEnd}
 use Rattle.runs.specs.Judging.{tableChecks, wantsChecks, headChecks, judgeOf}
 use Rattle.runs.specs.Lists.{listVerdict}
-use Rattle.refusals.proofs.Verdicts.{none-refuses, refuses}
+use Rattle.refusals.proofs.Verdicts.{none-refuses, refuses, all-accept, accepts-if}
+use Rattle.runs.proofs.Search.{or-false-both}
 use Rattle.runs.proofs.Judged.{accepted-run}
 use Rattle.texts.specs.Text.{isName}
 use Rattle.sheets.specs.Sheet.{longestSheet, mostSheetFiles, firstBadLine, sheetFiles, sheetWants, sheetHead, sheetTurn, sheetRun}
-use Rattle.sheets.specs.Reading.{sheetVerdict, shortPairRows, readVerdict, readAnswer, readRow}
+use Rattle.sheets.specs.Reading.{sheetVerdict, shortPairRows, readVerdict, refusedReading, readAnswer, readRow, RunRows, runRows, rowsVerdict, SheetRead}
+use Rattle.sheets.specs.declared.Reading.{Reading}
 use Rattle.writers.specs.declared.Written.{Written}
 use Rattle.writers.specs.Writing.{refusedWriting, sheetText, rowVerdict, writeVerdict, writtenAnswer, writtenRow}
 use Rattle.writers.specs.PlanSheet.{planText, planSheetVerdict}
 use Rattle.sheets.proofs.Rows.{length-each}
 use Rattle.writers.proofs.RoundTrip.{round-trip}
 use Rattle.demands.specs.Table.{RunApplies, ListIsBad}
-use Rattle.demands.specs.Sheets.{readOrder, ReadApplies, ReadAnswers, writeOrder, planSheetOrder, WriteApplies, PlanSheetApplies, WriteAnswers, Demand1Read, Demand1Write, Demand1PlanSheet, Demand2Written, Demand2RoundTrip}
+use Rattle.demands.specs.Sheets.{readOrder, ReadApplies, ReadAnswers, writeOrder, planSheetOrder, WriteApplies, PlanSheetApplies, WriteAnswers, Demand1Read, Demand1Write, Demand1PlanSheet, Demand2Written, GivesBack, Demand2RoundTrip, runRead, ComesBack, WriteThenRead}
 use Rattle.demands.proofs.Tests.{tells-false, Tells, tells-below, tells-either}
 use Rattle.demands.proofs.Checks.{Decides, refused, passed, decides-if, decides-reworded, Finds, finds-none, finds-first, first-of-joined}
 use Rattle.demands.proofs.Judged.{run-finds, run-small}
 use Rattle.demands.proofs.Listed.{decides-list}
 
+-- Rows with the same entries.
+same-rows : (a b : RunRows) → a .starts ≡ b .starts → a .lengths ≡ b .lengths → a .numbers ≡ b .numbers → a .counts ≡ b .counts → a ≡ b
+same-rows a b s l n c = ap₂ (λ x y. runRows x y (a .numbers) (a .counts)) s l ∙ ap₂ (λ x y. runRows (b .starts) (b .lengths) x y) n c
+
 -- The reader.
-module _ (sheet starts lengths numbers counts : List ℕ) where
+module _ (sheet : List ℕ) (rows : RunRows) where
   abbrev Applies : Refusal → ℕ → Type 0
-  Applies = ReadApplies sheet starts lengths numbers counts
+  Applies = ReadApplies sheet rows
 
   too-long : (p : ℕ) → Applies LongSheet p → (p ≡ 0) × (longestSheet < length sheet)
   too-long p (ReadApplies.too-long h) = (refl, h)
@@ -54,7 +60,9 @@ module _ (sheet starts lengths numbers counts : List ℕ) where
       go (suc n) e = refused (suc n) (rw e) (ReadApplies.bad-line e)
 
   abbrev IsShort : Type 0
-  IsShort = ((length starts < sheetFiles sheet) ⊎ (length lengths < sheetFiles sheet)) ⊎ ((length numbers < sheetWants sheet) ⊎ (length counts < sheetWants sheet))
+  IsShort =
+      ((length (rows .starts) < sheetFiles sheet) ⊎ (length (rows .lengths) < sheetFiles sheet))
+      ⊎ ((length (rows .numbers) < sheetWants sheet) ⊎ (length (rows .counts) < sheetWants sheet))
 
   short-row : (p : ℕ) → (p ≡ 0) × IsShort → Applies ShortRow p
   short-row p h = rw (h .0) (⊎-elim (⊎-elim ReadApplies.short-starts ReadApplies.short-lengths) (⊎-elim ReadApplies.short-numbers ReadApplies.short-counts) (h .1))
@@ -69,44 +77,49 @@ module _ (sheet starts lengths numbers counts : List ℕ) where
   tells-short n firsts seconds =
       tells-either (ltb (length firsts) n) (ltb (length seconds) n) (tells-below (length firsts) n) (tells-below (length seconds) n)
 
-  read-finds : Finds Applies readOrder (readVerdict sheet starts lengths numbers counts)
-  unfolding readVerdict sheetVerdict
+  short : Bool
+  short = shortPairRows (sheetFiles sheet) (rows .starts) (rows .lengths) || shortPairRows (sheetWants sheet) (rows .numbers) (rows .counts)
+
+  read-finds : Finds Applies readOrder (rowsVerdict sheet rows)
+  unfolding readVerdict sheetVerdict short
   read-finds =
       let long = refuseIf (ltb longestSheet (length sheet)) LongSheet in
       let line = refuseAt (firstBadLine sheet) BadLine in
-      let short = refuseIf (shortPairRows (sheetFiles sheet) starts lengths || shortPairRows (sheetWants sheet) numbers counts) ShortRow in
+      let row = refuseIf short ShortRow in
       rw
-      (first-of-joined (long ∷ line ∷ []) (short ∷ []))
-      (finds-first Applies (line ∷ short ∷ []) refl
+      (first-of-joined (long ∷ line ∷ []) (row ∷ []))
+      (finds-first Applies (line ∷ row ∷ []) refl
       (decides-reworded (λ p h. rw (h .0) (ReadApplies.too-long (h .1))) too-long (decides-if _ LongSheet (tells-below longestSheet (length sheet))))
-      (λ a. finds-first Applies (short ∷ []) refl decides-line
+      (λ a. finds-first Applies (row ∷ []) refl decides-line
       (λ b. finds-first Applies [] refl
       (decides-reworded short-row row-short
-      (decides-if _ ShortRow
-      (tells-either (shortPairRows (sheetFiles sheet) starts lengths) (shortPairRows (sheetWants sheet) numbers counts)
-      (tells-short (sheetFiles sheet) starts lengths)
-      (tells-short (sheetWants sheet) numbers counts))))
+      (decides-if short ShortRow
+      (tells-either (shortPairRows (sheetFiles sheet) (rows .starts) (rows .lengths)) (shortPairRows (sheetWants sheet) (rows .numbers) (rows .counts))
+      (tells-short (sheetFiles sheet) (rows .starts) (rows .lengths))
+      (tells-short (sheetWants sheet) (rows .numbers) (rows .counts)))))
       (λ c. finds-none Applies))))
 
-  read-accepted : refuses (readVerdict sheet starts lengths numbers counts) ≡ false → readVerdict sheet starts lengths numbers counts ≡ accepted
-  unfolding readVerdict
-  read-accepted e =
-      none-refuses (sheetVerdict sheet ∷ refuseIf (shortPairRows (sheetFiles sheet) starts lengths || shortPairRows (sheetWants sheet) numbers counts) ShortRow ∷ []) e
+  read-accepted : refuses (rowsVerdict sheet rows) ≡ false → rowsVerdict sheet rows ≡ accepted
+  unfolding readVerdict short
+  read-accepted e = none-refuses (sheetVerdict sheet ∷ refuseIf short ShortRow ∷ []) e
 
-  read-says : (b : Bool) → refuses (readVerdict sheet starts lengths numbers counts) ≡ b
-      → ReadAnswers sheet starts lengths numbers counts (readAnswer (readVerdict sheet starts lengths numbers counts) sheet)
-  unfolding readAnswer readRow
-  read-says true e =
-      rw e
-      (record {
-        first = read-finds;
-        kept = λ n. record { head = refl; turn = refl; rule = refl; files = refl; wants = refl; keptStarts = rw e; keptLengths = rw e; keptNumbers = rw e; keptCounts = rw e };
-      })
-  read-says false e = rw e (record { first = rw (read-accepted e) at read-finds; kept = λ n. absurd (n refl) })
+  module _ (answer : Reading) (after : RunRows) (read : SheetRead sheet rows answer after) where
+    read-kept : refuses (rowsVerdict sheet rows) ≡ true → after ≡ rows
+    unfolding readRow
+    read-kept e = same-rows after rows (rw e at (read .starts)) (rw e at (read .lengths)) (rw e at (read .numbers)) (rw e at (read .counts))
+
+    read-says : (b : Bool) → refuses (rowsVerdict sheet rows) ≡ b → ReadAnswers sheet rows answer after
+    unfolding readAnswer
+    read-says true e =
+        let is : answer ≡ refusedReading (rowsVerdict sheet rows) = rw e at (read .answer) in
+        record { first = rw is read-finds; kept = λ n. (rw is (record { head = refl; turn = refl; rule = refl; files = refl; wants = refl }), read-kept e) }
+    read-says false e =
+        let kind : answer .refusal ≡ Accepted = rw (read .answer, e) in
+        let place : answer .place ≡ 0 = rw (read .answer, e) in
+        record { first = rw (kind, place) (rw (read-accepted e) at read-finds); kept = λ n. absurd (n kind) }
 
 pub demand1-read : Demand1Read
-demand1-read sheet starts lengths numbers counts answer says =
-    rw says (read-says sheet starts lengths numbers counts (refuses (readVerdict sheet starts lengths numbers counts)) refl)
+demand1-read sheet before answer after read = read-says sheet before answer after read (refuses (rowsVerdict sheet before)) refl
 
 -- A writer, whatever its verdict: a refusal has no bytes and keeps the row.
 module _ (applies : Refusal → ℕ → Type 0) (order : List Refusal) (vs : List Verdict) (text row : List ℕ) (finds : Finds applies order (firstOf vs)) where
@@ -237,17 +250,23 @@ unfolding readVerdict
 reads-sheet sheet starts lengths numbers counts e a b c d =
     rw (e, le-ltb (length starts) (sheetFiles sheet) a, le-ltb (length lengths) (sheetFiles sheet) b, le-ltb (length numbers) (sheetWants sheet) c, le-ltb (length counts) (sheetWants sheet) d)
 
+-- An accepted writing has an accepted verdict.
+written-passes : (v : Verdict) (text : List ℕ) (answer : Written) → answer ≡ writtenAnswer v text → answer .refusal ≡ Accepted → refuses v ≡ false
+unfolding writtenAnswer
+written-passes v text answer a e = by-test (refuses v) refl
+  where
+    by-test : (b : Bool) → refuses v ≡ b → refuses v ≡ false
+    by-test true h =
+        let is : answer ≡ refusedWriting v = a ∙ rw h in
+        absurd (true≢false (sym h ∙ ap isRefusal (sym (ap (λ (w : Written). w .refusal) is) ∙ e)))
+    by-test false h = h
+
 pub demand2-written : Demand2Written
 unfolding writtenAnswer writtenRow
-demand2-written name rule r row answer out a o e = by-test (isRefusal (writeVerdict name rule r row .refusal)) refl
-  where
-    by-test : (b : Bool) → isRefusal (writeVerdict name rule r row .refusal) ≡ b → take (answer .bytes) out ≡ sheetText name rule r
-    by-test true h =
-        let is : answer ≡ refusedWriting (writeVerdict name rule r row) = a ∙ rw h in
-        absurd (true≢false (sym h ∙ ap isRefusal (sym (ap (λ (w : Written). w .refusal) is) ∙ e)))
-    by-test false h =
-        let is : answer ≡ record { refusal = Accepted; place = 0; bytes = length (sheetText name rule r) } = a ∙ rw h in
-        rw (is, o, h) (take-append-seam (sheetText name rule r) (drop (length (sheetText name rule r)) row))
+demand2-written name rule r row answer out a o e =
+    let h = written-passes (writeVerdict name rule r row) (sheetText name rule r) answer a e in
+    let is : answer ≡ record { refusal = Accepted; place = 0; bytes = length (sheetText name rule r) } = a ∙ rw h in
+    rw (is, o, h) (take-append-seam (sheetText name rule r) (drop (length (sheetText name rule r)) row))
 
 pub demand2-round-trip : Demand2RoundTrip
 unfolding readAnswer readRow
@@ -270,3 +289,41 @@ demand2-round-trip name rule r e few named starts lengths numbers counts a b c d
       countsAre = rw (reads, back .same-run);
       nameIs = back .same-name;
     }
+
+-- What an accepted verdict of the writer says.
+write-needs : (name : List ℕ) (rule : Rule) (r : Run) (row : List ℕ) → refuses (writeVerdict name rule r row) ≡ false
+    → (refuses (judgeOf r) ≡ false) × (length (r .starts) ≤ mostSheetFiles) × (isName name ≡ true)
+unfolding writeVerdict
+write-needs name rule r row e =
+    let many = ltb mostSheetFiles (length (r .starts)) in
+    let all = all-accept (judgeOf r ∷ refuseIf (many || not (isName name)) BadName ∷ rowVerdict (sheetText name rule r) row ∷ []) e in
+    let both = or-false-both many (not (isName name)) (accepts-if _ BadName refl (all .1 .0)) in
+    (all .0, ltb-false mostSheetFiles (length (r .starts)) (both .0), not-false (isName name) (both .1))
+
+-- The sheet, read into rows that are long enough.
+module _ (name : List ℕ) (rule : Rule) (r : Run) (before : RunRows) (answer : Reading) (after : RunRows) (files : length (r .lengths) ≡ length (r .starts)) (wants : length (r .counts) ≡ length (r .numbers))
+    (read : SheetRead (sheetText name rule r) before answer after) (back : GivesBack name rule r (before .starts) (before .lengths) (before .numbers) (before .counts)) where
+  is-back : answer ≡ record { refusal = Accepted; place = 0; head = r .head; turn = r .turn; rule = rule; files = length (r .starts); wants = length (r .numbers) }
+  is-back = read .answer ∙ back .answer
+
+  run-back : runRead answer after ≡ r
+  run-back =
+      rw
+      (is-back, read .starts, back .startsAre, read .lengths, back .lengthsAre, read .numbers, back .numbersAre, read .counts, back .countsAre)
+      (rw (
+        take-at (r .starts) (drop (length (r .starts)) (before .starts)) (length (r .starts)) refl,
+        take-at (r .lengths) (drop (length (r .lengths)) (before .lengths)) (length (r .starts)) files,
+        take-at (r .numbers) (drop (length (r .numbers)) (before .numbers)) (length (r .numbers)) refl,
+        take-at (r .counts) (drop (length (r .counts)) (before .counts)) (length (r .numbers)) wants,
+      ))
+
+  comes-back : ComesBack name rule r (sheetText name rule r) answer after
+  comes-back = record { accepted = rw is-back; run = run-back; ruled = rw is-back; named = back .nameIs }
+
+pub write-then-read : WriteThenRead
+write-then-read name rule r row written out writes accepts before answer after long read =
+    let text = demand2-written name rule r row written out (writes .answer) (writes .left) accepts in
+    let needs = write-needs name rule r row (written-passes (writeVerdict name rule r row) (sheetText name rule r) written (writes .answer) accepts) in
+    let good = accepted-run r (needs .0) in
+    let back = demand2-round-trip name rule r (needs .0) (needs .1) (needs .2) (before .starts) (before .lengths) (before .numbers) (before .counts) (long .starts) (long .lengths) (long .numbers) (long .counts) in
+    rw text (comes-back name rule r before answer after (sym (good .files .table .equal)) (sym (good .wants .equal)) (rw text at read) back)

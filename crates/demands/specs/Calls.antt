@@ -1,17 +1,25 @@
--- Demand 1 at the C boundary: a call gives back 0, or the refusal's number plus 256 times its place. The refusal is the first of the table
--- that applies, and every row that was lent then holds what it held.
-use Prim.Native.Nat.{ℕ, _+_, _*_, _<_}
+-- The demands at the C boundary. A call gives back 0, or the refusal's number plus 256 times its place. The refusal is the first of the table
+-- that applies, and every row that was lent then holds what it held (demand 1). Where it gives back 0, four words of the row of sums hold
+-- sum, finish, end and number of detours of the walk of the list (demand 2), and under rule 1 no movement beats the first (demand 3).
+use Prim.Native.Nat.{ℕ, _+_, _*_, _≤_, _<_}
 use mathlib.Core.Path.{_≡_}
+use mathlib.Core.Bool.{false}
 use mathlib.Core.List.{List, [], _∷_}
-use lib.ListN.{length}
+use lib.ListN.{length, getD}
 use Rattle.refusals.specs.declared.Refusal.{Refusal}
 use Rattle.refusals.specs.declared.Refusal.the-variants.{Accepted, FileRows, BadFile, WantRows, BadWant, TooManyReads, TurnPrice, HeadPlace, ShortRow, ShortRoom, BadRule}
-use Rattle.refusals.specs.Refusals.{numberOf}
-use Rattle.runs.specs.Run.{Run}
+use Rattle.refusals.specs.Refusals.{numberOf, isRefusal}
+use Rattle.runs.specs.Run.{Run, stopsOf}
+use Rattle.runs.specs.Judging.{judgeOf}
+use Rattle.walk.specs.declared.Answer.{Answer}
+use Rattle.walk.specs.declared.Leg.{Leg}
+use Rattle.walk.specs.Walk.{headAt, Moves, ServesAll, sumOf}
 use Rattle.planner.specs.Plan.{Rows}
 use Rattle.boundary.specs.Boundary.{PriceCalled, PlanCalled}
 use Rattle.demands.specs.Table.{FirstThatApplies}
 use Rattle.demands.specs.Demand1.{PriceApplies, priceOrder, PlanApplies}
+use Rattle.demands.specs.Demand2.{listIn, IsTheWalk, IsPriceOf, IsLeast}
+use Rattle.demands.specs.Demand3.{AsksNoLess}
 
 -- The pricer's call: what the pricer is refused for, in its order; 8 also for a row of sums below 4 words.
 pub data PriceCallApplies (r : Run) (froms tos times sums : List ℕ) : Refusal → ℕ → Type 0 where
@@ -54,3 +62,46 @@ Demand1PlanCall =
     (r : Run) (rule : ℕ) (before : Rows) (sums : List ℕ) (code : ℕ) (after : Rows) (out : List ℕ)
     → PlanCalled r rule before sums code after out
     → PlanCallAnswers r rule before sums code after out
+
+-- The numbers that a row of sums holds: sum, finish, end and number of detours, in this order.
+abbrev pub inSums : List ℕ → Answer
+inSums sums = record { refusal = Accepted; place = 0; sum = getD sums 0 0; finish = getD sums 1 0; end = getD sums 2 0; detours = getD sums 3 0 }
+
+-- Demand 2: the pricer's call leaves the walk of the list handed in.
+pub record PriceCallWalks (r : Run) (froms tos timesOut sumsOut : List ℕ) : Type 0 where
+  pub four : 4 ≤ length sumsOut
+  pub price : IsPriceOf r froms tos timesOut (inSums sumsOut)
+
+abbrev pub Demand2PriceCall : Type 0
+Demand2PriceCall =
+    (r : Run) (froms tos times sums : List ℕ) (code : ℕ) (timesOut sumsOut : List ℕ)
+    → PriceCalled r froms tos times sums code timesOut sumsOut
+    → code ≡ 0
+    → PriceCallWalks r froms tos timesOut sumsOut
+
+-- The planner's call leaves the walk of the list in the rows: the least under rule 1, the empty one under rule 0.
+pub record PlanCallWalks (r : Run) (rule : ℕ) (after : Rows) (out : List ℕ) : Type 0 where
+  pub four : 4 ≤ length out
+  pub walk : IsTheWalk r (inSums out) after
+  pub least : rule ≡ 1 → IsLeast r (inSums out) after
+  pub swept : rule ≡ 0 → listIn (inSums out) after ≡ []
+
+abbrev pub Demand2PlanCall : Type 0
+Demand2PlanCall =
+    (r : Run) (rule : ℕ) (before : Rows) (sums : List ℕ) (code : ℕ) (after : Rows) (out : List ℕ)
+    → PlanCalled r rule before sums code after out
+    → code ≡ 0
+    → PlanCallWalks r rule after out
+
+-- Demand 3 of the first word of the row of sums, under rule 1.
+abbrev pub Demand3PlanCall : Type 0
+Demand3PlanCall =
+    (first second : Run) (before : Rows) (sums : List ℕ) (code : ℕ) (after : Rows) (out : List ℕ)
+    → isRefusal (judgeOf first .refusal) ≡ false
+    → PlanCalled second 1 before sums code after out
+    → code ≡ 0
+    → AsksNoLess first second
+    → (gs : List Leg)
+    → Moves (first .head) gs
+    → ServesAll gs (stopsOf first)
+    → getD out 0 0 ≤ sumOf (first .turn) (headAt (first .head)) gs (stopsOf first)

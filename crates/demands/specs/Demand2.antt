@@ -1,6 +1,6 @@
--- Demand 2: times and sum are the walk's; under the least rule no well-formed list has a smaller sum than the one in the rows, ties by
+-- Demand 2: times and sum are the walk's, of the list in the rows and of a list handed in; under the least rule no well-formed list has a smaller sum than the one in the rows, ties by
 -- the fixed rule; and two answers that fit are equal.
-use Prim.Native.Nat.{_≤_}
+use Prim.Native.Nat.{ℕ, _≤_}
 use mathlib.Core.Path.{_≡_}
 use mathlib.Core.Logic.{_⊎_}
 use mathlib.Core.List.{List, []}
@@ -13,6 +13,7 @@ use Rattle.runs.specs.Run.{Run, stopsOf}
 use Rattle.walk.specs.Walk.{headAt, walked, timesOf, sumOf}
 use Rattle.runs.specs.Lists.{Detour, WellFormed, listOf}
 use Rattle.walk.specs.Detours.{legsOf}
+use Rattle.walk.specs.Price.{priceAnswer, priceRow}
 use Rattle.least.specs.Least.{ComesFirst, listSum}
 use Rattle.planner.specs.Plan.{Rows, Plans}
 
@@ -20,14 +21,31 @@ use Rattle.planner.specs.Plan.{Rows, Plans}
 abbrev pub listIn : Answer → Rows → List Detour
 listIn answer after = listOf (take (answer .detours) (after .froms)) (take (answer .detours) (after .tos))
 
--- The numbers are those of the walk of that list from the run's head at its price.
-pub record IsTheWalk (r : Run) (answer : Answer) (after : Rows) : Type 0 where
-  pub number : length (listIn answer after) ≡ answer .detours
-  pub formed : WellFormed (stopsOf r) (listIn answer after)
-  pub times : take (length (r .numbers)) (after .times) ≡ timesOf (r .turn) (headAt (r .head)) (legsOf (stopsOf r) (listIn answer after)) (stopsOf r)
-  pub sum : answer .sum ≡ sumOf (r .turn) (headAt (r .head)) (legsOf (stopsOf r) (listIn answer after)) (stopsOf r)
-  pub finish : answer .finish ≡ (walked (r .turn) (headAt (r .head)) (legsOf (stopsOf r) (listIn answer after))) .clock
-  pub end : answer .end ≡ (walked (r .turn) (headAt (r .head)) (legsOf (stopsOf r) (listIn answer after))) .place
+-- A row's first entries and an answer's numbers are those of the walk of a list, from the run's head at its price.
+pub record IsWalkOf (r : Run) (list : List Detour) (row : List ℕ) (answer : Answer) : Type 0 where
+  pub number : length list ≡ answer .detours
+  pub formed : WellFormed (stopsOf r) list
+  pub times : take (length (r .numbers)) row ≡ timesOf (r .turn) (headAt (r .head)) (legsOf (stopsOf r) list) (stopsOf r)
+  pub sum : answer .sum ≡ sumOf (r .turn) (headAt (r .head)) (legsOf (stopsOf r) list) (stopsOf r)
+  pub finish : answer .finish ≡ (walked (r .turn) (headAt (r .head)) (legsOf (stopsOf r) list)) .clock
+  pub end : answer .end ≡ (walked (r .turn) (headAt (r .head)) (legsOf (stopsOf r) list)) .place
+
+-- The planner's are those of the list that it leaves.
+abbrev pub IsTheWalk : Run → Answer → Rows → Type 0
+IsTheWalk r answer after = IsWalkOf r (listIn answer after) (after .times) answer
+
+-- The pricer's are those of the list handed in, whose starts and ends are of one number.
+pub record IsPriceOf (r : Run) (froms tos row : List ℕ) (answer : Answer) : Type 0 where
+  pub even : length froms ≡ length tos
+  pub walk : IsWalkOf r (listOf froms tos) row answer
+
+abbrev pub Demand2Price : Type 0
+Demand2Price =
+    (r : Run) (froms tos row : List ℕ) (answer : Answer) (out : List ℕ)
+    → answer ≡ priceAnswer r froms tos row
+    → out ≡ priceRow r froms tos row
+    → answer .refusal ≡ Accepted
+    → IsPriceOf r froms tos out answer
 
 -- Under the least rule no well-formed list is cheaper, and one of the same sum is the same list or comes later by the tie rule.
 pub record IsLeast (r : Run) (answer : Answer) (after : Rows) : Type 0 where

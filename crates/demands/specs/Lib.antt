@@ -1,9 +1,10 @@
 -- The three demands, in document 01's order, and the table of worked cases. Each statement is a type; proofs/ has its proof.
 pub mod Table
+pub mod Formed
 pub mod Demand1
-pub mod Calls
 pub mod Demand2
 pub mod Demand3
+pub mod Calls
 pub mod Cases
 pub mod Sheets
 pub mod Tapes

@@ -10,14 +10,14 @@ use Rattle.refusals.specs.declared.Refusal.the-variants.{Accepted, FileRows, Ba
 use Rattle.runs.specs.declared.Rule.{Rule}
 use Rattle.runs.specs.declared.Rule.the-variants.{Least}
 use Rattle.refusals.specs.Refusals.{isRefusal}
-use Rattle.runs.specs.Run.{Run}
+use Rattle.runs.specs.Run.{Run, runOf}
 use Rattle.runs.specs.Judging.{judgeOf}
 use Rattle.sheets.specs.declared.Reading.{Reading}
 use Rattle.writers.specs.declared.Written.{Written}
 use Rattle.texts.specs.Text.{isName}
 use Rattle.sheets.specs.Sheet.{longestSheet, mostSheetFiles, firstBadLine, sheetFiles, sheetWants, sheetRun}
-use Rattle.sheets.specs.Reading.{readVerdict, readAnswer, readRow, readName}
-use Rattle.writers.specs.Writing.{sheetText, writeVerdict, writtenAnswer, writtenRow}
+use Rattle.sheets.specs.Reading.{readVerdict, readAnswer, readRow, RunRows, SheetRead, readName}
+use Rattle.writers.specs.Writing.{sheetText, writeVerdict, writtenAnswer, writtenRow, SheetWritten}
 use Rattle.writers.specs.PlanSheet.{planText, planSheetVerdict}
 use Rattle.demands.specs.Table.{RunApplies, ListIsBad, FirstThatApplies}
 
@@ -25,35 +25,28 @@ use Rattle.demands.specs.Table.{RunApplies, ListIsBad, FirstThatApplies}
 abbrev pub readOrder : List Refusal
 readOrder = LongSheet ∷ BadLine ∷ ShortRow ∷ []
 
-pub data ReadApplies (sheet starts lengths numbers counts : List ℕ) : Refusal → ℕ → Type 0 where
-  too-long : longestSheet < length sheet → ReadApplies sheet starts lengths numbers counts LongSheet 0
-  bad-line : {n : ℕ} → firstBadLine sheet ≡ suc n → ReadApplies sheet starts lengths numbers counts BadLine (suc n)
-  short-starts : length starts < sheetFiles sheet → ReadApplies sheet starts lengths numbers counts ShortRow 0
-  short-lengths : length lengths < sheetFiles sheet → ReadApplies sheet starts lengths numbers counts ShortRow 0
-  short-numbers : length numbers < sheetWants sheet → ReadApplies sheet starts lengths numbers counts ShortRow 0
-  short-counts : length counts < sheetWants sheet → ReadApplies sheet starts lengths numbers counts ShortRow 0
+pub data ReadApplies (sheet : List ℕ) (rows : RunRows) : Refusal → ℕ → Type 0 where
+  too-long : longestSheet < length sheet → ReadApplies sheet rows LongSheet 0
+  bad-line : {n : ℕ} → firstBadLine sheet ≡ suc n → ReadApplies sheet rows BadLine (suc n)
+  short-starts : length (rows .starts) < sheetFiles sheet → ReadApplies sheet rows ShortRow 0
+  short-lengths : length (rows .lengths) < sheetFiles sheet → ReadApplies sheet rows ShortRow 0
+  short-numbers : length (rows .numbers) < sheetWants sheet → ReadApplies sheet rows ShortRow 0
+  short-counts : length (rows .counts) < sheetWants sheet → ReadApplies sheet rows ShortRow 0
 
--- A refusal of the reader: every other number 0, the rule least, and the four rows as they were.
-pub record ReadKept (sheet starts lengths numbers counts : List ℕ) (answer : Reading) : Type 0 where
+-- A refusal of the reader: every other number 0 and the rule least.
+pub record NothingRead (answer : Reading) : Type 0 where
   pub head : answer .head ≡ 0
   pub turn : answer .turn ≡ 0
   pub rule : answer .rule ≡ Least
   pub files : answer .files ≡ 0
   pub wants : answer .wants ≡ 0
-  pub keptStarts : readRow (readVerdict sheet starts lengths numbers counts) (sheetRun sheet .starts) starts ≡ starts
-  pub keptLengths : readRow (readVerdict sheet starts lengths numbers counts) (sheetRun sheet .lengths) lengths ≡ lengths
-  pub keptNumbers : readRow (readVerdict sheet starts lengths numbers counts) (sheetRun sheet .numbers) numbers ≡ numbers
-  pub keptCounts : readRow (readVerdict sheet starts lengths numbers counts) (sheetRun sheet .counts) counts ≡ counts
 
-pub record ReadAnswers (sheet starts lengths numbers counts : List ℕ) (answer : Reading) : Type 0 where
-  pub first : FirstThatApplies (ReadApplies sheet starts lengths numbers counts) readOrder (answer .refusal) (answer .place)
-  pub kept : (answer .refusal ≡ Accepted → ⊥) → ReadKept sheet starts lengths numbers counts answer
+pub record ReadAnswers (sheet : List ℕ) (before : RunRows) (answer : Reading) (after : RunRows) : Type 0 where
+  pub first : FirstThatApplies (ReadApplies sheet before) readOrder (answer .refusal) (answer .place)
+  pub kept : (answer .refusal ≡ Accepted → ⊥) → NothingRead answer × (after ≡ before)
 
 abbrev pub Demand1Read : Type 0
-Demand1Read =
-    (sheet starts lengths numbers counts : List ℕ) (answer : Reading)
-    → answer ≡ readAnswer (readVerdict sheet starts lengths numbers counts) sheet
-    → ReadAnswers sheet starts lengths numbers counts answer
+Demand1Read = (sheet : List ℕ) (before : RunRows) (answer : Reading) (after : RunRows) → SheetRead sheet before answer after → ReadAnswers sheet before answer after
 
 -- The run sheet writer: 1 to 7, then 13, then 8. The plan sheet writer: 1 to 7, then 13, then 10, then 8.
 abbrev pub writeOrder : List Refusal
@@ -124,3 +117,31 @@ Demand2RoundTrip =
     → length (r .numbers) ≤ length numbers
     → length (r .counts) ≤ length counts
     → GivesBack name rule r starts lengths numbers counts
+
+-- Write, then read. The run that a reading answers and leaves in the rows: as many entries of each as it says.
+abbrev pub runRead : Reading → RunRows → Run
+runRead answer rows =
+    runOf (take (answer .files) (rows .starts)) (take (answer .files) (rows .lengths)) (take (answer .wants) (rows .numbers)) (take (answer .wants) (rows .counts)) (answer .head) (answer .turn)
+
+pub record LongEnough (r : Run) (rows : RunRows) : Type 0 where
+  pub starts : length (r .starts) ≤ length (rows .starts)
+  pub lengths : length (r .lengths) ≤ length (rows .lengths)
+  pub numbers : length (r .numbers) ≤ length (rows .numbers)
+  pub counts : length (r .counts) ≤ length (rows .counts)
+
+-- What the writer leaves in its row, read into rows that are long enough, gives back the run, the rule and the name.
+pub record ComesBack (name : List ℕ) (rule : Rule) (r : Run) (sheet : List ℕ) (answer : Reading) (after : RunRows) : Type 0 where
+  pub accepted : answer .refusal ≡ Accepted
+  pub run : runRead answer after ≡ r
+  pub ruled : answer .rule ≡ rule
+  pub named : readName sheet ≡ name
+
+abbrev pub WriteThenRead : Type 0
+WriteThenRead =
+    (name : List ℕ) (rule : Rule) (r : Run) (row : List ℕ) (written : Written) (out : List ℕ)
+    → SheetWritten name rule r row written out
+    → written .refusal ≡ Accepted
+    → (before : RunRows) (answer : Reading) (after : RunRows)
+    → LongEnough r before
+    → SheetRead (take (written .bytes) out) before answer after
+    → ComesBack name rule r (take (written .bytes) out) answer after
