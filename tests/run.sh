@@ -163,6 +163,7 @@ run rust/compare ${calls:+--calls "$calls"}
 run python/plan
 run python/ltfs --cases 2000
 run python/prices
+run python/command
 
 [ "$tests_run" -gt 0 ] || fail "no test is called $only"
 printf 'tests/run.sh: all as it must be; tests run: %d\n' "$tests_run"
