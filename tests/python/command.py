@@ -15,6 +15,7 @@ import tempfile
 import time
 
 import programs
+from plan import answer, cases as sheets_of_plan
 
 LIMIT = 120
 LABEL, INDEX = "examples/ltfs/VX0041.label.xml", "examples/ltfs/VX0041.index.xml"
@@ -181,6 +182,115 @@ def ltfs_inputs(at):
     at.must(f"./violstream ltfs '' {LABEL} {INDEX}", 3, refusal(13))
 
 
+def words_of_sheets(at):
+    """Each refusal of a run sheet in words: which sheet, what is wrong, what stands at the place."""
+    cut = b"x" * 70
+    for sheet, out, words in (
+            (changed(8, b"file=13,30"), refusal(2, 3), 'file 3 (line 8, "file=13,30") starts at 13, before the end of file 2, which is 14'),
+            (changed(7, b"file=10,0"), refusal(2, 2), 'file 2 (line 7, "file=10,0") has length 0'),
+            (changed(8, b"file=20,1099511627776"), refusal(2, 3), "ends above 1099511627776 (2^40)"),
+            (changed(8, b"file=18446744073709551615,1"), refusal(2, 3), "ends above 1099511627776 (2^40)"),
+            (changed(12, b"want=2,1"), refusal(4, 3), 'want 3 (line 12, "want=2,1") does not name a larger file number than the want before it, "want=2,3"'),
+            (changed(12, b"want=4,1"), refusal(4, 3), 'want 3 (line 12, "want=4,1") names file 4, and the table has files 1 to 3'),
+            (changed(10, b"want=0,1"), refusal(4, 1), "want 1 (line 10, \"want=0,1\") names file 0"),
+            (changed(12, b"want=3,0"), refusal(4, 3), 'want 3 (line 12, "want=3,0") has 0 reads'),
+            (changed(10, b"want=1,1021"), refusal(5), "1025 reads in all; at most 1024"),
+            (changed(10, b"want=1,18446744073709551615"), refusal(5), "over 1024 reads"),
+            (changed(3, b"turn=4294967297"), refusal(6), 'the turn price (line 3, "turn=4294967297") is above 4294967296'),
+            (changed(2, b"head=49"), refusal(7), 'the head (line 2, "head=49") stands left of 50, the end of file 3'),
+            (changed(2, b"head=1099511627777"), refusal(7), "stands above 1099511627776 (2^40)"),
+            (changed(10, b"want=1,564"), refusal(9), "3 wants with 568 reads in all ask for 3 * 3 * 569 = 5121 words of working room; there are 5120"),
+            (b"x" * 16385, refusal(12), "over 16384 bytes"),
+            (changed(6, b"file=10;4"), refusal(11, 6), 'line 6: expected file=START,LENGTH; found "file=10;4"'),
+            (RUN.replace(b"\n", b"\r\n"), refusal(11, 1), 'found "tape=VX0041\\r": it ends in a carriage return'),
+            (RUN[:-1], refusal(11, 12), 'found "want=3,1": the line feed at its end is missing'),
+            (changed(3, b"turn=01"), refusal(11, 3), 'line 3: expected turn=NUMBER; found "turn=01": a number has a leading zero'),
+            (changed(9, b"wants=4"), refusal(11, 13), "line 13: expected want=FILE,READS; the sheet ends before it; line 9 says wants=4"),
+            (changed(9, b"wants=2"), refusal(11, 12), 'line 12: expected the end of the sheet; found "want=3,1"; line 9 says wants=2'),
+            (changed(5, b"files=2"), refusal(11, 8), 'line 8: expected wants=NUMBER; found "file=20,30"; line 5 says files=2'),
+            (changed(5, b"files=4"), refusal(11, 9), 'line 9: expected file=START,LENGTH; found "wants=3"; line 5 says files=4'),
+            (changed(5, b"files=257"), refusal(11, 5), "at most 256 files"),
+            (changed(9, b"wants=65"), refusal(11, 9), "at most 64 wants"),
+            (RUN + b"\n", refusal(11, 13), "line 13: expected the end of the sheet; found an empty line; line 9 says wants=3"),
+            (changed(11, b"want=2, 3"), refusal(11, 11), "there is a blank in it"),
+            (changed(11, b"want=2"), refusal(11, 11), "two numbers must stand there"),
+            (changed(2, b"head=-1"), refusal(11, 2), "a number has a sign"),
+            (changed(2, b"head="), refusal(11, 2), "the number is missing"),
+            (changed(2, b"head=18446744073709551616"), refusal(11, 2), "18446744073709551616 is not below 2^64"),
+            (changed(4, b"rule=none"), refusal(11, 4), 'line 4: expected rule=least or rule=sweep; found "rule=none"'),
+            (changed(1, b"tape=vx0041"), refusal(11, 1), "capitals and digits only"),
+            (changed(1, b"\xef\xbb\xbftape=VX0041"), refusal(11, 1), "a byte order mark"),
+            (changed(1, b"a\x00\x1b[2J\xff"), refusal(11, 1), 'found "a\\x00\\x1b[2J\\xff"'),
+            (changed(1, cut), refusal(11, 1), 'found "' + "x" * 57 + '..."'),
+            (refusal(20), refusal(11, 1), "this is a refusal and no run sheet"),
+            (b"", refusal(11, 1), "line 1: expected tape=NAME; the sheet is empty")):
+        number = out[8:out.index(b"\n")].decode()
+        at.must("./violstream plan", 3, out, ["violstream: standard input: refused (" + number + "): ", words], data=sheet)
+    at.must("./violstream plan examples/head-too-far-left.run", 3, refusal(7), ["violstream: examples/head-too-far-left.run: refused (7): the head"])
+
+
+def words_of_damaged_sheets(at):
+    """Of every sheet that plan.py tries, the words speak of the place that a reader of its own finds, and are fit for a terminal."""
+    begin = {2: "file %d (line ", 4: "want %d (line ", 11: "line %d: expected ", 12: "the sheet has over"}
+    tried = 0
+    for sheet in sheets_of_plan():
+        out = answer(sheet)
+        if out is None or not out.startswith(b"refused="):
+            continue
+        number, place = (int(line.split(b"=")[1]) for line in out.split())
+        numbers = " ".join(map(str, sheet))
+        done = subprocess.run(["awk", "-v", f"number={number}", "-v", f"place={place}", "-f", at.path("tools/words/shared.awk"), "-f",
+                               at.path("tools/words/sheet.awk")], input=numbers.encode(), capture_output=True, env=dict(os.environ, LC_ALL="C"))
+        said = done.stdout.decode("ascii")
+        must = begin.get(number, "")
+        if done.returncode or done.stderr or len(said) < 20 or not said[:-1].isprintable() or not said.startswith(must % place if "%" in must else must):
+            raise Wrong(f"for {sheet!r}, refused by {number} at {place}, the words are {done!r}")
+        tried += 1
+    if tried < 500:
+        raise Wrong(f"only {tried} sheets were refused")
+
+
+def words_of_tapes(at):
+    """Each refusal of a label or an index in words: which of the two, which line, which file."""
+    label, index = contents(LABEL), contents(INDEX)
+    block, count = b"<startblock>8</startblock>", b"<bytecount>10485760</bytecount>"
+    extent = b"</extent><extent><partition>b</partition><startblock>18</startblock><byteoffset>0</byteoffset><bytecount>1</bytecount>"
+    whole = b"<file><name>n</name><extentinfo><extent><partition>b</partition><startblock>%d</startblock><byteoffset>0</byteoffset>" \
+        b"<bytecount>1</bytecount></extent></extentinfo></file>"
+    many = b"<ltfsindex><directory><contents>" + b"".join(whole % n for n in range(257)) + b"</contents></directory></ltfsindex>"
+    for number, first, second, words in (
+            (20, index, index, "label (a), there is no ltfslabel/blocksize in it: this is an index"),
+            (20, label, label, "index (b), there is no ltfsindex in it: this is a label"),
+            (20, b"", index, "label (a), there is no ltfslabel/blocksize in it"),
+            (20, label, b"", "index (b), there is no ltfsindex in it"),
+            (20, label, index[:3000], "index (b), <changetime> of line 70 is not closed"),
+            (20, label, index.replace(block, b"<startblock>8</startblok>"), "line 58: </startblok> closes <startblock>, which was opened in line 58"),
+            (20, label, index.replace(block, b"<startblock>08</startblock>"), 'line 58: startblock "08" of file "clip0002.mxf" (line 33)'),
+            (20, label, index.replace(block, b""), 'an extent of file "clip0002.mxf" (line 33) has no startblock'),
+            (20, label, index.replace(block, b"<startblock>\x00\x1b8</startblock>"), 'startblock "??8" of file'),
+            (20, label, index.replace(b"<partition>b", b"<partition>B"), 'partition "B" of file "clip0002.mxf" (line 33) is not one letter a to z'),
+            (20, label, b"<a>" * 33 + b"</a>" * 33, "<a> stands inside 32 others"),
+            (20, label, index + b"</a>", "</a> closes nothing"),
+            (20, label, index + b"<!-- ", "the text ends before a -->"),
+            (20, label, index + b"<1>", '"<1>" is no tag'),
+            (20, label.replace(b"524288", b"52 4288"), index, "label (a), line 13: blocksize \"52 4288\" is no number below 2^64"),
+            (20, label, index + b" " * 524288, "over 512 KiB"),
+            (20, label, index + b" " * (524289 - len(b"tape=VX0041\nlabel=480\nindex=524288\n" + label + index)), "over 512 KiB"),
+            (21, label, index.replace(count, b"<bytecount>5</bytecount>" + extent), 'index (b), file "clip0002.mxf" (line 33) lies in 2 extents'),
+            (22, label, index.replace(block, b"<startblock>6</startblock>"),
+             'these overlap: file "clip0002.mxf" (line 33), from byte 3145728 to 13631488, and file "clip0001.mxf" (line 64), from byte 2621440 to 4193440'),
+            (23, label, index.replace(block, b"<startblock>2097152</startblock>"), 'file "clip0002.mxf" (line 33) ends above byte 1099511627776'),
+            (23, label, many, "257 files are left in partition b; a run sheet has at most 256")):
+        at.write("a", first)
+        at.write("b", second)
+        at.must("./violstream ltfs VX0041 a b", 3, refusal(number), [f"violstream: VX0041: refused ({number}): ", words])
+    at.write("b", index + b" " * (524288 - len(b"tape=VX0041\nlabel=480\nindex=523783\n" + label + index)))
+    at.must(f"./violstream ltfs VX0041 {LABEL} b", 0, SHEET, [REPORT])
+    at.must(f"./violstream ltfs vx0041 {LABEL} {INDEX}", 3, refusal(13), ['the tape name "vx0041" is not 1 to 16 of A-Z and 0-9'])
+    at.write("b", b"<a b='" + b"<" * 20000)
+    at.must(f"./violstream ltfs VX0041 {LABEL} b", 3, refusal(20), ["refused (20): a text that is not balanced"])
+
+
 def interrupted(at):
     """A call that is ended from outside leaves nothing behind."""
     for number in (signal.SIGINT, signal.SIGTERM, signal.SIGHUP):
@@ -201,7 +311,7 @@ def until(true, otherwise):
     raise Wrong(otherwise)
 
 
-TESTS = (answers, statuses, nothing_lost, broken_program, several, ltfs_inputs, interrupted)
+TESTS = (answers, statuses, nothing_lost, broken_program, several, ltfs_inputs, words_of_sheets, words_of_damaged_sheets, words_of_tapes, interrupted)
 
 
 def main():
