@@ -3,8 +3,8 @@
 #   label=NAME index=NAME awk -v number=REFUSED -v label_bytes=N -v index_bytes=N -v bytes_in_all=N \
 #       -f shared.awk -f ltfs.awk LABEL INDEX
 #
-# The names are those for the message. Of each text a copy is read, without NULs, which not every awk takes, and with a blank before
-# it, so that none is empty. It is cut at every "<". The judging is the program's: what stands here only looks up what it has judged.
+# The names are those for the message. Of each text a copy is read, without NULs, which not every awk takes, with a blank before it
+# and a line feed behind it, so that no piece is empty when it is cut at every "<". The judging is the program's: what stands here only looks up what it has judged.
 
 BEGIN {
     RS = "<"

@@ -13,13 +13,19 @@ BEGIN {
     shape[9] = "\\t"
     shape[13] = "\\r"
     shape[92] = "\\\\"
-    at = 1
+    begin_line(1)
+}
+
+function begin_line(line) {
+    at = line
+    text[line] = ""
+    bytes[line] = last[line] = 0
 }
 
 {
     for (i = 1; i <= NF; i++) {
         if ($i == 10)
-            at++
+            begin_line(at + 1)
         else if (bytes[at]++ < 4096) {
             text[at] = text[at] shape[$i + 0]
             last[at] = $i + 0
@@ -179,7 +185,9 @@ function words_for(number, place) {
 }
 
 END {
-    files = place > 5 || number != 11 ? value(5) + 0 : 0
-    wants = place > 6 + files || number != 11 ? value(6 + files) + 0 : 0
+    if (number == 12)
+        at = 0
+    files = at >= 5 && (place > 5 || number != 11) ? value(5) + 0 : 0
+    wants = at > 6 + files && (place > 6 + files || number != 11) ? value(6 + files) + 0 : 0
     print words_for(number, place)
 }
