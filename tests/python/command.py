@@ -124,6 +124,7 @@ def nothing_lost(at):
     sheet = "./violstream plan examples/VX0041.run"
     at.must(f"{sheet} > /dev/full", 1, b"", ["cannot write to standard output: No space left on device"])
     at.must(f"{sheet} >&-", 1, b"", ["standard output is closed"])
+    at.must(f"{sheet} | head -n 1", 0, b"tape=VX0041\n", silent=True)
     at.must(f"set -o pipefail; (trap '' PIPE; sleep 0.2; {sheet}) | true", 1, b"", ["cannot write to standard output"])
     at.must(f"set -o pipefail; (sleep 0.2; {sheet}) | true", 1, b"", ["cannot write to standard output"])
     at.must("./violstream help > /dev/full", 1, b"", ["cannot write to standard output"])
@@ -304,6 +305,106 @@ def interrupted(at):
             raise Wrong(f"ended by signal {number}: status {call.returncode}, left {os.listdir(at.temporary)}")
 
 
+# A stand-in for rt, which proves nothing: it says what rt says, and makes what it is asked for from the programs kept beside it.
+STAND_IN = """#!/bin/sh
+printf '%s\\n' "$*" >> calls
+mkdir -p target/bin target/log target/stamp target/staticlib
+: > target/log/walk.out
+sleep "${SLOW:-0}"
+echo 'rt: refusals proved (unchanged since it was last proved)'
+echo 'logic=proved'
+echo 'rt: walk proved (7 s)' | tee target/log/walk.out
+[ -z "${FAULT:-}" ] || { echo "$FAULT"; exit 1; }
+mktemp -d > /dev/null
+case $1 in
+check) [ -e "target/stamp/$2" ] || cp "kept/$2" "target/bin/$2"; echo > "target/stamp/$2" ;;
+staticlib) echo > target/staticlib/libboundary.a ;;
+esac
+"""
+
+
+def unbuilt(at):
+    """The checkout with nothing built, and a stand-in for rt on PATH."""
+    os.makedirs(at.path("stand-in"))
+    os.rename(at.path("target/bin"), at.path("kept"))
+    shutil.rmtree(at.path("target"))
+    at.write("stand-in/rt", STAND_IN.encode())
+    os.chmod(at.path("stand-in/rt"), 0o755)
+    at.write("calls", b"")
+    kit = subprocess.run(["sh", "-c", '. "$0" && kit', programs.MACHINE], capture_output=True, text=True).stdout.strip()
+    at.surroundings.update(PATH=at.path("stand-in") + ":" + os.environ["PATH"], RATTLE_HOME=kit)
+
+
+def called(at):
+    with open(at.path("calls")) as handle:
+        return handle.read().split("\n")[:-1]
+
+
+def building(at):
+    """A call builds what it needs, once, and says so."""
+    unbuilt(at)
+    at.must("./violstream plan no-such.run", 1, b"", ["cannot read no-such.run"])
+    at.must("./violstream plan -x", 2, b"")
+    if called(at):
+        raise Wrong(f"something was built for a call that could not be answered: {called(at)}")
+    at.must("./violstream plan examples/VX0041.run", 0, PLAN, ["proving and building cmd_plan; at most some 5 minutes", "violstream: walk proved (7 s)\n"])
+    at.must("./violstream plan examples/VX0041.run", 0, PLAN, silent=True)
+    if called(at) != ["check cmd_plan"]:
+        raise Wrong(f"rt was called so: {called(at)}")
+    at.must(f"./violstream ltfs VX0041 {LABEL} {INDEX}", 0, SHEET, ["building cmd_ltfs"])
+    at.must("rm target/bin/cmd_plan && ./violstream plan examples/VX0041.run", 0, PLAN, ["building cmd_plan"])
+    at.must("./violstream build", 0, b"", ["building libboundary.a"])
+    at.must("touch -d '+1 minute' crates/refusals/newer && ./violstream build", 0, b"", ["cmd_plan", "cmd_ltfs", "libboundary.a"])
+    at.must("rm crates/refusals/newer && ./violstream build", 0, b"", ["violstream: built"])
+    at.must("./violstream build more", 2, b"")
+    if called(at) != ["check cmd_plan", "check cmd_ltfs", "check cmd_plan", "staticlib boundary", "check cmd_plan", "check cmd_ltfs", "staticlib boundary"]:
+        raise Wrong(f"rt was called so: {called(at)}")
+
+
+def building_fails(at):
+    unbuilt(at)
+    sheet = "./violstream plan examples/VX0041.run"
+    at.must(f"touch target && {sheet}", 1, b"", ["cannot write ", "/target/: File exists"])
+    at.must(f"rm target && mkdir target && touch target/bin && {sheet}", 1, b"", ["cannot write ", "/target/bin/"])
+    os.remove(at.path("target/bin"))
+    if called(at):
+        raise Wrong("rt was called although target/ cannot be written")
+    at.must(f"FAULT='error: it is not so' {sheet}", 1, b"", ["error: it is not so", "'rt check cmd_plan' failed"])
+    at.must(f"FAULT='cp: No space left on device' {sheet}", 1, b"", ["cannot write ", "/target/: No space left on device"])
+    at.must(f"rm -f kept/cmd_plan && {sheet}", 1, b"", ["made no "])
+    without = ":".join(one for one in os.environ["PATH"].split(":") if not os.path.exists(os.path.join(one, "rt")))
+    at.must(f"PATH={without} {sheet}", 1, b"", ["(rt) is not on PATH"])
+
+
+def building_twice(at):
+    """A second call waits for the first, says so, and does not build again. A long silence is broken."""
+    unbuilt(at)
+    at.surroundings.update(SLOW="4", VIOLSTREAM_SILENCE="1")
+    first = subprocess.Popen(["./violstream", "plan", "examples/VX0041.run"], cwd=at.root, stdout=subprocess.PIPE, stderr=subprocess.PIPE, env=at.surroundings)
+    until(lambda: called(at), "rt was not called")
+    second = subprocess.run(["./violstream", "plan", "examples/VX0041.run"], cwd=at.root, capture_output=True, env=at.surroundings, timeout=LIMIT)
+    out, said = first.communicate(timeout=LIMIT)
+    if out != PLAN or b"still proving walk, " not in said:
+        raise Wrong(f"the first of two calls printed {out!r} and said {said!r}")
+    if second.stdout != PLAN or b"another call is building here; waiting for it" not in second.stderr or b"still waiting" not in second.stderr:
+        raise Wrong(f"the second of two calls printed {second.stdout!r} and said {second.stderr!r}")
+    if called(at) != ["check cmd_plan"] or os.listdir(at.temporary):
+        raise Wrong(f"rt was called so: {called(at)}; left behind: {os.listdir(at.temporary)}")
+
+
+def building_interrupted(at):
+    """Ctrl-C while rt is at work leaves no temporary files, and the next call builds."""
+    unbuilt(at)
+    call = subprocess.Popen(["./violstream", "plan", "examples/VX0041.run"], cwd=at.root, stdout=subprocess.PIPE, stderr=subprocess.PIPE,
+                            env=dict(at.surroundings, SLOW="30"), start_new_session=True)
+    until(lambda: called(at), "rt was not called")
+    os.killpg(call.pid, signal.SIGINT)
+    call.communicate(timeout=LIMIT)
+    if call.returncode in (0, 3) or os.listdir(at.temporary):
+        raise Wrong(f"Ctrl-C: status {call.returncode}, left {os.listdir(at.temporary)}")
+    at.must("./violstream plan examples/VX0041.run", 0, PLAN, ["building cmd_plan"])
+
+
 def until(true, otherwise):
     for _ in range(200):
         if true():
@@ -312,7 +413,8 @@ def until(true, otherwise):
     raise Wrong(otherwise)
 
 
-TESTS = (answers, statuses, nothing_lost, broken_program, several, ltfs_inputs, words_of_sheets, words_of_damaged_sheets, words_of_tapes, interrupted)
+TESTS = (answers, statuses, nothing_lost, broken_program, several, ltfs_inputs, words_of_sheets, words_of_damaged_sheets, words_of_tapes, interrupted, building, building_fails, building_twice,
+         building_interrupted)
 
 
 def main():
