@@ -126,6 +126,21 @@ bench() {
     printf 'bench: planner, plain.c and paper.c give the same sums\n'
 }
 
+# Every shell script, those that others read among them.
+scripts() {
+    for script in "$here"/violstream "$here"/install.sh "$here"/.ci/run "$here"/bench/*.sh "$here"/tests/*.sh "$here"/tools/*.sh; do
+        step "shellcheck of $script" shellcheck -x -P "$here" "$script"
+    done
+    printf 'scripts: shellcheck finds nothing\n'
+}
+
+manual() {
+    step "the manual page" env LC_ALL=C.UTF-8 MANWIDTH=100 man --warnings -E UTF-8 -l "$here/docs/violstream.1" > "$out/manual.text" 2> "$out/manual.said"
+    [ ! -s "$out/manual.said" ] || { cat "$out/manual.said" >&2; fail "man does not render docs/violstream.1 without a warning"; }
+    grep -q 'EXIT STATUS' "$out/manual.text" || fail "man renders docs/violstream.1 without its sections"
+    printf 'manual: rendered without a warning\n'
+}
+
 # ---- All tests ----
 
 # run TEST WORD...: a program of this folder by the name of its file, with its words; or a function above.
@@ -153,6 +168,8 @@ find_tools
 tests_run=0
 
 # A new test is a file in c/, rust/ or python/ and a line here.
+run scripts
+run manual
 run header_example
 run daemon
 run installed

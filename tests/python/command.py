@@ -7,6 +7,7 @@ It works in a copy of the command's own files in a temporary folder, with the pr
 """
 import argparse
 import os
+import re
 import shutil
 import signal
 import subprocess
@@ -117,7 +118,28 @@ def statuses(at):
     at.must(f"set -o pipefail; ./violstream ltfs VX0041 {INDEX} {INDEX} | ./violstream plan", 3, refusal(11, 1))
     at.must("./violstream help", 0, silent=True)
     for line in ("nothing", "plan -x", "plan - -", "ltfs", "ltfs A B", "ltfs A B C D", "ltfs A - -", "ltfs -A B C"):
-        at.must(f"./violstream {line}", 2, b"", ["violstream: ", "./violstream help"])
+        at.must(f"./violstream {line}", 2, b"", ["violstream: ", "\nusage: ./violstream "])
+        said = at.shell(f"./violstream {line}")[1]
+        if said.count("\n") != 2 or not said.endswith("(more: ./violstream help)\n"):
+            raise Wrong(f"./violstream {line} says {said!r}, and not two lines with the way to help")
+
+
+def help_and_version(at):
+    """Behind every command, and alone."""
+    text = at.shell("./violstream help")[0]
+    if not text.startswith(b"usage: ./violstream plan"):
+        raise Wrong(f"./violstream help prints {text!r}")
+    for line in ("--help", "-h", "", "plan --help", "ltfs -h", "build --help", "test --help", "install --help", "version --help"):
+        at.must(f"./violstream {line}", 0, text, silent=True)
+    version = at.shell("./violstream --version")[0]
+    if re.fullmatch(rb"violstream [0-9]+\.[0-9]+\.[0-9]+ \(rattle-kit-\S+ logic [0-9a-f]{16}\)\n", version) is None:
+        raise Wrong(f"./violstream --version prints {version!r}")
+    for line in ("version", "plan --version", "ltfs --version", "test --version"):
+        at.must(f"./violstream {line}", 0, version, silent=True)
+    at.must("./violstream version > /dev/full", 1, b"", ["cannot write to standard output"])
+    for number in (2, 4, 5, 6, 7, 9, 11, 12, 13, 20, 21, 22, 23):
+        if re.search(rb"\n +%d  \S" % number, text) is None:
+            raise Wrong(f"./violstream help does not list refusal {number}")
 
 
 def nothing_lost(at):
@@ -293,6 +315,63 @@ def words_of_tapes(at):
     at.must(f"./violstream ltfs VX0041 {LABEL} b", 3, refusal(20), ["refused (20): a text that is not balanced"])
 
 
+def blocks(name):
+    """The indented blocks of a document, as lists of lines."""
+    block = []
+    for line in contents(name).decode().split("\n") + [""]:
+        if line.startswith("    "):
+            block.append(line[4:])
+        elif block:
+            yield block
+            block = []
+
+
+def transcripts(at):
+    """The examples of README and OPERATOR, as pasted, print what stands below them."""
+    tried = 0
+    for block in blocks("docs/OPERATOR.md"):
+        lines, must = [], []
+        for line in block + ["$ "]:
+            if not line.startswith("$ "):
+                must.append(line)
+            elif must:
+                if lines:
+                    out, said, _ = at.shell("\n".join(lines))
+                    printed = out.decode() + (said if not out.startswith(b"refused") else "")
+                    tried += 1
+                    if printed != "\n".join(must) + "\n":
+                        raise Wrong(f"OPERATOR.md: {lines} prints {printed!r}, and the document has {must}")
+                lines, must = [], []
+            if line.startswith("$ "):
+                lines.append(line[2:])
+    if tried < 13:
+        raise Wrong(f"OPERATOR.md has only {tried} examples that can be tried")
+    readme = list(blocks("README.md"))
+    at.must("\n".join(readme[0]), 0, ("\n".join(readme[1]) + "\n").encode(), silent=True)
+    said = [block[0] for block in readme if block[0].startswith("violstream: ")]
+    at.write("VX0041.run", changed(6, b"file=10;4"))
+    at.must("./violstream plan VX0041.run", 3, refusal(11, 6), said)
+    ltfs = [block[0] for block in readme if block[0].startswith("./violstream ltfs")]
+    at.must(ltfs[0], 0, SHEET, [REPORT])
+    shown = [block[0] for block in blocks("docs/OPERATOR.md") if block[0].startswith("violstream: ")]
+    at.must("./violstream plan", 3, refusal(2, 3), shown, data=changed(8, b"file=13,30"))
+    if len(said) != 1 or len(shown) != 1:
+        raise Wrong("README or OPERATOR does not show a refusal in words")
+
+
+def manual(at):
+    """The manual page has the version, the refusals and the statuses of the command."""
+    page = contents("docs/violstream.1").decode()
+    version = at.shell("./violstream version")[0].decode().split(" (")[0]
+    if f'"{version}"' not in page:
+        raise Wrong(f"docs/violstream.1 is not of {version}")
+    text = " ".join(at.shell("./violstream help")[0].decode().split())
+    for number in (2, 4, 5, 6, 7, 9, 11, 12, 13, 20, 21, 22, 23):
+        words = re.search(r"\n%d\n([^.]*)\n\." % number, page)
+        if words is None or " ".join(words[1].split()) not in text:
+            raise Wrong(f"docs/violstream.1 does not say of refusal {number} what the help says: {words and words[1]!r}")
+
+
 def interrupted(at):
     """A call that is ended from outside leaves nothing behind."""
     for number in (signal.SIGINT, signal.SIGTERM, signal.SIGHUP):
@@ -413,7 +492,7 @@ def until(true, otherwise):
     raise Wrong(otherwise)
 
 
-TESTS = (answers, statuses, nothing_lost, broken_program, several, ltfs_inputs, words_of_sheets, words_of_damaged_sheets, words_of_tapes, interrupted, building, building_fails, building_twice,
+TESTS = (answers, statuses, help_and_version, nothing_lost, broken_program, several, ltfs_inputs, words_of_sheets, words_of_damaged_sheets, words_of_tapes, transcripts, manual, interrupted, building, building_fails, building_twice,
          building_interrupted)
 
 
