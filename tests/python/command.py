@@ -117,11 +117,15 @@ def statuses(at):
     at.must(f"./violstream ltfs vx0041 {LABEL} {INDEX}", 3, refusal(13))
     at.must(f"set -o pipefail; ./violstream ltfs VX0041 {INDEX} {INDEX} | ./violstream plan", 3, refusal(11, 1))
     at.must("./violstream help", 0, silent=True)
-    for line in ("nothing", "plan -x", "plan - -", "ltfs", "ltfs A B", "ltfs A B C D", "ltfs A - -", "ltfs -A B C"):
+    for line in ("nothing", "plan -x", "plan - -", "ltfs", "ltfs A B", "ltfs A B C D", "ltfs A - -", "ltfs -A B C", "install a", "install /a /b",
+                 "uninstall a", "install -x", "build x", "test x"):
         at.must(f"./violstream {line}", 2, b"", ["violstream: ", "\nusage: ./violstream "])
         said = at.shell(f"./violstream {line}")[1]
         if said.count("\n") != 2 or not said.endswith("(more: ./violstream help)\n"):
             raise Wrong(f"./violstream {line} says {said!r}, and not two lines with the way to help")
+
+
+    at.must("./violstream uninstall /no-such", 1, b"", ["nothing that this command knows of is installed below /no-such"])
 
 
 def help_and_version(at):
