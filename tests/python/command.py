@@ -157,6 +157,7 @@ def nothing_lost(at):
     at.must(f"./violstream ltfs VX0041 {LABEL} {INDEX} > /dev/full", 1, b"", ["cannot write to standard output"])
     at.must("./violstream plan < /", 1, b"", ["cannot read standard input: Is a directory"])
     at.must("./violstream plan <&-", 1, b"", ["cannot read standard input: it is closed"])
+    at.must("./violstream plan /dev/stdin <&-", 1, b"", ["cannot read /dev/stdin"])
     at.must("./violstream plan <&- >&- 2>&-", 1, b"")
     at.must(f"{sheet} 2>&-", 0, PLAN)
     at.must(f"{sheet} <&-", 0, PLAN, silent=True)
