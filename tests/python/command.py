@@ -7,6 +7,7 @@ It works in a copy of the command's own files in a temporary folder, with the pr
 """
 import argparse
 import os
+import pty
 import re
 import shutil
 import signal
@@ -320,6 +321,18 @@ def words_of_tapes(at):
     at.must(f"./violstream ltfs VX0041 {LABEL} b", 3, refusal(20), ["refused (20): a text that is not balanced"])
 
 
+def keyboard(at):
+    """A call that waits for somebody to type says so."""
+    mine, theirs = pty.openpty()
+    call = subprocess.Popen(["./violstream", "plan"], cwd=at.root, stdin=theirs, stdout=subprocess.PIPE, stderr=subprocess.PIPE, env=at.surroundings)
+    os.close(theirs)
+    os.write(mine, RUN + b"\x04")
+    out, said = call.communicate(timeout=LIMIT)
+    os.close(mine)
+    if out != PLAN or b"Ctrl-D" not in said or call.returncode != 0:
+        raise Wrong(f"typed in: printed {out!r}, said {said!r}, status {call.returncode}")
+
+
 def blocks(name):
     """The indented blocks of a document, as lists of lines."""
     block = []
@@ -497,8 +510,8 @@ def until(true, otherwise):
     raise Wrong(otherwise)
 
 
-TESTS = (answers, statuses, help_and_version, nothing_lost, broken_program, several, ltfs_inputs, words_of_sheets, words_of_damaged_sheets, words_of_tapes, transcripts, manual, interrupted, building, building_fails, building_twice,
-         building_interrupted)
+TESTS = (answers, statuses, help_and_version, nothing_lost, broken_program, several, ltfs_inputs, words_of_sheets, words_of_damaged_sheets,
+         words_of_tapes, keyboard, transcripts, manual, interrupted, building, building_fails, building_twice, building_interrupted)
 
 
 def main():

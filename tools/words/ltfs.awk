@@ -4,7 +4,8 @@
 #       -f shared.awk -f ltfs.awk LABEL INDEX
 #
 # The names are those for the message. Of each text a copy is read, without NULs, which not every awk takes, with a blank before it
-# and a line feed behind it, so that no piece is empty when it is cut at every "<". The judging is the program's: what stands here only looks up what it has judged.
+# and a line feed behind it, so that no piece is empty when it is cut at every "<". The judging is the program's: what stands here
+# only looks up what it has judged.
 
 BEGIN {
     RS = "<"
