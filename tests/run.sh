@@ -193,7 +193,8 @@ scripts() {
 }
 
 manual() {
-    step "the manual page" env LC_ALL=C.UTF-8 MANWIDTH=100 man --warnings -E UTF-8 -l "$here/docs/violstream.1" > "$out/manual.text" 2> "$out/manual.said"
+    step "the manual page" env LC_ALL=C.UTF-8 MANWIDTH=100 man --warnings -E UTF-8 -l - \
+        < "$here/docs/violstream.1" > "$out/manual.text" 2> "$out/manual.said"
     [ ! -s "$out/manual.said" ] || { cat "$out/manual.said" >&2; fail "man does not render docs/violstream.1 without a warning"; }
     grep -q 'EXIT STATUS' "$out/manual.text" || fail "man renders docs/violstream.1 without its sections"
     printf 'manual: rendered without a warning\n'
