@@ -35,7 +35,7 @@ struct pairs {
 
 static struct {
     struct pairs files, wants, detours;
-    uint64_t times[WANTS], sums[VIOLSTREAM_SUMS];
+    uint64_t times[WANTS];
     uint64_t *room;
 } rows;
 
@@ -134,28 +134,32 @@ static bool read_request(char *line, struct request *request)
 
 /* ---- Answering it ---- */
 
-static uint64_t plan(const struct request *request)
+/* The run of the request, in the rows that it was read into. */
+static struct violstream_run run_of(const struct request *request)
 {
-    const struct pairs *f = &rows.files, *w = &rows.wants;
-    return violstream_plan(f->first, f->length, f->second, f->length, w->first, w->length, w->second, w->length,
-                           request->head, request->turn, request->rule, rows.detours.first, WANTS,
-                           rows.detours.second, WANTS, rows.times, WANTS, rows.sums, VIOLSTREAM_SUMS,
-                           rows.room, VIOLSTREAM_ROOM_MOST);
+    return (struct violstream_run){
+        .starts = rows.files.first, .lengths = rows.files.second, .files = rows.files.length,
+        .numbers = rows.wants.first, .counts = rows.wants.second, .wants = rows.wants.length,
+        .head = request->head, .turn = request->turn,
+    };
 }
 
-static uint64_t price(const struct request *request)
+/* The rows for the answer; for a price the list of detours is as long as it was read. */
+static struct violstream_rows lent(const struct request *request)
 {
-    const struct pairs *f = &rows.files, *w = &rows.wants, *d = &rows.detours;
-    return violstream_price(f->first, f->length, f->second, f->length, w->first, w->length, w->second, w->length,
-                            request->head, request->turn, d->first, d->length, d->second, d->length,
-                            rows.times, WANTS, rows.sums, VIOLSTREAM_SUMS);
+    return (struct violstream_rows){
+        .detour_starts = rows.detours.first, .detour_ends = rows.detours.second,
+        .detours = request->plan ? WANTS : rows.detours.length,
+        .times = rows.times, .times_len = WANTS,
+        .room = rows.room, .room_len = VIOLSTREAM_ROOM_MOST,
+    };
 }
 
-static void print_accepted(void)
+static void print_accepted(const uint64_t *sums)
 {
-    printf("sum=%" PRIu64 " finish=%" PRIu64 " end=%" PRIu64 " detours=", rows.sums[VIOLSTREAM_SUM],
-           rows.sums[VIOLSTREAM_FINISH], rows.sums[VIOLSTREAM_END]);
-    for (size_t i = 0; i < rows.sums[VIOLSTREAM_DETOURS]; i++)
+    printf("sum=%" PRIu64 " finish=%" PRIu64 " end=%" PRIu64 " detours=", sums[VIOLSTREAM_SUM],
+           sums[VIOLSTREAM_FINISH], sums[VIOLSTREAM_END]);
+    for (size_t i = 0; i < sums[VIOLSTREAM_DETOURS]; i++)
         printf("%s%" PRIu64 ",%" PRIu64, i == 0 ? "" : ";", rows.detours.first[i], rows.detours.second[i]);
     printf(" times=");
     for (size_t i = 0; i < rows.wants.length; i++)
@@ -168,9 +172,11 @@ static void answer(char *line)
     struct request request = {0};
     if (!read_request(line, &request))
         return;
-    uint64_t result = request.plan ? plan(&request) : price(&request);
+    struct violstream_run run = run_of(&request);
+    struct violstream_rows given = lent(&request);
+    uint64_t result = request.plan ? violstream_plan_rows(&run, request.rule, &given) : violstream_price_rows(&run, &given);
     if (result == 0)
-        print_accepted();
+        print_accepted(given.sums);
     else
         printf("refused=%d place=%" PRIu64 " %s\n", (int)violstream_number(result), violstream_place(result),
                violstream_reason(result));

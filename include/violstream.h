@@ -9,6 +9,8 @@
  *
  *   cc example.c $(pkg-config --cflags --libs violstream)
  *
+ * -lviolstream by itself takes libviolstream.so, which must then be found when the program starts.
+ *
  * THE RUN
  *
  *   Positions on the tape are whole numbers from 0 to 2^40. One unit of tape takes one unit of time, in both
@@ -58,18 +60,24 @@
  *         const uint64_t starts[] = {0, 10, 20}, lengths[] = {10, 4, 30}; // three files
  *         const uint64_t numbers[] = {1, 2, 3}, counts[] = {1, 3, 1};     // all wanted, file 2 three times
  *         static uint64_t room[VIOLSTREAM_ROOM_WORDS(3, 5)];              // 3 wants, 5 reads
- *         uint64_t from[2], to[2], times[3], sums[VIOLSTREAM_SUMS];
+ *         uint64_t from[2], to[2], times[3];
+ *         struct violstream_run run;
+ *         struct violstream_rows rows;
  *
- *         uint64_t result = violstream_plan(starts, 3, lengths, 3, numbers, 3, counts, 3, 60, 1, VIOLSTREAM_LEAST,
- *                                           from, 2, to, 2, times, 3, sums, VIOLSTREAM_SUMS,
- *                                           room, VIOLSTREAM_ROOM_WORDS(3, 5));
+ *         run.starts = starts, run.lengths = lengths, run.files = 3;
+ *         run.numbers = numbers, run.counts = counts, run.wants = 3;
+ *         run.head = 60, run.turn = 1;
+ *         rows.detour_starts = from, rows.detour_ends = to, rows.detours = 2;
+ *         rows.times = times, rows.times_len = 3;
+ *         rows.room = room, rows.room_len = VIOLSTREAM_ROOM_WORDS(3, 5);
+ *         uint64_t result = violstream_plan_rows(&run, VIOLSTREAM_LEAST, &rows);
  *         if (result != 0) {
  *             fprintf(stderr, "refused: %s (place %" PRIu64 ")\n",
  *                     violstream_reason(result), violstream_place(result));
  *             return 1;
  *         }
- *         printf("sum %" PRIu64 "\n", sums[VIOLSTREAM_SUM]);
- *         for (uint64_t i = 0; i < sums[VIOLSTREAM_DETOURS]; i++)
+ *         printf("sum %" PRIu64 "\n", rows.sums[VIOLSTREAM_SUM]);
+ *         for (uint64_t i = 0; i < rows.sums[VIOLSTREAM_DETOURS]; i++)
  *             printf("detour %" PRIu64 ",%" PRIu64 "\n", from[i], to[i]);
  *         for (int i = 0; i < 3; i++)
  *             printf("file %" PRIu64 " at %" PRIu64 "\n", numbers[i], times[i]);
@@ -95,6 +103,13 @@
 
 #define VIOLSTREAM_VERSION "0.1.0"
 
+/* A value as another type, in the words of either language. */
+#ifdef __cplusplus
+#define VIOLSTREAM_AS(type, value) (static_cast<type>(value))
+#else
+#define VIOLSTREAM_AS(type, value) ((type)(value))
+#endif
+
 /* Limits. Each is itself still accepted. */
 #define VIOLSTREAM_MAX_FILES 4096
 #define VIOLSTREAM_MAX_WANTS 64
@@ -108,7 +123,8 @@
  * bytes); VIOLSTREAM_ROOM_MOST words do for every run that is accepted. With numbers past the limits it may wrap: check
  * them first, or lend VIOLSTREAM_ROOM_MOST words.
  */
-#define VIOLSTREAM_ROOM_WORDS(wants, reads) ((size_t)(wants) * (size_t)(wants) * ((size_t)(reads) + 1))
+#define VIOLSTREAM_ROOM_WORDS(wants, reads) \
+    (VIOLSTREAM_AS(size_t, wants) * VIOLSTREAM_AS(size_t, wants) * (VIOLSTREAM_AS(size_t, reads) + 1))
 #define VIOLSTREAM_ROOM_MOST VIOLSTREAM_ROOM_WORDS(VIOLSTREAM_MAX_WANTS, VIOLSTREAM_MAX_READS)
 
 #ifdef __cplusplus
@@ -155,7 +171,7 @@ enum violstream_refusal {
 /* The refusal's number in a result; VIOLSTREAM_ACCEPTED for 0. */
 static inline enum violstream_refusal violstream_number(uint64_t result)
 {
-    return (enum violstream_refusal)(result % 256);
+    return VIOLSTREAM_AS(enum violstream_refusal, result % 256);
 }
 
 /* The file, want or entry that a refusal names, counted from 1; 0 if it names none. */
@@ -230,6 +246,43 @@ uint64_t violstream_plan(const uint64_t *starts, size_t starts_len,
                          uint64_t *times, size_t times_len,
                          uint64_t *sums, size_t sums_len,
                          uint64_t *room, size_t room_len);
+
+/*
+ * The same two calls with their parameters by name. There is nothing behind them but the functions above: a length that two
+ * rows share is handed on for each of them. Set every member that a call takes; sums alone is for the answer only.
+ */
+struct violstream_run {
+    const uint64_t *starts, *lengths; /* the tape: `files` words each */
+    size_t files;
+    const uint64_t *numbers, *counts; /* the wants: `wants` words each */
+    size_t wants;
+    uint64_t head, turn;
+};
+
+struct violstream_rows {
+    uint64_t *detour_starts, *detour_ends; /* `detours` words each: for a price the list, for a plan where to put it */
+    size_t detours;
+    uint64_t *times;
+    size_t times_len;
+    uint64_t *room; /* for a plan; a price takes none */
+    size_t room_len;
+    uint64_t sums[VIOLSTREAM_SUMS];
+};
+
+static inline uint64_t violstream_price_rows(const struct violstream_run *run, struct violstream_rows *rows)
+{
+    return violstream_price(run->starts, run->files, run->lengths, run->files, run->numbers, run->wants, run->counts,
+                            run->wants, run->head, run->turn, rows->detour_starts, rows->detours, rows->detour_ends,
+                            rows->detours, rows->times, rows->times_len, rows->sums, VIOLSTREAM_SUMS);
+}
+
+static inline uint64_t violstream_plan_rows(const struct violstream_run *run, uint64_t rule, struct violstream_rows *rows)
+{
+    return violstream_plan(run->starts, run->files, run->lengths, run->files, run->numbers, run->wants, run->counts,
+                           run->wants, run->head, run->turn, rule, rows->detour_starts, rows->detours, rows->detour_ends,
+                           rows->detours, rows->times, rows->times_len, rows->sums, VIOLSTREAM_SUMS, rows->room,
+                           rows->room_len);
+}
 
 #ifdef __cplusplus
 }

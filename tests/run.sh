@@ -67,12 +67,16 @@ make_c() {
     step "building $*" make -s -C "$here/tests/c" CC="$cc" CXX="$cxx" ARCHIVE="$library" OUT="$out/c" "$@"
 }
 
-# make_rust NAME: the program tests/rust/NAME.rs or tests/rust/NAME/NAME.rs, in $out/rust.
+# make_rust NAME [WORD...]: the program tests/rust/NAME.rs or tests/rust/NAME/NAME.rs, in $out/rust, linked by these words or,
+# without any, to the archive.
 make_rust() {
     source=$here/tests/rust/$1.rs
+    program=$out/rust/$1
     [ -f "$source" ] || source=$here/tests/rust/$1/$1.rs
     mkdir -p "$out/rust"
-    set -- -O --edition 2021 "$source" -L native="$out" -l static=violstream -o "$out/rust/$1"
+    shift
+    [ $# -gt 0 ] || set -- -L native="$out" -l static=violstream
+    set -- -O --edition 2021 "$source" "$@" -o "$program"
     [ "$emulated" = no ] || set -- "$@" --target "$rust_target" -C linker="$cc"
     step "building $source" "$rustc" ${rust_root:+--sysroot "$rust_root"} "$@"
 }
@@ -81,6 +85,15 @@ make_rust() {
 
 header_example() {
     make_c example_c example_c++
+    if command -v clang > /dev/null; then
+        strictly="-fsyntax-only -Wall -Wextra -Wpedantic -Wconversion -Werror -I $here/include"
+        # shellcheck disable=SC2086  # words for the compiler
+        step "header example (clang)" clang -std=c99 $strictly -x c "$out/c/example.c"
+        # shellcheck disable=SC2086
+        step "header example (clang, C++)" clang -std=c++11 $strictly -Wold-style-cast -x c++ "$out/c/example.c"
+    else
+        printf 'header example (clang): left out, clang is not here\n'
+    fi
     for language in c c++; do
         step_built "header example ($language)" "$out/c/example_$language" > "$out/example.is"
         same "header example ($language)" "$out/c/example.must" "$out/example.is"
@@ -106,24 +119,85 @@ daemon_by() {
     answer_requests "daemon $how" "$program"
 }
 
+# The command as it was installed, where there is neither a checkout nor rt.
+command_installed() {
+    path=$(printf '%s' "$PATH" | tr ':' '\n' | while IFS= read -r folder; do [ -x "$folder/rt" ] || printf '%s:' "$folder"; done)
+    step "the installed command" env -u RATTLE_HOME PATH="${path%:}" "$prefix/bin/violstream" plan - < "$here/examples/VX0041.run" > "$out/plan.is"
+    same "the installed command" "$here/examples/VX0041.plan" "$out/plan.is"
+    "$prefix/bin/violstream" version > "$out/version.is" || fail "the installed command does not say its version"
+    "$here/violstream" version > "$out/version.must"
+    same "the installed command's version" "$out/version.must" "$out/version.is"
+}
+
+# C, C++, Rust and Python against the shared library, by the name that it goes by.
+shared_installed() {
+    readelf -d "$prefix/lib/libviolstream.so" | grep -q 'SONAME.*\[libviolstream\.so\.[0-9]*\]' || fail "libviolstream.so has no soname"
+    there="-Wl,-rpath,$prefix/lib"
+    daemon_by "against the shared library" "$out/daemon_shared" -I "$prefix/include" -L "$prefix/lib" "$there" -lviolstream
+    readelf -d "$out/daemon_shared" | grep -q 'NEEDED.*libviolstream' || fail "the daemon was not linked to the shared library"
+    make_c example_c++
+    step "building the example in C++" "$cxx" -x c++ "$out/c/example.c" -x none -I "$prefix/include" -L "$prefix/lib" "$there" -lviolstream -o "$out/example_shared"
+    step_built "the example in C++ against the shared library" "$out/example_shared" > "$out/example.is"
+    same "the example in C++ against the shared library" "$out/c/example.must" "$out/example.is"
+    make_rust compare -L native="$prefix/lib" -l dylib=violstream -C link-arg="$there"
+    step_built "rust/compare against the shared library" "$out/rust/compare" --calls 2000 > "$out/rust.is"
+    readelf -d "$out/rust/compare" | grep -q 'NEEDED.*libviolstream' || fail "rust/compare was not linked to the shared library"
+    printf 'rust/compare against the shared library: as it must be\n'
+    if [ "$emulated" = yes ]; then
+        printf 'the shared library from Python: left out, the library is not for this processor\n'
+    else
+        step "the shared library from Python" python3 "$here/tests/python/library.py" "$prefix/lib/libviolstream.so"
+    fi
+}
+
+uninstalled() {
+    step "uninstall" env -u DESTDIR "$prefix/bin/violstream" uninstall > "$out/install.log"
+    left=$(find "$prefix" -mindepth 1)
+    [ -z "$left" ] || fail "uninstall has left: $left"
+    step "uninstall with DESTDIR" env DESTDIR="$out/stage" "$here/violstream" uninstall /usr > "$out/install.log"
+    left=$(find "$out/stage" -type f)
+    [ -z "$left" ] || fail "uninstall with DESTDIR has left: $left"
+    printf 'uninstall: nothing is left\n'
+}
+
 installed() {
     prefix=$out/prefix
     step "install.sh" env -u DESTDIR "$here/install.sh" PREFIX="$prefix" "$archive" > "$out/install.log"
-    daemon_by "against an installed prefix" "$out/daemon_installed" -I "$prefix/include" -L "$prefix/lib" -lviolstream
+    step "install.sh, again" env -u DESTDIR "$here/install.sh" PREFIX="$prefix" "$archive" > "$out/install.log"
+    daemon_by "against the installed archive" "$out/daemon_installed" -I "$prefix/include" -L "$prefix/lib" -l:libviolstream.a
     step "install.sh with DESTDIR" "$here/install.sh" PREFIX=/usr DESTDIR="$out/stage" "$archive" > "$out/install.log"
     grep -qx 'prefix=/usr' "$out/stage/usr/lib/pkgconfig/violstream.pc" || fail "violstream.pc does not name PREFIX, or not without DESTDIR"
-    if ! command -v pkg-config > /dev/null; then
+    if command -v pkg-config > /dev/null; then
+        words=$(PKG_CONFIG_PATH=$prefix/lib/pkgconfig pkg-config --cflags --libs violstream) || fail "pkg-config does not find violstream"
+        # shellcheck disable=SC2086  # words for the compiler
+        daemon_by "by pkg-config" "$out/daemon_pkg" $words
+    else
         printf 'daemon by pkg-config: left out, pkg-config is not here\n'
-        return
     fi
-    words=$(PKG_CONFIG_PATH=$prefix/lib/pkgconfig pkg-config --cflags --libs violstream) || fail "pkg-config does not find violstream"
-    # shellcheck disable=SC2086  # words for the compiler
-    daemon_by "by pkg-config" "$out/daemon_pkg" $words
+    command_installed
+    shared_installed
+    uninstalled
 }
 
 bench() {
     step "bench" env CC="$cc" "$here/bench/run.sh" --quick "$archive" > "$out/bench.log"
     printf 'bench: planner, plain.c and paper.c give the same sums\n'
+}
+
+# Every shell script, those that others read among them.
+scripts() {
+    for script in "$here"/violstream "$here"/install.sh "$here"/.ci/run "$here"/bench/*.sh "$here"/tests/*.sh "$here"/tools/*.sh; do
+        step "shellcheck of $script" shellcheck -x -P "$here" "$script"
+    done
+    printf 'scripts: shellcheck finds nothing\n'
+}
+
+manual() {
+    step "the manual page" env LC_ALL=C.UTF-8 MANWIDTH=100 man --warnings -E UTF-8 -l - \
+        < "$here/docs/violstream.1" > "$out/manual.text" 2> "$out/manual.said"
+    [ ! -s "$out/manual.said" ] || { cat "$out/manual.said" >&2; fail "man does not render docs/violstream.1 without a warning"; }
+    grep -q 'EXIT STATUS' "$out/manual.text" || fail "man renders docs/violstream.1 without its sections"
+    printf 'manual: rendered without a warning\n'
 }
 
 # ---- All tests ----
@@ -153,6 +227,8 @@ find_tools
 tests_run=0
 
 # A new test is a file in c/, rust/ or python/ and a line here.
+run scripts
+run manual
 run header_example
 run daemon
 run installed
@@ -165,6 +241,7 @@ run python/plan
 run python/ltfs --cases 2000
 run python/prices
 run python/pricer_rows
+run python/command
 
 [ "$tests_run" -gt 0 ] || fail "no test is called $only"
 printf 'tests/run.sh: all as it must be; tests run: %d\n' "$tests_run"

@@ -2,14 +2,15 @@
 # The tools that the tests need, for tests/run.sh to read by `.`: find_tools finds them or, if $install_tools is yes and this
 # is Debian and the user root, installs them.
 #
-# On x86-64: make, gcc, g++, rustc and python3. On another processor cross compilers for x86-64 and an emulator in place of
+# On x86-64: make, gcc, g++, rustc, python3, shellcheck and man. On another processor cross compilers for x86-64 and an emulator in place of
 # gcc and g++ (tools/machine.sh), and Rust with its standard library for x86-64.
 
 # Prints the packages that are missing, by Debian's names.
 missing_tools() {
-    for tool in make python3; do
+    for tool in make python3 shellcheck; do
         command -v "$tool" > /dev/null || printf ' %s' "$tool"
     done
+    command -v man > /dev/null || printf ' man-db'
     if [ "$emulated" = no ]; then
         for tool in gcc g++ rustc; do
             command -v "$tool" > /dev/null || printf ' %s' "$tool"

@@ -1,0 +1,532 @@
+#!/usr/bin/env python3
+"""Calls `./violstream` as a person or a script does and looks at what it prints, what it says on standard error and how it ends.
+
+usage: tests/python/command.py [--only NAME]    (the programs are those in target/bin)
+
+It works in a copy of the command's own files in a temporary folder, with the programs beside it, so that nothing is proved here.
+"""
+import argparse
+import os
+import pty
+import re
+import shutil
+import signal
+import subprocess
+import sys
+import tempfile
+import time
+
+import programs
+from plan import answer, cases as sheets_of_plan
+
+LIMIT = 120
+LABEL, INDEX = "examples/ltfs/VX0041.label.xml", "examples/ltfs/VX0041.index.xml"
+
+
+class Wrong(Exception):
+    pass
+
+
+def contents(name):
+    with open(os.path.join(programs.ROOT, name), "rb") as handle:
+        return handle.read()
+
+
+RUN, PLAN = contents("examples/VX0041.run"), contents("examples/VX0041.plan")
+SHEET, REPORT = contents("examples/ltfs/VX0041.run"), contents("examples/ltfs/VX0041.report").decode()
+
+
+class Checkout:
+    """The command and what it needs, in a folder of its own."""
+
+    def __init__(self, folder):
+        self.root = os.path.join(folder, "checkout")
+        self.temporary = os.path.join(folder, "temporary")
+        os.makedirs(self.temporary)
+        for name in ("violstream", "install.sh", "README.md", "tools", "include", "examples", "crates.txt"):
+            source, to = os.path.join(programs.ROOT, name), os.path.join(self.root, name)
+            os.makedirs(os.path.dirname(to), exist_ok=True)
+            (shutil.copytree if os.path.isdir(source) else shutil.copy2)(source, to)
+        os.makedirs(os.path.join(self.root, "crates/refusals"))
+        os.makedirs(os.path.join(self.root, "target/bin"))
+        for name in ("cmd_plan", "cmd_ltfs"):
+            source = os.path.join(programs.ROOT, "target/bin", name)
+            if not os.path.exists(source):
+                sys.exit(f"command.py: no program {source}; 'rt check {name}' makes it")
+            shutil.copy(source, os.path.join(self.root, "target/bin", name))
+        self.surroundings = dict(os.environ, TMPDIR=self.temporary)
+
+    def path(self, name):
+        return os.path.join(self.root, name)
+
+    def write(self, name, data):
+        with open(self.path(name), "wb") as handle:
+            handle.write(data)
+
+    def shell(self, line, data=b""):
+        """What a line of bash in the checkout prints, says on standard error, and its status."""
+        done = subprocess.run(["bash", "-c", line], cwd=self.root, input=data, capture_output=True, timeout=LIMIT, env=self.surroundings)
+        left = os.listdir(self.temporary)
+        if left:
+            raise Wrong(f"{line}\nleft temporary files behind: {left}")
+        return done.stdout, done.stderr.decode("utf-8", "replace"), done.returncode
+
+    def must(self, line, status, out=None, says=(), data=b"", silent=False):
+        """Runs a line and holds it to its status, its output (None: not looked at) and words on standard error."""
+        printed, said, ended = self.shell(line, data)
+        tell = f"{line}\nprinted {printed!r}\nsaid {said!r}\nand ended with status {ended}"
+        if ended != status:
+            raise Wrong(f"{tell}; it must be {status}")
+        if out is not None and printed != out:
+            raise Wrong(f"{tell}; it must print {out!r}")
+        for words in says:
+            if words not in said:
+                raise Wrong(f"{tell}; it must say {words!r}")
+        if silent and said:
+            raise Wrong(f"{tell}; it must say nothing")
+        if status not in (0, 3) and not said and "2>" not in line:
+            raise Wrong(f"{tell}; it must say why")
+
+
+def refusal(number, place=0):
+    return b"refused=%d\nplace=%d\n" % (number, place)
+
+
+def changed(line, text):
+    """The example with one line put in the place of another."""
+    lines = RUN.split(b"\n")
+    lines[line - 1] = text
+    return b"\n".join(lines)
+
+
+# ---- Tests: a function each, whose name --only takes ----
+
+def answers(at):
+    at.must("./violstream plan < examples/VX0041.run", 0, PLAN, silent=True)
+    at.must("./violstream plan examples/VX0041.run", 0, PLAN, silent=True)
+    at.must("cat examples/VX0041.run | ./violstream plan -", 0, PLAN, silent=True)
+    at.must("./violstream plan <(cat examples/VX0041.run)", 0, PLAN, silent=True)
+    at.must("./violstream plan /dev/stdin < examples/VX0041.run", 0, PLAN, silent=True)
+    at.must(f"./violstream ltfs VX0041 {LABEL} {INDEX} | ./violstream plan", 0)
+    at.must("cd / && \"$OLDPWD/violstream\" plan \"$OLDPWD/examples/VX0041.run\"", 0, PLAN, silent=True)
+
+
+def statuses(at):
+    at.must("./violstream plan examples/head-too-far-left.run", 3, refusal(7))
+    at.must("./violstream plan", 3, refusal(11, 1))
+    at.must("./violstream plan < /dev/zero", 3, refusal(12))
+    at.must(f"./violstream ltfs vx0041 {LABEL} {INDEX}", 3, refusal(13))
+    at.must(f"set -o pipefail; ./violstream ltfs VX0041 {INDEX} {INDEX} | ./violstream plan", 3, refusal(11, 1))
+    at.must("./violstream help", 0, silent=True)
+    for line in ("nothing", "plan -x", "plan - -", "ltfs", "ltfs A B", "ltfs A B C D", "ltfs A - -", "ltfs -A B C", "install a", "install /a /b",
+                 "uninstall a", "install -x", "build x", "test x"):
+        at.must(f"./violstream {line}", 2, b"", ["violstream: ", "\nusage: ./violstream "])
+        said = at.shell(f"./violstream {line}")[1]
+        if said.count("\n") != 2 or not said.endswith("(more: ./violstream help)\n"):
+            raise Wrong(f"./violstream {line} says {said!r}, and not two lines with the way to help")
+
+
+    at.must("./violstream uninstall /no-such", 1, b"", ["nothing that this command knows of is installed below /no-such"])
+
+
+def help_and_version(at):
+    """Behind every command, and alone."""
+    text = at.shell("./violstream help")[0]
+    if not text.startswith(b"usage: ./violstream plan"):
+        raise Wrong(f"./violstream help prints {text!r}")
+    for line in ("--help", "-h", "", "plan --help", "ltfs -h", "build --help", "test --help", "install --help", "version --help"):
+        at.must(f"./violstream {line}", 0, text, silent=True)
+    version = at.shell("./violstream --version")[0]
+    if re.fullmatch(rb"violstream [0-9]+\.[0-9]+\.[0-9]+ \(rattle-kit-\S+ logic [0-9a-f]{16}\)\n", version) is None:
+        raise Wrong(f"./violstream --version prints {version!r}")
+    for line in ("version", "plan --version", "ltfs --version", "test --version"):
+        at.must(f"./violstream {line}", 0, version, silent=True)
+    at.must("./violstream version > /dev/full", 1, b"", ["cannot write to standard output"])
+    for number in (2, 4, 5, 6, 7, 9, 11, 12, 13, 20, 21, 22, 23):
+        if re.search(rb"\n +%d  \S" % number, text) is None:
+            raise Wrong(f"./violstream help does not list refusal {number}")
+
+
+def nothing_lost(at):
+    sheet = "./violstream plan examples/VX0041.run"
+    at.must(f"{sheet} > /dev/full", 1, b"", ["cannot write to standard output: No space left on device"])
+    at.must(f"{sheet} >&-", 1, b"", ["standard output is closed"])
+    at.must(f"{sheet} | head -n 1", 0, b"tape=VX0041\n", silent=True)
+    at.must(f"set -o pipefail; (trap '' PIPE; sleep 0.2; {sheet}) | true", 1, b"", ["cannot write to standard output"])
+    at.must(f"set -o pipefail; (sleep 0.2; {sheet}) | true", 1, b"", ["cannot write to standard output"])
+    at.must("./violstream help > /dev/full", 1, b"", ["cannot write to standard output"])
+    at.must(f"./violstream ltfs VX0041 {LABEL} {INDEX} > /dev/full", 1, b"", ["cannot write to standard output"])
+    at.must("./violstream plan < /", 1, b"", ["cannot read standard input: Is a directory"])
+    at.must("./violstream plan <&-", 1, b"", ["cannot read standard input: it is closed"])
+    at.must("./violstream plan /dev/stdin <&-", 1, b"", ["cannot read /dev/stdin"])
+    at.must("./violstream plan <&- >&- 2>&-", 1, b"")
+    at.must(f"{sheet} 2>&-", 0, PLAN)
+    at.must(f"{sheet} <&-", 0, PLAN, silent=True)
+    at.must("./violstream plan examples", 1, b"", ["cannot read examples: Is a directory"])
+    at.must("./violstream plan no-such.run", 1, b"", ["cannot read no-such.run: No such file or directory"])
+    at.must("./violstream plan ''", 1, b"", ["No such file"])
+    at.must(f"./violstream ltfs VX0041 no-such examples", 1, b"", ["cannot read no-such:", "cannot read examples:"])
+    at.must(f"TMPDIR=/no-such {sheet}", 1, b"", ["temporary folder"])
+
+
+def broken_program(at):
+    """A program that ends early, or prints half of an answer, is no answer."""
+    kept = at.path("target/bin/cmd_plan")
+    os.rename(kept, kept + ".kept")
+    shutil.copy("/bin/true", kept)
+    at.must("./violstream plan examples/VX0041.run examples/no-wants.run", 1, b"", ["gave no answer"])
+    os.remove(kept)
+    at.write("target/bin/cmd_plan", b"no program\n")
+    os.chmod(kept, 0o755)
+    at.must("./violstream plan examples/VX0041.run", 1, b"", ["gave no answer"])
+    os.replace(kept + ".kept", kept)
+    at.must("./violstream plan examples/VX0041.run", 0, PLAN)
+
+
+def several(at):
+    one, two, three = "examples/VX0041.run", "examples/head-too-far-left.run", "examples/no-wants.run"
+    heading = lambda name: b"sheet=%s\n" % name.encode()
+    answered = heading(one) + PLAN
+    refused = heading(two) + refusal(7)
+    at.must(f"./violstream plan {one} {two}", 3, answered + refused, [two])
+    at.must(f"./violstream plan {two} no-such {one}", 1, refused + answered, ["no-such", two])
+    at.must(f"./violstream plan {one} {three}", 0, answered + heading(three) + contents("examples/no-wants.plan"), silent=True)
+    at.must(f"./violstream plan {two} - < {one}", 3, refused + heading("-") + PLAN)
+    at.write("a\nb.run", RUN)
+    at.must(f"./violstream plan {one} $'a\\nb.run'", 0, answered + heading("$'a\\nb.run'") + PLAN)
+    at.write("a b.run", RUN)
+    at.must(f"./violstream plan 'a b.run' {two}", 3, heading("a b.run") + PLAN + refused)
+
+
+def ltfs_inputs(at):
+    """Each input is read once, and no further than it can matter."""
+    at.must(f"./violstream ltfs VX0041 {LABEL} {INDEX}", 0, SHEET, [REPORT])
+    at.must(f"./violstream ltfs VX0041 <(cat {LABEL}) <(cat {INDEX})", 0, SHEET, [REPORT])
+    at.must(f"./violstream ltfs VX0041 {LABEL} /dev/stdin < {INDEX}", 0, SHEET, [REPORT])
+    at.must(f"./violstream ltfs VX0041 {LABEL} - < {INDEX}", 0, SHEET, [REPORT])
+    at.must(f"./violstream ltfs VX0041 - {INDEX} < {LABEL}", 0, SHEET, [REPORT])
+    at.must(f"./violstream ltfs VX0041 {LABEL} /dev/zero", 3, refusal(20))
+    at.must(f"./violstream ltfs VX0041 /dev/zero {INDEX}", 3, refusal(20))
+    at.must(f"./violstream ltfs $'A\\nlabel=0\\nindex=0' {LABEL} {INDEX}", 3, refusal(13))
+    at.must(f"./violstream ltfs '' {LABEL} {INDEX}", 3, refusal(13))
+
+
+def words_of_sheets(at):
+    """Each refusal of a run sheet in words: which sheet, what is wrong, what stands at the place."""
+    cut = b"x" * 70
+    for sheet, out, words in (
+            (changed(8, b"file=13,30"), refusal(2, 3), 'file 3 (line 8, "file=13,30") starts at 13, before the end of file 2, which is 14'),
+            (changed(7, b"file=10,0"), refusal(2, 2), 'file 2 (line 7, "file=10,0") has length 0'),
+            (changed(8, b"file=20,1099511627776"), refusal(2, 3), "ends above 1099511627776 (2^40)"),
+            (changed(8, b"file=18446744073709551615,1"), refusal(2, 3), "ends above 1099511627776 (2^40)"),
+            (changed(12, b"want=2,1"), refusal(4, 3), 'want 3 (line 12, "want=2,1") does not name a larger file number than the want before it, "want=2,3"'),
+            (changed(12, b"want=4,1"), refusal(4, 3), 'want 3 (line 12, "want=4,1") names file 4, and the table has files 1 to 3'),
+            (changed(10, b"want=0,1"), refusal(4, 1), "want 1 (line 10, \"want=0,1\") names file 0"),
+            (changed(12, b"want=3,0"), refusal(4, 3), 'want 3 (line 12, "want=3,0") has 0 reads'),
+            (changed(10, b"want=1,1021"), refusal(5), "1025 reads in all; at most 1024"),
+            (changed(10, b"want=1,18446744073709551615"), refusal(5), "over 1024 reads"),
+            (changed(3, b"turn=4294967297"), refusal(6), 'the turn price (line 3, "turn=4294967297") is above 4294967296'),
+            (changed(2, b"head=49"), refusal(7), 'the head (line 2, "head=49") stands left of 50, the end of file 3'),
+            (changed(2, b"head=1099511627777"), refusal(7), "stands above 1099511627776 (2^40)"),
+            (changed(10, b"want=1,564"), refusal(9), "3 wants with 568 reads in all ask for 3 * 3 * 569 = 5121 words of working room; there are 5120"),
+            (b"x" * 16385, refusal(12), "over 16384 bytes"),
+            (changed(6, b"file=10;4"), refusal(11, 6), 'line 6: expected file=START,LENGTH; found "file=10;4"'),
+            (RUN.replace(b"\n", b"\r\n"), refusal(11, 1), 'found "tape=VX0041\\r": it ends in a carriage return'),
+            (RUN[:-1], refusal(11, 12), 'found "want=3,1": the line feed at its end is missing'),
+            (changed(3, b"turn=01"), refusal(11, 3), 'line 3: expected turn=NUMBER; found "turn=01": a number has a leading zero'),
+            (changed(9, b"wants=4"), refusal(11, 13), "line 13: expected want=FILE,READS; the sheet ends before it; line 9 says wants=4"),
+            (changed(9, b"wants=2"), refusal(11, 12), 'line 12: expected the end of the sheet; found "want=3,1"; line 9 says wants=2'),
+            (changed(5, b"files=2"), refusal(11, 8), 'line 8: expected wants=NUMBER; found "file=20,30"; line 5 says files=2'),
+            (changed(5, b"files=4"), refusal(11, 9), 'line 9: expected file=START,LENGTH; found "wants=3"; line 5 says files=4'),
+            (changed(5, b"files=257"), refusal(11, 5), "at most 256 files"),
+            (changed(9, b"wants=65"), refusal(11, 9), "at most 64 wants"),
+            (RUN + b"\n", refusal(11, 13), "line 13: expected the end of the sheet; found an empty line; line 9 says wants=3"),
+            (changed(11, b"want=2, 3"), refusal(11, 11), "there is a blank in it"),
+            (changed(11, b"want=2"), refusal(11, 11), "two numbers must stand there"),
+            (changed(2, b"head=-1"), refusal(11, 2), "a number has a sign"),
+            (changed(2, b"head="), refusal(11, 2), "the number is missing"),
+            (changed(2, b"head=18446744073709551616"), refusal(11, 2), "18446744073709551616 is not below 2^64"),
+            (changed(4, b"rule=none"), refusal(11, 4), 'line 4: expected rule=least or rule=sweep; found "rule=none"'),
+            (changed(1, b"tape=vx0041"), refusal(11, 1), "capitals and digits only"),
+            (changed(1, b"\xef\xbb\xbftape=VX0041"), refusal(11, 1), "a byte order mark"),
+            (changed(1, b"a\x00\x1b[2J\xff"), refusal(11, 1), 'found "a\\x00\\x1b[2J\\xff"'),
+            (changed(1, cut), refusal(11, 1), 'found "' + "x" * 57 + '..."'),
+            (refusal(20), refusal(11, 1), "this is a refusal and no run sheet"),
+            (b"", refusal(11, 1), "line 1: expected tape=NAME; the sheet is empty")):
+        number = out[8:out.index(b"\n")].decode()
+        at.must("./violstream plan", 3, out, ["violstream: standard input: refused (" + number + "): ", words], data=sheet)
+    at.must("./violstream plan examples/head-too-far-left.run", 3, refusal(7), ["violstream: examples/head-too-far-left.run: refused (7): the head"])
+
+
+def words_of_damaged_sheets(at):
+    """Of every sheet that plan.py tries, the words speak of the place that a reader of its own finds, and are fit for a terminal."""
+    begin = {2: "file %d (line ", 4: "want %d (line ", 11: "line %d: expected ", 12: "the sheet has over"}
+    tried = 0
+    for sheet in sheets_of_plan():
+        out = answer(sheet)
+        if out is None or not out.startswith(b"refused="):
+            continue
+        number, place = (int(line.split(b"=")[1]) for line in out.split())
+        numbers = " ".join(map(str, sheet))
+        done = subprocess.run(["awk", "-v", f"number={number}", "-v", f"place={place}", "-f", at.path("tools/words/shared.awk"), "-f",
+                               at.path("tools/words/sheet.awk")], input=numbers.encode(), capture_output=True, env=dict(os.environ, LC_ALL="C"))
+        said = done.stdout.decode("ascii")
+        must = begin.get(number, "")
+        if done.returncode or done.stderr or len(said) < 20 or not said[:-1].isprintable() or not said.startswith(must % place if "%" in must else must):
+            raise Wrong(f"for {sheet!r}, refused by {number} at {place}, the words are {done!r}")
+        tried += 1
+    if tried < 500:
+        raise Wrong(f"only {tried} sheets were refused")
+
+
+def words_of_tapes(at):
+    """Each refusal of a label or an index in words: which of the two, which line, which file."""
+    label, index = contents(LABEL), contents(INDEX)
+    block, count = b"<startblock>8</startblock>", b"<bytecount>10485760</bytecount>"
+    extent = b"</extent><extent><partition>b</partition><startblock>18</startblock><byteoffset>0</byteoffset><bytecount>1</bytecount>"
+    whole = b"<file><name>n</name><extentinfo><extent><partition>b</partition><startblock>%d</startblock><byteoffset>0</byteoffset>" \
+        b"<bytecount>1</bytecount></extent></extentinfo></file>"
+    many = b"<ltfsindex><directory><contents>" + b"".join(whole % n for n in range(257)) + b"</contents></directory></ltfsindex>"
+    for number, first, second, words in (
+            (20, index, index, "label (a), there is no ltfslabel/blocksize in it: this is an index"),
+            (20, label, label, "index (b), there is no ltfsindex in it: this is a label"),
+            (20, b"", index, "label (a), there is no ltfslabel/blocksize in it"),
+            (20, label, b"", "index (b), there is no ltfsindex in it"),
+            (20, label, index[:3000], "index (b), <changetime> of line 70 is not closed"),
+            (20, label, index.replace(block, b"<startblock>8</startblok>"), "line 58: </startblok> closes <startblock>, which was opened in line 58"),
+            (20, label, index.replace(block, b"<startblock>08</startblock>"), 'line 58: startblock "08" of file "clip0002.mxf" (line 33)'),
+            (20, label, index.replace(block, b""), 'an extent of file "clip0002.mxf" (line 33) has no startblock'),
+            (20, label, index.replace(block, b"<startblock>\x00\x1b8</startblock>"), 'startblock "??8" of file'),
+            (20, label, index.replace(b"<partition>b", b"<partition>B"), 'partition "B" of file "clip0002.mxf" (line 33) is not one letter a to z'),
+            (20, label, b"<a>" * 33 + b"</a>" * 33, "<a> stands inside 32 others"),
+            (20, label, index + b"</a>", "</a> closes nothing"),
+            (20, label, index + b"<!-- ", "the text ends before a -->"),
+            (20, label, index + b"<1>", '"<1>\\n" is no tag'),
+            (20, label, index + b"<", "is no tag"),
+            (20, label.replace(b"524288", b"52 4288"), index, "label (a), line 13: blocksize \"52 4288\" is no number below 2^64"),
+            (20, label, index + b" " * 524288, "over 512 KiB"),
+            (20, label, index + b" " * (524289 - len(b"tape=VX0041\nlabel=480\nindex=524288\n" + label + index)), "over 512 KiB"),
+            (21, label, index.replace(count, b"<bytecount>5</bytecount>" + extent), 'index (b), file "clip0002.mxf" (line 33) lies in 2 extents'),
+            (22, label, index.replace(block, b"<startblock>6</startblock>"),
+             'these overlap: file "clip0002.mxf" (line 33), from byte 3145728 to 13631488, and file "clip0001.mxf" (line 64), from byte 2621440 to 4193440'),
+            (23, label, index.replace(block, b"<startblock>2097152</startblock>"), 'file "clip0002.mxf" (line 33) ends above byte 1099511627776'),
+            (23, label, many, "257 files are left in partition b; a run sheet has at most 256")):
+        at.write("a", first)
+        at.write("b", second)
+        at.must("./violstream ltfs VX0041 a b", 3, refusal(number), [f"violstream: VX0041: refused ({number}): ", words])
+    at.write("b", index + b" " * (524288 - len(b"tape=VX0041\nlabel=480\nindex=523783\n" + label + index)))
+    at.must(f"./violstream ltfs VX0041 {LABEL} b", 0, SHEET, [REPORT])
+    at.must(f"./violstream ltfs vx0041 {LABEL} {INDEX}", 3, refusal(13), ['the tape name "vx0041" is not 1 to 16 of A-Z and 0-9'])
+    at.write("b", b"<a b='" + b"<" * 20000)
+    at.must(f"./violstream ltfs VX0041 {LABEL} b", 3, refusal(20), ["refused (20): a text that is not balanced"])
+
+
+def keyboard(at):
+    """A call that waits for somebody to type says so."""
+    mine, theirs = pty.openpty()
+    call = subprocess.Popen(["./violstream", "plan"], cwd=at.root, stdin=theirs, stdout=subprocess.PIPE, stderr=subprocess.PIPE, env=at.surroundings)
+    os.close(theirs)
+    os.write(mine, RUN + b"\x04")
+    out, said = call.communicate(timeout=LIMIT)
+    os.close(mine)
+    if out != PLAN or b"Ctrl-D" not in said or call.returncode != 0:
+        raise Wrong(f"typed in: printed {out!r}, said {said!r}, status {call.returncode}")
+
+
+def blocks(name):
+    """The indented blocks of a document, as lists of lines."""
+    block = []
+    for line in contents(name).decode().split("\n") + [""]:
+        if line.startswith("    "):
+            block.append(line[4:])
+        elif block:
+            yield block
+            block = []
+
+
+def transcripts(at):
+    """The examples of README and OPERATOR, as pasted, print what stands below them."""
+    tried = 0
+    for block in blocks("docs/OPERATOR.md"):
+        lines, must = [], []
+        for line in block + ["$ "]:
+            if not line.startswith("$ "):
+                must.append(line)
+            elif must:
+                if lines:
+                    out, said, _ = at.shell("\n".join(lines))
+                    printed = out.decode() + (said if not out.startswith(b"refused") else "")
+                    tried += 1
+                    if printed != "\n".join(must) + "\n":
+                        raise Wrong(f"OPERATOR.md: {lines} prints {printed!r}, and the document has {must}")
+                lines, must = [], []
+            if line.startswith("$ "):
+                lines.append(line[2:])
+    if tried < 13:
+        raise Wrong(f"OPERATOR.md has only {tried} examples that can be tried")
+    readme = list(blocks("README.md"))
+    at.must("\n".join(readme[0]), 0, ("\n".join(readme[1]) + "\n").encode(), silent=True)
+    said = [block[0] for block in readme if block[0].startswith("violstream: ")]
+    at.write("VX0041.run", changed(6, b"file=10;4"))
+    at.must("./violstream plan VX0041.run", 3, refusal(11, 6), said)
+    ltfs = [block[0] for block in readme if block[0].startswith("./violstream ltfs")]
+    at.must(ltfs[0], 0, SHEET, [REPORT])
+    shown = [block[0] for block in blocks("docs/OPERATOR.md") if block[0].startswith("violstream: ")]
+    at.must("./violstream plan", 3, refusal(2, 3), shown, data=changed(8, b"file=13,30"))
+    if len(said) != 1 or len(shown) != 1:
+        raise Wrong("README or OPERATOR does not show a refusal in words")
+
+
+def manual(at):
+    """The manual page has the version, the refusals and the statuses of the command."""
+    page = contents("docs/violstream.1").decode()
+    version = at.shell("./violstream version")[0].decode().split(" (")[0]
+    if f'"{version}"' not in page:
+        raise Wrong(f"docs/violstream.1 is not of {version}")
+    text = " ".join(at.shell("./violstream help")[0].decode().split())
+    for number in (2, 4, 5, 6, 7, 9, 11, 12, 13, 20, 21, 22, 23):
+        words = re.search(r"\n%d\n([^.]*)\n\." % number, page)
+        if words is None or " ".join(words[1].split()) not in text:
+            raise Wrong(f"docs/violstream.1 does not say of refusal {number} what the help says: {words and words[1]!r}")
+
+
+def interrupted(at):
+    """A call that is ended from outside leaves nothing behind."""
+    for number in (signal.SIGINT, signal.SIGTERM, signal.SIGHUP):
+        call = subprocess.Popen(["./violstream", "plan"], cwd=at.root, stdin=subprocess.PIPE, stdout=subprocess.PIPE, stderr=subprocess.PIPE,
+                                env=at.surroundings, start_new_session=True)
+        until(lambda: os.listdir(at.temporary), "no temporary folder was made")
+        os.killpg(call.pid, number)
+        call.communicate(timeout=LIMIT)
+        if call.returncode == 0 or os.listdir(at.temporary):
+            raise Wrong(f"ended by signal {number}: status {call.returncode}, left {os.listdir(at.temporary)}")
+
+
+# A stand-in for rt, which proves nothing: it says what rt says, and makes what it is asked for from the programs kept beside it.
+STAND_IN = """#!/bin/sh
+printf '%s\\n' "$*" >> calls
+mkdir -p target/bin target/log target/stamp target/staticlib
+: > target/log/walk.out
+sleep "${SLOW:-0}"
+echo 'rt: refusals proved (unchanged since it was last proved)'
+echo 'logic=proved'
+echo 'rt: walk proved (7 s)' | tee target/log/walk.out
+[ -z "${FAULT:-}" ] || { echo "$FAULT"; exit 1; }
+mktemp -d > /dev/null
+case $1 in
+check) [ -e "target/stamp/$2" ] || cp "kept/$2" "target/bin/$2"; echo > "target/stamp/$2" ;;
+staticlib) echo > target/staticlib/libboundary.a ;;
+esac
+"""
+
+
+def unbuilt(at):
+    """The checkout with nothing built, and a stand-in for rt on PATH."""
+    os.makedirs(at.path("stand-in"))
+    os.rename(at.path("target/bin"), at.path("kept"))
+    shutil.rmtree(at.path("target"))
+    at.write("stand-in/rt", STAND_IN.encode())
+    os.chmod(at.path("stand-in/rt"), 0o755)
+    at.write("calls", b"")
+    kit = subprocess.run(["sh", "-c", '. "$0" && kit', programs.MACHINE], capture_output=True, text=True).stdout.strip()
+    at.surroundings.update(PATH=at.path("stand-in") + ":" + os.environ["PATH"], RATTLE_HOME=kit)
+
+
+def called(at):
+    with open(at.path("calls")) as handle:
+        return handle.read().split("\n")[:-1]
+
+
+def building(at):
+    """A call builds what it needs, once, and says so."""
+    unbuilt(at)
+    at.must("./violstream plan no-such.run", 1, b"", ["cannot read no-such.run"])
+    at.must("./violstream plan -x", 2, b"")
+    if called(at):
+        raise Wrong(f"something was built for a call that could not be answered: {called(at)}")
+    at.must("./violstream plan examples/VX0041.run", 0, PLAN, ["proving and building cmd_plan; at most some 5 minutes", "violstream: walk proved (7 s)\n"])
+    at.must("./violstream plan examples/VX0041.run", 0, PLAN, silent=True)
+    if called(at) != ["check cmd_plan"]:
+        raise Wrong(f"rt was called so: {called(at)}")
+    at.must(f"./violstream ltfs VX0041 {LABEL} {INDEX}", 0, SHEET, ["building cmd_ltfs"])
+    at.must("rm target/bin/cmd_plan && ./violstream plan examples/VX0041.run", 0, PLAN, ["building cmd_plan"])
+    at.must("./violstream build", 0, b"", ["building libboundary.a"])
+    at.must("touch -d '+1 minute' crates/refusals/newer && ./violstream build", 0, b"", ["cmd_plan", "cmd_ltfs", "libboundary.a"])
+    at.must("rm crates/refusals/newer && ./violstream build", 0, b"", ["violstream: built"])
+    at.must("./violstream build more", 2, b"")
+    if called(at) != ["check cmd_plan", "check cmd_ltfs", "check cmd_plan", "staticlib boundary", "check cmd_plan", "check cmd_ltfs", "staticlib boundary"]:
+        raise Wrong(f"rt was called so: {called(at)}")
+
+
+def building_fails(at):
+    unbuilt(at)
+    sheet = "./violstream plan examples/VX0041.run"
+    at.must(f"touch target && {sheet}", 1, b"", ["cannot write ", "/target/: File exists"])
+    at.must(f"rm target && mkdir target && touch target/bin && {sheet}", 1, b"", ["cannot write ", "/target/bin/"])
+    os.remove(at.path("target/bin"))
+    if called(at):
+        raise Wrong("rt was called although target/ cannot be written")
+    at.must(f"FAULT='error: it is not so' {sheet}", 1, b"", ["error: it is not so", "'rt check cmd_plan' failed"])
+    at.must(f"FAULT='cp: No space left on device' {sheet}", 1, b"", ["cannot write ", "/target/: No space left on device"])
+    at.must(f"rm -f kept/cmd_plan && {sheet}", 1, b"", ["made no "])
+    without = ":".join(one for one in os.environ["PATH"].split(":") if not os.path.exists(os.path.join(one, "rt")))
+    at.must(f"PATH={without} {sheet}", 1, b"", ["(rt) is not on PATH"])
+
+
+def building_twice(at):
+    """A second call waits for the first, says so, and does not build again. A long silence is broken."""
+    unbuilt(at)
+    at.surroundings.update(SLOW="4", VIOLSTREAM_SILENCE="1")
+    first = subprocess.Popen(["./violstream", "plan", "examples/VX0041.run"], cwd=at.root, stdout=subprocess.PIPE, stderr=subprocess.PIPE, env=at.surroundings)
+    until(lambda: called(at), "rt was not called")
+    second = subprocess.run(["./violstream", "plan", "examples/VX0041.run"], cwd=at.root, capture_output=True, env=at.surroundings, timeout=LIMIT)
+    out, said = first.communicate(timeout=LIMIT)
+    if out != PLAN or b"still proving walk, " not in said:
+        raise Wrong(f"the first of two calls printed {out!r} and said {said!r}")
+    if second.stdout != PLAN or b"another call is building here; waiting for it" not in second.stderr or b"still waiting" not in second.stderr:
+        raise Wrong(f"the second of two calls printed {second.stdout!r} and said {second.stderr!r}")
+    if called(at) != ["check cmd_plan"] or os.listdir(at.temporary):
+        raise Wrong(f"rt was called so: {called(at)}; left behind: {os.listdir(at.temporary)}")
+
+
+def building_interrupted(at):
+    """Ctrl-C while rt is at work leaves no temporary files, and the next call builds."""
+    unbuilt(at)
+    call = subprocess.Popen(["./violstream", "plan", "examples/VX0041.run"], cwd=at.root, stdout=subprocess.PIPE, stderr=subprocess.PIPE,
+                            env=dict(at.surroundings, SLOW="30"), start_new_session=True)
+    until(lambda: called(at), "rt was not called")
+    os.killpg(call.pid, signal.SIGINT)
+    call.communicate(timeout=LIMIT)
+    if call.returncode in (0, 3) or os.listdir(at.temporary):
+        raise Wrong(f"Ctrl-C: status {call.returncode}, left {os.listdir(at.temporary)}")
+    at.must("./violstream plan examples/VX0041.run", 0, PLAN, ["building cmd_plan"])
+
+
+def until(true, otherwise):
+    for _ in range(200):
+        if true():
+            return
+        time.sleep(0.05)
+    raise Wrong(otherwise)
+
+
+TESTS = (answers, statuses, help_and_version, nothing_lost, broken_program, several, ltfs_inputs, words_of_sheets, words_of_damaged_sheets,
+         words_of_tapes, keyboard, transcripts, manual, interrupted, building, building_fails, building_twice, building_interrupted)
+
+
+def main():
+    reader = argparse.ArgumentParser(description=__doc__.split("\n")[0])
+    reader.add_argument("--only", choices=[one.__name__ for one in TESTS], help="this test alone")
+    only = reader.parse_args().only
+    tried = [one for one in TESTS if only in (None, one.__name__)]
+    for one in tried:
+        with tempfile.TemporaryDirectory() as folder:
+            try:
+                one(Checkout(folder))
+            except Wrong as wrong:
+                sys.exit(f"command.py: {one.__name__}: {wrong}")
+    print(f"command.py: the command does what it must; tests: {', '.join(one.__name__ for one in tried)}")
+
+
+if __name__ == "__main__":
+    main()

@@ -1,0 +1,39 @@
+#!/usr/bin/env python3
+"""Calls the shared library from Python, by ctypes, on the run of the header's example.
+
+usage: tests/python/library.py LIBRARY    (a libviolstream.so that this machine's own processor can load)
+"""
+import ctypes
+import sys
+
+WORD = ctypes.c_uint64
+
+
+def row(*numbers):
+    return (WORD * len(numbers))(*numbers)
+
+
+def lent(*rows):
+    """Each row and its length, as the functions take them."""
+    return [part for one in rows for part in (one, ctypes.c_size_t(len(one)))]
+
+
+def main():
+    if len(sys.argv) != 2:
+        sys.exit(__doc__)
+    plan = ctypes.CDLL(sys.argv[1]).violstream_plan
+    plan.restype = WORD
+    starts, ends, times, sums = row(0, 0), row(0, 0), row(0, 0, 0), row(0, 0, 0, 0)
+    run = lent(row(0, 10, 20), row(10, 4, 30), row(1, 2, 3), row(1, 3, 1)) + [WORD(60), WORD(1), WORD(1)]
+    result = plan(*run, *lent(starts, ends, times, sums, row(*[7] * 54)))
+    found = (result, list(sums), starts[0], ends[0], list(times))
+    if found != (0, [367, 121, 50, 1], 2, 2, [81, 55, 121]):
+        sys.exit(f"library.py: violstream_plan gives {found}")
+    result = plan(*run, *lent(starts, ends, times, sums, row(*[7] * 53)))
+    if result != 9:
+        sys.exit(f"library.py: violstream_plan with too little room gives {result}")
+    print("library.py: the shared library answers from Python")
+
+
+if __name__ == "__main__":
+    main()
