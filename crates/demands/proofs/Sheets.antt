@@ -1,6 +1,6 @@
 -- The sheets' share of the demands: the reader's and the writers' verdicts are the first of the table that applies and a refusal changes
 -- nothing (demand 1); what the run sheet writer writes reads back (demand 2).
-use Prim.Native.Nat.{ℕ, zero, suc, _≤_, _<_}
+use Prim.Native.Nat.{ℕ, _≤_, _<_}
 use mathlib.Core.Path.{_≡_, refl, sym, ap, ap₂, _∙_}
 use mathlib.Core.Bool.{Bool, true, false, not, _||_, true≢false}
 use mathlib.Core.Logic.{_⊎_, inl, inr, ⊎-elim}
@@ -30,10 +30,12 @@ use Rattle.writers.specs.Writing.{refusedWriting, sheetText, rowVerdict, writeV
 use Rattle.writers.specs.PlanSheet.{planText, planSheetVerdict}
 use Rattle.sheets.proofs.Rows.{length-each}
 use Rattle.writers.proofs.RoundTrip.{round-trip}
-use Rattle.demands.specs.Table.{RunApplies, ListIsBad}
+use Rattle.demands.specs.Table.{FirstBad, RunApplies, ListIsBad}
+use Rattle.demands.specs.Lines.{LineIsBad, linesDue}
 use Rattle.demands.specs.Sheets.{readOrder, ReadApplies, ReadAnswers, writeOrder, planSheetOrder, WriteApplies, PlanSheetApplies, WriteAnswers, Demand1Read, Demand1Write, Demand1PlanSheet, Demand2Written, GivesBack, Demand2RoundTrip, runRead, ComesBack, WriteThenRead}
 use Rattle.demands.proofs.Tests.{tells-false, Tells, tells-below, tells-either}
-use Rattle.demands.proofs.Checks.{Decides, refused, passed, decides-if, decides-reworded, Finds, finds-none, finds-first, first-of-joined}
+use Rattle.demands.proofs.Checks.{decides-if, decides-reworded, Finds, finds-none, finds-first, first-of-joined}
+use Rattle.demands.proofs.FirstLine.{decides-line}
 use Rattle.demands.proofs.Judged.{run-finds, run-small}
 use Rattle.demands.proofs.Listed.{decides-list}
 
@@ -49,15 +51,8 @@ module _ (sheet : List ℕ) (rows : RunRows) where
   too-long : (p : ℕ) → Applies LongSheet p → (p ≡ 0) × (longestSheet < length sheet)
   too-long p (ReadApplies.too-long h) = (refl, h)
 
-  no-line : firstBadLine sheet ≡ 0 → (p : ℕ) → Applies BadLine p → ⊥
-  no-line e p (ReadApplies.bad-line f) = omega arith
-
-  decides-line : Decides BadLine (Applies BadLine) (refuseAt (firstBadLine sheet) BadLine)
-  decides-line = go (firstBadLine sheet) refl
-    where
-      go : (n : ℕ) → firstBadLine sheet ≡ n → Decides BadLine (Applies BadLine) (refuseAt (firstBadLine sheet) BadLine)
-      go zero e = passed (rw e) (no-line e)
-      go (suc n) e = refused (suc n) (rw e) (ReadApplies.bad-line e)
+  bad-line : (p : ℕ) → Applies BadLine p → FirstBad (LineIsBad sheet) (linesDue sheet) p
+  bad-line p (ReadApplies.bad-line h) = h
 
   abbrev IsShort : Type 0
   IsShort =
@@ -90,7 +85,7 @@ module _ (sheet : List ℕ) (rows : RunRows) where
       (first-of-joined (long ∷ line ∷ []) (row ∷ []))
       (finds-first Applies (line ∷ row ∷ []) refl
       (decides-reworded (λ p h. rw (h .0) (ReadApplies.too-long (h .1))) too-long (decides-if _ LongSheet (tells-below longestSheet (length sheet))))
-      (λ a. finds-first Applies (row ∷ []) refl decides-line
+      (λ a. finds-first Applies (row ∷ []) refl (decides-reworded (λ p. ReadApplies.bad-line) bad-line (decides-line sheet))
       (λ b. finds-first Applies [] refl
       (decides-reworded short-row row-short
       (decides-if short ShortRow
