@@ -46,7 +46,8 @@ use Rattle.demands.proofs.Demand2.{demand2-price, demand2-walk, demand2
 use Rattle.demands.proofs.Demand3.{demand3, demand3-same}
 use Rattle.demands.proofs.Called.{demand2-price-call, demand2-plan-call, demand3-plan-call}
 use Rattle.demands.proofs.FirstLine.{lines-by-the-table}
-use Rattle.demands.proofs.Sheets.{demand1-read, demand2-round-trip, write-then-read}
+use Rattle.demands.proofs.Sheets.{demand1-read}
+use Rattle.demands.proofs.WriteRead.{demand2-round-trip, write-then-read}
 use Rattle.demands.proofs.Fits.{ruleList, planAnswer, planRows, plans-for-every-input}
 
 -- The sheet's run with rows and room that just suffice: the planner accepts, and reports 367.

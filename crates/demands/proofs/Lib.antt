@@ -15,6 +15,7 @@ pub mod Cases
 pub mod Lines
 pub mod FirstLine
 pub mod Sheets
+pub mod WriteRead
 pub mod Tapes
 pub mod Fits
 pub mod Instances

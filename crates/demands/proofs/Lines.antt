@@ -1,21 +1,21 @@
 -- Row 11: each test of a line tells whether the line stands as described.
-use Prim.Native.Nat.{ℕ, zero, suc, _^_, _≤_, _<_}
+use Prim.Native.Nat.{ℕ, suc, _^_, _<_}
 use mathlib.Core.Path.{_≡_, refl, sym, ap, _∙_}
-use mathlib.Core.Bool.{Bool, true, false, not, _&&_, _||_, or-true, true≢false}
-use mathlib.Core.Logic.{_⊎_, inl, inr, ⊎-elim}
+use mathlib.Core.Bool.{Bool, true, false, not, _&&_, _||_, true≢false}
+use mathlib.Core.Logic.{inl, inr}
 use mathlib.Core.List.{List, [], _∷_, _++_, append-assoc}
 use native.Mathlib.Omega.{arith}
 use lib.ListN.{length, drop}
 use lib.Dec.{leb, ltb, eqb}
-use borrow.Author.Tests.{eqb-true, eq-eqb, leb-true, leb-false, le-leb}
+use borrow.Author.Tests.{eqb-true, eq-eqb}
 use Rattle.runs.proofs.Search.{or-false-both}
 use Rattle.texts.specs.Text.{lineFeed, comma, isEmpty, has, before, behind, startsWith, isText, allOf, isDigit, between, isNameByte, isNumber, isName, valueOf, leadingZero}
 use Rattle.texts.proofs.Bytes.{and-true-both, short-text}
 use Rattle.texts.proofs.Decimals.{has-append, has-none}
-use Rattle.sheets.specs.Lines.{lineOf, afterLines, lineAfter, valueText, isTapeLine, isNumberLine, numberBehind, isCountLine, isTurnLine, isRuleLine, isPair, isPairLine, tapeKey, turnKey, ruleKey, sweepText, leastText}
+use Rattle.sheets.specs.Lines.{lineOf, afterLines, lineAfter, valueText, isTapeLine, isNumberLine, isCountLine, isTurnLine, isRuleLine, isPair, isPairLine, tapeKey, turnKey, ruleKey, sweepText, leastText}
 use Rattle.writers.proofs.Reread.{line-first, key-begins, key-value}
 use Rattle.demands.specs.Lines.{Stands, Name, Number, NumberOrNothing, RuleName, UpTo, Pair}
-use Rattle.demands.proofs.Tests.{Tells, tells-true, tells-at-most, tells-either}
+use Rattle.demands.proofs.Tests.{Tells, tells-true, tells-at-most, tells-either, tells-both}
 
 -- A text that has a byte: what stands before it, the byte, and what stands behind it.
 module _ (c : ℕ) where
@@ -65,11 +65,6 @@ begins-itself : (key : List ℕ) → startsWith key key ≡ true
 unfolding startsWith
 begins-itself [] = refl
 begins-itself (k ∷ key) = rw (eq-eqb k k refl) (begins-itself key)
-
--- Two tests that both hold.
-tells-both : (a b : Bool) {P Q : Type 0} → Tells a P → Tells b Q → Tells (a && b) (P × Q)
-tells-both true b s t = record { when-true = λ e. (s .when-true refl, t .when-true e); when-false = λ e h. t .when-false e (h .1) }
-tells-both false b s t = record { when-true = λ e. absurd (true≢false (sym e)); when-false = λ e h. s .when-false refl (h .0) }
 
 -- The kinds of values, and that none holds an LF.
 tells-text : (wanted text : List ℕ) → Tells (isText wanted text) (text ≡ wanted)
