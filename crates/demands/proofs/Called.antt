@@ -1,7 +1,7 @@
 -- Demands 2 and 3 at the C boundary: a call that gives back 0 leaves in its rows what an answer of the pricer or the planner says, and in
 -- the row of sums the numbers of that answer.
 use Prim.Native.Nat.{ℕ, _≤_}
-use mathlib.Core.Path.{_≡_, refl, sym, ap, subst, _∙_}
+use mathlib.Core.Path.{_≡_, refl, sym, subst, _∙_}
 use mathlib.Core.Bool.{Bool, true, false, _||_, true≢false}
 use mathlib.Core.List.{List, [], _∷_}
 use native.Mathlib.Omega.{arith}
@@ -18,7 +18,7 @@ use Rattle.refusals.proofs.Verdicts.{refuses, all-accept, accepts-if}
 use Rattle.runs.proofs.Search.{or-false-both}
 use Rattle.planner.specs.Plan.{Rows, Plans, planVerdict, shortRows}
 use Rattle.tables.specs.Listing.{roomSize}
-use Rattle.boundary.specs.Boundary.{shortSums, sumsWith, badRule, ruleNumbered, priceCall, priceTimes, priceSums, planCall, PriceCalled, PlanCalled, CallPlanned}
+use Rattle.boundary.specs.Boundary.{shortSums, sumsWith, badRule, ruleNumbered, priceCall, priceTimes, priceSums, planCall, PlanCalled, CallPlanned}
 use Rattle.boundary.proofs.Calls.{code-accepts}
 use Rattle.demands.specs.Calls.{inSums, PlanCallWalks, Demand2PriceCall, Demand2PlanCall, Demand3PlanCall}
 use Rattle.demands.proofs.Demand2.{price-of-list, demand2-walk, demand2-least, demand2-sweep}

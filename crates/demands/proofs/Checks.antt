@@ -27,7 +27,7 @@ decides-if false kind t = passed refl (λ p h. t .when-false refl (h .1))
 
 -- The first place at which a test holds: it holds there, and at none before.
 module _ (bad : ℕ → Bool) where
-  found-at : (n q : ℕ) → firstWhere bad n ≡ suc q → (q < n) × (bad q ≡ true) × (firstWhere bad q ≡ 0)
+  pub found-at : (n q : ℕ) → firstWhere bad n ≡ suc q → (q < n) × (bad q ≡ true) × (firstWhere bad q ≡ 0)
   unfolding firstWhere
   found-at zero q e = absurd (omega arith)
   found-at (suc n) q e = go (firstWhere bad n) (bad n) refl refl (found-at n)

@@ -1,9 +1,9 @@
 -- `WellFormed` and the rules of document 01 are the same: each Boolean test of an entry is a rule, and starts that fall from entry to entry fall
 -- over any distance.
-use Prim.Native.Nat.{ℕ, zero, suc, _≤_, _<_}
+use Prim.Native.Nat.{ℕ, zero, suc, _<_}
 use mathlib.Core.Path.{_≡_, refl, sym}
 use mathlib.Core.Bool.{Bool, true, false, not, _||_, or-true, true≢false}
-use mathlib.Core.Logic.{_⊎_, inl, inr, ⊎-elim, by-cases}
+use mathlib.Core.Logic.{_⊎_, inl, inr, by-cases}
 use mathlib.Core.List.{List, [], _∷_}
 use native.Mathlib.Omega.{arith}
 use native.Mathlib.Decide.{decLt}
@@ -12,7 +12,7 @@ use lib.Dec.{leb, ltb, eqb}
 use borrow.Author.Tests.{eqb-true, eq-eqb, ltb-true, ltb-false, leb-false, lt-leb, le-ltb, lt-ltb, not-false}
 use Rattle.runs.specs.Run.{Stop, stopAt}
 use Rattle.runs.specs.Lists.{Detour, wanted, leftmost, badAlone, badAfter, anyBelow, entryOf, badEntry, firstBadEntry, WellFormed}
-use Rattle.runs.proofs.Search.{true-or-false, or-false-both, first-zero, first-all, any-zero}
+use Rattle.runs.proofs.Search.{or-false-both, first-zero, first-all, any-zero}
 use Rattle.demands.specs.Formed.{IsStop, IsDetour, ObeysTheRules, FormedByTheRules}
 
 -- A file is wanted where a stop has its number, and only there.

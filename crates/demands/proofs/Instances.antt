@@ -25,13 +25,15 @@ use Rattle.least.specs.Wants.{readsOf}
 use Rattle.least.specs.Recurrence.{planDetours, W, lowest, scan, filledTo, filled, candidate, next, value, choice, built, nextPlan, best, leastList}
 use Rattle.planner.specs.Plan.{Rows, rowsOf, Plans, planVerdict}
 use Rattle.boundary.specs.Boundary.{codeOf, sumsWith, priceCall, priceTimes, priceSums, planCall, PlanCalled}
-use Rattle.texts.specs.Text.{allOf, isName, startsWith, has}
+use Rattle.texts.specs.Text.{bytes, allOf, isNumber, isName, startsWith, has, before, behind}
 use Rattle.sheets.specs.declared.Reading.{Reading}
-use Rattle.sheets.specs.Lines.{lineOf, afterLines, isTapeLine}
+use Rattle.sheets.specs.Lines.{lineOf, afterLines, isTapeLine, isNumberLine}
 use Rattle.sheets.specs.Sheet.{firstBadTop, firstBadLine, sheetRun}
 use Rattle.sheets.specs.Reading.{sheetVerdict, readVerdict, readAnswer, readRow, RunRows, runRows, rowsVerdict}
 use Rattle.writers.specs.declared.Written.{Written}
 use Rattle.writers.specs.Writing.{sheetText, rowVerdict, writeVerdict, writtenAnswer, writtenRow}
+use Rattle.demands.specs.Table.{FirstBad}
+use Rattle.demands.specs.Lines.{LineIsBad, linesDue}
 use Rattle.demands.specs.Sheets.{GivesBack, ComesBack}
 use Rattle.demands.specs.Formed.{ObeysTheRules}
 use Rattle.demands.specs.Demand2.{listIn, IsTheWalk, IsPriceOf, IsLeast}
@@ -43,7 +45,9 @@ use Rattle.demands.proofs.Demand1.{demand1-price, demand1-plan}
 use Rattle.demands.proofs.Demand2.{demand2-price, demand2-walk, demand2-least, demand2-sweep}
 use Rattle.demands.proofs.Demand3.{demand3, demand3-same}
 use Rattle.demands.proofs.Called.{demand2-price-call, demand2-plan-call, demand3-plan-call}
-use Rattle.demands.proofs.Sheets.{demand1-read, demand2-round-trip, write-then-read}
+use Rattle.demands.proofs.FirstLine.{lines-by-the-table}
+use Rattle.demands.proofs.Sheets.{demand1-read}
+use Rattle.demands.proofs.WriteRead.{demand2-round-trip, write-then-read}
 use Rattle.demands.proofs.Fits.{ruleList, planAnswer, planRows, plans-for-every-input}
 
 -- The sheet's run with rows and room that just suffice: the planner accepts, and reports 367.
@@ -291,3 +295,14 @@ pub empty-keeps-rows : rowsBack [] ≡ sevens
 empty-keeps-rows =
     demand1-read [] sevens (readBack []) (rowsBack []) (record { answer = refl; starts = refl; lengths = refl; numbers = refl; counts = refl }) .kept
     (λ e. true≢false (ap isRefusal (sym empty-refused ∙ e))) .1
+
+-- The second line of this sheet is the first that is not as described.
+abbrev letterForHead : List ℕ
+letterForHead = bytes "tape=VX0041\nhead=x\n"
+
+second-line-found : firstBadLine letterForHead ≡ 2
+unfolding firstBadLine firstBadTop isTapeLine isNumberLine startsWith lineOf has before behind afterLines isName isNumber allOf
+second-line-found = refl
+
+pub second-line-bad : FirstBad (LineIsBad letterForHead) (linesDue letterForHead) 2
+second-line-bad = lines-by-the-table letterForHead 1 .0 second-line-found

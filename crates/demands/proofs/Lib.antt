@@ -12,7 +12,10 @@ pub mod Demand2
 pub mod Demand3
 pub mod Called
 pub mod Cases
+pub mod Lines
+pub mod FirstLine
 pub mod Sheets
+pub mod WriteRead
 pub mod Tapes
 pub mod Fits
 pub mod Instances

@@ -2,7 +2,7 @@
 -- Each way of joining tests joins their conditions.
 use Prim.Native.Nat.{ℕ, zero, suc, _≤_, _<_}
 use mathlib.Core.Path.{_≡_, refl, sym}
-use mathlib.Core.Bool.{Bool, true, false, not, _||_, true≢false}
+use mathlib.Core.Bool.{Bool, true, false, not, _&&_, _||_, true≢false}
 use mathlib.Core.Logic.{_⊎_, inl, inr, ⊎-elim}
 use native.Mathlib.Omega.{arith}
 use lib.Dec.{leb, ltb, eqb}
@@ -40,6 +40,10 @@ pub tells-either : (a b : Bool) {P Q : Type 0} → Tells a P → Tells b Q → T
 tells-either true b s t = record { when-true = λ e. inl (s .when-true refl); when-false = λ e. absurd (true≢false e) }
 tells-either false b s t =
     record { when-true = λ e. inr (t .when-true e); when-false = λ e. ⊎-elim (s .when-false refl) (t .when-false e) }
+
+pub tells-both : (a b : Bool) {P Q : Type 0} → Tells a P → Tells b Q → Tells (a && b) (P × Q)
+tells-both true b s t = record { when-true = λ e. (s .when-true refl, t .when-true e); when-false = λ e h. t .when-false e (h .1) }
+tells-both false b s t = record { when-true = λ e. absurd (true≢false (sym e)); when-false = λ e h. s .when-false refl (h .0) }
 
 -- The same test for another wording of the condition.
 pub tells-reworded : {a : Bool} {P Q : Type 0} → (P → Q) → (Q → P) → Tells a P → Tells a Q

@@ -6,5 +6,6 @@ pub mod Demand2
 pub mod Demand3
 pub mod Calls
 pub mod Cases
+pub mod Lines
 pub mod Sheets
 pub mod Tapes

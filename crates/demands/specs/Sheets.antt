@@ -1,6 +1,6 @@
 -- The sheets' share of the demands: the reader and the two writers refuse by the table, first that applies, and change nothing then
 -- (demand 1); and what the run sheet writer writes reads back (demand 2).
-use Prim.Native.Nat.{ℕ, suc, _≤_, _<_}
+use Prim.Native.Nat.{ℕ, _≤_, _<_}
 use mathlib.Core.Path.{_≡_}
 use mathlib.Core.Bool.{true, false}
 use mathlib.Core.List.{List, [], _∷_, _++_}
@@ -15,11 +15,12 @@ use Rattle.runs.specs.Judging.{judgeOf}
 use Rattle.sheets.specs.declared.Reading.{Reading}
 use Rattle.writers.specs.declared.Written.{Written}
 use Rattle.texts.specs.Text.{isName}
-use Rattle.sheets.specs.Sheet.{longestSheet, mostSheetFiles, firstBadLine, sheetFiles, sheetWants, sheetRun}
+use Rattle.sheets.specs.Sheet.{longestSheet, mostSheetFiles, sheetFiles, sheetWants, sheetRun}
 use Rattle.sheets.specs.Reading.{readVerdict, readAnswer, readRow, RunRows, SheetRead, readName}
 use Rattle.writers.specs.Writing.{sheetText, writeVerdict, writtenAnswer, writtenRow, SheetWritten}
 use Rattle.writers.specs.PlanSheet.{planText, planSheetVerdict}
-use Rattle.demands.specs.Table.{RunApplies, ListIsBad, FirstThatApplies}
+use Rattle.demands.specs.Table.{FirstBad, RunApplies, ListIsBad, FirstThatApplies}
+use Rattle.demands.specs.Lines.{LineIsBad, linesDue}
 
 -- The reader: 12, then 11 with the first line that is not as described, then 8.
 abbrev pub readOrder : List Refusal
@@ -27,7 +28,7 @@ readOrder = LongSheet ∷ BadLine ∷ ShortRow ∷ []
 
 pub data ReadApplies (sheet : List ℕ) (rows : RunRows) : Refusal → ℕ → Type 0 where
   too-long : longestSheet < length sheet → ReadApplies sheet rows LongSheet 0
-  bad-line : {n : ℕ} → firstBadLine sheet ≡ suc n → ReadApplies sheet rows BadLine (suc n)
+  bad-line : {place : ℕ} → FirstBad (LineIsBad sheet) (linesDue sheet) place → ReadApplies sheet rows BadLine place
   short-starts : length (rows .starts) < sheetFiles sheet → ReadApplies sheet rows ShortRow 0
   short-lengths : length (rows .lengths) < sheetFiles sheet → ReadApplies sheet rows ShortRow 0
   short-numbers : length (rows .numbers) < sheetWants sheet → ReadApplies sheet rows ShortRow 0

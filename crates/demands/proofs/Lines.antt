@@ -1,0 +1,205 @@
+-- Row 11: each test of a line tells whether the line stands as described.
+use Prim.Native.Nat.{ℕ, suc, _^_, _<_}
+use mathlib.Core.Path.{_≡_, refl, sym, ap, _∙_}
+use mathlib.Core.Bool.{Bool, true, false, not, _&&_, _||_, true≢false}
+use mathlib.Core.Logic.{inl, inr}
+use mathlib.Core.List.{List, [], _∷_, _++_, append-assoc}
+use native.Mathlib.Omega.{arith}
+use lib.ListN.{length, drop}
+use lib.Dec.{leb, ltb, eqb}
+use borrow.Author.Tests.{eqb-true, eq-eqb}
+use Rattle.runs.proofs.Search.{or-false-both}
+use Rattle.texts.specs.Text.{lineFeed, comma, isEmpty, has, before, behind, startsWith, isText, allOf, isDigit, between, isNameByte, isNumber, isName, valueOf, leadingZero}
+use Rattle.texts.proofs.Bytes.{and-true-both, short-text}
+use Rattle.texts.proofs.Decimals.{has-append, has-none}
+use Rattle.sheets.specs.Lines.{lineOf, afterLines, lineAfter, valueText, isTapeLine, isNumberLine, isCountLine, isTurnLine, isRuleLine, isPair, isPairLine, tapeKey, turnKey, ruleKey, sweepText, leastText}
+use Rattle.writers.proofs.Reread.{line-first, key-begins, key-value}
+use Rattle.demands.specs.Lines.{Stands, Name, Number, NumberOrNothing, RuleName, UpTo, Pair}
+use Rattle.demands.proofs.Tests.{Tells, tells-true, tells-at-most, tells-either, tells-both}
+
+-- A text that has a byte: what stands before it, the byte, and what stands behind it.
+module _ (c : ℕ) where
+  split-at : (text : List ℕ) → has c text ≡ true → text ≡ before c text ++ (c ∷ behind c text)
+  unfolding has before behind
+  split-at [] e = absurd (true≢false (sym e))
+  split-at (b ∷ text) e = go (eqb b c) refl (split-at text)
+    where
+      go : (t : Bool) → eqb b c ≡ t → (has c text ≡ true → text ≡ before c text ++ (c ∷ behind c text)) → b ∷ text ≡ before c (b ∷ text) ++ (c ∷ behind c (b ∷ text))
+      go true h rest = rw h (ap (λ x. x ∷ text) (eqb-true b c h))
+      go false h rest = rw h (ap (λ t. b ∷ t) (rest (rw h at e)))
+
+  before-first : (a b : List ℕ) → has c a ≡ false → before c (a ++ (c ∷ b)) ≡ a
+  unfolding has before
+  before-first [] b e = rw (eq-eqb c c refl)
+  before-first (x ∷ a) b e = let both = or-false-both (eqb x c) (has c a) e in rw (both .0) (ap (λ t. x ∷ t) (before-first a b (both .1)))
+
+  behind-first : (a b : List ℕ) → has c a ≡ false → behind c (a ++ (c ∷ b)) ≡ b
+  unfolding has behind
+  behind-first [] b e = rw (eq-eqb c c refl)
+  behind-first (x ∷ a) b e = let both = or-false-both (eqb x c) (has c a) e in rw (both .0) (behind-first a b (both .1))
+
+  behind-none : (text : List ℕ) → has c text ≡ false → behind c text ≡ []
+  unfolding has behind
+  behind-none [] e = refl
+  behind-none (b ∷ text) e = let both = or-false-both (eqb b c) (has c text) e in rw (both .0) (behind-none text (both .1))
+
+-- A text that begins with a key is the key and the rest; one of the key's length is the key.
+key-split : (key text : List ℕ) → startsWith key text ≡ true → text ≡ key ++ drop (length key) text
+unfolding startsWith
+key-split [] text e = refl
+key-split (k ∷ key) [] e = absurd (true≢false (sym e))
+key-split (k ∷ key) (b ∷ text) e =
+    let both = and-true-both (eqb k b) (startsWith key text) e in
+    rw (← eqb-true k b (both .0)) (ap (λ t. k ∷ t) (key-split key text (both .1)))
+
+whole-key : (key text : List ℕ) → length key ≡ length text → startsWith key text ≡ true → text ≡ key
+unfolding startsWith
+whole-key [] [] l e = refl
+whole-key [] (b ∷ text) l e = absurd (omega arith)
+whole-key (k ∷ key) [] l e = absurd (omega arith)
+whole-key (k ∷ key) (b ∷ text) l e =
+    let both = and-true-both (eqb k b) (startsWith key text) e in
+    rw (← eqb-true k b (both .0)) (ap (λ t. k ∷ t) (whole-key key text (omega arith) (both .1)))
+
+begins-itself : (key : List ℕ) → startsWith key key ≡ true
+unfolding startsWith
+begins-itself [] = refl
+begins-itself (k ∷ key) = rw (eq-eqb k k refl) (begins-itself key)
+
+-- The kinds of values, and that none holds an LF.
+tells-text : (wanted text : List ℕ) → Tells (isText wanted text) (text ≡ wanted)
+tells-text wanted text =
+    record {
+      when-true = λ e. let both = and-true-both (eqb (length wanted) (length text)) (startsWith wanted text) e in whole-key wanted text (eqb-true _ _ (both .0)) (both .1);
+      when-false = λ e is. true≢false (sym (rw (is, eq-eqb (length wanted) (length wanted) refl) (begins-itself wanted)) ∙ e);
+    }
+
+tells-empty : (text : List ℕ) → Tells (isEmpty text) (text ≡ [])
+tells-empty [] = record { when-true = λ e. refl; when-false = λ e. absurd (true≢false e) }
+tells-empty (b ∷ text) = record { when-true = λ e. absurd (true≢false (sym e)); when-false = λ e h. let l : suc (length text) ≡ 0 = ap length h in omega arith }
+
+digits-of : (text : List ℕ) → Number text → allOf isDigit text ≡ true
+unfolding isNumber
+digits-of text e =
+    let begun = not (isEmpty text) && not (leadingZero text) in
+    and-true-both begun (allOf isDigit text) (and-true-both (begun && allOf isDigit text) (ltb (valueOf text) (2 ^ 64)) e .0) .1
+
+nothing-no-number : Number [] → ⊥
+unfolding isNumber
+nothing-no-number e = true≢false (sym e)
+
+number-flat : (c : ℕ) → isDigit c ≡ false → (text : List ℕ) → Number text → has c text ≡ false
+number-flat c n text e = has-none isDigit c n text (digits-of text e)
+
+name-flat : (text : List ℕ) → Name text → has lineFeed text ≡ false
+unfolding isName
+name-flat text e = has-none isNameByte lineFeed refl text (and-true-both (between 1 16 (length text)) (allOf isNameByte text) e .1)
+
+nothing-flat : (text : List ℕ) → NumberOrNothing text → has lineFeed text ≡ false
+unfolding has
+nothing-flat text (inl e) = rw e
+nothing-flat text (inr n) = number-flat lineFeed refl text n
+
+rule-flat : (text : List ℕ) → RuleName text → has lineFeed text ≡ false
+unfolding has
+rule-flat text (inl e) = rw e
+rule-flat text (inr e) = rw e
+
+pair-flat : (text : List ℕ) → Pair text → has lineFeed text ≡ false
+unfolding has
+pair-flat text p =
+    rw (p .is, has-append lineFeed (p .first) (comma ∷ p .second), number-flat lineFeed refl (p .first) (p .left), number-flat lineFeed refl (p .second) (p .right))
+
+tells-pair : (text : List ℕ) → Tells (isPair text) (Pair text)
+unfolding isPair
+tells-pair text = record { when-true = λ e. go (has comma text) refl (and-true-both _ _ e); when-false = λ e p. true≢false (sym (both p) ∙ e) }
+  where
+    go : (b : Bool) → has comma text ≡ b → (isNumber (before comma text) ≡ true) × (isNumber (behind comma text) ≡ true) → Pair text
+    go true h n = record { first = before comma text; second = behind comma text; is = split-at comma text h; left = n .0; right = n .1 }
+    go false h n = absurd (nothing-no-number (rw (behind-none comma text h) at (n .1)))
+
+    both : Pair text → (isNumber (before comma text) && isNumber (behind comma text)) ≡ true
+    both p =
+        let flat = number-flat comma refl (p .first) (p .left) in
+        rw (p .is, before-first comma (p .first) (p .second) flat, behind-first comma (p .first) (p .second) flat, p .left) (p .right)
+
+-- A line of a key and a value, behind so many lines.
+module _ (key : List ℕ) (long : 0 < length key) (plain : has lineFeed key ≡ false) (Kind : List ℕ → Type 0) (test : List ℕ → Bool) (tells : (v : List ℕ) → Tells (test v) (Kind v))
+    (flat : (v : List ℕ) → Kind v → has lineFeed v ≡ false) (sheet : List ℕ) (i : ℕ) where
+  text : List ℕ
+  text = afterLines i sheet
+
+  line-read : (value rest : List ℕ) → has lineFeed value ≡ false → text ≡ key ++ value ++ (lineFeed ∷ rest) → lineOf text ≡ key ++ value
+  line-read value rest f is = ap lineOf (is ∙ sym (append-assoc (key ++ value) (lineFeed ∷ []) rest)) ∙ line-first key value rest plain f
+
+  no-line : has lineFeed text ≡ false → startsWith key (lineOf text) ≡ false
+  unfolding lineOf
+  no-line h = rw h (sym (short-text key [] long))
+
+  line-is : has lineFeed text ≡ true → startsWith key (lineOf text) ≡ true → text ≡ key ++ valueText key (lineOf text) ++ (lineFeed ∷ behind lineFeed text)
+  unfolding lineOf
+  line-is h e =
+      let front : lineOf text ≡ before lineFeed text = rw h in
+      split-at lineFeed text h ∙ ap (λ t. t ++ (lineFeed ∷ behind lineFeed text)) (sym front ∙ key-split key (lineOf text) e)
+
+  pub tells-stands : Tells (startsWith key (lineAfter i sheet) && test (valueText key (lineAfter i sheet))) (Stands key Kind sheet i)
+  unfolding text
+  tells-stands = record { when-true = λ e. go (has lineFeed text) refl (and-true-both _ _ e); when-false = λ e s. true≢false (sym (reads s) ∙ e) }
+    where
+      go : (b : Bool) → has lineFeed text ≡ b → (startsWith key (lineOf text) ≡ true) × (test (valueText key (lineOf text)) ≡ true) → Stands key Kind sheet i
+      go true h both =
+          record { value = valueText key (lineOf text); rest = behind lineFeed text; is = line-is h (both .0); kind = tells (valueText key (lineOf text)) .when-true (both .1) }
+      go false h both = absurd (true≢false (sym (both .0) ∙ no-line h))
+
+      passes : (b : Bool) (v : List ℕ) → test v ≡ b → Kind v → test v ≡ true
+      passes true v e k = e
+      passes false v e k = absurd (tells v .when-false e k)
+
+      reads : Stands key Kind sheet i → (startsWith key (lineOf text) && test (valueText key (lineOf text))) ≡ true
+      reads s =
+          rw (line-read (s .value) (s .rest) (flat (s .value) (s .kind)) (s .is), key-begins key (s .value), key-value key (s .value))
+          (passes (test (s .value)) (s .value) refl (s .kind))
+
+-- Two tests and a third, as one and two.
+and-regrouped : (a b c : Bool) → ((a && b) && c) ≡ (a && (b && c))
+and-regrouped true b c = refl
+and-regrouped false b c = refl
+
+-- Each line reader's test.
+module _ (sheet : List ℕ) (i : ℕ) where
+  pub tells-tape : Tells (isTapeLine (lineAfter i sheet)) (Stands tapeKey Name sheet i)
+  unfolding isTapeLine has
+  tells-tape = tells-stands tapeKey (omega arith) refl Name isName (λ v. tells-true (isName v)) name-flat sheet i
+
+  pub tells-turn : Tells (isTurnLine (lineAfter i sheet)) (Stands turnKey NumberOrNothing sheet i)
+  unfolding isTurnLine has
+  tells-turn =
+      tells-stands turnKey (omega arith) refl NumberOrNothing (λ v. isEmpty v || isNumber v)
+      (λ v. tells-either (isEmpty v) (isNumber v) (tells-empty v) (tells-true (isNumber v))) nothing-flat sheet i
+
+  pub tells-rule : Tells (isRuleLine (lineAfter i sheet)) (Stands ruleKey RuleName sheet i)
+  unfolding isRuleLine has
+  tells-rule =
+      tells-stands ruleKey (omega arith) refl RuleName (λ v. isText sweepText v || isText leastText v)
+      (λ v. tells-either (isText sweepText v) (isText leastText v) (tells-text sweepText v) (tells-text leastText v)) rule-flat sheet i
+
+  module _ (key : List ℕ) (long : 0 < length key) (plain : has lineFeed key ≡ false) where
+    pub tells-number : Tells (isNumberLine key (lineAfter i sheet)) (Stands key Number sheet i)
+    unfolding isNumberLine
+    tells-number = tells-stands key long plain Number isNumber (λ v. tells-true (isNumber v)) (number-flat lineFeed refl) sheet i
+
+    pub tells-count : (most : ℕ) → Tells (isCountLine key most (lineAfter i sheet)) (Stands key (UpTo most) sheet i)
+    unfolding isCountLine isNumberLine
+    tells-count most =
+        let line = lineAfter i sheet in
+        rw (and-regrouped (startsWith key line) (isNumber (valueText key line)) (leb (valueOf (valueText key line)) most))
+        (tells-stands key long plain (UpTo most) (λ v. isNumber v && leb (valueOf v) most)
+        (λ v. tells-both (isNumber v) (leb (valueOf v) most) (tells-true (isNumber v)) (tells-at-most (valueOf v) most))
+        (λ v h. number-flat lineFeed refl v (h .0)) sheet i)
+
+    pub tells-pair-line : Tells (isPairLine key (lineAfter i sheet)) (Stands key Pair sheet i)
+    unfolding isPairLine
+    tells-pair-line = tells-stands key long plain Pair isPair tells-pair pair-flat sheet i
+
+  pub tells-end : Tells (isEmpty (afterLines i sheet)) (afterLines i sheet ≡ [])
+  tells-end = tells-empty (afterLines i sheet)
