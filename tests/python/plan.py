@@ -9,6 +9,7 @@ The program is for x86-64; on another processor it is started as tools/machine.s
 The reader (sheets.py), the judging, the walk and the search over all well-formed lists (runs.py) share nothing with the program.
 """
 import os
+import random
 import subprocess
 import sys
 import time
@@ -31,7 +32,7 @@ def answer(sheet):
     def total(detours):
         times = walk(head, turn, table, asked, detours)[0]
         return sum(count * times[number] for number, count in asked)
-    if rule == b"sweep" or len(asked) > 6:
+    if rule == b"sweep" or len(asked) > 10:
         best = []
         if rule == b"least":
             return None
@@ -49,6 +50,23 @@ def sheet_of(wants, reads):
     files = b"".join(b"file=%d,10\n" % (i * 10) for i in range(wants))
     asked = b"".join(b"want=%d,%d\n" % (i + 1, reads - wants + 1 if i == 0 else 1) for i in range(wants))
     return b"tape=A\nhead=%d\nturn=3\nrule=least\nfiles=%d\n" % (wants * 10, wants) + files + b"wants=%d\n" % wants + asked
+
+
+def drawn(draw, wants, reads):
+    """A sheet at random: so many wants among twice as many files with gaps, and so many reads in all."""
+    at, files = 0, []
+    for _ in range(2 * wants):
+        start = at + draw.randrange(8)
+        length = draw.randrange(1, 30)
+        files.append((start, length))
+        at = start + length
+    numbers = sorted(draw.sample(range(1, 2 * wants + 1), wants))
+    counts = [1] * wants
+    for _ in range(reads - wants):
+        counts[draw.randrange(wants)] += 1
+    lines = [b"tape=R", b"head=%d" % (at + draw.randrange(50)), b"turn=%d" % draw.randrange(20), b"rule=least", b"files=%d" % len(files)]
+    lines += [b"file=%d,%d" % f for f in files] + [b"wants=%d" % wants] + [b"want=%d,%d" % w for w in zip(numbers, counts)]
+    return b"\n".join(lines) + b"\n"
 
 
 def contents(path):
@@ -84,6 +102,10 @@ def cases():
     yield b"x" * 16384
     yield sheet_of(10, 50)
     yield sheet_of(10, 51)
+    draw = random.Random(1)
+    for wants, sheets in ((2, 10), (4, 10), (6, 10), (7, 10), (8, 10), (9, 4), (10, 2)):
+        for _ in range(sheets):
+            yield drawn(draw, wants, draw.randrange(wants, 51))
 
 
 def compare_stored(start):

@@ -23,12 +23,12 @@ use Rattle.planner.specs.Plan.{Rows, rowsOf, Planned, rowsWith}
 use Rattle.planner.proofs.Refusals.{engineRows}
 
 -- The list of a rule is well formed.
-rule-formed : (r : Run) (rule : Rule) (list : List Detour) → ByRule rule r list → WellFormed (stopsOf r) list
+pub rule-formed : (r : Run) (rule : Rule) (list : List Detour) → ByRule rule r list → WellFormed (stopsOf r) list
 unfolding firstBadEntry firstWhere
 rule-formed r Sweep list is = rw is
 rule-formed r Least list is = is .formed
 
-list-accepted : (stops : List Stop) (froms tos : List ℕ) → length froms ≡ length tos → WellFormed stops (listOf froms tos) → refuses (listVerdict stops froms tos) ≡ false
+pub list-accepted : (stops : List Stop) (froms tos : List ℕ) → length froms ≡ length tos → WellFormed stops (listOf froms tos) → refuses (listVerdict stops froms tos) ≡ false
 unfolding listVerdict
 list-accepted stops froms tos e w = rw (eq-eqb (length froms) (length tos) e, w)
 
@@ -43,7 +43,7 @@ unfolding listOf
 list-of-halves [] = refl
 list-of-halves (d ∷ list) = ap (λ l. d ∷ l) (list-of-halves list)
 
-halves-even : (f g : Detour → ℕ) (list : List Detour) → length (map f list) ≡ length (map g list)
+pub halves-even : (f g : Detour → ℕ) (list : List Detour) → length (map f list) ≡ length (map g list)
 halves-even f g [] = refl
 halves-even f g (d ∷ list) = rw (halves-even f g list)
 
@@ -52,7 +52,7 @@ half-long f [] = refl
 half-long f (d ∷ list) = rw (half-long f list)
 
 -- The first entries of a row that holds the list.
-front : (f : Detour → ℕ) (list : List Detour) (n : ℕ) (row row′ : List ℕ) → n ≡ length list → row′ ≡ map f list ++ drop (length list) row → take n row′ ≡ map f list
+pub front : (f : Detour → ℕ) (list : List Detour) (n : ℕ) (row row′ : List ℕ) → n ≡ length list → row′ ≡ map f list ++ drop (length list) row → take n row′ ≡ map f list
 front f list n row row′ e is =
     rw (e, ← half-long f list, is) (take-append-seam (map f list) (drop (length list) row))
 

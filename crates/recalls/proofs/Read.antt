@@ -1,0 +1,224 @@
+-- What the reader hands on: a sheet that it accepts fits the program's rows, and their first entries are the run that the sheet holds.
+use Prim.Native.Nat.{ℕ, zero, suc, _+_, _≤_}
+use mathlib.Core.Path.{_≡_, refl, sym, ap, _∙_, subst}
+use mathlib.Core.Bool.{Bool, true, false, _||_, true≢false}
+use mathlib.Core.List.{List, [], _∷_, _++_}
+use native.Mathlib.Omega.{arith}
+use lib.ListN.{length, take, drop, length-append}
+use lib.Seq.{take-append-seam}
+use lib.Dec.{ltb, leb}
+use borrow.Author.Tests.{le-ltb, leb-true}
+use Rattle.refusals.specs.declared.Refusal.the-variants.{Accepted, BadLine, LongSheet, ShortRow}
+use Rattle.refusals.specs.declared.Verdict.{Verdict}
+use Rattle.refusals.specs.Refusals.{isRefusal, accepted, refuseIf, refuseAt, firstOf}
+use Rattle.refusals.proofs.Verdicts.{refuses, first-refuses, first-passes, all-accept, none-refuses, accepts-at}
+use Rattle.runs.specs.Run.{Run, runOf, mostWants}
+use Rattle.texts.specs.Text.{isName, isEmpty, startsWith}
+use Rattle.texts.proofs.Bytes.{and-true-both}
+use Rattle.sheets.specs.declared.Reading.{Reading}
+use Rattle.sheets.specs.Lines.{lineOf, lineAfter, tapeKey, headKey, filesKey, fileKey, wantsKey, wantKey, valueText, isTapeLine, isNumberLine, numberBehind, isCountLine, isTurnLine, isRuleLine}
+use Rattle.sheets.specs.Sheet.{longestSheet, mostSheetFiles, sheetHead, sheetTurn, sheetRule, sheetFiles, sheetWants, fileText, wantsText, wantText, endText, unless, shifted, firstBadPair, firstSome, firstBadTop, firstBadBelow, firstBadLine, eachOf, sheetRun, sheetName}
+use Rattle.sheets.specs.Reading.{sheetVerdict, readVerdict, refusedReading, readAnswer, readRow, RunRows, rowsVerdict, SheetRead, readName}
+use Rattle.sheets.proofs.Rows.{length-each}
+use Rattle.writers.specs.declared.Written.{Written}
+use Rattle.writers.specs.Writing.{Handed, rowVerdict}
+use Rattle.writers.specs.RefusalLines.{refusalText}
+use Rattle.recalls.specs.Recall.{runChecks, recallVerdict, Recalled, RunRecalled, SheetRecalled}
+use Rattle.recalls.proofs.Planned.{refused-out}
+
+-- Where no line is bad, each is as described.
+none-some : (line : ℕ) (lines : List ℕ) → firstSome (line ∷ lines) ≡ 0 → (line ≡ 0) × (firstSome lines ≡ 0)
+none-some zero lines e = (refl, e)
+none-some (suc line) lines e = absurd (omega (arith, e))
+
+second-none : (a b : ℕ) (lines : List ℕ) → firstSome (a ∷ b ∷ lines) ≡ 0 → b ≡ 0
+second-none a b lines e = none-some b lines (none-some a (b ∷ lines) e .1) .0
+
+fourth-none : (a b c d : ℕ) → firstSome (a ∷ b ∷ c ∷ d ∷ []) ≡ 0 → d ≡ 0
+fourth-none a b c d e = second-none c d [] (none-some b (c ∷ d ∷ []) (none-some a (b ∷ c ∷ d ∷ []) e .1) .1)
+
+line-good : (b : Bool) (line : ℕ) → (line ≡ 0 → ⊥) → unless b line ≡ 0 → b ≡ true
+line-good true line some e = refl
+line-good false line some e = absurd (some e)
+
+count-few : (key : List ℕ) (most : ℕ) (line : List ℕ) → isCountLine key most line ≡ true → numberBehind key line ≤ most
+unfolding isCountLine
+count-few key most line e = leb-true (numberBehind key line) most (and-true-both (isNumberLine key line) (leb (numberBehind key line) most) e .1)
+
+module _ (sheet : List ℕ) (good : refuses (sheetVerdict sheet) ≡ false) where
+  no-bad-line : (firstBadTop sheet ≡ 0) × (firstBadBelow sheet ≡ 0)
+  unfolding sheetVerdict firstBadLine
+  no-bad-line =
+      let all = all-accept (refuseIf (ltb longestSheet (length sheet)) LongSheet ∷ refuseAt (firstBadLine sheet) BadLine ∷ []) good in
+      let both = none-some (firstBadTop sheet) (firstBadBelow sheet ∷ []) (accepts-at (firstBadLine sheet) BadLine refl (all .1 .0)) in
+      (both .0, none-some (firstBadBelow sheet) [] (both .1) .0)
+
+  accepted-sheet : sheetVerdict sheet ≡ accepted
+  unfolding sheetVerdict
+  accepted-sheet = none-refuses (refuseIf (ltb longestSheet (length sheet)) LongSheet ∷ refuseAt (firstBadLine sheet) BadLine ∷ []) good
+
+  tops : List ℕ
+  tops =
+      unless (isNumberLine headKey (lineAfter 1 sheet)) 2
+      ∷ unless (isTurnLine (lineAfter 2 sheet)) 3
+      ∷ unless (isRuleLine (lineAfter 3 sheet)) 4
+      ∷ unless (isCountLine filesKey mostSheetFiles (lineAfter 4 sheet)) 5
+      ∷ []
+
+  top-lines : (unless (isTapeLine (lineAfter 0 sheet)) 1 ≡ 0) × (firstSome tops ≡ 0)
+  unfolding firstBadTop tops
+  top-lines = none-some (unless (isTapeLine (lineAfter 0 sheet)) 1) tops (no-bad-line .0)
+
+  -- The name is a name.
+  pub good-name : isName (sheetName sheet) ≡ true
+  unfolding sheetName isTapeLine
+  good-name =
+      and-true-both (startsWith tapeKey (lineAfter 0 sheet)) (isName (valueText tapeKey (lineAfter 0 sheet)))
+      (line-good (isTapeLine (lineAfter 0 sheet)) 1 (λ e. omega (arith, e)) (top-lines .0)) .1
+
+  -- There are at most 256 files and 64 wants.
+  pub few-files : sheetFiles sheet ≤ 256
+  unfolding sheetFiles tops
+  few-files =
+      count-few filesKey mostSheetFiles (lineAfter 4 sheet)
+      (line-good (isCountLine filesKey mostSheetFiles (lineAfter 4 sheet)) 5 (λ e. omega (arith, e))
+      (fourth-none (unless (isNumberLine headKey (lineAfter 1 sheet)) 2) (unless (isTurnLine (lineAfter 2 sheet)) 3) (unless (isRuleLine (lineAfter 3 sheet)) 4)
+      (unless (isCountLine filesKey mostSheetFiles (lineAfter 4 sheet)) 5) (top-lines .1)))
+
+  pub few-wants : sheetWants sheet ≤ 64
+  unfolding sheetWants firstBadBelow
+  few-wants =
+      count-few wantsKey mostWants (lineOf (wantsText sheet))
+      (line-good (isCountLine wantsKey mostWants (lineOf (wantsText sheet))) (sheetFiles sheet + 6) (λ e. omega (arith, e))
+      (second-none (shifted 5 (firstBadPair fileKey (sheetFiles sheet) (fileText sheet))) (unless (isCountLine wantsKey mostWants (lineOf (wantsText sheet))) (sheetFiles sheet + 6))
+      (shifted (sheetFiles sheet + 6) (firstBadPair wantKey (sheetWants sheet) (wantText sheet)) ∷ unless (isEmpty (endText sheet)) (sheetFiles sheet + sheetWants sheet + 7) ∷ [])
+      (no-bad-line .1)))
+
+-- The program's rows.
+pub record Wide (rows : RunRows) : Type 0 where
+  pub starts : length (rows .starts) ≡ 256
+  pub lengths : length (rows .lengths) ≡ 256
+  pub numbers : length (rows .numbers) ≡ 64
+  pub counts : length (rows .counts) ≡ 64
+
+-- The first entries of a row that was filled.
+module _ (values row row′ : List ℕ) (n : ℕ) (n-is : n ≡ length values) (is : row′ ≡ values ++ drop (length values) row) where
+  pub filled-long : n ≤ length row′
+  filled-long = omega (arith, n-is, ap length is, length-append values (drop (length values) row))
+
+  pub filled-front : take n row′ ≡ values
+  filled-front = rw (n-is, is) (take-append-seam values (drop (length values) row))
+
+module _ (sheet : List ℕ) (rows : RunRows) (wide : Wide rows) where
+  -- No row is too short.
+  sheet-verdict : rowsVerdict sheet rows ≡ sheetVerdict sheet
+  unfolding readVerdict
+  sheet-verdict = go (refuses (sheetVerdict sheet)) refl
+    where
+      go : (b : Bool) → refuses (sheetVerdict sheet) ≡ b → rowsVerdict sheet rows ≡ sheetVerdict sheet
+      go true e = rw e
+      go false e =
+          let files = few-files sheet e in
+          let wants = few-wants sheet e in
+          rw (e, le-ltb (length (rows .starts)) (sheetFiles sheet) (omega (arith, files, wide .starts)), le-ltb (length (rows .lengths)) (sheetFiles sheet) (omega (arith, files, wide .lengths)), le-ltb (length (rows .numbers)) (sheetWants sheet) (omega (arith, wants, wide .numbers)), le-ltb (length (rows .counts)) (sheetWants sheet) (omega (arith, wants, wide .counts)))
+          (sym (accepted-sheet sheet e))
+
+  module _ (r : Reading) (rows′ : RunRows) (read : SheetRead sheet rows r rows′) (f : Bool) (f-is : f ≡ isRefusal (r .refusal)) where
+    answer-is : r ≡ readAnswer (sheetVerdict sheet) sheet
+    answer-is = read .answer ∙ ap (λ v. readAnswer v sheet) sheet-verdict
+
+    -- The reader's answer refuses just where its verdict does.
+    verdict-says : refuses (sheetVerdict sheet) ≡ f
+    unfolding readAnswer
+    verdict-says = sym (f-is ∙ ap (λ x. isRefusal (x .refusal)) answer-is ∙ go (refuses (sheetVerdict sheet)) refl)
+      where
+        go : (b : Bool) → refuses (sheetVerdict sheet) ≡ b → isRefusal (readAnswer (sheetVerdict sheet) sheet .refusal) ≡ refuses (sheetVerdict sheet)
+        go true e = rw (e, e)
+        go false e = rw e
+
+    pub sheet-refused : f ≡ true → (row : List ℕ) (w : Verdict) → w ≡ record { refusal = r .refusal; place = r .place } → (out : Written) (row′ : List ℕ)
+        → Handed (rowVerdict (refusalText w) row) (refusalText w) row out row′ → SheetRecalled sheet row (out .bytes) row′
+    unfolding readAnswer recallVerdict
+    sheet-refused e row w w-is out row′ h =
+        let refuses-so : refuses (sheetVerdict sheet) ≡ true = verdict-says ∙ e in
+        let read-so : r ≡ refusedReading (sheetVerdict sheet) = rw refuses-so at answer-is in
+        let is : w ≡ sheetVerdict sheet = w-is ∙ ap (λ x. record { refusal = x .refusal; place = x .place }) read-so in
+        refused-out (recallVerdict sheet) w (is ∙ first-refuses (sheetVerdict sheet) (runChecks (sheetRun sheet)) refuses-so) (ap refuses is ∙ refuses-so)
+        (sheetName sheet) (sheetRun sheet) (sheetRule sheet) row out row′ h
+
+    module _ (passed : f ≡ false) where
+      good-sheet : refuses (sheetVerdict sheet) ≡ false
+      good-sheet = verdict-says ∙ passed
+
+      numbers-are : r ≡ record { refusal = Accepted; place = 0; head = sheetHead sheet; turn = sheetTurn sheet; rule = sheetRule sheet; files = sheetFiles sheet; wants = sheetWants sheet }
+      unfolding readAnswer
+      numbers-are = rw good-sheet at answer-is
+
+      row-is : (values row row′ : List ℕ) → row′ ≡ readRow (rowsVerdict sheet rows) values row → row′ ≡ values ++ drop (length values) row
+      unfolding readRow
+      row-is values row row′ is = rw (sheet-verdict, good-sheet) at is
+
+      files-are : (value : ℕ → ℕ) → r .files ≡ length (eachOf value (sheetFiles sheet))
+      files-are value = ap (λ x. x .files) numbers-are ∙ sym (length-each value (sheetFiles sheet))
+
+      wants-are : (value : ℕ → ℕ) → r .wants ≡ length (eachOf value (sheetWants sheet))
+      wants-are value = ap (λ x. x .wants) numbers-are ∙ sym (length-each value (sheetWants sheet))
+
+      starts-long : r .files ≡ length (sheetRun sheet .starts)
+      unfolding sheetRun
+      starts-long = files-are _
+
+      lengths-long : r .files ≡ length (sheetRun sheet .lengths)
+      unfolding sheetRun
+      lengths-long = files-are _
+
+      numbers-long : r .wants ≡ length (sheetRun sheet .numbers)
+      unfolding sheetRun
+      numbers-long = wants-are _
+
+      counts-long : r .wants ≡ length (sheetRun sheet .counts)
+      unfolding sheetRun
+      counts-long = wants-are _
+
+      -- So many entries are in the rows.
+      pub in-starts : r .files ≤ length (rows′ .starts)
+      in-starts = filled-long (sheetRun sheet .starts) (rows .starts) (rows′ .starts) (r .files) starts-long (row-is _ _ _ (read .starts))
+
+      pub in-lengths : r .files ≤ length (rows′ .lengths)
+      in-lengths = filled-long (sheetRun sheet .lengths) (rows .lengths) (rows′ .lengths) (r .files) lengths-long (row-is _ _ _ (read .lengths))
+
+      pub in-numbers : r .wants ≤ length (rows′ .numbers)
+      in-numbers = filled-long (sheetRun sheet .numbers) (rows .numbers) (rows′ .numbers) (r .wants) numbers-long (row-is _ _ _ (read .numbers))
+
+      pub in-counts : r .wants ≤ length (rows′ .counts)
+      in-counts = filled-long (sheetRun sheet .counts) (rows .counts) (rows′ .counts) (r .wants) counts-long (row-is _ _ _ (read .counts))
+
+      run-read : Run
+      run-read = runOf (take (r .files) (rows′ .starts)) (take (r .files) (rows′ .lengths)) (take (r .wants) (rows′ .numbers)) (take (r .wants) (rows′ .counts)) (r .head) (r .turn)
+
+      run-is : run-read ≡ sheetRun sheet
+      unfolding run-read sheetRun
+      run-is =
+          rw (filled-front (sheetRun sheet .starts) (rows .starts) (rows′ .starts) (r .files) starts-long (row-is _ _ _ (read .starts)), filled-front (sheetRun sheet .lengths) (rows .lengths) (rows′ .lengths) (r .files) lengths-long (row-is _ _ _ (read .lengths)), filled-front (sheetRun sheet .numbers) (rows .numbers) (rows′ .numbers) (r .wants) numbers-long (row-is _ _ _ (read .numbers)), filled-front (sheetRun sheet .counts) (rows .counts) (rows′ .counts) (r .wants) counts-long (row-is _ _ _ (read .counts)), ap (λ x. x .head) numbers-are, ap (λ x. x .turn) numbers-are)
+          whole-run
+        where
+          whole-run : runOf (sheetRun sheet .starts) (sheetRun sheet .lengths) (sheetRun sheet .numbers) (sheetRun sheet .counts) (sheetHead sheet) (sheetTurn sheet) ≡ sheetRun sheet
+          whole-run = refl
+
+      name-is : readName sheet ≡ sheetName sheet
+      unfolding readName
+      name-is = rw good-sheet
+
+      pub named : (name : List ℕ) → name ≡ readName sheet → isName name ≡ true
+      named name e = rw (e, name-is) (good-name sheet good-sheet)
+
+      -- The answer to the run that was read is the answer to the sheet.
+      pub sheet-recalled : (name : List ℕ) → name ≡ readName sheet → (row : List ℕ) (n : ℕ) (row′ : List ℕ)
+          → RunRecalled name (runOf (take (r .files) (rows′ .starts)) (take (r .files) (rows′ .lengths)) (take (r .wants) (rows′ .numbers)) (take (r .wants) (rows′ .counts)) (r .head) (r .turn)) (r .rule) row n row′
+          → SheetRecalled sheet row n row′
+      unfolding recallVerdict run-read
+      sheet-recalled name e row n row′ h =
+          let by-run : RunRecalled name (sheetRun sheet) (r .rule) row n row′ = subst (λ x. RunRecalled name x (r .rule) row n row′) run-is h in
+          let by-name : RunRecalled (sheetName sheet) (sheetRun sheet) (r .rule) row n row′ = subst (λ x. RunRecalled x (sheetRun sheet) (r .rule) row n row′) (e ∙ name-is) by-run in
+          let by-rule : RunRecalled (sheetName sheet) (sheetRun sheet) (sheetRule sheet) row n row′ = subst (λ x. RunRecalled (sheetName sheet) (sheetRun sheet) x row n row′) (ap (λ x. x .rule) numbers-are) by-name in
+          subst (λ x. Recalled x (sheetName sheet) (sheetRun sheet) (sheetRule sheet) row n row′) (sym (first-passes (sheetVerdict sheet) (runChecks (sheetRun sheet)) good-sheet)) by-rule
