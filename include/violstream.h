@@ -29,8 +29,9 @@
  *   goes right to the end of b and comes back. A list of detours is well formed when every a lies right of the
  *   leftmost wanted file, the starts strictly fall from entry to entry (the order in which they are done), and of
  *   two detours with a < a' either b < a' or b' < b. After the list comes the last sweep: left to the start of
- *   the leftmost wanted file, then right to the end of the rightmost one, where the run finishes. Without wants
- *   there is no sweep, only the empty list is well formed, and the head stays where it is.
+ *   the leftmost wanted file, then right to the end of the rightmost wanted file that no detour has read, where the
+ *   run finishes: the last thing that happens is a read. Without wants there is no sweep, only the empty list is
+ *   well formed, and the head stays where it is.
  *   Of two lists with the same sum, look at the rightmost file at which they differ in whether a detour ends
  *   there or in where that detour starts: the list with no detour ending there comes first, else the one whose
  *   detour starts further right. So there is one best list.
@@ -140,8 +141,8 @@ enum violstream_rule {
 /* Places in the row `sums`. Every sum of an accepted run is below 2^58. */
 enum violstream_sums {
     VIOLSTREAM_SUM = 0,     /* the total, over wants, of reads times time */
-    VIOLSTREAM_FINISH = 1,  /* the clock at the end of the last sweep; 0 without wants */
-    VIOLSTREAM_END = 2,     /* where the head is then; `head` without wants */
+    VIOLSTREAM_FINISH = 1,  /* the clock at the end of the last sweep, which is the largest time; 0 without wants */
+    VIOLSTREAM_END = 2,     /* where the head is then, at the end of the file read last; `head` without wants */
     VIOLSTREAM_DETOURS = 3, /* the number of detours in the list */
     VIOLSTREAM_SUMS = 4     /* the words that `sums` must have */
 };

@@ -30,7 +30,8 @@ def walk(head, turn, table, asked, detours):
     place, clock, times = head, 0, {}
     legs = [(table[a - 1][0], sum(table[b - 1])) for a, b in detours]
     if asked:
-        legs.append((table[asked[0][0] - 1][0], sum(table[asked[-1][0] - 1])))
+        unread = [number for number, _ in asked if not any(a <= number <= b for a, b in detours)]
+        legs.append((table[asked[0][0] - 1][0], sum(table[unread[-1] - 1])))
     for i, (left, right) in enumerate(legs):
         clock += (turn if i else 0) + (place - left) + turn
         for number, _ in asked:

@@ -9,9 +9,9 @@ use borrow.Author.Tests.{eqb-true, eq-eqb, not-true}
 use Rattle.refusals.specs.Refusals.{isRefusal, firstWhere}
 use Rattle.runs.specs.Run.{Run, stopsOf, stopsFrom, rightEnd}
 use Rattle.runs.specs.Judging.{judgeOf}
-use Rattle.walk.specs.Walk.{headAt, timeOf, timesOf, sumOf}
+use Rattle.walk.specs.Walk.{headAt, walked, served, timeOf, timesOf, sumOf}
 use Rattle.runs.specs.Lists.{Detour, firstBadEntry, wanted, anyBelow}
-use Rattle.walk.specs.Detours.{startOf, endOf, lastSweep, legsOf}
+use Rattle.walk.specs.Detours.{startOf, endOf, unreadEnd, sweepEnd, lastSweep, legsOf}
 use Rattle.walk.proofs.Laws.{accepted-sound}
 use Rattle.texts.proofs.Bytes.{and-true-both}
 use Rattle.least.specs.Least.{LeastForRun}
@@ -70,6 +70,8 @@ passes c =
     && eqb (firstBadEntry (stopsOf (c .run)) (c .list)) 0
     && eqb (sumOf (c .run .turn) (headAt (c .run .head)) (legsOf (stopsOf (c .run)) (c .list)) (stopsOf (c .run))) (c .sum)
     && sameRow (timesOf (c .run .turn) (headAt (c .run .head)) (legsOf (stopsOf (c .run)) (c .list)) (stopsOf (c .run))) (c .times)
+    && eqb ((walked (c .run .turn) (headAt (c .run .head)) (legsOf (stopsOf (c .run)) (c .list))) .clock) (c .finish)
+    && eqb ((walked (c .run .turn) (headAt (c .run .head)) (legsOf (stopsOf (c .run)) (c .list))) .place) (c .end)
     && alike (c .least) (sameList (c .list) (leastList (c .run .turn) (stopsOf (c .run))))
 
 allPass : List Case → Bool
@@ -87,7 +89,9 @@ least-if-same r list b accepted same =
 holds-if-passes : (c : Case) → passes c ≡ true → Holds c
 unfolding passes
 holds-if-passes c e =
-    let four = and-true-both _ _ e in
+    let six = and-true-both _ _ e in
+    let five = and-true-both _ _ (six .0) in
+    let four = and-true-both _ _ (five .0) in
     let three = and-true-both _ _ (four .0) in
     let two = and-true-both _ _ (three .0) in
     let one = and-true-both _ _ (two .0) in
@@ -97,7 +101,9 @@ holds-if-passes c e =
       formed = eqb-true _ _ (one .1);
       sum = eqb-true _ _ (two .1);
       times = same-row _ _ (three .1);
-      least = least-if-same (c .run) (c .list) (c .least) accepted (alike-equal _ _ (four .1));
+      finish = eqb-true _ _ (four .1);
+      end = eqb-true _ _ (five .1);
+      least = least-if-same (c .run) (c .list) (c .least) accepted (alike-equal _ _ (six .1));
     }
 
 all-hold : (cs : List Case) → allPass cs ≡ true → AllHold cs
@@ -106,7 +112,7 @@ all-hold [] e = tt
 all-hold (c ∷ cs) e = let both = and-true-both _ _ e in (holds-if-passes c (both .0), all-hold cs (both .1))
 
 cases-pass : allPass cases ≡ true
-unfolding allPass passes alike sameRow sameList judgeOf firstWhere stopsFrom rightEnd firstBadEntry wanted anyBelow startOf endOf lastSweep legsOf timeOf timesOf sumOf leastList planDetours W lowest scan filledTo filled candidate next value choice built nextPlan best
+unfolding allPass passes alike sameRow sameList judgeOf firstWhere stopsFrom rightEnd firstBadEntry wanted anyBelow startOf endOf served unreadEnd sweepEnd lastSweep legsOf walked timeOf timesOf sumOf leastList planDetours W lowest scan filledTo filled candidate next value choice built nextPlan best
 cases-pass = refl
 
 pub cases-hold : CasesHold

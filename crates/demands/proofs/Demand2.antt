@@ -2,12 +2,13 @@
 use Prim.Native.Nat.{ℕ}
 use mathlib.Core.Path.{_≡_, refl, sym, ap, _∙_}
 use mathlib.Core.Bool.{Bool, true, false, not, true≢false}
+use mathlib.Core.Logic.{⊎-elim}
 use mathlib.Core.List.{List, [], _∷_, _++_}
 use lib.ListN.{length, drop}
 use lib.Seq.{take-at}
 use lib.Dec.{ltb, eqb}
 use borrow.Author.Tests.{eqb-true, not-false}
-use Rattle.refusals.specs.declared.Refusal.the-variants.{BadEntry, ShortRow}
+use Rattle.refusals.specs.declared.Refusal.the-variants.{Accepted, BadEntry, ShortRow}
 use Rattle.walk.specs.declared.Answer.{Answer}
 use Rattle.runs.specs.declared.Rule.{Rule}
 use Rattle.runs.specs.declared.Rule.the-variants.{Sweep, Least}
@@ -18,6 +19,7 @@ use Rattle.runs.specs.Lists.{Detour, WellFormed, listOf, firstBadEntry, listVer
 use Rattle.walk.specs.Price.{pricedAnswer, pricedTimes, priceVerdict, priceAnswer, priceRow}
 use Rattle.refusals.proofs.Verdicts.{refuses, AllAccept, all-accept, accepts-if, accepts-at}
 use Rattle.runs.proofs.Judged.{accepted-run}
+use Rattle.runs.proofs.Search.{true-or-false}
 use Rattle.walk.proofs.Filling.{one-time-each, stops-length}
 use Rattle.least.specs.Least.{LeastFor}
 use Rattle.planner.specs.Plan.{Rows, rowsWith}
@@ -83,13 +85,25 @@ module _ (r : Run) (froms tos row : List ℕ) (e : refuses (priceVerdict r froms
             (sym (accepted-run r (checks-pass .0) .wants .equal));
       }
 
+-- An answer that is no refusal comes of a verdict that is none.
+price-accepts : (r : Run) (froms tos row : List ℕ) (answer : Answer) → answer ≡ priceAnswer r froms tos row → answer .refusal ≡ Accepted
+    → refuses (priceVerdict r froms tos row) ≡ false
+unfolding priceAnswer
+price-accepts r froms tos row answer says accepts =
+    ⊎-elim
+    (λ e. absurd (true≢false (sym e ∙ ap isRefusal (sym (ap (λ (a : Answer). a .refusal) (rw e at says)) ∙ accepts))))
+    (λ e. e)
+    (true-or-false (refuses (priceVerdict r froms tos row)))
+
+pub price-run-accepted : (r : Run) (froms tos row : List ℕ) (answer : Answer) → answer ≡ priceAnswer r froms tos row → answer .refusal ≡ Accepted
+    → refuses (judgeOf r) ≡ false
+price-run-accepted r froms tos row answer says accepts = checks-pass r froms tos row (price-accepts r froms tos row answer says accepts) .0
+
 pub demand2-price : Demand2Price
 unfolding priceAnswer priceRow
-demand2-price r froms tos row answer out says fills accepts = go (refuses (priceVerdict r froms tos row)) refl
-  where
-    go : (b : Bool) → refuses (priceVerdict r froms tos row) ≡ b → IsPriceOf r froms tos out answer
-    go true e = absurd (true≢false (sym e ∙ ap isRefusal (sym (ap (λ (a : Answer). a .refusal) (rw e at says)) ∙ accepts)))
-    go false e = price-of-list r froms tos row e answer out (rw e at says) (rw e at fills)
+demand2-price r froms tos row answer out says fills accepts =
+    let e = price-accepts r froms tos row answer says accepts in
+    price-of-list r froms tos row e answer out (rw e at says) (rw e at fills)
 
 pub demand2-walk : Demand2Walk
 demand2-walk r rule before answer after plans accepts =

@@ -1,6 +1,6 @@
 -- The hypotheses of the demands can be met: the sheet of document 01 gives an accepted run, a refusal, and for demand 3 two runs with a
 -- movement that is the walk of no detour list.
-use Prim.Native.Nat.{ℕ, _≤_}
+use Prim.Native.Nat.{ℕ, zero, suc, _≤_}
 use mathlib.Core.Path.{_≡_, refl, sym, ap, _∙_}
 use mathlib.Core.Bool.{Bool, true, false, cond, true≢false}
 use mathlib.Core.List.{List, [], _∷_, _++_, map}
@@ -14,13 +14,14 @@ use Rattle.walk.specs.declared.Answer.{Answer}
 use Rattle.walk.specs.declared.Leg.{Leg}
 use Rattle.runs.specs.declared.Rule.the-variants.{Sweep, Least}
 use Rattle.refusals.specs.Refusals.{isRefusal, firstWhere}
-use Rattle.runs.specs.Run.{Run, runOf, stopsFrom, stopsOf, rightEnd}
+use Rattle.runs.specs.Run.{Run, runOf, stopsFrom, stopsOf, stopAt, rightEnd}
 use Rattle.runs.specs.Judging.{judgeOf}
 use Rattle.walk.specs.Walk.{headAt, Moves, served, ServesAll, timeOf, sumOf}
 use Rattle.runs.specs.Lists.{Detour, wanted, anyBelow, firstBadEntry, listVerdict, listOf}
-use Rattle.walk.specs.Detours.{startOf, endOf, legOf, lastSweep, legsOf}
+use Rattle.walk.specs.Detours.{startOf, endOf, legOf, unreadEnd, sweepEnd, lastSweep, legsOf}
 use Rattle.walk.specs.Price.{refusalAnswer, pricedAnswer, priceVerdict, priceAnswer, priceRow}
 use Rattle.refusals.proofs.Verdicts.{refuses}
+use Rattle.walk.proofs.Sweeps.{sweeps-to}
 use Rattle.least.specs.Wants.{readsOf}
 use Rattle.least.specs.Recurrence.{planDetours, W, lowest, scan, filledTo, filled, candidate, next, value, choice, built, nextPlan, best, leastList}
 use Rattle.planner.specs.Plan.{Rows, rowsOf, Plans, planVerdict}
@@ -69,7 +70,7 @@ unfolding planAnswer planVerdict judgeOf firstWhere stopsFrom rightEnd pricedAns
 sweep-accepted = refl
 
 pub sheet-reports : sheetAnswer 54 .sum ≡ 367
-unfolding planAnswer ruleList planVerdict judgeOf firstWhere stopsFrom rightEnd pricedAnswer startOf endOf lastSweep legsOf timeOf sumOf leastList planDetours W lowest scan filledTo filled candidate next value choice built nextPlan best
+unfolding planAnswer ruleList planVerdict judgeOf firstWhere stopsFrom rightEnd pricedAnswer startOf endOf served unreadEnd sweepEnd lastSweep legsOf timeOf sumOf leastList planDetours W lowest scan filledTo filled candidate next value choice built nextPlan best
 sheet-reports = refl
 
 -- One word less, and it refuses by 9; the pricer refuses (3,4)(2,4) at entry 2.
@@ -134,11 +135,20 @@ last-right-joined [] g = refl
 last-right-joined (a ∷ []) g = refl
 last-right-joined (a ∷ b ∷ gs) g = last-right-joined (b ∷ gs) g
 
+-- No wanted file ends where it does.
+none-ends-there : (i : ℕ) → _≡_ {A = ℕ} 33 (stopAt (stopsOf moreAsked) i .end) → ⊥
+unfolding stopsFrom
+none-ends-there zero e = omega arith
+none-ends-there (suc zero) e = omega arith
+none-ends-there (suc (suc zero)) e = omega arith
+none-ends-there (suc (suc (suc i))) e = omega arith
+
 pub wanderings-no-list : (list : List Detour) → wanderings ≡ legsOf (stopsOf moreAsked) list → ⊥
-unfolding lastRight legsOf lastSweep stopsFrom rightEnd
+unfolding lastRight legsOf lastSweep stopsFrom
 wanderings-no-list list e =
-    let same : _≡_ {A = ℕ} 33 50 = ap lastRight e ∙ last-right-joined (map (legOf (stopsOf moreAsked)) list) (record { left = 0; right = 50 }) in
-    omega arith
+    let detours : List Leg = map (legOf (stopsOf moreAsked)) list in
+    let to = sweeps-to detours (stopsOf moreAsked) (omega arith) in
+    none-ends-there (to .index) (ap lastRight e ∙ last-right-joined detours (record { left = 0; right = sweepEnd detours (stopsOf moreAsked) }) ∙ to .is)
 
 -- So each demand speaks of something.
 sheet-plans : (words : ℕ) → Plans exampleRun Least (sheetRows words) (sheetAnswer words) (sheetAfter words)

@@ -10,6 +10,7 @@ pub mod Calls
 pub mod Planned
 pub mod Demand2
 pub mod Demand3
+pub mod Ends
 pub mod Called
 pub mod Cases
 pub mod Lines

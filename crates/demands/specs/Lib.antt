@@ -4,6 +4,7 @@ pub mod Formed
 pub mod Demand1
 pub mod Demand2
 pub mod Demand3
+pub mod Ends
 pub mod Calls
 pub mod Cases
 pub mod Lines

@@ -1,4 +1,4 @@
--- Laws of plans, for the crates above: Scan, Value, Bounds and Best for a table engine, LeastList and Unbeaten as the final theorems.
+-- Laws of plans, for the crates above: Scan, Value, Bounds and Best for a table engine, LeastList, Unbeaten and Sweeps as the final theorems.
 pub mod Plan
 pub mod Rising
 pub mod Sums
@@ -14,6 +14,7 @@ pub mod Identity
 pub mod LeastPlan
 pub mod Movements
 pub mod Feasible
+pub mod Sweeps
 pub mod Walks
 pub mod Rules
 pub mod Lists

@@ -15,11 +15,11 @@ use Rattle.runs.proofs.Search.{true-or-false}
 use Rattle.walk.proofs.Steps.{faced-place, lagOf, lag-after-leg, time-in-leg, read-inside}
 use Rattle.walk.specs.Walk.{headAt, faced, ready, runRight, setOff, afterLeg, Moves, reads, served, timeOf}
 
-faced-later : (w : Way) (h : Head) (U : ℕ) → h .clock ≤ faced w h U .clock
+pub faced-later : (w : Way) (h : Head) (U : ℕ) → h .clock ≤ faced w h U .clock
 faced-later Leftward h U = omega arith
 faced-later Rightward h U = omega arith
 
-after-clock : (U : ℕ) (h : Head) (g : Leg) → afterLeg U h g .clock ≡ ready h U .clock + (h .place - g .left) + U + (g .right - g .left)
+pub after-clock : (U : ℕ) (h : Head) (g : Leg) → afterLeg U h g .clock ≡ ready h U .clock + (h .place - g .left) + U + (g .right - g .left)
 after-clock U h g = rw (faced-place (h .way) h U)
 
 served-later : (g : Leg) (gs : List Leg) (s : Stop) → reads g s ≡ false → T (served (g ∷ gs) s) → T (served gs s)

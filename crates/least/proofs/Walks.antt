@@ -16,7 +16,7 @@ use Rattle.runs.specs.Run.{Stop, rightEnd, stopAt}
 use Rattle.walk.specs.declared.Leg.{Leg}
 use Rattle.walk.specs.Walk.{headAt, afterLeg, Moves, reads, served, ServesAll, timeOf, sumOf}
 use Rattle.runs.specs.Lists.{Detour}
-use Rattle.walk.specs.Detours.{startOf, endOf, legOf, lastSweep, legsOf}
+use Rattle.walk.specs.Detours.{startOf, endOf, legOf, legsOf, fullSweep, fullLegsOf}
 use Rattle.runs.proofs.Search.{true-or-false}
 use Rattle.walk.proofs.Sound.{Sound}
 use Rattle.least.specs.Wants.{readsOf}
@@ -26,6 +26,7 @@ use Rattle.walk.proofs.Steps.{lagOf, read-inside, lag-after-leg, time-in-leg}
 use Rattle.least.proofs.Movements.{time-when-read, time-when-not}
 use Rattle.least.proofs.Rising.{rises-by-steps}
 use Rattle.least.proofs.Sums.{W-front, W-same}
+use Rattle.least.proofs.Sweeps.{times-stay}
 use Rattle.least.proofs.Times.{Spaced, starts-rise, ends-before, planTime, unread-left, unread-right, time-in-inner, time-in-rest}
 use Rattle.least.specs.Recurrence.{Plan, empty, skip, detour, planDetours, trip, W, fileAt, leftAt, rightAt, countAt}
 
@@ -180,14 +181,14 @@ unfolding rightEnd
 right-end-at s [] = refl
 right-end-at s (t ∷ ts) = right-end-at t ts
 
-last-sweep-at : (stops : List Stop) (list : List Detour) (n : ℕ) → length stops ≡ suc n → lastSweep stops list ≡ record { left = leftAt stops 0; right = rightAt stops n } ∷ []
-unfolding lastSweep
-last-sweep-at [] list n e = absurd (omega arith)
-last-sweep-at (s ∷ ss) list n e =
+full-sweep-at : (stops : List Stop) (n : ℕ) → length stops ≡ suc n → fullSweep stops ≡ record { left = leftAt stops 0; right = rightAt stops n } ∷ []
+unfolding fullSweep
+full-sweep-at [] n e = absurd (omega arith)
+full-sweep-at (s ∷ ss) n e =
     let q : length ss ≡ n = omega arith in
     rw (right-end-at s ss, q)
 
--- The legs of a plan's list are the plan's legs.
+-- The legs of a plan's list, with the full sweep, are the plan's legs.
 module _ (stops : List Stop) (up : Ascends stops) where
   detours-legs : (p : Plan) (a b : ℕ) → Over p a b → b < length stops → map (legOf stops) (planDetours (fileAt stops) p b) ≡ legsIn (leftAt stops) (rightAt stops) p b
   unfolding planDetours legsIn
@@ -200,9 +201,9 @@ module _ (stops : List Stop) (up : Ascends stops) where
       ∙ rw (detours-legs inner (suc d) b (o .2) (omega arith), detours-legs rest a d (o .3) (omega arith), by-file stops up (suc d) (omega arith) .start, by-file stops up (suc b) h .end)
 
   pub legs-of-plan : (p : Plan) (n : ℕ) → Over p 0 n → length stops ≡ suc n
-      → legsOf stops (planDetours (fileAt stops) p n) ≡ legsIn (leftAt stops) (rightAt stops) p n ++ record { left = leftAt stops 0; right = rightAt stops n } ∷ []
-  unfolding legsOf
-  legs-of-plan p n o e = rw (detours-legs p 0 n o (omega arith), last-sweep-at stops (planDetours (fileAt stops) p n) n e)
+      → fullLegsOf stops (planDetours (fileAt stops) p n) ≡ legsIn (leftAt stops) (rightAt stops) p n ++ record { left = leftAt stops 0; right = rightAt stops n } ∷ []
+  unfolding fullLegsOf
+  legs-of-plan p n o e = rw (detours-legs p 0 n o (omega arith), full-sweep-at stops n e)
 
 module _ (m n : ℕ) (stops : List Stop) (ok : Sound stops m) (size : length stops ≡ suc n) where
   spaced : Spaced (leftAt stops) (rightAt stops) n
@@ -211,17 +212,17 @@ module _ (m n : ℕ) (stops : List Stop) (ok : Sound stops m) (size : length sto
   sweep : Leg
   sweep = record { left = leftAt stops 0; right = rightAt stops n }
 
-  -- The last sweep reads every stop.
+  -- The full sweep reads every stop.
   sweep-reads : (i : ℕ) → i ≤ n → reads sweep (stopAt stops i) ≡ true
   unfolding sweep
   sweep-reads i h = leg-reads 0 (leftAt stops) (rightAt stops) n spaced (stopAt stops i) i h refl refl 0 n (omega arith) h (omega arith)
 
   module _ (p : Plan) (over : Over p 0 n) where
-    legs : legsOf stops (planDetours (fileAt stops) p n) ≡ legsIn (leftAt stops) (rightAt stops) p n ++ sweep ∷ []
+    legs : fullLegsOf stops (planDetours (fileAt stops) p n) ≡ legsIn (leftAt stops) (rightAt stops) p n ++ sweep ∷ []
     unfolding sweep
     legs = legs-of-plan stops (ok .ascends) p n over size
 
-    pub walk-moves : Moves m (legsOf stops (planDetours (fileAt stops) p n))
+    walk-moves : Moves m (fullLegsOf stops (planDetours (fileAt stops) p n))
     unfolding sweep
     walk-moves =
         let top : leftAt stops n < rightAt stops n = ok .extends n (omega arith) in
@@ -229,14 +230,15 @@ module _ (m n : ℕ) (stops : List Stop) (ok : Sound stops m) (size : length sto
         let reach : rightAt stops n ≤ m = ok .reached n (omega arith) in
         rw legs (moves-of-plan (leftAt stops) (rightAt stops) n spaced p 0 n m (sweep ∷ []) over (omega arith) (omega arith) (omega arith) (λ P′ h. (h, omega arith, tt)))
 
-    -- The walk reads each stop when the plan says; the stops that the plan leaves are read by the last sweep.
+    -- The walk reads each stop when the plan says; the stops that the plan leaves are read by the last sweep, wherever it ends.
     pub walk-times : (U i : ℕ) → i ≤ n
         → timeOf U (headAt m) (legsOf stops (planDetours (fileAt stops) p n)) (stopAt stops i)
         ≡ planTime (leftAt stops) (rightAt stops) U p 0 n m i
     unfolding sweep
     walk-times U i h =
         let o : leftAt stops i < rightAt stops i = ok .extends i (omega arith) in
-        time-by-lag U (stopAt stops i) (omega arith) (headAt m) (legsOf stops (planDetours (fileAt stops) p n)) walk-moves
+        times-stay stops m ok (planDetours (fileAt stops) p n) U (headAt m) i (omega arith)
+        ∙ time-by-lag U (stopAt stops i) (omega arith) (headAt m) (fullLegsOf stops (planDetours (fileAt stops) p n)) walk-moves
         ∙ rw (zero-add m, legs)
         (time-of-plan U (leftAt stops) (rightAt stops) n spaced (stopAt stops i) i h refl refl p 0 n m (sweep ∷ []) over (omega arith)
         ∙ ap (λ e. timeIn (leftAt stops) (rightAt stops) U p n m i e) (by-lag-read U _ sweep [] (stopAt stops i) (sweep-reads i h)))

@@ -1,22 +1,22 @@
--- Laws for the crates above: an accepted run's stops are sound, the walk of any list reads every wanted file, a file read by the
--- first leg from its own start has 01's time, and for an accepted run and list every time and sum is far below what a word holds.
+-- Laws for the crates above: an accepted run's stops are sound, a file read by the first leg from its own start has 01's time, and for an
+-- accepted run and list every time and sum is far below what a word holds.
 use Prim.Native.Nat.{ℕ, zero, suc, _+_, _-_, _*_, _≤_, _<_, _^_}
 use mathlib.Core.Path.{_≡_, refl, sym}
-use mathlib.Core.Bool.{true, false, or-true}
-use mathlib.Core.List.{List, [], _∷_, _++_, map}
+use mathlib.Core.Bool.{true, false}
+use mathlib.Core.List.{List, [], _∷_}
 use native.Mathlib.Omega.{arith}
 use native.Mathlib.Nat.{mul-le-mul-left}
 use lib.ListN.{length, getD}
 use borrow.Author.Tests.{le-leb}
 use Rattle.walk.specs.declared.Leg.{Leg}
-use Rattle.runs.specs.Run.{Run, Stop, stopOf, stopsFrom, stopsOf, rightEnd, endAt, total, stopAt}
+use Rattle.runs.specs.Run.{Run, Stop, stopOf, stopsFrom, stopsOf, endAt, total, stopAt}
 use Rattle.runs.specs.Judging.{judgeOf}
-use Rattle.walk.specs.Walk.{headAt, reads, served, ServesAll, timeOf, sumOf}
-use Rattle.runs.specs.Lists.{Detour, listOf, listVerdict}
-use Rattle.walk.specs.Detours.{legOf, lastSweep, legsOf}
+use Rattle.walk.specs.Walk.{headAt, timeOf, sumOf}
+use Rattle.runs.specs.Lists.{listOf, listVerdict}
+use Rattle.walk.specs.Detours.{sweepEnd, legsOf}
 use Rattle.walk.specs.Price.{pricedAnswer}
 use Rattle.runs.specs.Private.{InTable}
-use Rattle.walk.specs.Private.{rowLegs, Walkable}
+use Rattle.walk.specs.Private.{detourLegs, rowLegs, Walkable}
 use Rattle.refusals.proofs.Verdicts.{refuses}
 use Rattle.walk.proofs.Sound.{Sound}
 use Rattle.runs.proofs.Judged.{GoodRun, accepted-run}
@@ -29,60 +29,6 @@ pub first-leg-time : (U m : ℕ) (g : Leg) (gs : List Leg) (s : Stop) → g .lef
     → timeOf U (headAt m) (g ∷ gs) s ≡ (m - s .start) + U + (s .end - s .start)
 unfolding timeOf
 first-leg-time U m g gs s a b = rw (le-leb (g .left) (s .start) (omega arith), le-leb (s .end) (g .right) b) (omega arith)
-
--- What is served by some legs is served by more.
-served-after : (gs hs : List Leg) (s : Stop) → served hs s ≡ true → served (gs ++ hs) s ≡ true
-unfolding served
-served-after [] hs s e = e
-served-after (g ∷ gs) hs s e = rw (served-after gs hs s e, or-true)
-
--- The last sweep passes every stop whole.
-module _ (first : Stop) (later : List Stop) (m : ℕ) (ok : Sound (first ∷ later) m) where
-  starts-right : (i : ℕ) → i < length (first ∷ later) → first .start ≤ stopAt (first ∷ later) i .start
-  starts-right zero l = omega arith
-  starts-right (suc i) l =
-      let before = starts-right i (omega arith) in
-      omega (arith, before, ok .extends i (omega arith), ok .apart i l)
-
-tail-sound : (s : Stop) (ss : List Stop) (m : ℕ) → Sound (s ∷ ss) m → Sound ss m
-tail-sound s ss m ok =
-    record {
-      named = λ i l. ok .named (suc i) (omega arith);
-      ascends = λ i l. ok .ascends (suc i) (omega arith);
-      extends = λ i l. ok .extends (suc i) (omega arith);
-      apart = λ i l. ok .apart (suc i) (omega arith);
-      counted = λ i l. ok .counted (suc i) (omega arith);
-      reached = λ i l. ok .reached (suc i) (omega arith);
-    }
-
-rightmost : (s : Stop) (ss : List Stop) (m : ℕ) → Sound (s ∷ ss) m → (i : ℕ) → i < length (s ∷ ss) → stopAt (s ∷ ss) i .end ≤ rightEnd (s ∷ ss)
-unfolding rightEnd
-rightmost s [] m ok zero l = omega arith
-rightmost s [] m ok (suc i) l = absurd (omega arith)
-rightmost s (t ∷ ts) m ok zero l =
-    let rest = rightmost t ts m (tail-sound s (t ∷ ts) m ok) 0 (omega arith) in
-    omega (arith, rest, ok .apart 0 (omega arith), ok .extends 1 (omega arith))
-rightmost s (t ∷ ts) m ok (suc i) l = rightmost t ts m (tail-sound s (t ∷ ts) m ok) i (omega arith)
-
-serves-each : (gs : List Leg) (ss : List Stop) → ((i : ℕ) → i < length ss → served gs (stopAt ss i) ≡ true) → ServesAll gs ss
-unfolding ServesAll
-serves-each gs [] h = tt
-serves-each gs (s ∷ ss) h = (rw (h 0 (omega arith)) tt, serves-each gs ss (λ i l. h (suc i) (omega arith)))
-
--- The walk of a list reads every stop: what no detour reads, the last sweep does.
-pub all-served : (stops : List Stop) (m : ℕ) → Sound stops m → (list : List Detour) → ServesAll (legsOf stops list) stops
-unfolding legsOf lastSweep served
-all-served [] m ok list = serves-each (legsOf [] list) [] (λ i l. absurd (omega arith))
-all-served (s ∷ ss) m ok list =
-    serves-each
-    (legsOf (s ∷ ss) list)
-    (s ∷ ss)
-    (λ i l.
-    served-after
-    (map (legOf (s ∷ ss)) list)
-    (lastSweep (s ∷ ss) list)
-    (stopAt (s ∷ ss) i)
-    (rw (le-leb (s .start) (stopAt (s ∷ ss) i .start) (starts-right s ss m ok i l), le-leb (stopAt (s ∷ ss) i .end) (rightEnd (s ∷ ss)) (rightmost s ss m ok i l))))
 
 -- An accepted run's stops are sound.
 module _ (r : Run) (good : GoodRun r) where
@@ -152,11 +98,17 @@ module _ (r : Run) (froms tos : List ℕ) (run : refuses (judgeOf r) ≡ false) 
   good-list : GoodList (r .numbers) froms tos
   good-list = accepted-list (r .starts) (r .lengths) (r .numbers) (r .counts) froms tos (sym (accepted-run r run .wants .equal)) list
 
-  in-rows : legsOf (stopsOf r) (listOf froms tos) ≡ rowLegs (r .starts) (r .lengths) (r .numbers) froms tos
-  in-rows = legs-in-rows (r .starts) (r .lengths) (r .numbers) (r .counts) froms tos (sym (accepted-run r run .wants .equal)) good-list
+  -- Where the last sweep ends.
+  to : ℕ
+  to = sweepEnd (detourLegs (r .starts) (r .lengths) froms tos) (stopsOf r)
 
-  within : Walkable (rowLegs (r .starts) (r .lengths) (r .numbers) froms tos) (r .head) (r .turn)
-  within = walkable r (accepted-run r run) froms tos good-list
+  in-rows : legsOf (stopsOf r) (listOf froms tos) ≡ rowLegs (r .starts) (r .lengths) (r .numbers) froms tos to
+  unfolding to
+  in-rows = legs-in-rows (r .starts) (r .lengths) (r .numbers) (r .counts) froms tos (sym (accepted-run r run .wants .equal)) good-list to refl
+
+  within : Walkable (rowLegs (r .starts) (r .lengths) (r .numbers) froms tos to) (r .head) (r .turn)
+  unfolding to
+  within = walkable r (accepted-run r run) froms tos good-list to refl
 
   pub sum-below : pricedAnswer r (listOf froms tos) .sum < 2 ^ 58
   unfolding pricedAnswer

@@ -22,7 +22,7 @@ module _ (starts lengths : List ℕ) where
   length-detours (a ∷ froms) [] e = absurd (omega arith)
   length-detours (a ∷ froms) (b ∷ tos) e = ap suc (length-detours froms tos (omega arith))
 
-  detour-leg : (froms tos : List ℕ) → length froms ≡ length tos → (i : ℕ) → i < length froms
+  pub detour-leg : (froms tos : List ℕ) → length froms ≡ length tos → (i : ℕ) → i < length froms
       → legAt (detourLegs starts lengths froms tos) i ≡ record { left = getD starts (getD froms i 0 - 1) 0; right = endAt starts lengths (getD tos i 0 - 1) }
   unfolding detourLegs
   detour-leg [] tos e i l = absurd (omega arith)
@@ -30,60 +30,57 @@ module _ (starts lengths : List ℕ) where
   detour-leg (a ∷ froms) (b ∷ tos) e zero l = refl
   detour-leg (a ∷ froms) (b ∷ tos) e (suc i) l = detour-leg froms tos (omega arith) i (omega arith)
 
-  sweep-count : (numbers : List ℕ) → (length numbers ≡ 0 → ⊥) → length (sweepLegs starts lengths numbers) ≡ 1
+  sweep-count : (numbers : List ℕ) (reach : ℕ) → (length numbers ≡ 0 → ⊥) → length (sweepLegs starts numbers reach) ≡ 1
   unfolding sweepLegs
-  sweep-count [] some = absurd (some refl)
-  sweep-count (n ∷ ns) some = refl
+  sweep-count [] reach some = absurd (some refl)
+  sweep-count (n ∷ ns) reach some = refl
 
-  sweep-none : (numbers : List ℕ) → length numbers ≡ 0 → length (sweepLegs starts lengths numbers) ≡ 0
+  sweep-none : (numbers : List ℕ) (reach : ℕ) → length numbers ≡ 0 → length (sweepLegs starts numbers reach) ≡ 0
   unfolding sweepLegs
-  sweep-none [] e = refl
-  sweep-none (n ∷ ns) e = absurd (omega arith)
+  sweep-none [] reach e = refl
+  sweep-none (n ∷ ns) reach e = absurd (omega arith)
 
-  sweep-most : (numbers : List ℕ) → length (sweepLegs starts lengths numbers) ≤ 1
+  sweep-most : (numbers : List ℕ) (reach : ℕ) → length (sweepLegs starts numbers reach) ≤ 1
   unfolding sweepLegs
-  sweep-most [] = omega arith
-  sweep-most (n ∷ ns) = omega arith
+  sweep-most [] reach = omega arith
+  sweep-most (n ∷ ns) reach = omega arith
 
-  sweep-leg : (numbers : List ℕ) → 0 < length (sweepLegs starts lengths numbers)
-      → (0 < length numbers)
-      × (legAt (sweepLegs starts lengths numbers) 0
-      ≡ record { left = getD starts (getD numbers 0 0 - 1) 0; right = endAt starts lengths (getD numbers (length numbers - 1) 0 - 1) })
+  sweep-leg : (numbers : List ℕ) (reach : ℕ) → 0 < length (sweepLegs starts numbers reach)
+      → (0 < length numbers) × (legAt (sweepLegs starts numbers reach) 0 ≡ record { left = getD starts (getD numbers 0 0 - 1) 0; right = reach })
   unfolding sweepLegs
-  sweep-leg [] l = absurd (omega arith)
-  sweep-leg (n ∷ ns) l = let k : suc (length ns) - 1 ≡ length ns = omega arith in (omega arith, rw k)
+  sweep-leg [] reach l = absurd (omega arith)
+  sweep-leg (n ∷ ns) reach l = (omega arith, refl)
 
-  module _ (numbers froms tos : List ℕ) (even : length froms ≡ length tos) where
-    legs-length : length (rowLegs starts lengths numbers froms tos) ≡ length froms + length (sweepLegs starts lengths numbers)
+  module _ (numbers froms tos : List ℕ) (reach : ℕ) (even : length froms ≡ length tos) where
+    legs-length : length (rowLegs starts lengths numbers froms tos reach) ≡ length froms + length (sweepLegs starts numbers reach)
     unfolding rowLegs
     legs-length = rw (length-append, length-detours froms tos even)
 
     -- How many legs there are, with and without wants.
-    pub no-legs : length numbers ≡ 0 → length froms ≤ length numbers → 0 ≡ length (rowLegs starts lengths numbers froms tos)
-    no-legs none l = omega (arith, legs-length, sweep-none numbers none)
+    pub no-legs : length numbers ≡ 0 → length froms ≤ length numbers → 0 ≡ length (rowLegs starts lengths numbers froms tos reach)
+    no-legs none l = omega (arith, legs-length, sweep-none numbers reach none)
 
-    pub legs-count : (length numbers ≡ 0 → ⊥) → length froms + 1 ≡ length (rowLegs starts lengths numbers froms tos)
-    legs-count some = omega (arith, legs-length, sweep-count numbers some)
+    pub legs-count : (length numbers ≡ 0 → ⊥) → length froms + 1 ≡ length (rowLegs starts lengths numbers froms tos reach)
+    legs-count some = omega (arith, legs-length, sweep-count numbers reach some)
 
-    pub legs-most : length (rowLegs starts lengths numbers froms tos) ≤ length froms + 1
-    legs-most = omega (arith, legs-length, sweep-most numbers)
+    pub legs-most : length (rowLegs starts lengths numbers froms tos reach) ≤ length froms + 1
+    legs-most = omega (arith, legs-length, sweep-most numbers reach)
 
     -- Which leg stands at an index: a detour, or the last sweep.
     pub leg-of-detour : (i : ℕ) → i < length froms
-        → record { left = getD starts (getD froms i 0 - 1) 0; right = endAt starts lengths (getD tos i 0 - 1) } ≡ legAt (rowLegs starts lengths numbers froms tos) i
+        → record { left = getD starts (getD froms i 0 - 1) 0; right = endAt starts lengths (getD tos i 0 - 1) } ≡ legAt (rowLegs starts lengths numbers froms tos reach) i
     unfolding rowLegs
     leg-of-detour i l =
-        sym (List·getD-append (detourLegs starts lengths froms tos) (sweepLegs starts lengths numbers) _ i (omega (arith, length-detours froms tos even)) ∙ detour-leg froms tos even i l)
+        sym (List·getD-append (detourLegs starts lengths froms tos) (sweepLegs starts numbers reach) _ i (omega (arith, length-detours froms tos even)) ∙ detour-leg froms tos even i l)
 
-    pub leg-of-sweep : (i : ℕ) → length froms ≤ i → i < length (rowLegs starts lengths numbers froms tos)
+    pub leg-of-sweep : (i : ℕ) → length froms ≤ i → i < length (rowLegs starts lengths numbers froms tos reach)
         → (0 < length numbers)
-        × (record { left = getD starts (getD numbers 0 0 - 1) 0; right = endAt starts lengths (getD numbers (length numbers - 1) 0 - 1) }
-        ≡ legAt (rowLegs starts lengths numbers froms tos) i)
+        × (record { left = getD starts (getD numbers 0 0 - 1) 0; right = reach } ≡ legAt (rowLegs starts lengths numbers froms tos reach) i)
     unfolding rowLegs
     leg-of-sweep i l h =
-        let one = sweep-leg numbers (omega (arith, legs-length)) in
-        let at : i ≡ length (detourLegs starts lengths froms tos) + 0 = omega (arith, legs-length, length-detours froms tos even, sweep-most numbers) in
-        (one .0, sym (rw at (getD-append-add (detourLegs starts lengths froms tos) (sweepLegs starts lengths numbers) 0 _ ∙ one .1)))
+        let one = sweep-leg numbers reach (omega (arith, legs-length)) in
+        let at : i ≡ length (detourLegs starts lengths froms tos) + 0 = omega (arith, legs-length, length-detours froms tos even, sweep-most numbers reach) in
+        (one .0, sym (rw at (getD-append-add (detourLegs starts lengths froms tos) (sweepLegs starts numbers reach) 0 _ ∙ one .1)))
 
 -- The most that one leg can add to the clock: two turns and twice the tape.
 abbrev pub legMost : ℕ

@@ -1,8 +1,9 @@
 -- Laws that this crate's proofs share, and those that other crates cite.
 pub mod Steps
 pub mod Legs
-pub mod Walks
 pub mod Filling
+pub mod Sweeps
+pub mod Walks
 pub mod Priced
 pub mod Laws
 pub mod Places

@@ -16,7 +16,8 @@ use Rattle.runs.specs.Judging.{judgeOf}
 use Rattle.walk.specs.Walk.{headAt, walked, timesOf, sumOf}
 use Rattle.runs.specs.Lists.{listVerdict}
 use Rattle.walk.specs.Price.{refusalAnswer, pricedAnswer, pricedTimes, priceVerdict, priceAnswer, priceRow}
-use Rattle.walk.specs.Private.{rowLegs}
+use Rattle.walk.specs.Detours.{sweepEnd}
+use Rattle.walk.specs.Private.{detourLegs, rowLegs}
 use Rattle.refusals.proofs.Verdicts.{refuses, first-refuses, first-passes, none-refuses, test-says}
 use Rattle.runs.proofs.Judged.{GoodRun, accepted-run}
 use Rattle.runs.proofs.Entries.{length-list}
@@ -78,14 +79,15 @@ module _ (r : Run) (froms tos row : List ℕ) where
       unfolding after-list
       accepts e d l = rw (passes-list e d, le-ltb (length row) (length (r .numbers)) l)
 
-      -- Accepted: the numbers of the walk over the legs that the rows hold.
+      -- Accepted: the numbers of the walk over the legs that the rows hold, the sweep ending where it does.
       pub priced : f ≡ false → g ≡ false → length (r .numbers) ≤ length row
-          → (sum : ℕ) → sum ≡ sumOf (r .turn) (headAt (r .head)) (rowLegs (r .starts) (r .lengths) (r .numbers) froms tos) (stopsOf r)
-          → (out : List ℕ) → out ≡ timesOf (r .turn) (headAt (r .head)) (rowLegs (r .starts) (r .lengths) (r .numbers) froms tos) (stopsOf r) ++ drop (length (r .numbers)) row
-          → (h : Head) → h ≡ walked (r .turn) (headAt (r .head)) (rowLegs (r .starts) (r .lengths) (r .numbers) froms tos)
+          → (to : ℕ) → to ≡ sweepEnd (detourLegs (r .starts) (r .lengths) froms tos) (stopsOf r)
+          → (sum : ℕ) → sum ≡ sumOf (r .turn) (headAt (r .head)) (rowLegs (r .starts) (r .lengths) (r .numbers) froms tos to) (stopsOf r)
+          → (out : List ℕ) → out ≡ timesOf (r .turn) (headAt (r .head)) (rowLegs (r .starts) (r .lengths) (r .numbers) froms tos to) (stopsOf r) ++ drop (length (r .numbers)) row
+          → (h : Head) → h ≡ walked (r .turn) (headAt (r .head)) (rowLegs (r .starts) (r .lengths) (r .numbers) froms tos to)
           → Answers (record { refusal = Accepted; place = 0; sum = sum; finish = h .clock; end = h .place; detours = length froms }) out
       unfolding priceAnswer priceRow pricedAnswer pricedTimes
-      priced e d l sum sum-is out out-is h h-is =
+      priced e d l to to-is sum sum-is out out-is h h-is =
           let good = list-good e d in
-          let legs = legs-in-rows (r .starts) (r .lengths) (r .numbers) (r .counts) froms tos (sym (run-good e .wants .equal)) good in
+          let legs = legs-in-rows (r .starts) (r .lengths) (r .numbers) (r .counts) froms tos (sym (run-good e .wants .equal)) good to to-is in
           (rw (accepts e d l, sum-is, h-is, legs, length-list froms tos (good .even)), rw (accepts e d l, out-is, legs))

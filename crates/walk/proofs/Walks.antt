@@ -16,15 +16,17 @@ use Rattle.refusals.specs.Refusals.{refuseIf, refuseAt}
 use Rattle.runs.specs.Run.{Run, stopsFrom, stopsOf, rightEnd, endAt, lastPlace, mostWants}
 use Rattle.walk.specs.Walk.{Moves}
 use Rattle.runs.specs.Lists.{Detour, listOf, badAfter, firstBadEntry, listVerdict}
-use Rattle.walk.specs.Detours.{startOf, endOf, legOf, lastSweep, legsOf}
+use Rattle.walk.specs.Detours.{startOf, endOf, legOf, sweepEnd, lastSweep, legsOf}
 use Rattle.runs.specs.Private.{InTable, listed, rowEntry, rowBad}
 use Rattle.walk.specs.Private.{detourLegs, sweepLegs, rowLegs, legAt, RowsFit, Walkable}
 use Rattle.runs.proofs.Search.{first-zero, any-zero, or-false-both, true-or-false}
 use Rattle.refusals.proofs.Verdicts.{refuses, all-accept, accepts-if, accepts-at}
 use Rattle.runs.proofs.Judged.{GoodWants, GoodRun}
-use Rattle.runs.proofs.Table.{named-file, start-to-end, right-end-last, right-end-row}
+use Rattle.runs.proofs.Table.{named-file, start-to-end, right-end-row}
 use Rattle.runs.proofs.Entries.{first-bad-row, listed-some}
+use Rattle.walk.proofs.Filling.{stops-length, stop-at}
 use Rattle.walk.proofs.Legs.{leg-of-detour, leg-of-sweep, legs-most}
+use Rattle.walk.proofs.Sweeps.{sweeps-to}
 
 -- An entry that is not bad.
 pub record GoodEntry (numbers froms tos : List ℕ) (i : ℕ) : Type 0 where
@@ -201,43 +203,58 @@ module _ (starts lengths : List ℕ) where
         (λ rest. record { left = getD starts (f - 1) 0; right = endAt starts lengths (t - 1) } ∷ rest)
         (detours-in-rows froms tos (omega arith) (λ i l. a (suc i) (omega arith)) (λ i l. b (suc i) (omega arith))))
 
-  sweep-in-rows : (ns cs : List ℕ) → length cs ≡ length ns → (list : List Detour) → lastSweep (stopsFrom starts lengths ns cs) list ≡ sweepLegs starts lengths ns
+  sweep-in-rows : (ns cs : List ℕ) → length cs ≡ length ns → (list : List Detour) (reach : ℕ)
+      → reach ≡ sweepEnd (map (legOf (stopsFrom starts lengths ns cs)) list) (stopsFrom starts lengths ns cs)
+      → lastSweep (stopsFrom starts lengths ns cs) list ≡ sweepLegs starts ns reach
   unfolding lastSweep stopsFrom sweepLegs
-  sweep-in-rows [] cs same list = refl
-  sweep-in-rows (n ∷ ns) [] same list = absurd (omega arith)
-  sweep-in-rows (n ∷ ns) (c ∷ cs) same list =
-      ap (λ e. record { left = getD starts (n - 1) 0; right = e } ∷ []) (right-end-last starts lengths n ns (c ∷ cs) same)
+  sweep-in-rows [] cs same list reach e = refl
+  sweep-in-rows (n ∷ ns) [] same list reach e = absurd (omega arith)
+  sweep-in-rows (n ∷ ns) (c ∷ cs) same list reach e = rw e
 
--- The legs of an accepted list are those that the rows hold.
+-- The legs of an accepted list are those that the rows hold, the sweep ending where it does.
 pub legs-in-rows : (starts lengths ns cs froms tos : List ℕ) → length cs ≡ length ns → GoodList ns froms tos
-    → legsOf (stopsFrom starts lengths ns cs) (listOf froms tos) ≡ rowLegs starts lengths ns froms tos
+    → (reach : ℕ) → reach ≡ sweepEnd (detourLegs starts lengths froms tos) (stopsFrom starts lengths ns cs)
+    → legsOf (stopsFrom starts lengths ns cs) (listOf froms tos) ≡ rowLegs starts lengths ns froms tos reach
 unfolding legsOf rowLegs
-legs-in-rows starts lengths ns cs froms tos same g =
-    rw (
-      detours-in-rows starts lengths ns cs same froms tos (g .even) (λ i l. g .each i l .fromWanted) (λ i l. g .each i l .toWanted),
-      sweep-in-rows starts lengths ns cs same (listOf froms tos),
-    )
+legs-in-rows starts lengths ns cs froms tos same g reach is =
+    let detours = detours-in-rows starts lengths ns cs same froms tos (g .even) (λ i l. g .each i l .fromWanted) (λ i l. g .each i l .toWanted) in
+    rw (sweep-in-rows starts lengths ns cs same (listOf froms tos) reach (rw detours is), detours)
 
 module _ (r : Run) (run : GoodRun r) (froms tos : List ℕ) (g : GoodList (r .numbers) froms tos) where
-  gs : List Leg
-  gs = rowLegs (r .starts) (r .lengths) (r .numbers) froms tos
-
   pub rows-fit : RowsFit (r .starts) (r .lengths) (r .numbers) froms tos
   rows-fit =
       record {
-        table = run .files .table;
-        even = g .even;
+        list =
+            record {
+              table = run .files .table;
+              even = g .even;
+              lefts = λ i l. listed-in-table _ _ _ (run .wants) (r .starts) refl (getD froms i 0) (g .each i l .fromWanted);
+              rights = λ i l. listed-in-table _ _ _ (run .wants) (r .starts) refl (getD tos i 0) (g .each i l .toWanted);
+            };
         wants = in-table _ _ _ (run .wants) (r .starts) refl;
-        lefts = λ i l. listed-in-table _ _ _ (run .wants) (r .starts) refl (getD froms i 0) (g .each i l .fromWanted);
-        rights = λ i l. listed-in-table _ _ _ (run .wants) (r .starts) refl (getD tos i 0) (g .each i l .toWanted);
       }
+
+  pub list-fits : length froms ≤ length (r .numbers)
+  list-fits = elim (decLt 0 (length (r .numbers))) [ yes l ↦ omega (arith, entries-few _ _ _ (run .wants) froms tos (length froms) (g .each) l) | no n ↦ none n ]
+    where
+      none : ¬ (0 < length (r .numbers)) → length froms ≤ length (r .numbers)
+      none n = omega (arith, entries-none _ _ _ (run .wants) froms tos (length froms) (g .each) (omega arith))
+
+-- The walk of an accepted list, the sweep ending where it does.
+module _ (r : Run) (run : GoodRun r) (froms tos : List ℕ) (g : GoodList (r .numbers) froms tos)
+    (to : ℕ) (to-is : to ≡ sweepEnd (detourLegs (r .starts) (r .lengths) froms tos) (stopsOf r)) where
+  gs : List Leg
+  gs = rowLegs (r .starts) (r .lengths) (r .numbers) froms tos to
+
+  fits : RowsFit (r .starts) (r .lengths) (r .numbers) froms tos
+  fits = rows-fit r run froms tos g
 
   -- A detour's leg and the sweep's, by their files.
   detour-is : (i : ℕ) → i < length froms
       → (legAt gs i .left ≡ getD (r .starts) (getD froms i 0 - 1) 0) × (legAt gs i .right ≡ endAt (r .starts) (r .lengths) (getD tos i 0 - 1))
   unfolding gs
   detour-is i l =
-      let e = sym (leg-of-detour (r .starts) (r .lengths) (r .numbers) froms tos (g .even) i l) in
+      let e = sym (leg-of-detour (r .starts) (r .lengths) (r .numbers) froms tos to (g .even) i l) in
       (ap (λ x. x .left) e, ap (λ x. x .right) e)
 
   last : ℕ
@@ -246,24 +263,24 @@ module _ (r : Run) (run : GoodRun r) (froms tos : List ℕ) (g : GoodList (r .nu
   record Sweep (i : ℕ) : Type 0 where
     some : 0 < length (r .numbers)
     leftIs : legAt gs i .left ≡ getD (r .starts) (getD (r .numbers) 0 0 - 1) 0
-    rightIs : legAt gs i .right ≡ endAt (r .starts) (r .lengths) (last - 1)
+    rightIs : legAt gs i .right ≡ to
 
   sweep-is : (i : ℕ) → length froms ≤ i → i < length gs → Sweep i
-  unfolding gs last
+  unfolding gs
   sweep-is i l h =
-      let e = leg-of-sweep (r .starts) (r .lengths) (r .numbers) froms tos (g .even) i l h in
+      let e = leg-of-sweep (r .starts) (r .lengths) (r .numbers) froms tos to (g .even) i l h in
       record { some = e .0; leftIs = ap (λ x. x .left) (sym (e .1)); rightIs = ap (λ x. x .right) (sym (e .1)) }
 
   few-legs : length gs ≤ length froms + 1
   unfolding gs
-  few-legs = legs-most (r .starts) (r .lengths) (r .numbers) froms tos (g .even)
+  few-legs = legs-most (r .starts) (r .lengths) (r .numbers) froms tos to (g .even)
 
   -- From the start of one file of the table to the end of another at or right of it.
   reach : (f h : ℕ) → InTable (r .starts) f → InTable (r .starts) h → f ≤ h → getD (r .starts) (f - 1) 0 ≤ endAt (r .starts) (r .lengths) (h - 1)
   reach = start-to-end (r .starts) (r .lengths) (run .files .table)
 
   want-in : (i : ℕ) → i < length (r .numbers) → InTable (r .starts) (getD (r .numbers) i 0)
-  want-in = rows-fit .wants
+  want-in = fits .wants
 
   last-in : 0 < length (r .numbers) → InTable (r .starts) last
   unfolding last
@@ -277,19 +294,40 @@ module _ (r : Run) (run : GoodRun r) (froms tos : List ℕ) (g : GoodList (r .nu
   unfolding last
   listed-to-last f h = listed-last _ _ _ (run .wants) f h
 
+  -- The sweep ends at the end of a want.
+  record Swept : Type 0 where
+    index : ℕ
+    within : index < length (r .numbers)
+    is : to ≡ endAt (r .starts) (r .lengths) (getD (r .numbers) index 0 - 1)
+
+  same : length (r .counts) ≡ length (r .numbers)
+  same = sym (run .wants .equal)
+
+  swept : 0 < length (r .numbers) → Swept
+  swept some =
+      let size = stops-length (r .starts) (r .lengths) (r .numbers) (r .counts) same in
+      let w = sweeps-to (detourLegs (r .starts) (r .lengths) froms tos) (stopsOf r) (omega (arith, size)) in
+      let l : w .index < length (r .numbers) = omega (arith, w .within, size) in
+      record { index = w .index; within = l; is = to-is ∙ w .is ∙ ap (λ s. s .end) (stop-at (r .starts) (r .lengths) (r .numbers) (r .counts) same (w .index) l _) }
+
+  first-to-any : (i : ℕ) → i < length (r .numbers) → getD (r .numbers) 0 0 ≤ getD (r .numbers) i 0
+  first-to-any zero l = omega arith
+  first-to-any (suc i) l = omega (arith, numbers-rise _ _ _ (run .wants) 0 (suc i) (omega arith) l)
+
   leg-forth : (i : ℕ) → i < length gs → legAt gs i .left ≤ legAt gs i .right
   leg-forth i h = elim (decLt i (length froms)) [ yes l ↦ in-list l | no n ↦ in-sweep (sweep-is i (omega arith) h) ]
     where
       in-list : i < length froms → legAt gs i .left ≤ legAt gs i .right
       in-list l =
           let e = detour-is i l in
-          let way = reach (getD froms i 0) (getD tos i 0) (rows-fit .lefts i l) (rows-fit .rights i l) (g .each i l .ordered) in
+          let way = reach (getD froms i 0) (getD tos i 0) (fits .list .lefts i l) (fits .list .rights i l) (g .each i l .ordered) in
           omega (arith, e .0, e .1, way)
 
       in-sweep : Sweep i → legAt gs i .left ≤ legAt gs i .right
       in-sweep s =
-          let way = reach (getD (r .numbers) 0 0) last (want-in 0 (s .some)) (last-in (s .some)) (first-to-last (s .some)) in
-          omega (arith, s .leftIs, s .rightIs, way)
+          let w = swept (s .some) in
+          let way = reach (getD (r .numbers) 0 0) (getD (r .numbers) (w .index) 0) (want-in 0 (s .some)) (want-in (w .index) (w .within)) (first-to-any (w .index) (w .within)) in
+          omega (arith, s .leftIs, s .rightIs, w .is, way)
 
   leg-back : (i : ℕ) → suc i < length gs → legAt gs (suc i) .left ≤ legAt gs i .right
   leg-back i h = elim (decLt (suc i) (length froms)) [ yes l ↦ in-list l | no n ↦ in-sweep (sweep-is (suc i) (omega arith) h) ]
@@ -299,12 +337,12 @@ module _ (r : Run) (run : GoodRun r) (froms tos : List ℕ) (g : GoodList (r .nu
 
       in-list : suc i < length froms → legAt gs (suc i) .left ≤ legAt gs i .right
       in-list l =
-          let way = reach (getD froms (suc i) 0) (getD tos i 0) (rows-fit .lefts (suc i) l) (rows-fit .rights i here) (omega (arith, g .each (suc i) l .falls i (omega arith), g .each i here .ordered)) in
+          let way = reach (getD froms (suc i) 0) (getD tos i 0) (fits .list .lefts (suc i) l) (fits .list .rights i here) (omega (arith, g .each (suc i) l .falls i (omega arith), g .each i here .ordered)) in
           omega (arith, detour-is (suc i) l .0, detour-is i here .1, way)
 
       in-sweep : Sweep (suc i) → legAt gs (suc i) .left ≤ legAt gs i .right
       in-sweep s =
-          let way = reach (getD (r .numbers) 0 0) (getD tos i 0) (want-in 0 (s .some)) (rows-fit .rights i here) (omega (arith, g .each i here .inner, g .each i here .ordered)) in
+          let way = reach (getD (r .numbers) 0 0) (getD tos i 0) (want-in 0 (s .some)) (fits .list .rights i here) (omega (arith, g .each i here .inner, g .each i here .ordered)) in
           omega (arith, s .leftIs, detour-is i here .1, way)
 
   right-is-last : 0 < length (r .numbers) → endAt (r .starts) (r .lengths) (last - 1) ≡ rightEnd (stopsOf r)
@@ -318,7 +356,7 @@ module _ (r : Run) (run : GoodRun r) (froms tos : List ℕ) (g : GoodList (r .nu
       in-list l =
           let e = g .each 0 l in
           let some = listed-some (r .numbers) (getD froms 0 0) (e .fromWanted) in
-          let way = reach (getD froms 0 0) last (rows-fit .lefts 0 l) (last-in some) (listed-to-last (getD froms 0 0) (e .fromWanted)) in
+          let way = reach (getD froms 0 0) last (fits .list .lefts 0 l) (last-in some) (listed-to-last (getD froms 0 0) (e .fromWanted)) in
           omega (arith, detour-is 0 l .0, way, right-is-last some, run .start .past)
 
       in-sweep : Sweep 0 → legAt gs 0 .left ≤ r .head
@@ -333,10 +371,10 @@ module _ (r : Run) (run : GoodRun r) (froms tos : List ℕ) (g : GoodList (r .nu
       ends f e = named-file (r .starts) (r .lengths) (run .files .table) f e .ends
 
       in-list : i < length froms → legAt gs i .right ≤ lastPlace
-      in-list l = omega (arith, detour-is i l .1, ends (getD tos i 0) (rows-fit .rights i l))
+      in-list l = omega (arith, detour-is i l .1, ends (getD tos i 0) (fits .list .rights i l))
 
       in-sweep : Sweep i → legAt gs i .right ≤ lastPlace
-      in-sweep s = omega (arith, s .rightIs, ends last (last-in (s .some)))
+      in-sweep s = let w = swept (s .some) in omega (arith, s .rightIs, w .is, ends (getD (r .numbers) (w .index) 0) (want-in (w .index) (w .within)))
 
   legs-within : length gs ≤ mostWants
   legs-within = elim (decLt 0 (length (r .numbers))) [ yes l ↦ omega (arith, few-legs, entries-few _ _ _ (run .wants) froms tos (length froms) (g .each) l, run .wants .few) | no n ↦ none n ]
@@ -345,7 +383,7 @@ module _ (r : Run) (run : GoodRun r) (froms tos : List ℕ) (g : GoodList (r .nu
       none n = omega (arith, few-legs, entries-none _ _ _ (run .wants) froms tos (length froms) (g .each) (omega arith))
 
   -- The walk of an accepted list in an accepted run is within the limits.
-  pub walkable : Walkable (rowLegs (r .starts) (r .lengths) (r .numbers) froms tos) (r .head) (r .turn)
+  pub walkable : Walkable (rowLegs (r .starts) (r .lengths) (r .numbers) froms tos to) (r .head) (r .turn)
   unfolding gs
   walkable =
       record {
@@ -355,9 +393,3 @@ module _ (r : Run) (run : GoodRun r) (froms tos : List ℕ) (g : GoodList (r .nu
         near = run .start .near;
         cheap = run .start .cheap;
       }
-
-  pub list-fits : length froms ≤ length (r .numbers)
-  list-fits = elim (decLt 0 (length (r .numbers))) [ yes l ↦ omega (arith, entries-few _ _ _ (run .wants) froms tos (length froms) (g .each) l) | no n ↦ none n ]
-    where
-      none : ¬ (0 < length (r .numbers)) → length froms ≤ length (r .numbers)
-      none n = omega (arith, entries-none _ _ _ (run .wants) froms tos (length froms) (g .each) (omega arith))

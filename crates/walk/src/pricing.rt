@@ -6,11 +6,12 @@ ghost use Prim.Native.Nat.{ℕ, _-_, _≤_, _<_};
 ghost use mathlib.Core.Bool.{_&&_};
 ghost use lib.ListN.{length, getD, drop};
 ghost use lib.Dec.{leb};
-ghost use Rattle.runs.specs.Run.{runAt, stopsAt, total, endAt, stopOf, mostReads};
-ghost use Rattle.walk.specs.Walk.{headAt, walked, timeOf, timesOf, sumOf};
+ghost use Rattle.runs.specs.Run.{runAt, stopsAt, stopsFrom, total, endAt, stopOf, mostReads};
+ghost use Rattle.walk.specs.Walk.{headAt, walked, served, timeOf, timesOf, sumOf};
+ghost use Rattle.walk.specs.Detours.{sweepEnd};
 ghost use Rattle.walk.specs.Price.{refusalAnswer, priceAnswer, priceRow};
 ghost use Rattle.runs.specs.Private.{SoundTable, InTable};
-ghost use Rattle.walk.specs.Private.{RowsFit, WalkFits, rowLegs, legsIn, legsAt, legAt};
+ghost use Rattle.walk.specs.Private.{ListFits, RowsFit, WalkFits, rowLegs, legsIn, legsAt, detoursAt, legAt};
 use crate::Answer;
 use crate::Head;
 use crate::Leg;
@@ -40,7 +41,7 @@ fn file_end(starts: &[u64], lengths: &[u64], file: u64) -> u64
 // How many legs a list has: its detours, and the last sweep where anything is wanted.
 fn leg_count(numbers: &[u64], froms: &[u64]) -> usize
     requires { ⌜ length (now froms) ≤ length (now numbers) ⌝ }
-    ensures { λ r. ⌜ ((s l tos : List ℕ) → length (now (froms .entry)) ≡ length tos → r ≡ length (rowLegs s l (now (numbers .entry)) (now (froms .entry)) tos)) ⌝ }
+    ensures { λ r. ⌜ ((s l tos : List ℕ) (reach : ℕ) → length (now (froms .entry)) ≡ length tos → r ≡ length (rowLegs s l (now (numbers .entry)) (now (froms .entry)) tos reach)) ⌝ }
 {
     if numbers.len() == 0 {
         return 0;
@@ -60,36 +61,6 @@ fn detour_leg(starts: &[u64], lengths: &[u64], from: u64, to: u64) -> Leg
     Leg { left, right }
 }
 
-// The last sweep: from the leftmost wanted file to the end of the rightmost.
-fn sweep_leg(starts: &[u64], lengths: &[u64], numbers: &[u64]) -> Leg
-    requires { ⌜ SoundTable (now starts) (now lengths) ⌝ }
-    requires { ⌜ ((i : ℕ) → i < length (now numbers) → InTable (now starts) (getD (now numbers) i 0)) ⌝ }
-    requires { ⌜ 0 < length (now numbers) ⌝ }
-    ensures { λ r. ⌜ r ≡ record { left = getD (now (starts .entry)) (getD (now (numbers .entry)) 0 0 - 1) 0; right = endAt (now (starts .entry)) (now (lengths .entry)) (getD (now (numbers .entry)) (length (now (numbers .entry)) - 1) 0 - 1) } ⌝ }
-{
-    let last = numbers.len() - 1;
-    detour_leg(starts, lengths, numbers[0], numbers[last])
-}
-
-// A leg of the walk, counted from 0: a detour, or the last sweep.
-fn leg_at(
-    starts: &[u64],
-    lengths: &[u64],
-    numbers: &[u64],
-    froms: &[u64],
-    tos: &[u64],
-    i: usize,
-) -> Leg
-    requires { ⌜ RowsFit (now starts) (now lengths) (now numbers) (now froms) (now tos) ⌝ }
-    requires { ⌜ i < length (legsIn starts lengths numbers froms tos) ⌝ }
-    ensures { λ r. ⌜ r ≡ legAt (legsAt starts lengths numbers froms tos) i ⌝ }
-{
-    if i < froms.len() {
-        return detour_leg(starts, lengths, froms[i], tos[i]);
-    }
-    sweep_leg(starts, lengths, numbers)
-}
-
 // Whether a leg's rightward run starts at or left of a file's start and ends at or right of its end.
 fn reads_file(leg: Leg, start: u64, end: u64) -> bool
     ensures { λ r. ⌜ r ≡ (leb (leg .left) start && leb end (leg .right)) ⌝ }
@@ -102,6 +73,74 @@ fn reads_file(leg: Leg, start: u64, end: u64) -> bool
     false
 }
 
+// Whether a detour reads a file of the table.
+fn detour_reads(starts: &[u64], lengths: &[u64], froms: &[u64], tos: &[u64], file: u64) -> bool
+    requires { ⌜ ListFits (now starts) (now lengths) (now froms) (now tos) ⌝ }
+    requires { ⌜ InTable (now starts) file ⌝ }
+    ensures { λ r. ⌜ r ≡ served (detoursAt starts lengths froms tos) (stopOf (now (starts .entry)) (now (lengths .entry)) file 0) ⌝ }
+{
+    let start = file_start(starts, file);
+    let end = file_end(starts, lengths, file);
+    let mut i: usize = 0;
+    while i < froms.len() {
+        let leg = detour_leg(starts, lengths, froms[i], tos[i]);
+        if reads_file(leg, start, end) {
+            return true;
+        }
+        i += 1;
+    }
+    false
+}
+
+// Where the last sweep ends: at the end of the rightmost wanted file that no detour reads, looked for from the right.
+fn sweep_end(starts: &[u64], lengths: &[u64], numbers: &[u64], froms: &[u64], tos: &[u64]) -> u64
+    requires { ⌜ RowsFit (now starts) (now lengths) (now numbers) (now froms) (now tos) ⌝ }
+    ensures { λ r. ⌜ ((cs : List ℕ) → length cs ≡ length (now (numbers .entry)) → r ≡ sweepEnd (detoursAt starts lengths froms tos) (stopsFrom (now (starts .entry)) (now (lengths .entry)) (now (numbers .entry)) cs)) ⌝ }
+{
+    if numbers.len() == 0 {
+        return 0;
+    }
+    let mut i: usize = numbers.len() - 1;
+    while 0 < i {
+        let file = numbers[i];
+        if !detour_reads(starts, lengths, froms, tos, file) {
+            return file_end(starts, lengths, file);
+        }
+        i -= 1;
+    }
+    file_end(starts, lengths, numbers[0])
+}
+
+// The last sweep: from the start of the leftmost wanted file to its end.
+fn sweep_leg(starts: &[u64], numbers: &[u64], reach: u64) -> Leg
+    requires { ⌜ ((i : ℕ) → i < length (now numbers) → InTable (now starts) (getD (now numbers) i 0)) ⌝ }
+    requires { ⌜ 0 < length (now numbers) ⌝ }
+    ensures { λ r. ⌜ r ≡ record { left = getD (now (starts .entry)) (getD (now (numbers .entry)) 0 0 - 1) 0; right = reach } ⌝ }
+{
+    let left = file_start(starts, numbers[0]);
+    Leg { left, right: reach }
+}
+
+// A leg of the walk, counted from 0: a detour, or the last sweep, which ends at `reach`.
+fn leg_at(
+    starts: &[u64],
+    lengths: &[u64],
+    numbers: &[u64],
+    froms: &[u64],
+    tos: &[u64],
+    reach: u64,
+    i: usize,
+) -> Leg
+    requires { ⌜ RowsFit (now starts) (now lengths) (now numbers) (now froms) (now tos) ⌝ }
+    requires { ⌜ i < length (legsIn starts lengths numbers froms tos reach) ⌝ }
+    ensures { λ r. ⌜ r ≡ legAt (legsAt starts lengths numbers froms tos reach) i ⌝ }
+{
+    if i < froms.len() {
+        return detour_leg(starts, lengths, froms[i], tos[i]);
+    }
+    sweep_leg(starts, numbers, reach)
+}
+
 // When the walk reads a file of the table: walk the legs until the one that reads it.
 fn time_of(
     starts: &[u64],
@@ -109,21 +148,22 @@ fn time_of(
     numbers: &[u64],
     froms: &[u64],
     tos: &[u64],
+    reach: u64,
     head: u64,
     turn: u64,
     file: u64,
     legs: usize,
 ) -> u64
-    requires { ⌜ WalkFits (now starts) (now lengths) (now numbers) (now froms) (now tos) head turn legs ⌝ }
+    requires { ⌜ WalkFits (now starts) (now lengths) (now numbers) (now froms) (now tos) reach head turn legs ⌝ }
     requires { ⌜ InTable (now starts) file ⌝ }
-    ensures { λ r. ⌜ r ≡ timeOf turn (headAt head) (legsAt starts lengths numbers froms tos) (stopOf (now (starts .entry)) (now (lengths .entry)) file 0) ⌝ }
+    ensures { λ r. ⌜ r ≡ timeOf turn (headAt head) (legsAt starts lengths numbers froms tos reach) (stopOf (now (starts .entry)) (now (lengths .entry)) file 0) ⌝ }
 {
     let start = file_start(starts, file);
     let end = file_end(starts, lengths, file);
     let mut h = Head::at(head);
     let mut i: usize = 0;
     while i < legs {
-        let leg = leg_at(starts, lengths, numbers, froms, tos, i);
+        let leg = leg_at(starts, lengths, numbers, froms, tos, reach, i);
         let right = leg.right;
         let out = h.set_off(turn, leg);
         if reads_file(leg, start, end) {
@@ -143,17 +183,18 @@ fn walk_end(
     numbers: &[u64],
     froms: &[u64],
     tos: &[u64],
+    reach: u64,
     head: u64,
     turn: u64,
     legs: usize,
 ) -> Head
-    requires { ⌜ WalkFits (now starts) (now lengths) (now numbers) (now froms) (now tos) head turn legs ⌝ }
-    ensures { λ r. ⌜ r ≡ walked turn (headAt head) (legsAt starts lengths numbers froms tos) ⌝ }
+    requires { ⌜ WalkFits (now starts) (now lengths) (now numbers) (now froms) (now tos) reach head turn legs ⌝ }
+    ensures { λ r. ⌜ r ≡ walked turn (headAt head) (legsAt starts lengths numbers froms tos reach) ⌝ }
 {
     let mut h = Head::at(head);
     let mut i: usize = 0;
     while i < legs {
-        let leg = leg_at(starts, lengths, numbers, froms, tos, i);
+        let leg = leg_at(starts, lengths, numbers, froms, tos, reach, i);
         let right = leg.right;
         h = h.set_off(turn, leg).run_right(right);
         i += 1;
@@ -169,16 +210,17 @@ fn fill_times(
     counts: &[u64],
     froms: &[u64],
     tos: &[u64],
+    reach: u64,
     head: u64,
     turn: u64,
     legs: usize,
     times: &mut [u64],
 ) -> u64
-    requires { ⌜ WalkFits (now starts) (now lengths) (now numbers) (now froms) (now tos) head turn legs ⌝ }
+    requires { ⌜ WalkFits (now starts) (now lengths) (now numbers) (now froms) (now tos) reach head turn legs ⌝ }
     requires { ⌜ (length (now counts) ≡ length (now numbers)) × (total (now counts) ≤ mostReads) ⌝ }
     requires { ⌜ length (now numbers) ≤ length (now times) ⌝ }
-    ensures { λ r. ⌜ r ≡ sumOf turn (headAt head) (legsAt starts lengths numbers froms tos) (stopsAt starts lengths numbers counts) ⌝ }
-    ensures { λ r. ⌜ now (times .exit) ≡ timesOf turn (headAt head) (legsAt starts lengths numbers froms tos) (stopsAt starts lengths numbers counts) ++ drop (length (now (numbers .entry))) (now (times .entry)) ⌝ }
+    ensures { λ r. ⌜ r ≡ sumOf turn (headAt head) (legsAt starts lengths numbers froms tos reach) (stopsAt starts lengths numbers counts) ⌝ }
+    ensures { λ r. ⌜ now (times .exit) ≡ timesOf turn (headAt head) (legsAt starts lengths numbers froms tos reach) (stopsAt starts lengths numbers counts) ++ drop (length (now (numbers .entry))) (now (times .entry)) ⌝ }
 {
     let mut sum: u64 = 0;
     let mut i: usize = 0;
@@ -189,6 +231,7 @@ fn fill_times(
             numbers,
             froms,
             tos,
+            reach,
             head,
             turn,
             numbers[i],
@@ -245,6 +288,7 @@ pub fn price(
             place: 0,
         });
     }
+    let reach = sweep_end(starts, lengths, numbers, froms, tos);
     let legs = leg_count(numbers, froms);
     let sum = fill_times(
         starts,
@@ -253,12 +297,23 @@ pub fn price(
         counts,
         froms,
         tos,
+        reach,
         head,
         turn,
         legs,
         times,
     );
-    let last = walk_end(starts, lengths, numbers, froms, tos, head, turn, legs);
+    let last = walk_end(
+        starts,
+        lengths,
+        numbers,
+        froms,
+        tos,
+        reach,
+        head,
+        turn,
+        legs,
+    );
     Answer {
         refusal: Refusal::Accepted,
         place: 0,

@@ -5,9 +5,9 @@ use mathlib.Core.List.{List, [], _∷_}
 use Rattle.runs.specs.declared.Rule.the-variants.{Least}
 use Rattle.runs.specs.Run.{Run, runOf, stopsFrom, rightEnd}
 use Rattle.refusals.specs.Refusals.{firstWhere}
-use Rattle.walk.specs.Walk.{walked, timeOf, timesOf, sumOf}
+use Rattle.walk.specs.Walk.{walked, served, timeOf, timesOf, sumOf}
 use Rattle.runs.specs.Lists.{listOf}
-use Rattle.walk.specs.Detours.{startOf, endOf, legsOf, lastSweep}
+use Rattle.walk.specs.Detours.{startOf, endOf, unreadEnd, sweepEnd, legsOf, lastSweep}
 use Rattle.walk.specs.Price.{pricedAnswer, pricedTimes}
 use Rattle.texts.specs.Text.{bytes, has, before, behind, startsWith, allOf, valueFrom, isNumber, isName, decimalIn}
 use Rattle.sheets.specs.Lines.{lineOf, afterLines, isTapeLine, isNumberLine, isCountLine, isTurnLine, turnIn, isRuleLine, isPair, isPairLine}
@@ -36,7 +36,7 @@ unfolding sheetText topText pairLines decimalIn
 example-written = refl
 
 pub example-planned : planText name run (2 ∷ []) (2 ∷ []) ≡ plan
-unfolding planText planLines planTop pairLines decimalIn pricedAnswer pricedTimes listOf stopsFrom walked timeOf timesOf sumOf startOf endOf legsOf lastSweep rightEnd
+unfolding planText planLines planTop pairLines decimalIn pricedAnswer pricedTimes listOf stopsFrom walked timeOf timesOf sumOf startOf endOf served unreadEnd sweepEnd legsOf lastSweep rightEnd
 example-planned = refl
 
 pub example-described : firstBadLine sheet ≡ 0

@@ -43,8 +43,12 @@ void walk_list(const struct stops *run, const struct list *list, struct walk *wa
         go_leg(run, &head, run->start[list->start[i]], run->end[list->end[i]], read, walk->times);
         head.clock += run->turn;
     }
-    if (run->k > 0)
-        go_leg(run, &head, run->start[0], run->end[run->k - 1], read, walk->times);
+    if (run->k > 0) {
+        size_t last = run->k - 1;
+        while (last > 0 && read[last])
+            last--;
+        go_leg(run, &head, run->start[0], run->end[last], read, walk->times);
+    }
     walk->sum = 0;
     for (size_t i = 0; i < run->k; i++)
         walk->sum += run->count[i] * walk->times[i];

@@ -64,7 +64,9 @@ pub fn rightward_runs(run: &Run, list: &[Detour]) -> (Vec<Rightward>, Head) {
     if run.k() == 0 {
         return (runs, head);
     }
-    let sweep = (0, run.k() as u64 - 1);
+    let in_detour = |i: u64| list.iter().any(|&(a, b)| a <= i && i <= b);
+    let last = (0..run.k() as u64).rev().find(|&i| !in_detour(i));
+    let sweep = (0, last.expect("the leftmost want is in no detour"));
     for &(a, b) in list.iter().chain(Some(&sweep)) {
         if !runs.is_empty() {
             head = head.turned(run.turn);

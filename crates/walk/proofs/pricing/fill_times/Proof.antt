@@ -12,11 +12,11 @@ use Rattle.walk.proofs.pricing.fill_times.Statement.{statement}
 use Rattle.walk.proofs.pricing.fill_times.Tie as tie
 
 abbrev Inv-loop : tie.InvT-loop
-Inv-loop starts lengths numbers counts froms tos head turn legs times₀ sum₀ i₀ times sum i =
-    Filling (rowLegs starts lengths numbers froms tos) head turn (stopsFrom starts lengths numbers counts) counts times₀ times sum i
+Inv-loop starts lengths numbers counts froms tos reach head turn legs times₀ sum₀ i₀ times sum i =
+    Filling (rowLegs starts lengths numbers froms tos reach) head turn (stopsFrom starts lengths numbers counts) counts times₀ times sum i
 
 abbrev μ-loop : tie.MeasureT-loop
-μ-loop starts lengths numbers counts froms tos head turn legs times₀ sum₀ i₀ times sum i = length numbers - i
+μ-loop starts lengths numbers counts froms tos reach head turn legs times₀ sum₀ i₀ times sum i = length numbers - i
 
 loop-holds : tie.Need-loop-holds Inv-loop μ-loop
 loop-holds c = filling-start _ _ _ _ _ _

@@ -5,7 +5,8 @@ use mathlib.Core.Path.{_≡_, sym}
 use Rattle.runs.specs.Run.{Run, runOf, stopsOf}
 use Rattle.runs.specs.Lists.{listVerdict}
 use Rattle.runs.proofs.Judged.{GoodRun}
-use Rattle.walk.specs.Private.{WalkFits}
+use Rattle.walk.specs.Detours.{sweepEnd}
+use Rattle.walk.specs.Private.{detourLegs, WalkFits}
 use Rattle.walk.proofs.Walks.{GoodList, rows-fit, walkable, list-fits}
 use Rattle.walk.proofs.Priced.{run-refused, run-good, list-refused, list-good, row-refused, priced}
 use Rattle.walk.proofs.pricing.price.Statement.{statement}
@@ -82,35 +83,49 @@ good-list d =
     list-good (run s) (s .args .froms .now) (s .args .tos .now) (s .args .times .now) _ _ (e .before .before .judge .ensures) (e .before .refused .ensures)
     _ _ (list-is l) (d .before .refused2 .ensures) (e .if1 .left) (d .if2 .left)
 
+sweep-end-requires : tie.Need-sweep-end-requires
+sweep-end-requires c κs =
+    let d = c .before in
+    let e = d .before .before .before in
+    let s = start e in
+    rows-fit (run s) (good-run e) (s .args .froms .now) (s .args .tos .now) (good-list d)
+
 leg-count-requires : tie.Need-leg-count-requires
 leg-count-requires c κs =
-    let d = c .before in
+    let d = c .before .before in
     let e = d .before .before .before in
     let s = start e in
     list-fits (run s) (good-run e) (s .args .froms .now) (s .args .tos .now) (good-list d)
 
+-- The sweep ends where the definition says.
+swept : (w : tie.After-sweep-end) → let s = start (w .before .before .before .before .before) in
+    w .sweep-end .result ≡ sweepEnd (detourLegs (s .args .starts .now) (s .args .lengths .now) (s .args .froms .now) (s .args .tos .now)) (stopsOf (run s))
+swept w =
+    let e = w .before .before .before .before .before in
+    w .sweep-end .ensures (start e .args .counts .now) (sym (good-run e .wants .equal))
+
 -- So its legs can be walked.
-walk-fits : (n : tie.After-leg-count) → let s = start (n .before .before .before .before .before) in
-    WalkFits (s .args .starts .now) (s .args .lengths .now) (s .args .numbers .now) (s .args .froms .now) (s .args .tos .now) (s .args .head) (s .args .turn) (n .leg-count .result)
+walk-fits : (n : tie.After-leg-count) → let s = start (n .before .before .before .before .before .before) in
+    WalkFits (s .args .starts .now) (s .args .lengths .now) (s .args .numbers .now) (s .args .froms .now) (s .args .tos .now) (n .before .sweep-end .result) (s .args .head) (s .args .turn) (n .leg-count .result)
 walk-fits n =
-    let d = n .before .before in
+    let d = n .before .before .before in
     let e = d .before .before .before in
     let s = start e in
     let r = good-run e in
     let g = good-list d in
+    let to = n .before .sweep-end .result in
     record {
       fit = rows-fit (run s) r (s .args .froms .now) (s .args .tos .now) g;
-      within = walkable (run s) r (s .args .froms .now) (s .args .tos .now) g;
-      all = n .leg-count .ensures (s .args .starts .now) (s .args .lengths .now) (s .args .tos .now) (g .even);
+      within = walkable (run s) r (s .args .froms .now) (s .args .tos .now) g to (swept (n .before));
+      all = n .leg-count .ensures (s .args .starts .now) (s .args .lengths .now) (s .args .tos .now) to (g .even);
     }
 
 fill-times-requires : tie.Need-fill-times-requires
 fill-times-requires c κs =
-    let d = c .before .before .before in
+    let d = c .before .before .before .before in
     let e = d .before .before .before in
-    let s = start e in
     let r = good-run e in
-    (walk-fits (c .before), ((sym (r .wants .equal), r .wants .reads), c .before .before .if3 .left))
+    (walk-fits (c .before), ((sym (r .wants .equal), r .wants .reads), c .before .before .before .if3 .left))
 
 walk-end-requires : tie.Need-walk-end-requires
 walk-end-requires c κs =
@@ -123,13 +138,13 @@ returns-4 : tie.Need-returns-4
 returns-4 c =
     let f = c .before .before .before in
     let n = f .before .before in
-    let d = n .before .before in
+    let d = n .before .before .before in
     let l = d .before .before in
     let e = l .before in
     let s = start e in
     priced (run s) (s .args .froms .now) (s .args .tos .now) (s .args .times .now) _ _ (e .before .before .judge .ensures) (e .before .refused .ensures)
-    _ _ (list-is l) (d .before .refused2 .ensures) (e .if1 .left) (d .if2 .left) (n .before .if3 .left)
-    _ (f .fill-times .ensures .0) _ (f .fill-times .ensures .1) _ (c .walk-end .ensures)
+    _ _ (list-is l) (d .before .refused2 .ensures) (e .if1 .left) (d .if2 .left) (n .before .before .if3 .left)
+    _ (swept (n .before)) _ (f .fill-times .ensures .0) _ (f .fill-times .ensures .1) _ (c .walk-end .ensures)
 
 pub price-spec : {M : Type 1} → statement M
 price-spec =
@@ -145,6 +160,7 @@ price-spec =
     returns-2
     refuse-requires-3
     returns-3
+    sweep-end-requires
     leg-count-requires
     fill-times-requires
     walk-end-requires

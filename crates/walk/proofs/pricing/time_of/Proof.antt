@@ -13,11 +13,11 @@ use Rattle.walk.proofs.pricing.time_of.Statement.{statement}
 use Rattle.walk.proofs.pricing.time_of.Tie as tie
 
 abbrev Inv-loop : tie.InvT-loop
-Inv-loop starts lengths numbers froms tos head turn file legs start end h₀ i₀ h i =
-    Timing (rowLegs starts lengths numbers froms tos) head turn (stopOf starts lengths file 0) h i
+Inv-loop starts lengths numbers froms tos reach head turn file legs start end h₀ i₀ h i =
+    Timing (rowLegs starts lengths numbers froms tos reach) head turn (stopOf starts lengths file 0) h i
 
 abbrev μ-loop : tie.MeasureT-loop
-μ-loop starts lengths numbers froms tos head turn file legs start end h₀ i₀ h i = legs - i
+μ-loop starts lengths numbers froms tos reach head turn file legs start end h₀ i₀ h i = legs - i
 
 file-start-requires : tie.Need-file-start-requires Inv-loop μ-loop
 file-start-requires c κs = search needs
@@ -25,7 +25,7 @@ file-start-requires c κs = search needs
 file-end-requires : tie.Need-file-end-requires Inv-loop μ-loop
 file-end-requires c κs =
     let s = c .before .before .before .before .before .before in
-    (s .pre .0 .fit .table, s .pre .1)
+    (s .pre .0 .fit .list .table, s .pre .1)
 
 at-requires : tie.Need-at-requires Inv-loop μ-loop
 at-requires c κs = search needs
@@ -43,7 +43,7 @@ leg-at-requires c κs =
 -- The leg that was looked up is the walk's next.
 next : (c : tie.After-leg-at Inv-loop μ-loop)
     → let a = c .before .before .before .before .before .before .before .before .before .before .before .args in
-    NextLeg (rowLegs (a .starts .now) (a .lengths .now) (a .numbers .now) (a .froms .now) (a .tos .now)) (c .before .before .loop .h) (c .before .before .loop .i) (a .turn) (c .leg-at .result)
+    NextLeg (rowLegs (a .starts .now) (a .lengths .now) (a .numbers .now) (a .froms .now) (a .tos .now) (a .reach)) (c .before .before .loop .h) (c .before .before .loop .i) (a .turn) (c .leg-at .result)
 next c =
     let s = c .before .before .before .before .before .before .before .before .before .before .before in
     next-leg _ _ _ (s .pre .0 .within) _ _ (c .before .before .loop .inv .walking) (omega (arith, s .pre .0 .all, c .before .loop-test .taken)) _ (c .leg-at .ensures)

@@ -9,10 +9,10 @@ use Rattle.walk.proofs.pricing.walk_end.Statement.{statement}
 use Rattle.walk.proofs.pricing.walk_end.Tie as tie
 
 abbrev Inv-loop : tie.InvT-loop
-Inv-loop starts lengths numbers froms tos head turn legs h₀ i₀ h i = Ending (rowLegs starts lengths numbers froms tos) head turn h i
+Inv-loop starts lengths numbers froms tos reach head turn legs h₀ i₀ h i = Ending (rowLegs starts lengths numbers froms tos reach) head turn h i
 
 abbrev μ-loop : tie.MeasureT-loop
-μ-loop starts lengths numbers froms tos head turn legs h₀ i₀ h i = legs - i
+μ-loop starts lengths numbers froms tos reach head turn legs h₀ i₀ h i = legs - i
 
 at-requires : tie.Need-at-requires Inv-loop μ-loop
 at-requires c κs = search needs
@@ -30,7 +30,7 @@ leg-at-requires c κs =
 -- The leg that was looked up is the walk's next.
 next : (c : tie.After-leg-at Inv-loop μ-loop)
     → let a = c .before .before .before .before .before .before .before .before .before .args in
-    NextLeg (rowLegs (a .starts .now) (a .lengths .now) (a .numbers .now) (a .froms .now) (a .tos .now)) (c .before .before .loop .h) (c .before .before .loop .i) (a .turn) (c .leg-at .result)
+    NextLeg (rowLegs (a .starts .now) (a .lengths .now) (a .numbers .now) (a .froms .now) (a .tos .now) (a .reach)) (c .before .before .loop .h) (c .before .before .loop .i) (a .turn) (c .leg-at .result)
 next c =
     let s = c .before .before .before .before .before .before .before .before .before in
     next-leg _ _ _ (s .pre .within) _ _ (c .before .before .loop .inv .walking) (omega (arith, s .pre .all, c .before .loop-test .taken)) _ (c .leg-at .ensures)

@@ -1,0 +1,52 @@
+-- Request L2: the last sweep stops where nothing is left to read. The log's last event is a read, and no time has moved.
+use Prim.Native.Nat.{ℕ, _-_, _≤_, _<_}
+use mathlib.Core.Path.{_≡_}
+use mathlib.Core.Bool.{false}
+use mathlib.Core.List.{List}
+use lib.ListN.{length, getD}
+use Rattle.refusals.specs.declared.Refusal.the-variants.{Accepted}
+use Rattle.refusals.specs.Refusals.{isRefusal}
+use Rattle.walk.specs.declared.Answer.{Answer}
+use Rattle.runs.specs.declared.Rule.{Rule}
+use Rattle.runs.specs.Run.{Run, stopsOf}
+use Rattle.runs.specs.Judging.{judgeOf}
+use Rattle.runs.specs.Lists.{Detour}
+use Rattle.walk.specs.Walk.{headAt, timesOf, sumOf}
+use Rattle.walk.specs.Detours.{legsOf, fullLegsOf}
+use Rattle.walk.specs.Price.{priceAnswer, priceRow}
+use Rattle.planner.specs.Plan.{Rows, Plans}
+use Rattle.demands.specs.Table.{endOfFile}
+
+-- The finish is the time of one of the wants and no want has a later one; the end is the end of that want's file.
+pub record EndsWithARead (r : Run) (times : List ℕ) (answer : Answer) : Type 0 where
+  pub want : ℕ
+  pub within : want < length (r .numbers)
+  pub finish : answer .finish ≡ getD times want 0
+  pub latest : (i : ℕ) → i < length (r .numbers) → getD times i 0 ≤ answer .finish
+  pub end : answer .end ≡ endOfFile r (getD (r .numbers) want 0)
+
+-- So it is for every list that is priced, and for every plan, where anything is wanted.
+abbrev pub PriceEndsWithARead : Type 0
+PriceEndsWithARead =
+    (r : Run) (froms tos row : List ℕ) (answer : Answer) (out : List ℕ)
+    → answer ≡ priceAnswer r froms tos row
+    → out ≡ priceRow r froms tos row
+    → answer .refusal ≡ Accepted
+    → 0 < length (r .numbers)
+    → EndsWithARead r out answer
+
+abbrev pub PlanEndsWithARead : Type 0
+PlanEndsWithARead =
+    (r : Run) (rule : Rule) (before : Rows) (answer : Answer) (after : Rows)
+    → Plans r rule before answer after
+    → answer .refusal ≡ Accepted
+    → 0 < length (r .numbers)
+    → EndsWithARead r (after .times) answer
+
+-- Times and sums are what they were with a sweep that runs on to the rightmost wanted file, read or not; so lists and ties are too.
+pub record Stay (r : Run) (list : List Detour) : Type 0 where
+  pub times : timesOf (r .turn) (headAt (r .head)) (legsOf (stopsOf r) list) (stopsOf r) ≡ timesOf (r .turn) (headAt (r .head)) (fullLegsOf (stopsOf r) list) (stopsOf r)
+  pub sum : sumOf (r .turn) (headAt (r .head)) (legsOf (stopsOf r) list) (stopsOf r) ≡ sumOf (r .turn) (headAt (r .head)) (fullLegsOf (stopsOf r) list) (stopsOf r)
+
+abbrev pub TimesStay : Type 0
+TimesStay = (r : Run) → isRefusal (judgeOf r .refusal) ≡ false → (list : List Detour) → Stay r list

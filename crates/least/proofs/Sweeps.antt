@@ -1,0 +1,258 @@
+-- The last sweep ends where nothing is left to read. It still reads every stop that no detour has read, so that no time depends on where it
+-- ends; and the walk of a well-formed list ends with a read.
+use Prim.Native.Nat.{ℕ, zero, suc, _+_, _-_, _≤_, _<_}
+use mathlib.Core.Path.{_≡_, refl, sym, ap, _∙_}
+use mathlib.Core.Bool.{true, false, or-true, true≢false}
+use mathlib.Core.Logic.{⊎-elim}
+use mathlib.Core.List.{List, [], _∷_, _++_, map}
+use native.Mathlib.Omega.{arith}
+use lib.Dec.{eqb}
+use lib.ListN.{length}
+use borrow.Author.Tests.{le-leb, lt-leb, leb-false, eqb-true, not-false}
+use Rattle.walk.specs.declared.Head.{Head}
+use Rattle.walk.specs.declared.Leg.{Leg}
+use Rattle.runs.specs.Run.{Stop, rightEnd, stopAt}
+use Rattle.runs.specs.Lists.{Detour, wanted, badAlone, badEntry, entryOf, WellFormed, firstBadEntry}
+use Rattle.walk.specs.Walk.{headAt, setOff, afterLeg, runRight, walked, reads, served, ServesAll, timeOf}
+use Rattle.walk.specs.Detours.{startOf, legOf, unreadEnd, sweepEnd, lastSweep, legsOf, fullSweep, fullLegsOf}
+use Rattle.runs.proofs.Search.{true-or-false, or-false-both, first-zero}
+use Rattle.walk.proofs.Sound.{Sound}
+use Rattle.walk.proofs.Steps.{read-inside}
+use Rattle.walk.proofs.Sweeps.{Unread, unread-or-none, passed, kept}
+use Rattle.least.proofs.Movements.{faced-later, after-clock, time-when-read, time-when-not}
+use Rattle.least.proofs.Rising.{rises-by-steps}
+
+-- Stops further right end further right.
+abbrev EndsRise : List Stop → Type 0
+EndsRise ss = (i j : ℕ) → i < j → j < length ss → stopAt ss i .end ≤ stopAt ss j .end
+
+ends-rise : (stops : List Stop) (m : ℕ) → Sound stops m → EndsRise stops
+ends-rise stops m ok i j l h =
+    let up = rises-by-steps (λ k. stopAt stops k .end) j (λ k b. omega (arith, ok .apart k (omega arith), ok .extends (suc k) (omega arith))) i j l (omega arith) in
+    omega (arith, up)
+
+tail-rises : (s : Stop) (ss : List Stop) → EndsRise (s ∷ ss) → EndsRise ss
+tail-rises s ss up i j l h = up (suc i) (suc j) (omega arith) (omega arith)
+
+-- The search for the last unread stop never goes back, and so passes the end of none that is unread.
+module _ (gs : List Leg) where
+  no-sooner : (ss : List Stop) (e : ℕ) → EndsRise ss → ((i : ℕ) → i < length ss → e ≤ stopAt ss i .end) → e ≤ unreadEnd gs ss e
+  unfolding unreadEnd
+  no-sooner [] e up low = omega arith
+  no-sooner (s ∷ ss) e up low =
+      ⊎-elim
+      (λ t. rw (passed gs s ss e t) (no-sooner ss e (tail-rises s ss up) (λ i l. low (suc i) (omega arith))))
+      (λ f. let rest = no-sooner ss (s .end) (tail-rises s ss up) (λ i l. up 0 (suc i) (omega arith) (omega arith)) in omega (arith, kept gs s ss e f, rest, low 0 (omega arith)))
+      (true-or-false (served gs s))
+
+  reaches : (ss : List Stop) (e : ℕ) → EndsRise ss → (i : ℕ) → i < length ss → served gs (stopAt ss i) ≡ false → stopAt ss i .end ≤ unreadEnd gs ss e
+  unfolding unreadEnd
+  reaches [] e up i l f = absurd (omega arith)
+  reaches (s ∷ ss) e up zero l f = rw (kept gs s ss e f) (no-sooner ss (s .end) (tail-rises s ss up) (λ i b. up 0 (suc i) (omega arith) (omega arith)))
+  reaches (s ∷ ss) e up (suc i) l f = reaches ss _ (tail-rises s ss up) i (omega arith) f
+
+  sweep-reaches : (s : Stop) (ss : List Stop) → EndsRise (s ∷ ss) → (i : ℕ) → i < length (s ∷ ss) → served gs (stopAt (s ∷ ss) i) ≡ false
+      → stopAt (s ∷ ss) i .end ≤ sweepEnd gs (s ∷ ss)
+  unfolding sweepEnd
+  sweep-reaches s ss up zero l f = no-sooner ss (s .end) (tail-rises s ss up) (λ i b. up 0 (suc i) (omega arith) (omega arith))
+  sweep-reaches s ss up (suc i) l f = reaches ss (s .end) (tail-rises s ss up) i (omega arith) f
+
+-- A sweep from the leftmost stop.
+module _ (first : Stop) (later : List Stop) (m : ℕ) (ok : Sound (first ∷ later) m) where
+  starts-right : (i : ℕ) → i < length (first ∷ later) → first .start ≤ stopAt (first ∷ later) i .start
+  starts-right zero l = omega arith
+  starts-right (suc i) l =
+      let before = starts-right i (omega arith) in
+      omega (arith, before, ok .extends i (omega arith), ok .apart i l)
+
+tail-sound : (s : Stop) (ss : List Stop) (m : ℕ) → Sound (s ∷ ss) m → Sound ss m
+tail-sound s ss m ok =
+    record {
+      named = λ i l. ok .named (suc i) (omega arith);
+      ascends = λ i l. ok .ascends (suc i) (omega arith);
+      extends = λ i l. ok .extends (suc i) (omega arith);
+      apart = λ i l. ok .apart (suc i) (omega arith);
+      counted = λ i l. ok .counted (suc i) (omega arith);
+      reached = λ i l. ok .reached (suc i) (omega arith);
+    }
+
+rightmost : (s : Stop) (ss : List Stop) (m : ℕ) → Sound (s ∷ ss) m → (i : ℕ) → i < length (s ∷ ss) → stopAt (s ∷ ss) i .end ≤ rightEnd (s ∷ ss)
+unfolding rightEnd
+rightmost s [] m ok zero l = omega arith
+rightmost s [] m ok (suc i) l = absurd (omega arith)
+rightmost s (t ∷ ts) m ok zero l =
+    let rest = rightmost t ts m (tail-sound s (t ∷ ts) m ok) 0 (omega arith) in
+    omega (arith, rest, ok .apart 0 (omega arith), ok .extends 1 (omega arith))
+rightmost s (t ∷ ts) m ok (suc i) l = rightmost t ts m (tail-sound s (t ∷ ts) m ok) i (omega arith)
+
+module _ (s : Stop) (ss : List Stop) (m : ℕ) (ok : Sound (s ∷ ss) m) (list : List Detour) (i : ℕ) (l : i < length (s ∷ ss)) where
+  detours : List Leg
+  detours = map (legOf (s ∷ ss)) list
+
+  -- The last sweep reads what no detour has; the full one reads everything.
+  sweep-reads : served detours (stopAt (s ∷ ss) i) ≡ false → reads (record { left = s .start; right = sweepEnd detours (s ∷ ss) }) (stopAt (s ∷ ss) i) ≡ true
+  sweep-reads f =
+      rw (
+        le-leb (s .start) (stopAt (s ∷ ss) i .start) (starts-right s ss m ok i l),
+        le-leb (stopAt (s ∷ ss) i .end) (sweepEnd detours (s ∷ ss)) (sweep-reaches detours s ss (ends-rise (s ∷ ss) m ok) i l f),
+      )
+
+  full-reads : reads (record { left = s .start; right = rightEnd (s ∷ ss) }) (stopAt (s ∷ ss) i) ≡ true
+  full-reads = rw (le-leb (s .start) (stopAt (s ∷ ss) i .start) (starts-right s ss m ok i l), le-leb (stopAt (s ∷ ss) i .end) (rightEnd (s ∷ ss)) (rightmost s ss m ok i l))
+
+-- The time of a stop is the same with either of two last legs from the same start that both read it, or where it has been read before.
+last-alike : (U : ℕ) (gs : List Leg) (a b : Leg) (s : Stop) → a .left ≡ b .left → (served gs s ≡ false → reads a s ≡ reads b s)
+    → (h : Head) → timeOf U h (gs ++ a ∷ []) s ≡ timeOf U h (gs ++ b ∷ []) s
+unfolding served timeOf
+last-alike U [] a b s e alike h = rw (alike refl, e)
+last-alike U (g ∷ gs) a b s e alike h =
+    ⊎-elim
+    (λ t. rw t)
+    (λ f. rw f (last-alike U gs a b s e (λ n. alike (rw (f, n))) (afterLeg U h g)))
+    (true-or-false (reads g s))
+
+-- No time depends on where the last sweep ends.
+pub times-stay : (stops : List Stop) (m : ℕ) → Sound stops m → (list : List Detour) (U : ℕ) (h : Head) (i : ℕ) → i < length stops
+    → timeOf U h (legsOf stops list) (stopAt stops i) ≡ timeOf U h (fullLegsOf stops list) (stopAt stops i)
+unfolding legsOf lastSweep fullLegsOf fullSweep detours
+times-stay [] m ok list U h i l = absurd (omega arith)
+times-stay (s ∷ ss) m ok list U h i l =
+    last-alike U (map (legOf (s ∷ ss)) list) _ _ (stopAt (s ∷ ss) i) refl (λ f. sweep-reads s ss m ok list i l f ∙ sym (full-reads s ss m ok list i l)) h
+
+-- What is served by some legs is served by more.
+served-after : (gs hs : List Leg) (s : Stop) → served hs s ≡ true → served (gs ++ hs) s ≡ true
+unfolding served
+served-after [] hs s e = e
+served-after (g ∷ gs) hs s e = rw (served-after gs hs s e, or-true)
+
+served-before : (gs hs : List Leg) (s : Stop) → served gs s ≡ true → served (gs ++ hs) s ≡ true
+unfolding served
+served-before [] hs s e = absurd (true≢false (sym e))
+served-before (g ∷ gs) hs s e =
+    ⊎-elim (λ t. rw t) (λ f. rw f (served-before gs hs s (rw f at e))) (true-or-false (reads g s))
+
+serves-each : (gs : List Leg) (ss : List Stop) → ((i : ℕ) → i < length ss → served gs (stopAt ss i) ≡ true) → ServesAll gs ss
+unfolding ServesAll
+serves-each gs [] h = tt
+serves-each gs (s ∷ ss) h = (rw (h 0 (omega arith)) tt, serves-each gs ss (λ i l. h (suc i) (omega arith)))
+
+-- The walk of a list reads every stop: what no detour reads, the last sweep does.
+pub all-served : (stops : List Stop) (m : ℕ) → Sound stops m → (list : List Detour) → ServesAll (legsOf stops list) stops
+unfolding legsOf lastSweep served detours
+all-served [] m ok list = serves-each (legsOf [] list) [] (λ i l. absurd (omega arith))
+all-served (s ∷ ss) m ok list =
+    serves-each (legsOf (s ∷ ss) list) (s ∷ ss)
+    (λ i l.
+    ⊎-elim
+    (λ t. served-before (map (legOf (s ∷ ss)) list) (lastSweep (s ∷ ss) list) (stopAt (s ∷ ss) i) t)
+    (λ f. served-after (map (legOf (s ∷ ss)) list) (lastSweep (s ∷ ss) list) (stopAt (s ∷ ss) i) (rw (sweep-reads s ss m ok list i l f)))
+    (true-or-false (served (map (legOf (s ∷ ss)) list) (stopAt (s ∷ ss) i))))
+
+-- The clock never falls, so that no read comes after the walk's end.
+clock-grows : (U : ℕ) (h : Head) (gs : List Leg) → h .clock ≤ walked U h gs .clock
+unfolding walked
+clock-grows U h [] = omega arith
+clock-grows U h (g ∷ gs) = omega (arith, clock-grows U (afterLeg U h g) gs, after-clock U h g, faced-later (h .way) h U)
+
+time-by-end : (U : ℕ) (h : Head) (gs : List Leg) (s : Stop) → timeOf U h gs s ≤ walked U h gs .clock
+unfolding timeOf walked
+time-by-end U h [] s = omega arith
+time-by-end U h (g ∷ gs) s =
+    ⊎-elim
+    (λ t. rw t (omega (arith, clock-grows U (afterLeg U h g) gs, read-inside g s t .1)))
+    (λ f. rw f (time-by-end U (afterLeg U h g) gs s))
+    (true-or-false (reads g s))
+
+-- The last leg, after the others.
+module _ (U : ℕ) (a : Leg) where
+  walked-last : (h : Head) (gs : List Leg) → walked U h (gs ++ a ∷ []) ≡ afterLeg U (walked U h gs) a
+  unfolding walked
+  walked-last h [] = refl
+  walked-last h (g ∷ gs) = walked-last (afterLeg U h g) gs
+
+  time-last : (h : Head) (gs : List Leg) (s : Stop) → served gs s ≡ false → reads a s ≡ true
+      → timeOf U h (gs ++ a ∷ []) s ≡ runRight (setOff U (walked U h gs) a) (s .end) .clock
+  unfolding timeOf walked served
+  time-last h [] s f t = time-when-read U h a [] s t
+  time-last h (g ∷ gs) s f t =
+      let n = or-false-both _ _ f in
+      time-when-not U h g (gs ++ a ∷ []) s (n .0) ∙ time-last (afterLeg U h g) gs s (n .1) t
+
+-- A file right of a place starts right of it; a well-formed list's detours start right of the leftmost stop, so none of them reads it.
+starts-past : (a : ℕ) (ss : List Stop) (f : ℕ) → ((i : ℕ) → i < length ss → a < stopAt ss i .start) → wanted ss f ≡ true → a < startOf ss f
+unfolding wanted startOf
+starts-past a [] f low w = absurd (true≢false (sym w))
+starts-past a (s ∷ ss) f low w =
+    ⊎-elim
+    (λ here. rw here (low 0 (omega arith)))
+    (λ away. rw away (starts-past a ss f (λ i l. low (suc i) (omega arith)) (rw away at w)))
+    (true-or-false (eqb (s .file) f))
+
+module _ (s : Stop) (ss : List Stop) (m : ℕ) (ok : Sound (s ∷ ss) m) where
+  past-first : (i : ℕ) → i < length ss → s .start < stopAt ss i .start
+  past-first i l = omega (arith, ok .extends 0 (omega arith), ok .apart 0 (omega arith), starts-right-of i l)
+    where
+      starts-right-of : (i : ℕ) → i < length ss → s .end ≤ stopAt ss i .start
+      starts-right-of zero l = ok .apart 0 (omega arith)
+      starts-right-of (suc i) l = omega (arith, starts-right-of i (omega arith), ok .extends (suc i) (omega arith), ok .apart (suc i) (omega arith))
+
+  detour-past-first : (d : Detour) → badAlone (s ∷ ss) d ≡ false → s .start < startOf (s ∷ ss) (d .from)
+  unfolding wanted startOf
+  detour-past-first d b =
+      let four = or-false-both _ _ b in
+      let two = or-false-both _ _ (or-false-both _ _ (four .0) .0) in
+      let asked : wanted (s ∷ ss) (d .from) ≡ true = not-false _ (two .0) in
+      let right : s .file < d .from = leb-false (d .from) (s .file) (four .1) in
+      ⊎-elim
+      (λ here. let e = eqb-true (s .file) (d .from) here in absurd (omega arith))
+      (λ away. rw away (starts-past (s .start) ss (d .from) past-first (rw away at asked)))
+      (true-or-false (eqb (s .file) (d .from)))
+
+  none-reads-first : (ds : List Detour) → ((i : ℕ) → i < length ds → badAlone (s ∷ ss) (entryOf ds i) ≡ false) → served (map (legOf (s ∷ ss)) ds) s ≡ false
+  unfolding served
+  none-reads-first [] each = refl
+  none-reads-first (d ∷ ds) each =
+      rw (lt-leb (startOf (s ∷ ss) (d .from)) (s .start) (detour-past-first d (each 0 (omega arith)))) (none-reads-first ds (λ i l. each (suc i) (omega arith)))
+
+-- The last event of a walk is a read: its clock is the largest of the stops' times, and its place the end of the stop that has it.
+pub record LastRead (U : ℕ) (h : Head) (gs : List Leg) (stops : List Stop) : Type 0 where
+  pub index : ℕ
+  pub within : index < length stops
+  pub clock : walked U h gs .clock ≡ timeOf U h gs (stopAt stops index)
+  pub place : walked U h gs .place ≡ stopAt stops index .end
+  pub latest : (i : ℕ) → i < length stops → timeOf U h gs (stopAt stops i) ≤ walked U h gs .clock
+
+module _ (s : Stop) (ss : List Stop) (m : ℕ) (ok : Sound (s ∷ ss) m) (list : List Detour) (formed : WellFormed (s ∷ ss) list) (U : ℕ) where
+  gs : List Leg
+  gs = map (legOf (s ∷ ss)) list
+
+  first-unread : served gs s ≡ false
+  unfolding gs firstBadEntry
+  first-unread = none-reads-first s ss m ok list (λ i l. or-false-both _ _ (first-zero (badEntry (s ∷ ss) list) (length list) formed i l) .0)
+
+  read-last : (i : ℕ) → i < length (s ∷ ss) → served gs (stopAt (s ∷ ss) i) ≡ false → sweepEnd gs (s ∷ ss) ≡ stopAt (s ∷ ss) i .end
+      → LastRead U (headAt m) (legsOf (s ∷ ss) list) (s ∷ ss)
+  unfolding legsOf lastSweep gs detours
+  read-last i l f e =
+      let sweep : Leg = record { left = s .start; right = sweepEnd gs (s ∷ ss) } in
+      let ends = walked-last U sweep (headAt m) gs in
+      record {
+        index = i;
+        within = l;
+        clock = ap (λ h. h .clock) ends ∙ ap (λ x. runRight (setOff U (walked U (headAt m) gs) sweep) x .clock) e ∙ sym (time-last U sweep (headAt m) gs (stopAt (s ∷ ss) i) f (sweep-reads s ss m ok list i l f));
+        place = ap (λ h. h .place) ends ∙ e;
+        latest = λ j b. time-by-end U (headAt m) (legsOf (s ∷ ss) list) (stopAt (s ∷ ss) j);
+      }
+
+  ends-with-a-read : LastRead U (headAt m) (legsOf (s ∷ ss) list) (s ∷ ss)
+  unfolding sweepEnd
+  ends-with-a-read =
+      ⊎-elim
+      (λ q. read-last 0 (omega arith) first-unread q)
+      (λ u. read-last (suc (u .index)) (omega (arith, u .within)) (u .unread) (u .is))
+      (unread-or-none gs ss (s .end))
+
+pub last-read : (stops : List Stop) (m : ℕ) → Sound stops m → 0 < length stops → (list : List Detour) → WellFormed stops list → (U : ℕ)
+    → LastRead U (headAt m) (legsOf stops list) stops
+last-read [] m ok some list formed U = absurd (omega arith)
+last-read (s ∷ ss) m ok some list formed U = ends-with-a-read s ss m ok list formed U
