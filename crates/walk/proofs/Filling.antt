@@ -1,9 +1,9 @@
--- Filling the row of times and adding up the sum: what is done with what is left is the whole, and nothing wraps.
+-- Filling the rows for times and legs and adding up the sum: what is done with what is left is the whole, and nothing wraps.
 use Prim.Native.Nat.{ℕ, zero, suc, _+_, _-_, _*_, _≤_, _<_, _^_}
 use mathlib.Core.Path.{_≡_, refl, ap, _∙_}
 use mathlib.Core.Bool.{true, false}
 use mathlib.Core.Logic.{⊎-elim}
-use mathlib.Core.List.{List, [], _∷_, _++_, append-assoc, append-nil}
+use mathlib.Core.List.{List, [], _∷_, _++_, map, append-assoc, append-nil}
 use native.Mathlib.Omega.{arith}
 use native.Mathlib.Nat.{mul-le-mul-left}
 use native.Mathlib.Numerals.{add-one}
@@ -11,19 +11,19 @@ use lib.ListN.{length, getD, take, drop, set, length-set, take-append-drop, drop
 use lib.Seq.{drop-cons, take-suc-set, drop-set-lt, drop-drop}
 use Rattle.walk.specs.declared.Head.{Head}
 use Rattle.walk.specs.declared.Leg.{Leg}
+use Rattle.walk.specs.declared.Read.{Read}
 use Rattle.runs.specs.Run.{Stop, stopOf, stopsFrom, total, mostReads, lastPlace, highestTurn}
-use Rattle.walk.specs.Walk.{headAt, setOff, afterLeg, Moves, walked, reads, timeOf, timesOf, sumOf}
+use Rattle.walk.specs.Walk.{headAt, setOff, afterLeg, Moves, walked, reads, timeOf, legFrom, legFor, readOf, timesOf, legsFor, sumOf}
 use Rattle.walk.specs.Private.{legAt, Walkable}
 use Rattle.runs.proofs.Search.{true-or-false}
 use Rattle.runs.proofs.Accepted.{total-drop}
 use Rattle.walk.proofs.Steps.{set-off-clock, read-inside}
 use Rattle.walk.proofs.Legs.{legMost}
 
--- One time for each stop.
-pub one-time-each : (price : ℕ) (h : Head) (gs : List Leg) (stops : List Stop) → length (timesOf price h gs stops) ≡ length stops
-unfolding timesOf
-one-time-each price h gs [] = refl
-one-time-each price h gs (s ∷ ss) = ap suc (one-time-each price h gs ss)
+-- One number for each stop.
+pub one-each : (f : Stop → ℕ) (stops : List Stop) → length (map f stops) ≡ length stops
+one-each f [] = refl
+one-each f (s ∷ ss) = ap suc (one-each f ss)
 
 -- The stops read off the rows, one for each want.
 module _ (starts lengths : List ℕ) where
@@ -47,11 +47,16 @@ module _ (starts lengths : List ℕ) where
       let nowhere : Stop = record { file = 0; start = 0; end = 0; count = 0 } in
       rw (add-one, drop-cons (stopsFrom starts lengths ns cs) i nowhere (omega (arith, stops-length ns cs e)), stop-at ns cs e i l nowhere)
 
-  -- How often a file is wanted has no part in its time.
+  -- How often a file is wanted has no part in its time, nor in its leg.
   count-free : (price : ℕ) (h : Head) (gs : List Leg) (f c : ℕ) → timeOf price h gs (stopOf starts lengths f 0) ≡ timeOf price h gs (stopOf starts lengths f c)
   unfolding timeOf
   count-free price h [] f c = refl
   count-free price h (g ∷ gs) f c = rw (count-free price (afterLeg price h g) gs f c)
+
+  leg-count-free : (n : ℕ) (gs : List Leg) (f c : ℕ) → legFrom n gs (stopOf starts lengths f 0) ≡ legFrom n gs (stopOf starts lengths f c)
+  unfolding legFrom
+  leg-count-free n [] f c = refl
+  leg-count-free n (g ∷ gs) f c = rw (leg-count-free (suc n) gs f c)
 
 -- No time passes what the legs can cost.
 abbrev pub timeMost : ℕ
@@ -101,25 +106,46 @@ time-bound gs head turn w s =
     let b = time-within turn (w .cheap) gs (headAt head) (w .near) (w .moves) (w .onTape) s in
     omega (arith, b, w .few)
 
-pub record Filling (gs : List Leg) (head turn : ℕ) (stops : List Stop) (counts row₀ row : List ℕ) (sum i : ℕ) : Type 0 where
-  pub within : i ≤ length stops
+-- A row that is being filled with a number for each stop: the first i entries are there, the rest is as it was.
+pub record RowFilling (f : Stop → ℕ) (stops : List Stop) (row₀ row : List ℕ) (i : ℕ) : Type 0 where
   pub same : length row ≡ length row₀
-  pub done : take i row ++ timesOf turn (headAt head) gs (drop i stops) ≡ timesOf turn (headAt head) gs stops
+  pub done : take i row ++ map f (drop i stops) ≡ map f stops
   pub rest : drop i row ≡ drop i row₀
+
+module _ (f : Stop → ℕ) where
+  row-start : (stops : List Stop) (row : List ℕ) → RowFilling f stops row row 0
+  row-start stops row = record { same = refl; done = start row stops; rest = refl }
+    where
+      start : (row : List ℕ) (stops : List Stop) → take 0 row ++ map f (drop 0 stops) ≡ map f stops
+      start [] [] = refl
+      start [] (s ∷ ss) = refl
+      start (x ∷ row) [] = refl
+      start (x ∷ row) (s ∷ ss) = refl
+
+  row-on : (stops : List Stop) (row₀ row : List ℕ) (i : ℕ) → RowFilling f stops row₀ row i → (s : Stop) → drop i stops ≡ s ∷ drop (i + 1) stops
+      → (n : ℕ) → n ≡ f s → i < length row → RowFilling f stops row₀ (set row i n) (i + 1)
+  row-on stops row₀ row i p s next n is l =
+      record {
+        same = length-set row i n ∙ p .same;
+        done = rw (add-one, take-suc-set row i n l, append-assoc, ← add-one i) (rw is (rw next at (p .done)));
+        rest = rw (drop-set-lt (i + 1) row i n (omega arith), ← (drop-drop 1 i row), p .rest, drop-drop 1 i row₀);
+      }
+
+  row-whole : (stops : List Stop) (row₀ row : List ℕ) (i : ℕ) → RowFilling f stops row₀ row i → drop i stops ≡ [] → row ≡ map f stops ++ drop i row₀
+  row-whole stops row₀ row i p none = rw (← (p .done), none, append-nil, ← (p .rest), take-append-drop)
+
+pub record Filling (gs : List Leg) (head turn : ℕ) (stops : List Stop) (counts times₀ legs₀ times legs : List ℕ) (sum i : ℕ) : Type 0 where
+  pub within : i ≤ length stops
+  pub timed : RowFilling (timeOf turn (headAt head) gs) stops times₀ times i
+  pub numbered : RowFilling (legFor gs) stops legs₀ legs i
   pub whole : sum + sumOf turn (headAt head) gs (drop i stops) ≡ sumOf turn (headAt head) gs stops
   pub small : sum + timeMost * total (drop i counts) ≤ timeMost * total counts
 
 -- Nothing filled yet.
-pub filling-start : (gs : List Leg) (head turn : ℕ) (stops : List Stop) (counts row : List ℕ) → Filling gs head turn stops counts row row 0 0
-filling-start gs head turn stops counts row =
-    record { within = omega arith; same = refl; done = start row stops; rest = refl; whole = added stops; small = reads-left counts }
+pub filling-start : (gs : List Leg) (head turn : ℕ) (stops : List Stop) (counts times legs : List ℕ) → Filling gs head turn stops counts times legs times legs 0 0
+filling-start gs head turn stops counts times legs =
+    record { within = omega arith; timed = row-start _ stops times; numbered = row-start _ stops legs; whole = added stops; small = reads-left counts }
   where
-    start : (row : List ℕ) (stops : List Stop) → take 0 row ++ timesOf turn (headAt head) gs (drop 0 stops) ≡ timesOf turn (headAt head) gs stops
-    start [] [] = refl
-    start [] (s ∷ ss) = refl
-    start (x ∷ row) [] = refl
-    start (x ∷ row) (s ∷ ss) = refl
-
     added : (stops : List Stop) → 0 + sumOf turn (headAt head) gs (drop 0 stops) ≡ sumOf turn (headAt head) gs stops
     added [] = omega arith
     added (s ∷ ss) = omega arith
@@ -128,34 +154,40 @@ filling-start gs head turn stops counts row =
     reads-left [] = omega arith
     reads-left (c ∷ cs) = omega arith
 
-module _ (starts lengths ns cs : List ℕ) (equal : length cs ≡ length ns) (gs : List Leg) (head turn : ℕ) (row₀ row : List ℕ) (sum i : ℕ)
-    (p : Filling gs head turn (stopsFrom starts lengths ns cs) cs row₀ row sum i) where
-  module _ (w : Walkable gs head turn) (l : i < length ns) (t : ℕ) (is : t ≡ timeOf turn (headAt head) gs (stopOf starts lengths (getD ns i 0) 0)) where
-    pub time-small : t ≤ timeMost
+module _ (starts lengths ns cs : List ℕ) (equal : length cs ≡ length ns) (gs : List Leg) (head turn : ℕ) (times₀ legs₀ times legs : List ℕ) (sum i : ℕ)
+    (p : Filling gs head turn (stopsFrom starts lengths ns cs) cs times₀ legs₀ times legs sum i) where
+  module _ (w : Walkable gs head turn) (l : i < length ns) (t : Read) (is : t ≡ readOf turn (headAt head) gs (stopOf starts lengths (getD ns i 0) 0)) where
+    time-small : t .time ≤ timeMost
     time-small = rw is (time-bound gs head turn w (stopOf starts lengths (getD ns i 0) 0))
 
-    is-time : t ≡ timeOf turn (headAt head) gs (stopOf starts lengths (getD ns i 0) (getD cs i 0))
-    is-time = is ∙ count-free starts lengths turn (headAt head) gs (getD ns i 0) (getD cs i 0)
+    is-time : t .time ≡ timeOf turn (headAt head) gs (stopOf starts lengths (getD ns i 0) (getD cs i 0))
+    is-time = ap (λ x. x .time) is ∙ count-free starts lengths turn (headAt head) gs (getD ns i 0) (getD cs i 0)
 
-    product-small : getD cs i 0 * t ≤ getD cs i 0 * timeMost
+    is-leg : t .leg ≡ legFor gs (stopOf starts lengths (getD ns i 0) (getD cs i 0))
+    is-leg = ap (λ x. x .leg) is ∙ leg-count-free starts lengths 1 gs (getD ns i 0) (getD cs i 0)
+
+    product-small : getD cs i 0 * t .time ≤ getD cs i 0 * timeMost
     product-small = mul-le-mul-left (getD cs i 0) time-small
 
     -- The product and the sum stay far below what a word holds.
-    pub product-fits : total cs ≤ mostReads → getD cs i 0 * t < 2 ^ 64
+    pub product-fits : total cs ≤ mostReads → getD cs i 0 * t .time < 2 ^ 64
     product-fits few = omega (arith, product-small, total-drop cs i (omega arith), p .small)
 
-    pub sum-fits : total cs ≤ mostReads → sum + getD cs i 0 * t < 2 ^ 64
+    pub sum-fits : total cs ≤ mostReads → sum + getD cs i 0 * t .time < 2 ^ 64
     sum-fits few = omega (arith, product-small, total-drop cs i (omega arith), p .small)
 
-    pub filled-one : i < length row → Filling gs head turn (stopsFrom starts lengths ns cs) cs row₀ (set row i t) (sum + getD cs i 0 * t) (i + 1)
-    unfolding timesOf sumOf
-    filled-one h =
+    next : drop i (stopsFrom starts lengths ns cs) ≡ stopOf starts lengths (getD ns i 0) (getD cs i 0) ∷ drop (i + 1) (stopsFrom starts lengths ns cs)
+    next = stops-drop starts lengths ns cs equal i l
+
+    pub filled-one : i < length times → i < length legs
+        → Filling gs head turn (stopsFrom starts lengths ns cs) cs times₀ legs₀ (set times i (t .time)) (set legs i (t .leg)) (sum + getD cs i 0 * t .time) (i + 1)
+    unfolding sumOf
+    filled-one h k =
         record {
           within = omega (arith, stops-length starts lengths ns cs equal);
-          same = length-set row i t ∙ p .same;
-          done = rw (add-one, take-suc-set row i t h, append-assoc, ← add-one i) (rw (is-time) (rw (stops-drop starts lengths ns cs equal i l) at (p .done)));
-          rest = rw (drop-set-lt (i + 1) row i t (omega arith), ← (drop-drop 1 i row), p .rest, drop-drop 1 i row₀);
-          whole = rw is-time (omega (arith, rw (stops-drop starts lengths ns cs equal i l) at (p .whole)));
+          timed = row-on _ _ times₀ times i (p .timed) _ next (t .time) is-time h;
+          numbered = row-on _ _ legs₀ legs i (p .numbered) _ next (t .leg) is-leg k;
+          whole = rw is-time (omega (arith, rw next at (p .whole)));
           small = omega (arith, product-small, total-drop cs i (omega arith), p .small);
         }
 
@@ -163,11 +195,16 @@ module _ (starts lengths ns cs : List ℕ) (equal : length cs ≡ length ns) (gs
   none-left : length ns ≤ i → drop i (stopsFrom starts lengths ns cs) ≡ []
   none-left h = let past : length (stopsFrom starts lengths ns cs) ≤ i = omega (arith, stops-length starts lengths ns cs equal) in drop-of-length-le (stopsFrom starts lengths ns cs) past
 
-  pub filled-row : length ns ≤ i → row ≡ timesOf turn (headAt head) gs (stopsFrom starts lengths ns cs) ++ drop (length ns) row₀
+  all-done : length ns ≤ i → length ns ≡ i
+  all-done h = omega (arith, p .within, stops-length starts lengths ns cs equal)
+
+  pub filled-times : length ns ≤ i → times ≡ timesOf turn (headAt head) gs (stopsFrom starts lengths ns cs) ++ drop (length ns) times₀
   unfolding timesOf
-  filled-row h =
-      let at : length ns ≡ i = omega (arith, p .within, stops-length starts lengths ns cs equal) in
-      rw (at, ← (p .done), none-left h, append-nil, ← (p .rest), take-append-drop)
+  filled-times h = rw (all-done h) (row-whole _ _ times₀ times i (p .timed) (none-left h))
+
+  pub filled-legs : length ns ≤ i → legs ≡ legsFor gs (stopsFrom starts lengths ns cs) ++ drop (length ns) legs₀
+  unfolding legsFor
+  filled-legs h = rw (all-done h) (row-whole _ _ legs₀ legs i (p .numbered) (none-left h))
 
   pub filled-sum : length ns ≤ i → sum ≡ sumOf turn (headAt head) gs (stopsFrom starts lengths ns cs)
   unfolding sumOf

@@ -10,8 +10,9 @@ use lib.Seq.{drop-cons, getD-append-add}
 use lib.Dec.{leb}
 use Rattle.walk.specs.declared.Head.{Head}
 use Rattle.walk.specs.declared.Leg.{Leg}
+use Rattle.walk.specs.declared.Read.{Read}
 use Rattle.runs.specs.Run.{Stop, endAt, lastPlace}
-use Rattle.walk.specs.Walk.{headAt, runRight, setOff, afterLeg, Moves, walked, timeOf}
+use Rattle.walk.specs.Walk.{headAt, runRight, setOff, afterLeg, Moves, walked, timeOf, legFrom, legFor, readOf}
 use Rattle.walk.specs.Private.{detourLegs, sweepLegs, rowLegs, legAt, Walkable}
 use Rattle.walk.proofs.Steps.{ready-place, set-off-clock, read-inside}
 
@@ -154,31 +155,41 @@ module _ (gs : List Leg) (head turn : ℕ) where
     unfolding walked
     ended l = rw (drop-of-length-le gs l) at (p .same)
 
--- A file's time, as the loop has it: no leg so far has read it.
+-- A file's time and leg, as the loop has them: no leg so far has read it.
 pub record Timing (gs : List Leg) (head turn : ℕ) (s : Stop) (h : Head) (i : ℕ) : Type 0 where
   pub walking : Walking gs h i
-  pub same : timeOf turn h (drop i gs) s ≡ timeOf turn (headAt head) gs s
+  pub time : timeOf turn h (drop i gs) s ≡ timeOf turn (headAt head) gs s
+  pub leg : legFrom (i + 1) (drop i gs) s ≡ legFor gs s
+
+-- Equal times and equal legs make equal reads.
+same-read : {t t′ n n′ : ℕ} → t ≡ t′ → n ≡ n′ → _≡_ {A = Read} (record { time = t; leg = n }) (record { time = t′; leg = n′ })
+same-read e f = rw (e, f)
 
 module _ (gs : List Leg) (head turn : ℕ) (s : Stop) where
   pub timing-start : Walkable gs head turn → Timing gs head turn s (headAt head) 0
-  timing-start w = record { walking = walking-start gs head turn w; same = ap (λ x. timeOf turn (headAt head) x s) (drop-none gs) }
+  timing-start w =
+      record { walking = walking-start gs head turn w; time = ap (λ x. timeOf turn (headAt head) x s) (drop-none gs); leg = ap (λ x. legFrom 1 x s) (drop-none gs) }
 
   module _ (h : Head) (i : ℕ) (p : Timing gs head turn s h i) where
     module _ (g : Leg) (n : NextLeg gs h i turn g) where
       module _ (t : Bool) (test : t ≡ (leb (g .left) (s .start) && leb (s .end) (g .right))) where
-        pub read-now : t ≡ true → runRight (setOff turn h g) (s .end) .clock ≡ timeOf turn (headAt head) gs s
-        unfolding timeOf
-        read-now e = rw (n .split, sym test ∙ e) at (p .same)
+        pub read-now : t ≡ true → record { time = runRight (setOff turn h g) (s .end) .clock; leg = i + 1 } ≡ readOf turn (headAt head) gs s
+        unfolding timeOf legFrom
+        read-now e = same-read (rw (n .split, sym test ∙ e) at (p .time)) (rw (n .split, sym test ∙ e) at (p .leg))
 
         pub timing-on : Walkable gs head turn → i < length gs → t ≡ false → Timing gs head turn s (afterLeg turn h g) (i + 1)
-        unfolding timeOf
+        unfolding timeOf legFrom
         timing-on w l e =
-            record { walking = walking-on gs head turn w h i (p .walking) l g n; same = rw (n .split, sym test ∙ e) at (p .same) }
+            record {
+              walking = walking-on gs head turn w h i (p .walking) l g n;
+              time = rw (n .split, sym test ∙ e) at (p .time);
+              leg = rw (n .split, sym test ∙ e, ← add-one (i + 1)) at (p .leg);
+            }
 
         -- A file is read from at or left of its start to its end, within the tape.
         pub reads-within : t ≡ true → (g .left ≤ s .start) × (s .end ≤ g .right)
         reads-within e = read-inside g s (sym test ∙ e)
 
-    pub never-read : length gs ≤ i → 0 ≡ timeOf turn (headAt head) gs s
-    unfolding timeOf
-    never-read l = rw (drop-of-length-le gs l) at (p .same)
+    pub never-read : length gs ≤ i → record { time = 0; leg = 0 } ≡ readOf turn (headAt head) gs s
+    unfolding timeOf legFrom
+    never-read l = same-read (rw (drop-of-length-le gs l) at (p .time)) (rw (drop-of-length-le gs l) at (p .leg))

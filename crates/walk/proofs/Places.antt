@@ -16,7 +16,7 @@ use Rattle.refusals.specs.Refusals.{refuseIf, refuseAt, firstOf, firstWhere}
 use Rattle.runs.specs.Run.{Run, stopsOf, rightEnd, total, mostFiles, mostWants, mostReads, lastPlace, highestTurn}
 use Rattle.runs.specs.Judging.{badFile, badWant, tableChecks, wantsChecks, headChecks, judgeOf}
 use Rattle.runs.specs.Lists.{listOf, listVerdict, firstBadEntry}
-use Rattle.walk.specs.Price.{priceVerdict}
+use Rattle.walk.specs.Price.{ReadRows, shortReadRows, priceVerdict}
 use Rattle.runs.specs.Private.{rowBad}
 use Rattle.runs.proofs.Search.{true-or-false, or-false-both, first-within, first-before}
 use Rattle.refusals.proofs.Verdicts.{refuses, accepts-if}
@@ -114,11 +114,11 @@ module _ (r : Run) (good : GoodRun r) (froms tos : List ℕ) where
         ),
       )
 
-pub price-near : (r : Run) (froms tos row : List ℕ) → (priceVerdict r froms tos row) .place ≤ placeMost
+pub price-near : (r : Run) (froms tos : List ℕ) (rows : ReadRows) → (priceVerdict r froms tos rows) .place ≤ placeMost
 unfolding priceVerdict
-price-near r froms tos row =
+price-near r froms tos rows =
     first-near
-    (judgeOf r ∷ listVerdict (stopsOf r) froms tos ∷ refuseIf (ltb (length row) (length (r .numbers))) ShortRow ∷ []) (
+    (judgeOf r ∷ listVerdict (stopsOf r) froms tos ∷ refuseIf (shortReadRows (length (r .numbers)) rows) ShortRow ∷ []) (
       judge-near r,
-      λ e. (list-near r (accepted-run r e) froms tos, λ d. (if-near (ltb (length row) (length (r .numbers))) ShortRow, λ c. tt)),
+      λ e. (list-near r (accepted-run r e) froms tos, λ d. (if-near (shortReadRows (length (r .numbers)) rows) ShortRow, λ c. tt)),
     )

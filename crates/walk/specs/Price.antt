@@ -1,6 +1,6 @@
--- What the pricer answers, for every input: the first refusal that applies, or the walk's sum, finish and end; and the row for times.
+-- What the pricer answers, for every input: the first refusal that applies, or the walk's sum, finish and end; and the rows for times and legs.
 use Prim.Native.Nat.{ℕ}
-use mathlib.Core.Bool.{cond}
+use mathlib.Core.Bool.{Bool, cond, _||_}
 use mathlib.Core.List.{List, [], _∷_, _++_}
 use lib.ListN.{length, drop}
 use lib.Dec.{ltb}
@@ -8,9 +8,10 @@ use Rattle.refusals.specs.declared.Refusal.the-variants.{Accepted, ShortRow}
 use Rattle.refusals.specs.declared.Verdict.{Verdict}
 use Rattle.walk.specs.declared.Answer.{Answer}
 use Rattle.refusals.specs.Refusals.{isRefusal, refuseIf, firstOf}
-use Rattle.runs.specs.Run.{Run, stopsOf}
+use denote.Triple.Both.{Both}
+use Rattle.runs.specs.Run.{Run, Row, stopsOf}
 use Rattle.runs.specs.Judging.{judgeOf}
-use Rattle.walk.specs.Walk.{headAt, walked, timesOf, sumOf}
+use Rattle.walk.specs.Walk.{headAt, walked, timesOf, legsFor, sumOf}
 use Rattle.runs.specs.Lists.{Detour, listOf, listVerdict}
 use Rattle.walk.specs.Detours.{legsOf}
 
@@ -30,27 +31,56 @@ pricedAnswer r list =
       detours = length list;
     }
 
--- One time for each want, in their order.
+-- One time and one leg for each want, in their order.
 unfoldable pub pricedTimes : Run → List Detour → List ℕ
 pricedTimes r list = timesOf (r .turn) (headAt (r .head)) (legsOf (stopsOf r) list) (stopsOf r)
 
+unfoldable pub pricedLegs : Run → List Detour → List ℕ
+pricedLegs r list = legsFor (legsOf (stopsOf r) list) (stopsOf r)
+
+-- The lent rows, for times and for legs; as two parameters of a function hold them when it is called and when it returns.
+pub record ReadRows : Type 0 where
+  pub times : List ℕ
+  pub legs : List ℕ
+
+abbrev pub readRows : List ℕ → List ℕ → ReadRows
+readRows times legs = record { times = times; legs = legs }
+
+abbrev pub readRowsBefore : Both Row Row → Both Row Row → ReadRows
+readRowsBefore times legs = readRows (times .entry .now) (legs .entry .now)
+
+abbrev pub readRowsAfter : Both Row Row → Both Row Row → ReadRows
+readRowsAfter times legs = readRows (times .exit .now) (legs .exit .now)
+
+-- 8: a row for times or for legs shorter than k.
+abbrev pub shortReadRows : ℕ → ReadRows → Bool
+shortReadRows k rows = ltb (length (rows .times)) k || ltb (length (rows .legs)) k
+
+-- The rows afterwards: a time and a leg for each want, then the later entries as they were.
+abbrev pub readRowsWith : Run → List Detour → ReadRows → ReadRows
+readRowsWith r list rows =
+    record {
+      times = pricedTimes r list ++ drop (length (r .numbers)) (rows .times);
+      legs = pricedLegs r list ++ drop (length (r .numbers)) (rows .legs);
+    }
+
 -- The pricer's refusals: 1 to 7, then 10, then 8.
-unfoldable pub priceVerdict : Run → List ℕ → List ℕ → List ℕ → Verdict
-priceVerdict r froms tos row =
+unfoldable pub priceVerdict : Run → List ℕ → List ℕ → ReadRows → Verdict
+priceVerdict r froms tos rows =
     firstOf
     (judgeOf r
     ∷ listVerdict (stopsOf r) froms tos
-    ∷ refuseIf (ltb (length row) (length (r .numbers))) ShortRow
+    ∷ refuseIf (shortReadRows (length (r .numbers)) rows) ShortRow
     ∷ [])
 
 -- The answer record.
-unfoldable pub priceAnswer : Run → List ℕ → List ℕ → List ℕ → Answer
-priceAnswer r froms tos row =
-    let v : Verdict = priceVerdict r froms tos row in
+unfoldable pub priceAnswer : Run → List ℕ → List ℕ → ReadRows → Answer
+priceAnswer r froms tos rows =
+    let v : Verdict = priceVerdict r froms tos rows in
     cond (isRefusal (v .refusal)) (refusalAnswer v) (pricedAnswer r (listOf froms tos))
 
--- The row for times afterwards: the times, then the later entries as they were; on a refusal the whole row as it was.
-unfoldable pub priceRow : Run → List ℕ → List ℕ → List ℕ → List ℕ
-priceRow r froms tos row =
-    let v : Verdict = priceVerdict r froms tos row in
-    cond (isRefusal (v .refusal)) row (pricedTimes r (listOf froms tos) ++ drop (length (r .numbers)) row)
+-- The rows afterwards; on a refusal both as they were.
+unfoldable pub priceRows : Run → List ℕ → List ℕ → ReadRows → ReadRows
+priceRows r froms tos rows =
+    let v : Verdict = priceVerdict r froms tos rows in
+    cond (isRefusal (v .refusal)) rows (readRowsWith r (listOf froms tos) rows)

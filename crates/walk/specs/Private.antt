@@ -58,7 +58,7 @@ pub record Walkable (gs : List Leg) (head turn : ℕ) : Type 0 where
   pub cheap : turn ≤ highestTurn
 
 -- What walking a list asks of the rows: numbers that name files, legs within the limits, and their number.
-pub record WalkFits (starts lengths numbers froms tos : List ℕ) (reach head turn legs : ℕ) : Type 0 where
+pub record WalkFits (starts lengths numbers froms tos : List ℕ) (reach head turn many : ℕ) : Type 0 where
   pub fit : RowsFit starts lengths numbers froms tos
   pub within : Walkable (rowLegs starts lengths numbers froms tos reach) head turn
-  pub all : legs ≡ length (rowLegs starts lengths numbers froms tos reach)
+  pub all : many ≡ length (rowLegs starts lengths numbers froms tos reach)

@@ -1,11 +1,12 @@
--- The walk: the head as a small machine, legs, movements, and the time at which a movement reads a file.
+-- The walk: the head as a small machine, legs, movements, the time at which a movement reads a file, and the leg that does.
 -- Nothing here knows of detours, plans or tables; demand 3 speaks of these movements.
-use Prim.Native.Nat.{ℕ, _+_, _-_, _*_, _≤_}
+use Prim.Native.Nat.{ℕ, suc, _+_, _-_, _*_, _≤_}
 use mathlib.Core.Bool.{Bool, false, cond, _&&_, _||_}
-use mathlib.Core.List.{List, [], _∷_}
+use mathlib.Core.List.{List, [], _∷_, map}
 use lib.Dec.{leb, T}
 use Rattle.walk.specs.declared.Head.{Head}
 use Rattle.walk.specs.declared.Leg.{Leg}
+use Rattle.walk.specs.declared.Read.{Read}
 use Rattle.walk.specs.declared.Way.{Way}
 use Rattle.walk.specs.declared.Way.the-variants.{Leftward, Rightward}
 use Rattle.runs.specs.Run.{Stop}
@@ -72,10 +73,25 @@ unfoldable pub timeOf : ℕ → Head → List Leg → Stop → ℕ
 timeOf price h [] s = 0
 timeOf price h (g ∷ gs) s = cond (reads g s) ((runRight (setOff price h g) (s .end)) .clock) (timeOf price (afterLeg price h g) gs s)
 
--- One time for each file.
+-- The number of the leg that reads a file first, the first of these legs having number n. (0 where none reads it.)
+unfoldable pub legFrom : ℕ → List Leg → Stop → ℕ
+legFrom n [] s = 0
+legFrom n (g ∷ gs) s = cond (reads g s) n (legFrom (suc n) gs s)
+
+-- Legs are counted from 1.
+abbrev pub legFor : List Leg → Stop → ℕ
+legFor gs s = legFrom 1 gs s
+
+-- When a movement reads a file, and which of its legs does.
+abbrev pub readOf : ℕ → Head → List Leg → Stop → Read
+readOf price h gs s = record { time = timeOf price h gs s; leg = legFor gs s }
+
+-- One time and one leg for each file.
 unfoldable pub timesOf : ℕ → Head → List Leg → List Stop → List ℕ
-timesOf price h gs [] = []
-timesOf price h gs (s ∷ ss) = timeOf price h gs s ∷ timesOf price h gs ss
+timesOf price h gs ss = map (timeOf price h gs) ss
+
+unfoldable pub legsFor : List Leg → List Stop → List ℕ
+legsFor gs ss = map (legFor gs) ss
 
 -- The sum of a run: the total of count times time.
 unfoldable pub sumOf : ℕ → Head → List Leg → List Stop → ℕ

@@ -38,6 +38,12 @@ pub struct Leg {
     pub right: u64,
 }
 
+// When a file is read, and which leg reads it, counted from 1.
+pub struct Read {
+    pub time: u64,
+    pub leg: u64,
+}
+
 impl Head {
     fn at(place: u64) -> Head
         ensures { λ r. ⌜ r ≡ headAt place ⌝ }

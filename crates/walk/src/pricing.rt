@@ -1,22 +1,24 @@
-// The pricer: refusals 1 to 7, 10 and 8, then one time for each want, the sum, and where and when the walk ends.
+// The pricer: refusals 1 to 7, 10 and 8, then a time and a leg for each want, the sum, and where and when the walk ends.
 // It holds nothing per leg or file: only the head and positions in the caller's rows.
 ghost use mathlib.Core.Path.{_≡_};
 ghost use mathlib.Core.List.{List, _++_};
 ghost use Prim.Native.Nat.{ℕ, _-_, _≤_, _<_};
-ghost use mathlib.Core.Bool.{_&&_};
+ghost use mathlib.Core.Bool.{_&&_, _||_};
 ghost use lib.ListN.{length, getD, drop};
-ghost use lib.Dec.{leb};
+ghost use lib.Dec.{leb, ltb};
 ghost use Rattle.runs.specs.Run.{runAt, stopsAt, stopsFrom, total, endAt, stopOf, mostReads};
-ghost use Rattle.walk.specs.Walk.{headAt, walked, served, timeOf, timesOf, sumOf};
+ghost use Rattle.walk.specs.Walk.{headAt, walked, served, readOf, timesOf, legsFor, sumOf};
 ghost use Rattle.walk.specs.Detours.{sweepEnd};
-ghost use Rattle.walk.specs.Price.{refusalAnswer, priceAnswer, priceRow};
+ghost use Rattle.walk.specs.Price.{refusalAnswer, priceAnswer, priceRows, readRowsBefore, readRowsAfter};
 ghost use Rattle.runs.specs.Private.{SoundTable, InTable};
 ghost use Rattle.walk.specs.Private.{ListFits, RowsFit, WalkFits, rowLegs, legsIn, legsAt, detoursAt, legAt};
 use crate::Answer;
 use crate::Head;
 use crate::Leg;
+use crate::Read;
 use refusals::Refusal;
 use refusals::Verdict;
+use refusals::refuse_if;
 use refusals::refused;
 use runs::judge;
 use runs::judge_list;
@@ -141,8 +143,8 @@ fn leg_at(
     sweep_leg(starts, numbers, reach)
 }
 
-// When the walk reads a file of the table: walk the legs until the one that reads it.
-fn time_of(
+// When the walk reads a file of the table, and in which leg: walk the legs until the one that reads it.
+fn read_of(
     starts: &[u64],
     lengths: &[u64],
     numbers: &[u64],
@@ -152,28 +154,31 @@ fn time_of(
     head: u64,
     turn: u64,
     file: u64,
-    legs: usize,
-) -> u64
-    requires { ⌜ WalkFits (now starts) (now lengths) (now numbers) (now froms) (now tos) reach head turn legs ⌝ }
+    many: usize,
+) -> Read
+    requires { ⌜ WalkFits (now starts) (now lengths) (now numbers) (now froms) (now tos) reach head turn many ⌝ }
     requires { ⌜ InTable (now starts) file ⌝ }
-    ensures { λ r. ⌜ r ≡ timeOf turn (headAt head) (legsAt starts lengths numbers froms tos reach) (stopOf (now (starts .entry)) (now (lengths .entry)) file 0) ⌝ }
+    ensures { λ r. ⌜ r ≡ readOf turn (headAt head) (legsAt starts lengths numbers froms tos reach) (stopOf (now (starts .entry)) (now (lengths .entry)) file 0) ⌝ }
 {
     let start = file_start(starts, file);
     let end = file_end(starts, lengths, file);
     let mut h = Head::at(head);
     let mut i: usize = 0;
-    while i < legs {
+    while i < many {
         let leg = leg_at(starts, lengths, numbers, froms, tos, reach, i);
         let right = leg.right;
         let out = h.set_off(turn, leg);
         if reads_file(leg, start, end) {
             let there = out.run_right(end);
-            return there.clock;
+            return Read {
+                time: there.clock,
+                leg: (i + 1) as u64,
+            };
         }
         h = out.run_right(right);
         i += 1;
     }
-    0
+    Read { time: 0, leg: 0 }
 }
 
 // The head at the end of the walk.
@@ -186,14 +191,14 @@ fn walk_end(
     reach: u64,
     head: u64,
     turn: u64,
-    legs: usize,
+    many: usize,
 ) -> Head
-    requires { ⌜ WalkFits (now starts) (now lengths) (now numbers) (now froms) (now tos) reach head turn legs ⌝ }
+    requires { ⌜ WalkFits (now starts) (now lengths) (now numbers) (now froms) (now tos) reach head turn many ⌝ }
     ensures { λ r. ⌜ r ≡ walked turn (headAt head) (legsAt starts lengths numbers froms tos reach) ⌝ }
 {
     let mut h = Head::at(head);
     let mut i: usize = 0;
-    while i < legs {
+    while i < many {
         let leg = leg_at(starts, lengths, numbers, froms, tos, reach, i);
         let right = leg.right;
         h = h.set_off(turn, leg).run_right(right);
@@ -202,8 +207,8 @@ fn walk_end(
     h
 }
 
-// One time for each want into the first entries of the row; the sum of count times time.
-fn fill_times(
+// A time and a leg for each want into the first entries of the rows; the sum of count times time.
+fn fill_reads(
     starts: &[u64],
     lengths: &[u64],
     numbers: &[u64],
@@ -213,19 +218,21 @@ fn fill_times(
     reach: u64,
     head: u64,
     turn: u64,
-    legs: usize,
+    many: usize,
     times: &mut [u64],
+    legs: &mut [u64],
 ) -> u64
-    requires { ⌜ WalkFits (now starts) (now lengths) (now numbers) (now froms) (now tos) reach head turn legs ⌝ }
+    requires { ⌜ WalkFits (now starts) (now lengths) (now numbers) (now froms) (now tos) reach head turn many ⌝ }
     requires { ⌜ (length (now counts) ≡ length (now numbers)) × (total (now counts) ≤ mostReads) ⌝ }
-    requires { ⌜ length (now numbers) ≤ length (now times) ⌝ }
+    requires { ⌜ (length (now numbers) ≤ length (now times)) × (length (now numbers) ≤ length (now legs)) ⌝ }
     ensures { λ r. ⌜ r ≡ sumOf turn (headAt head) (legsAt starts lengths numbers froms tos reach) (stopsAt starts lengths numbers counts) ⌝ }
     ensures { λ r. ⌜ now (times .exit) ≡ timesOf turn (headAt head) (legsAt starts lengths numbers froms tos reach) (stopsAt starts lengths numbers counts) ++ drop (length (now (numbers .entry))) (now (times .entry)) ⌝ }
+    ensures { λ r. ⌜ now (legs .exit) ≡ legsFor (legsAt starts lengths numbers froms tos reach) (stopsAt starts lengths numbers counts) ++ drop (length (now (numbers .entry))) (now (legs .entry)) ⌝ }
 {
     let mut sum: u64 = 0;
     let mut i: usize = 0;
     while i < numbers.len() {
-        let time = time_of(
+        let read = read_of(
             starts,
             lengths,
             numbers,
@@ -235,10 +242,11 @@ fn fill_times(
             head,
             turn,
             numbers[i],
-            legs,
+            many,
         );
-        times[i] = time;
-        sum += counts[i] * time;
+        times[i] = read.time;
+        legs[i] = read.leg;
+        sum += counts[i] * read.time;
         i += 1;
     }
     sum
@@ -259,6 +267,16 @@ pub fn refuse(v: Verdict) -> Answer
     }
 }
 
+// Whether a row for times or for legs has no entry for each want.
+fn short_rows(wants: usize, times: usize, legs: usize) -> bool
+    ensures { λ r. ⌜ r ≡ (ltb times wants || ltb legs wants) ⌝ }
+{
+    if times < wants {
+        return true;
+    }
+    legs < wants
+}
+
 // The price of a detour list for a run. All is judged before the first write.
 pub fn price(
     starts: &[u64],
@@ -270,9 +288,10 @@ pub fn price(
     froms: &[u64],
     tos: &[u64],
     times: &mut [u64],
+    legs: &mut [u64],
 ) -> Answer
-    ensures { λ r. ⌜ r ≡ priceAnswer (runAt starts lengths numbers counts head turn) (now (froms .entry)) (now (tos .entry)) (now (times .entry)) ⌝ }
-    ensures { λ r. ⌜ now (times .exit) ≡ priceRow (runAt starts lengths numbers counts head turn) (now (froms .entry)) (now (tos .entry)) (now (times .entry)) ⌝ }
+    ensures { λ r. ⌜ r ≡ priceAnswer (runAt starts lengths numbers counts head turn) (now (froms .entry)) (now (tos .entry)) (readRowsBefore times legs) ⌝ }
+    ensures { λ r. ⌜ readRowsAfter times legs ≡ priceRows (runAt starts lengths numbers counts head turn) (now (froms .entry)) (now (tos .entry)) (readRowsBefore times legs) ⌝ }
 {
     let run = judge(starts, lengths, numbers, counts, head, turn);
     if refused(run) {
@@ -282,15 +301,16 @@ pub fn price(
     if refused(list) {
         return refuse(list);
     }
-    if times.len() < numbers.len() {
-        return refuse(Verdict {
-            refusal: Refusal::ShortRow,
-            place: 0,
-        });
+    let rows = refuse_if(
+        short_rows(numbers.len(), times.len(), legs.len()),
+        Refusal::ShortRow,
+    );
+    if refused(rows) {
+        return refuse(rows);
     }
     let reach = sweep_end(starts, lengths, numbers, froms, tos);
-    let legs = leg_count(numbers, froms);
-    let sum = fill_times(
+    let many = leg_count(numbers, froms);
+    let sum = fill_reads(
         starts,
         lengths,
         numbers,
@@ -300,8 +320,9 @@ pub fn price(
         reach,
         head,
         turn,
-        legs,
+        many,
         times,
+        legs,
     );
     let last = walk_end(
         starts,
@@ -312,7 +333,7 @@ pub fn price(
         reach,
         head,
         turn,
-        legs,
+        many,
     );
     Answer {
         refusal: Refusal::Accepted,

@@ -9,10 +9,10 @@ use Rattle.walk.proofs.pricing.walk_end.Statement.{statement}
 use Rattle.walk.proofs.pricing.walk_end.Tie as tie
 
 abbrev Inv-loop : tie.InvT-loop
-Inv-loop starts lengths numbers froms tos reach head turn legs h₀ i₀ h i = Ending (rowLegs starts lengths numbers froms tos reach) head turn h i
+Inv-loop starts lengths numbers froms tos reach head turn many h₀ i₀ h i = Ending (rowLegs starts lengths numbers froms tos reach) head turn h i
 
 abbrev μ-loop : tie.MeasureT-loop
-μ-loop starts lengths numbers froms tos reach head turn legs h₀ i₀ h i = legs - i
+μ-loop starts lengths numbers froms tos reach head turn many h₀ i₀ h i = many - i
 
 at-requires : tie.Need-at-requires Inv-loop μ-loop
 at-requires c κs = search needs

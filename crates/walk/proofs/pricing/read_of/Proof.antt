@@ -1,4 +1,4 @@
--- `walk::pricing::time_of` meets its contract: no leg so far has read the file, and the legs that are left decide its time.
+-- `walk::pricing::read_of` meets its contract: no leg so far has read the file, and the legs that are left decide when and in which it is read.
 -- Assumes nothing.
 use borrow.Author.Needs.{needs}
 use Prim.Native.Nat.{_-_}
@@ -9,15 +9,15 @@ use lib.Dec.{leb}
 use Rattle.runs.specs.Run.{stopOf}
 use Rattle.walk.specs.Private.{rowLegs}
 use Rattle.walk.proofs.Legs.{Timing, timing-start, timing-on, read-now, reads-within, never-read, next-leg, NextLeg}
-use Rattle.walk.proofs.pricing.time_of.Statement.{statement}
-use Rattle.walk.proofs.pricing.time_of.Tie as tie
+use Rattle.walk.proofs.pricing.read_of.Statement.{statement}
+use Rattle.walk.proofs.pricing.read_of.Tie as tie
 
 abbrev Inv-loop : tie.InvT-loop
-Inv-loop starts lengths numbers froms tos reach head turn file legs start end h₀ i₀ h i =
+Inv-loop starts lengths numbers froms tos reach head turn file many start end h₀ i₀ h i =
     Timing (rowLegs starts lengths numbers froms tos reach) head turn (stopOf starts lengths file 0) h i
 
 abbrev μ-loop : tie.MeasureT-loop
-μ-loop starts lengths numbers froms tos reach head turn file legs start end h₀ i₀ h i = legs - i
+μ-loop starts lengths numbers froms tos reach head turn file many start end h₀ i₀ h i = many - i
 
 file-start-requires : tie.Need-file-start-requires Inv-loop μ-loop
 file-start-requires c κs = search needs
@@ -70,6 +70,11 @@ run-right-requires c κs =
     let r = reads-within _ _ _ _ _ _ (c .before .before .before .before .before .loop .inv) _ n _ (test (c .before)) (c .if1 .taken) in
     rw (c .before .before .set-off .ensures, e .file-end .ensures) (omega (arith, r .0, r .1, n .off))
 
+add-leg : tie.Need-add-t21 Inv-loop μ-loop
+add-leg c =
+    let n = c .before .before .before .before .before in
+    omega (arith, n .loop-test .taken, n .before .before .before .before .before .before .before .before .before .before .fits .many)
+
 returns : tie.Need-returns Inv-loop μ-loop
 returns c =
     let b = c .before .before in
@@ -83,7 +88,7 @@ run-right-requires-2 c κs = rw (c .before .before .set-off .ensures) (next (c .
 add-i : tie.Need-add-i Inv-loop μ-loop
 add-i c =
     let b = c .before .before in
-    omega (arith, b .before .before .before .loop-test .taken, b .before .before .before .before .before .before .before .before .before .before .before .before .before .fits .legs)
+    omega (arith, b .before .before .before .loop-test .taken, b .before .before .before .before .before .before .before .before .before .before .before .before .before .fits .many)
 
 loop-less : tie.Need-loop-less Inv-loop μ-loop
 loop-less c = search needs
@@ -100,8 +105,8 @@ returns-2 c =
     let s = c .before .before .before .before .before .before .before .before .before .before in
     never-read _ _ _ _ _ _ (c .before .loop .inv) (omega (arith, s .pre .0 .all, c .loop-test .left))
 
-pub time-of-spec : {M : Type 1} → statement M
-time-of-spec =
+pub read-of-spec : {M : Type 1} → statement M
+read-of-spec =
     tie.close
     (tie.spec
     Inv-loop
@@ -114,6 +119,7 @@ time-of-spec =
     set-off-requires
     reads-file-requires
     run-right-requires
+    add-leg
     returns
     run-right-requires-2
     add-i
