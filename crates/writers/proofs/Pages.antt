@@ -3,7 +3,7 @@ use Prim.Native.Nat.{ℕ, zero, suc, _+_, _-_, _*_, _/_, _%_, _^_, _≤_, _<_}
 use mathlib.Core.Path.{_≡_, refl, ap, sym, _∙_, subst}
 use mathlib.Core.List.{List, [], _∷_, _++_, append-assoc, append-nil}
 use native.Mathlib.Omega.{arith}
-use native.Mathlib.Nat.{one-le-pow}
+use native.Mathlib.Nat.{one-le-pow, mul-le-mul-right}
 use native.Mathlib.Numerals.{add-one}
 use lib.ListN.{length, getD, take, drop, set, length-append, drop-of-length-le}
 use lib.Seq.{paste, paste-zero, paste-suc, length-paste, take-paste, drop-paste, take-length, length-take-le, drop-cons}
@@ -13,7 +13,7 @@ use Rattle.io.specs.Digits.{glyph, digits, Fewest}
 use Rattle.runs.specs.declared.Rule.{Rule}
 use Rattle.sheets.specs.Lines.{ruleKey, ruleText}
 use Rattle.texts.specs.Text.{decimal, decimalIn}
-use Rattle.writers.specs.Writing.{line, pairLine, pairLines}
+use Rattle.writers.specs.Writing.{line, pairLine, pairLines, tripleLine, tripleLines}
 use Rattle.writers.specs.Private.{Wrote}
 
 -- Putting a text byte by byte.
@@ -123,50 +123,65 @@ pub wrote-number : (page : List ℕ) (at n k : ℕ) (text page′ : List ℕ) (n
 wrote-number page at n k text page′ next l f e p =
     wrote-within page at (decimal n) (length text) page′ next 20 (digits-short n k text l f e) (subst (λ t. Wrote page at t (length text) page′ next) (e ∙ digits-decimal n k f) p)
 
--- Lines of pairs put one behind the other: what stands on the page and what is left make the whole.
-pub record PairsPut (page₀ : List ℕ) (at : ℕ) (key firsts seconds page : List ℕ) (next i : ℕ) : Type 0 where
-  pub few : i ≤ length firsts
-  pub within : next ≤ at + i * 49
+-- Lines put one behind the other, each in at most so many bytes: what stands on the page and what is left make the whole.
+pub record LinesPut (page₀ : List ℕ) (at most : ℕ) (all : List ℕ) (lines : ℕ) (left page : List ℕ) (next i : ℕ) : Type 0 where
+  pub few : i ≤ lines
+  pub within : next ≤ at + i * most
   pub long : length page ≡ length page₀
-  pub whole : take next page ++ pairLines key (drop i firsts) (drop i seconds) ≡ take at page₀ ++ pairLines key firsts seconds
+  pub whole : take next page ++ left ≡ take at page₀ ++ all
 
-pub pairs-put-none : (page : List ℕ) (at : ℕ) (key firsts seconds : List ℕ) → PairsPut page at key firsts seconds page at 0
-pairs-put-none page at key firsts seconds = record { few = omega arith; within = omega arith; long = refl; whole = refl }
+pub lines-put-none : (page : List ℕ) (at most : ℕ) (all : List ℕ) (lines : ℕ) → LinesPut page at most all lines all page at 0
+lines-put-none page at most all lines = record { few = omega arith; within = omega arith; long = refl; whole = refl }
 
-module _ (page₀ : List ℕ) (at : ℕ) (key firsts seconds : List ℕ) (short : length key ≤ 7) (equal : length firsts ≡ length seconds)
-    (room : at + length firsts * 49 ≤ length page₀) (page : List ℕ) (next i : ℕ) (p : PairsPut page₀ at key firsts seconds page next i) where
-  pub pair-room : i < length firsts → next + (length key + 42) ≤ length page
-  pair-room l = omega (arith, p .within, p .long)
+module _ (page₀ : List ℕ) (at most : ℕ) (all : List ℕ) (lines : ℕ) (room : at + lines * most ≤ length page₀) (left page : List ℕ) (next i : ℕ)
+    (p : LinesPut page₀ at most all lines left page next i) where
+  pub line-room : i < lines → next + most ≤ length page
+  line-room l = omega (arith, p .within, p .long, mul-le-mul-right {m = suc i} {n = lines} most l)
 
-  pairs-left : i < length firsts
-      → pairLines key (drop i firsts) (drop i seconds) ≡ pairLine key (getD firsts i 0) (getD seconds i 0) ++ pairLines key (drop (suc i) firsts) (drop (suc i) seconds)
-  unfolding pairLines
-  pairs-left l = rw (drop-cons firsts i 0 l, drop-cons seconds i 0 (omega arith))
-
-  pub pair-put : i < length firsts → (page′ : List ℕ) (last : ℕ) → length page′ ≡ length page
-      → Wrote page next (pairLine key (getD firsts i 0) (getD seconds i 0)) (length key + 42) page′ last
-      → PairsPut page₀ at key firsts seconds page′ last (i + 1)
-  pair-put l page′ last kept w =
+  pub line-put : i < lines → (text rest : List ℕ) → left ≡ text ++ rest → (m : ℕ) → m ≤ most → (page′ : List ℕ) (last : ℕ) → length page′ ≡ length page
+      → Wrote page next text m page′ last → LinesPut page₀ at most all lines rest page′ last (i + 1)
+  line-put l text rest e m n page′ last kept w =
       record {
         few = omega arith;
         within = omega (arith, p .within, w .within);
         long = kept ∙ p .long;
-        whole = rw (w .bytes, add-one, append-assoc, ← pairs-left l) (p .whole);
+        whole = rw (w .bytes, append-assoc, ← e) (p .whole);
       }
 
-  pub pairs-put : length firsts ≤ i → Wrote page₀ at (pairLines key firsts seconds) (length firsts * 49) page next
-  unfolding pairLines
-  pairs-put l =
-      let e : i ≡ length firsts = omega (arith, p .few) in
-      let done : take next page ≡ take at page₀ ++ pairLines key firsts seconds = sym (append-nil (take next page)) ∙ (rw (drop-of-length-le firsts l) at (p .whole)) in
-      let within : next ≤ at + length firsts * 49 = rw (← e) (p .within) in
+  pub lines-put : lines ≤ i → left ≡ [] → Wrote page₀ at all (lines * most) page next
+  lines-put l none =
+      let e : i ≡ lines = omega (arith, p .few) in
+      let done : take next page ≡ take at page₀ ++ all = sym (append-nil (take next page)) ∙ (rw none at (p .whole)) in
+      let within : next ≤ at + lines * most = rw (← e) (p .within) in
       let size : length (take next page) ≡ next = length-take-le next page (omega (arith, p .long)) in
       let start : length (take at page₀) ≡ at = length-take-le at page₀ (omega arith) in
       record {
-        after = omega (arith, ap length done ∙ length-append (take at page₀) (pairLines key firsts seconds));
+        after = omega (arith, ap length done ∙ length-append (take at page₀) all);
         bytes = done;
         within = within;
       }
+
+-- The lines of pairs and of triples that are left.
+module _ (key firsts seconds : List ℕ) (equal : length firsts ≡ length seconds) (i : ℕ) where
+  pub pairs-left : i < length firsts
+      → pairLines key (drop i firsts) (drop i seconds) ≡ pairLine key (getD firsts i 0) (getD seconds i 0) ++ pairLines key (drop (i + 1) firsts) (drop (i + 1) seconds)
+  unfolding pairLines
+  pairs-left l = rw (drop-cons firsts i 0 l, drop-cons seconds i 0 (omega arith), add-one)
+
+  pub pairs-over : length firsts ≤ i → pairLines key (drop i firsts) (drop i seconds) ≡ []
+  unfolding pairLines
+  pairs-over l = rw (drop-of-length-le firsts l)
+
+  module _ (thirds : List ℕ) (same : length firsts ≡ length thirds) where
+    pub triples-left : i < length firsts
+        → tripleLines key (drop i firsts) (drop i seconds) (drop i thirds)
+        ≡ tripleLine key (getD firsts i 0) (getD seconds i 0) (getD thirds i 0) ++ tripleLines key (drop (i + 1) firsts) (drop (i + 1) seconds) (drop (i + 1) thirds)
+    unfolding tripleLines
+    triples-left l = rw (drop-cons firsts i 0 l, drop-cons seconds i 0 (omega arith), drop-cons thirds i 0 (omega arith), add-one)
+
+    pub triples-over : length firsts ≤ i → tripleLines key (drop i firsts) (drop i seconds) (drop i thirds) ≡ []
+    unfolding tripleLines
+    triples-over l = rw (drop-of-length-le firsts l)
 
 -- The line of a rule, by the rule's case.
 pub wrote-rule : (page : List ℕ) (at : ℕ) (rule case : Rule) (page′ : List ℕ) (next : ℕ) → rule ≡ case

@@ -3,23 +3,25 @@ use Prim.Native.Nat.{ℕ, _≤_}
 use mathlib.Core.Path.{_≡_, ap, sym, _∙_}
 use mathlib.Core.Bool.{Bool, true, false, not}
 use mathlib.Core.Logic.{⊎-elim}
-use mathlib.Core.List.{List, [], _∷_, _++_}
+use mathlib.Core.List.{List, [], _∷_, _++_, map}
 use native.Mathlib.Omega.{arith}
 use lib.ListN.{length, take, drop}
 use lib.Seq.{take-at}
+use lib.Dec.{ltb}
 use borrow.Author.Tests.{le-ltb}
 use Rattle.refusals.specs.declared.Refusal.the-variants.{BadName}
 use Rattle.refusals.specs.declared.Verdict.{Verdict}
 use Rattle.walk.specs.declared.Answer.{Answer}
 use Rattle.refusals.specs.Refusals.{isRefusal, refuseIf, firstOf, accepted}
-use Rattle.runs.specs.Run.{Run, stopsOf, total, mostWants}
+use Rattle.runs.specs.Run.{Run, Stop, stopsOf, total, mostWants}
 use Rattle.runs.specs.Judging.{judgeOf}
 use Rattle.runs.specs.Lists.{listOf, listVerdict}
-use Rattle.walk.specs.Price.{refusalAnswer, pricedAnswer, pricedTimes, priceVerdict, priceAnswer, priceRow}
+use Rattle.walk.specs.Walk.{timesOf, legsFor}
+use Rattle.walk.specs.Price.{refusalAnswer, pricedAnswer, pricedTimes, pricedLegs, readRows, priceVerdict, priceAnswer, priceRows}
 use Rattle.runs.proofs.Search.{true-or-false}
 use Rattle.runs.proofs.Judged.{GoodRun}
 use Rattle.walk.proofs.Walks.{GoodList, accepted-list, list-fits}
-use Rattle.walk.proofs.Filling.{one-time-each, stops-length}
+use Rattle.walk.proofs.Filling.{one-each, stops-length}
 use Rattle.texts.specs.Text.{isName}
 use Rattle.writers.specs.Writing.{rowVerdict}
 use Rattle.writers.specs.PlanSheet.{planLines, planText, planSheetVerdict}
@@ -41,15 +43,18 @@ module _ (name : List ℕ) (run : Run) (froms tos row : List ℕ) (v w : Verdict
     unfolding planSheetVerdict
     plan-passes = judged-passes name run false v w v-is w-is f f-is good (listVerdict (stopsOf run) froms tos ∷ rowVerdict (planText name run froms tos) row ∷ [])
 
-    -- a is what the pricer answered with a row for times that is long enough, g whether that refuses.
-    module _ (times : List ℕ) (room : mostWants ≤ length times) (a : Answer) (a-is : a ≡ priceAnswer run froms tos times)
-        (g : Bool) (g-is : g ≡ isRefusal (a .refusal)) where
+    -- a is what the pricer answered with rows for times and legs that are long enough, g whether that refuses.
+    module _ (times legs : List ℕ) (room : mostWants ≤ length times) (space : mostWants ≤ length legs) (a : Answer)
+        (a-is : a ≡ priceAnswer run froms tos (readRows times legs)) (g : Bool) (g-is : g ≡ isRefusal (a .refusal)) where
       list : Verdict
       list = listVerdict (stopsOf run) froms tos
 
-      price-verdict : priceVerdict run froms tos times ≡ firstOf (list ∷ accepted ∷ [])
+      long-enough : (row : List ℕ) → mostWants ≤ length row → ltb (length row) (length (run .numbers)) ≡ false
+      long-enough row l = le-ltb (length row) (length (run .numbers)) (omega (arith, plan-good .wants .few))
+
+      price-verdict : priceVerdict run froms tos (readRows times legs) ≡ firstOf (list ∷ accepted ∷ [])
       unfolding priceVerdict list
-      price-verdict = rw (run-passes name run false v w v-is w-is f f-is good, le-ltb (length times) (length (run .numbers)) (omega (arith, plan-good .wants .few)))
+      price-verdict = rw (run-passes name run false v w v-is w-is f f-is good, long-enough times room, long-enough legs space)
 
       priced-refused : isRefusal (list .refusal) ≡ true → a ≡ refusalAnswer list
       unfolding priceAnswer
@@ -81,23 +86,41 @@ module _ (name : List ℕ) (run : Run) (froms tos row : List ℕ) (v w : Verdict
         unfolding list
         plan-last = plan-passes ∙ rw (list-says ∙ fine) (last-verdict (planText name run froms tos) row)
 
-        -- The times that the pricer left in the row.
-        module _ (times′ : List ℕ) (times-are : times′ ≡ priceRow run froms tos times) where
+        -- The times and legs that the pricer left in the rows.
+        module _ (times′ legs′ : List ℕ) (rows-are : readRows times′ legs′ ≡ priceRows run froms tos (readRows times legs)) where
           timed : times′ ≡ pricedTimes run (listOf froms tos) ++ drop (length (run .numbers)) times
-          unfolding priceRow
-          timed = times-are ∙ rw (price-verdict, list-says ∙ fine)
+          unfolding priceRows
+          timed = ap (λ x. x .times) rows-are ∙ rw (price-verdict, list-says ∙ fine)
 
-          times-count : length (pricedTimes run (listOf froms tos)) ≡ length (run .numbers)
-          unfolding pricedTimes
-          times-count = one-time-each (run .turn) _ _ (stopsOf run) ∙ stops-length (run .starts) (run .lengths) (run .numbers) (run .counts) (sym (plan-good .wants .equal))
+          numbered : legs′ ≡ pricedLegs run (listOf froms tos) ++ drop (length (run .numbers)) legs
+          unfolding priceRows
+          numbered = ap (λ x. x .legs) rows-are ∙ rw (price-verdict, list-says ∙ fine)
+
+          -- One number for each want.
+          each-want : (f : Stop → ℕ) → length (map f (stopsOf run)) ≡ length (run .numbers)
+          each-want f = one-each f (stopsOf run) ∙ stops-length (run .starts) (run .lengths) (run .numbers) (run .counts) (sym (plan-good .wants .equal))
+
+          first-entries : (values later : List ℕ) → length values ≡ length (run .numbers) → (row : List ℕ) → row ≡ values ++ later → take (length (run .numbers)) row ≡ values
+          first-entries values later e row h = ap (take (length (run .numbers))) h ∙ take-at values later (length (run .numbers)) e
 
           times-taken : take (length (run .numbers)) times′ ≡ pricedTimes run (listOf froms tos)
-          times-taken = ap (take (length (run .numbers))) timed ∙ take-at (pricedTimes run (listOf froms tos)) (drop (length (run .numbers)) times) (length (run .numbers)) times-count
+          unfolding pricedTimes timesOf
+          times-taken = first-entries (pricedTimes run (listOf froms tos)) (drop (length (run .numbers)) times) (each-want _) times′ timed
 
-          pub wants-length : length (run .numbers) ≡ length (take (length (run .numbers)) times′)
-          wants-length = sym (ap length times-taken ∙ times-count)
+          legs-taken : take (length (run .numbers)) legs′ ≡ pricedLegs run (listOf froms tos)
+          unfolding pricedLegs legsFor
+          legs-taken = first-entries (pricedLegs run (listOf froms tos)) (drop (length (run .numbers)) legs) (each-want _) legs′ numbered
 
-          pub plan-fits : (page : List ℕ) → planMost ≤ length page → PlanFits page name froms tos (run .numbers) (take (length (run .numbers)) times′)
+          pub times-length : length (run .numbers) ≡ length (take (length (run .numbers)) times′)
+          unfolding pricedTimes timesOf
+          times-length = sym (ap length times-taken ∙ each-want _)
+
+          pub legs-length : length (run .numbers) ≡ length (take (length (run .numbers)) legs′)
+          unfolding pricedLegs legsFor
+          legs-length = sym (ap length legs-taken ∙ each-want _)
+
+          pub plan-fits : (page : List ℕ) → planMost ≤ length page
+              → PlanFits page name froms tos (run .numbers) (take (length (run .numbers)) times′) (take (length (run .numbers)) legs′)
           plan-fits page wide =
               record {
                 room = wide;
@@ -105,12 +128,13 @@ module _ (name : List ℕ) (run : Run) (froms tos row : List ℕ) (v w : Verdict
                 few = omega (arith, list-fits run plan-good froms tos good-list, plan-good .wants .few);
                 even = good-list .even;
                 wants = plan-good .wants .few;
-                timed = wants-length;
+                timed = times-length;
+                numbered = legs-length;
               }
 
           pub plan-wrote : (reads : ℕ) → reads ≡ total (run .counts) → (page page′ : List ℕ) (n : ℕ)
-              → Wrote page 0 (planLines name reads a froms tos (run .numbers) (take (length (run .numbers)) times′)) planMost page′ n
+              → Wrote page 0 (planLines name reads a froms tos (run .numbers) (take (length (run .numbers)) times′) (take (length (run .numbers)) legs′)) planMost page′ n
               → Wrote page 0 (planText name run froms tos) planMost page′ n
           unfolding planText
           plan-wrote reads e page page′ n w =
-              rw (← e, ← priced-good (list-says ∙ fine), ← times-taken) w
+              rw (← e, ← priced-good (list-says ∙ fine), ← times-taken, ← legs-taken) w

@@ -5,14 +5,14 @@ use mathlib.Core.List.{List, [], _∷_}
 use Rattle.runs.specs.declared.Rule.the-variants.{Least}
 use Rattle.runs.specs.Run.{Run, runOf, stopsFrom, rightEnd}
 use Rattle.refusals.specs.Refusals.{firstWhere}
-use Rattle.walk.specs.Walk.{walked, served, timeOf, timesOf, sumOf}
+use Rattle.walk.specs.Walk.{walked, served, timeOf, timesOf, legFrom, legsFor, sumOf}
 use Rattle.runs.specs.Lists.{listOf}
 use Rattle.walk.specs.Detours.{startOf, endOf, unreadEnd, sweepEnd, legsOf, lastSweep}
-use Rattle.walk.specs.Price.{pricedAnswer, pricedTimes}
+use Rattle.walk.specs.Price.{pricedAnswer, pricedTimes, pricedLegs}
 use Rattle.texts.specs.Text.{bytes, has, before, behind, startsWith, allOf, valueFrom, isNumber, isName, decimalIn}
 use Rattle.sheets.specs.Lines.{lineOf, afterLines, isTapeLine, isNumberLine, isCountLine, isTurnLine, turnIn, isRuleLine, isPair, isPairLine}
 use Rattle.sheets.specs.Sheet.{sheetHead, sheetTurn, sheetFiles, fileText, wantsText, sheetWants, wantText, endText, firstBadPair, firstBadTop, firstBadBelow, firstBadLine, eachOf, sheetRun}
-use Rattle.writers.specs.Writing.{pairLines, topText, sheetText}
+use Rattle.writers.specs.Writing.{pairLines, tripleLines, topText, sheetText}
 use Rattle.writers.specs.PlanSheet.{planTop, planLines, planText}
 
 abbrev pub sheet : List ℕ
@@ -23,7 +23,7 @@ abbrev pub damaged : List ℕ
 damaged = bytes "tape=VX0041\nhead=60\nturn=1\nrule=least\nfiles=3\nfile=0,10\nfile=010,4\nfile=20,30\nwants=3\nwant=1,1\nwant=2,3\nwant=3,1\n"
 
 abbrev pub plan : List ℕ
-plan = bytes "tape=VX0041\nsum=367\nreads=5\nfinish=121\nend=50\ndetours=1\ndetour=2,2\ntime=1,81\ntime=2,55\ntime=3,121\n"
+plan = bytes "tape=VX0041\nsum=367\nreads=5\nfinish=121\nend=50\ndetours=1\ndetour=2,2\ntime=1,81,2\ntime=2,55,1\ntime=3,121,2\n"
 
 abbrev pub name : List ℕ
 name = bytes "VX0041"
@@ -36,7 +36,7 @@ unfolding sheetText topText pairLines decimalIn
 example-written = refl
 
 pub example-planned : planText name run (2 ∷ []) (2 ∷ []) ≡ plan
-unfolding planText planLines planTop pairLines decimalIn pricedAnswer pricedTimes listOf stopsFrom walked timeOf timesOf sumOf startOf endOf served unreadEnd sweepEnd legsOf lastSweep rightEnd
+unfolding planText planLines planTop pairLines tripleLines decimalIn pricedAnswer pricedTimes pricedLegs listOf stopsFrom walked timeOf timesOf legFrom legsFor sumOf startOf endOf served unreadEnd sweepEnd legsOf lastSweep rightEnd
 example-planned = refl
 
 pub example-described : firstBadLine sheet ≡ 0

@@ -9,11 +9,11 @@ use Rattle.refusals.specs.Refusals.{refuseIf, firstOf}
 use Rattle.runs.specs.Run.{Run, total, stopsOf}
 use Rattle.runs.specs.Judging.{judgeOf}
 use Rattle.runs.specs.Lists.{listOf, listVerdict}
-use Rattle.walk.specs.Price.{pricedAnswer, pricedTimes}
+use Rattle.walk.specs.Price.{pricedAnswer, pricedTimes, pricedLegs}
 use Rattle.texts.specs.Text.{bytes, isName}
 use Rattle.sheets.specs.Lines.{tapeKey}
 use Rattle.writers.specs.declared.Written.{Written}
-use Rattle.writers.specs.Writing.{line, numberLine, pairLines, rowVerdict, Handed}
+use Rattle.writers.specs.Writing.{line, numberLine, pairLines, tripleLines, rowVerdict, Handed}
 
 -- The keys.
 abbrev pub sumKey : List ℕ
@@ -47,15 +47,16 @@ planTop name reads answer =
     ++ numberLine endKey (answer .end)
     ++ numberLine detoursKey (answer .detours)
 
--- The whole sheet: `detour` is start file and end file, in the order done; `time` is file number and time, ascending.
-unfoldable pub planLines : List ℕ → ℕ → Answer → List ℕ → List ℕ → List ℕ → List ℕ → List ℕ
-planLines name reads answer froms tos numbers times =
-    planTop name reads answer ++ pairLines detourKey froms tos ++ pairLines timeKey numbers times
+-- The whole sheet: `detour` is start file and end file, in the order done; `time` is file number, time and leg, ascending by file.
+unfoldable pub planLines : List ℕ → ℕ → Answer → List ℕ → List ℕ → List ℕ → List ℕ → List ℕ → List ℕ
+planLines name reads answer froms tos numbers times legs =
+    planTop name reads answer ++ pairLines detourKey froms tos ++ tripleLines timeKey numbers times legs
 
 -- The plan sheet of a run and a list: what the pricer gives for them.
 unfoldable pub planText : List ℕ → Run → List ℕ → List ℕ → List ℕ
 planText name run froms tos =
-    planLines name (total (run .counts)) (pricedAnswer run (listOf froms tos)) froms tos (run .numbers) (pricedTimes run (listOf froms tos))
+    planLines name (total (run .counts)) (pricedAnswer run (listOf froms tos)) froms tos
+    (run .numbers) (pricedTimes run (listOf froms tos)) (pricedLegs run (listOf froms tos))
 
 -- 1 to 7, then 13, then 10, then 8.
 unfoldable pub planSheetVerdict : List ℕ → Run → List ℕ → List ℕ → List ℕ → Verdict

@@ -27,18 +27,19 @@ pub record SheetFits (page name starts lengths numbers counts : List ℕ) : Type
   pub wants : length numbers ≤ mostWants
   pub pairs : length numbers ≡ length counts
 
--- No plan sheet is longer than this: 156 bytes for the first lines, 49 for each detour and each time.
+-- No plan sheet is longer than this: 156 bytes for the first lines, 49 for each of 64 detours and 68 for each of 64 times.
 abbrev pub planMost : ℕ
-planMost = 6428
+planMost = 7644
 
--- What fits on a plan's page: a name, a list and times within the run's limits.
-pub record PlanFits (page name froms tos numbers times : List ℕ) : Type 0 where
+-- What fits on a plan's page: a name, a list, times and legs within the run's limits.
+pub record PlanFits (page name froms tos numbers times legs : List ℕ) : Type 0 where
   pub room : planMost ≤ length page
   pub short : length name ≤ 16
   pub few : length froms ≤ mostWants
   pub even : length froms ≡ length tos
   pub wants : length numbers ≤ mostWants
   pub timed : length numbers ≡ length times
+  pub numbered : length numbers ≡ length legs
 
 -- The answer to a verdict.
 abbrev pub writtenOf : Verdict → ℕ → Written

@@ -16,7 +16,7 @@ use Rattle.texts.specs.Text.{lineFeed, comma, isName, decimal}
 use Rattle.sheets.specs.Lines.{tapeKey, headKey, turnKey, ruleKey, ruleText, filesKey, fileKey, wantsKey, wantKey}
 use Rattle.sheets.specs.Sheet.{mostSheetFiles}
 
--- A line with its LF: a key and a text, a key and a number, a key and a pair of numbers.
+-- A line with its LF: a key and a text, a key and a number, a key and two or three numbers.
 abbrev pub line : List ℕ → List ℕ → List ℕ
 line key text = key ++ text ++ (lineFeed ∷ [])
 
@@ -29,11 +29,23 @@ pairText first second = decimal first ++ (comma ∷ []) ++ decimal second
 abbrev pub pairLine : List ℕ → ℕ → ℕ → List ℕ
 pairLine key first second = line key (pairText first second)
 
--- A line for each pair of two rows.
+abbrev pub tripleText : ℕ → ℕ → ℕ → List ℕ
+tripleText first second third = pairText first second ++ (comma ∷ []) ++ decimal third
+
+abbrev pub tripleLine : List ℕ → ℕ → ℕ → ℕ → List ℕ
+tripleLine key first second third = line key (tripleText first second third)
+
+-- A line for each pair of two rows, and for each triple of three.
 unfoldable pub pairLines : List ℕ → List ℕ → List ℕ → List ℕ
 pairLines key [] seconds = []
 pairLines key (a ∷ firsts) [] = []
 pairLines key (a ∷ firsts) (b ∷ seconds) = pairLine key a b ++ pairLines key firsts seconds
+
+unfoldable pub tripleLines : List ℕ → List ℕ → List ℕ → List ℕ → List ℕ
+tripleLines key [] seconds thirds = []
+tripleLines key (a ∷ firsts) [] thirds = []
+tripleLines key (a ∷ firsts) (b ∷ seconds) [] = []
+tripleLines key (a ∷ firsts) (b ∷ seconds) (c ∷ thirds) = tripleLine key a b c ++ tripleLines key firsts seconds thirds
 
 -- The first five lines, and the whole sheet. A number always stands after `turn=`.
 unfoldable pub topText : List ℕ → ℕ → ℕ → Rule → ℕ → List ℕ

@@ -7,7 +7,7 @@ ghost use lib.ListN.{length, drop};
 ghost use Rattle.refusals.specs.declared.Refusal.the-variants.{BadName};
 ghost use Rattle.refusals.specs.Refusals.{refuseIf, firstOf};
 ghost use Rattle.texts.specs.Text.{decimal, isName};
-ghost use Rattle.writers.specs.Writing.{line, numberLine, pairLine, pairLines, rowVerdict, Handed};
+ghost use Rattle.writers.specs.Writing.{line, numberLine, pairText, pairLine, pairLines, tripleLine, tripleLines, rowVerdict, Handed};
 ghost use Rattle.writers.specs.Private.{Wrote, writtenOf};
 use crate::Written;
 use refusals::Refusal;
@@ -56,14 +56,39 @@ pub(crate) fn put_number_line(page: &mut [u8], at: usize, key: &[u8], number: u6
     put(page, end, b"\n")
 }
 
+fn put_pair(page: &mut [u8], at: usize, first: u64, second: u64) -> usize
+    requires { ⌜ at + 41 ≤ length (now page) ⌝ }
+    ensures { λ r. ⌜ Wrote (now (page .entry)) at (pairText first second) 41 (now (page .exit)) r ⌝ }
+{
+    let comma = put_number(page, at, first);
+    let after = put(page, comma, b",");
+    put_number(page, after, second)
+}
+
 fn put_pair_line(page: &mut [u8], at: usize, key: &[u8], first: u64, second: u64) -> usize
     requires { ⌜ at + (length (now key) + 42) ≤ length (now page) ⌝ }
     ensures { λ r. ⌜ Wrote (now (page .entry)) at (pairLine (now (key .entry)) first second) (length (now (key .entry)) + 42) (now (page .exit)) r ⌝ }
 {
     let value = put(page, at, key);
-    let comma = put_number(page, value, first);
-    let after = put(page, comma, b",");
-    let end = put_number(page, after, second);
+    let end = put_pair(page, value, first, second);
+    put(page, end, b"\n")
+}
+
+fn put_triple_line(
+    page: &mut [u8],
+    at: usize,
+    key: &[u8],
+    first: u64,
+    second: u64,
+    third: u64,
+) -> usize
+    requires { ⌜ at + (length (now key) + 63) ≤ length (now page) ⌝ }
+    ensures { λ r. ⌜ Wrote (now (page .entry)) at (tripleLine (now (key .entry)) first second third) (length (now (key .entry)) + 63) (now (page .exit)) r ⌝ }
+{
+    let value = put(page, at, key);
+    let last_comma = put_pair(page, value, first, second);
+    let last = put(page, last_comma, b",");
+    let end = put_number(page, last, third);
     put(page, end, b"\n")
 }
 
@@ -84,6 +109,30 @@ pub(crate) fn put_pairs(
     let mut i: usize = 0;
     while i < firsts.len() {
         next = put_pair_line(page, next, key, firsts[i], seconds[i]);
+        i += 1;
+    }
+    next
+}
+
+// A line for each triple of three rows. No key is longer than 5 bytes, so no such line is longer than 68.
+pub(crate) fn put_triples(
+    page: &mut [u8],
+    at: usize,
+    key: &[u8],
+    firsts: &[u64],
+    seconds: &[u64],
+    thirds: &[u64],
+) -> usize
+    requires { ⌜ length (now key) ≤ 5 ⌝ }
+    requires { ⌜ length (now firsts) ≡ length (now seconds) ⌝ }
+    requires { ⌜ length (now firsts) ≡ length (now thirds) ⌝ }
+    requires { ⌜ at + length (now firsts) * 68 ≤ length (now page) ⌝ }
+    ensures { λ r. ⌜ Wrote (now (page .entry)) at (tripleLines (now (key .entry)) (now (firsts .entry)) (now (seconds .entry)) (now (thirds .entry))) (length (now (firsts .entry)) * 68) (now (page .exit)) r ⌝ }
+{
+    let mut next = at;
+    let mut i: usize = 0;
+    while i < firsts.len() {
+        next = put_triple_line(page, next, key, firsts[i], seconds[i], thirds[i]);
         i += 1;
     }
     next

@@ -11,6 +11,7 @@ use crate::page::judge_name;
 use crate::page::put_line;
 use crate::page::put_number_line;
 use crate::page::put_pairs;
+use crate::page::put_triples;
 use crate::page::written;
 use refusals::Verdict;
 use refusals::refused;
@@ -38,13 +39,14 @@ fn put_plan(
     tos: &[u64],
     numbers: &[u64],
     times: &[u64],
+    legs: &[u64],
 ) -> usize
-    requires { ⌜ PlanFits (now page) (now name) (now froms) (now tos) (now numbers) (now times) ⌝ }
-    ensures { λ r. ⌜ Wrote (now (page .entry)) 0 (planLines (now (name .entry)) reads answer (now (froms .entry)) (now (tos .entry)) (now (numbers .entry)) (now (times .entry))) planMost (now (page .exit)) r ⌝ }
+    requires { ⌜ PlanFits (now page) (now name) (now froms) (now tos) (now numbers) (now times) (now legs) ⌝ }
+    ensures { λ r. ⌜ Wrote (now (page .entry)) 0 (planLines (now (name .entry)) reads answer (now (froms .entry)) (now (tos .entry)) (now (numbers .entry)) (now (times .entry)) (now (legs .entry))) planMost (now (page .exit)) r ⌝ }
 {
     let detour_at = put_plan_top(page, name, reads, answer);
     let time_at = put_pairs(page, detour_at, b"detour=", froms, tos);
-    put_pairs(page, time_at, b"time=", numbers, times)
+    put_triples(page, time_at, b"time=", numbers, times, legs)
 }
 
 pub fn write_plan(
@@ -67,6 +69,7 @@ pub fn write_plan(
         return written(named, 0);
     }
     let mut times = [0u64; 64];
+    let mut legs = [0u64; 64];
     let answer = walk::price(
         starts,
         lengths,
@@ -77,6 +80,7 @@ pub fn write_plan(
         froms,
         tos,
         &mut times,
+        &mut legs,
     );
     let refusal = answer.refusal;
     let list = Verdict {
@@ -87,7 +91,7 @@ pub fn write_plan(
         return written(list, 0);
     }
     let wants = numbers.len();
-    let mut page = [0u8; 6428];
+    let mut page = [0u8; 7644];
     let bytes = put_plan(
         &mut page,
         name,
@@ -97,6 +101,7 @@ pub fn write_plan(
         tos,
         numbers,
         &times[..wants],
+        &legs[..wants],
     );
     hand_out(&page[..bytes], out)
 }

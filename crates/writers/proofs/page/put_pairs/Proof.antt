@@ -2,19 +2,21 @@
 -- Assumes nothing.
 use borrow.Author.Needs.{needs}
 use Prim.Native.Nat.{_-_}
-use lib.ListN.{length}
-use Rattle.writers.proofs.Pages.{PairsPut, pairs-put-none, pair-room, pair-put, pairs-put}
+use native.Mathlib.Omega.{arith}
+use lib.ListN.{length, drop}
+use Rattle.writers.specs.Writing.{pairLines}
+use Rattle.writers.proofs.Pages.{LinesPut, lines-put-none, line-room, line-put, lines-put, pairs-left, pairs-over}
 use Rattle.writers.proofs.page.put_pairs.Statement.{statement}
 use Rattle.writers.proofs.page.put_pairs.Tie as tie
 
 abbrev Inv-loop : tie.InvT-loop
-Inv-loop page₀ at key firsts seconds next₀ i₀ page next i = PairsPut page₀ at key firsts seconds page next i
+Inv-loop page₀ at key firsts seconds next₀ i₀ page next i = LinesPut page₀ at 49 (pairLines key firsts seconds) (length firsts) (pairLines key (drop i firsts) (drop i seconds)) page next i
 
 abbrev μ-loop : tie.MeasureT-loop
 μ-loop page₀ at key firsts seconds next₀ i₀ page next i = length firsts - i
 
 loop-holds : tie.Need-loop-holds Inv-loop μ-loop
-loop-holds c = pairs-put-none _ _ _ _ _
+loop-holds c = lines-put-none _ _ _ _ _
 
 mul-put-pair-line : tie.Need-mul-put-pair-line Inv-loop μ-loop
 mul-put-pair-line c = search needs
@@ -32,7 +34,7 @@ put-pair-line-requires : tie.Need-put-pair-line-requires Inv-loop μ-loop
 put-pair-line-requires c κs =
     let c4 = c .before .before .before .before in
     let c8 = c4 .before .before .before .before in
-    pair-room _ _ _ _ _ (c8 .before .pre .0) (c8 .before .pre .1 .0) (c8 .before .pre .1 .1) _ _ _ (c4 .loop .inv) (search needs)
+    omega (arith, line-room _ _ _ _ _ (c8 .before .pre .1 .1) _ _ _ _ (c4 .loop .inv) (search needs), c8 .before .pre .0)
 
 add-i : tie.Need-add-i Inv-loop μ-loop
 add-i c = search needs
@@ -45,13 +47,15 @@ loop-again c =
     let c4 = c .before .before .before .before in
     let c8 = c4 .before .before .before .before in
     let c12 = c8 .before .before .before .before in
-    pair-put _ _ _ _ _ (c12 .pre .0) (c12 .pre .1 .0) (c12 .pre .1 .1) _ _ _ (c4 .before .before .before .loop .inv) (search needs) _ _ (c .before .before .put-pair-line .kept .0) (c .before .before .put-pair-line .ensures)
+    line-put _ _ _ _ _ (c12 .pre .1 .1) _ _ _ _ (c4 .before .before .before .loop .inv) (search needs) _ _ (pairs-left _ _ _ (c12 .pre .1 .0) _ (c4 .before .before .loop-test .taken)) _ (omega (arith, c12 .pre .0)) _ _ (c .before .before .put-pair-line .kept .0) (c .before .before .put-pair-line .ensures)
 
 same-length : tie.Need-same-length Inv-loop μ-loop
 same-length c = c .before .loop .inv .long
 
 returns : tie.Need-returns Inv-loop μ-loop
-returns c = pairs-put _ _ _ _ _ (c .before .before .before .before .before .before .pre .0) (c .before .before .before .before .before .before .pre .1 .0) (c .before .before .before .before .before .before .pre .1 .1) _ _ _ (c .before .loop .inv) (c .loop-test .left)
+returns c =
+    let c6 = c .before .before .before .before .before .before in
+    lines-put _ _ _ _ _ (c6 .pre .1 .1) _ _ _ _ (c .before .loop .inv) (c .loop-test .left) (pairs-over _ _ _ (c6 .pre .1 .0) _ (c .loop-test .left))
 
 pub put-pairs-spec : {M : Type 1} → statement M
 put-pairs-spec =

@@ -16,11 +16,11 @@ slice-aggregate-put-pairs c = search needs
 put-pairs-requires : tie.Need-put-pairs-requires
 put-pairs-requires c κs = search needs
 
-slice-aggregate-put-pairs-2 : tie.Need-slice-aggregate-put-pairs-2
-slice-aggregate-put-pairs-2 c = search needs
+slice-aggregate-put-triples : tie.Need-slice-aggregate-put-triples
+slice-aggregate-put-triples c = search needs
 
-put-pairs-requires-2 : tie.Need-put-pairs-requires-2
-put-pairs-requires-2 c κs = search needs
+put-triples-requires : tie.Need-put-triples-requires
+put-triples-requires c κs = search needs
 
 same-length : tie.Need-same-length
 same-length c = search needs
@@ -28,13 +28,11 @@ same-length c = search needs
 returns : tie.Need-returns
 unfolding planLines
 returns c =
-    let c4 = c .before .before .before .before in
-    let c8 = c4 .before .before .before .before in
-    let c12 = c8 .before .before .before .before in
-    let c16 = c12 .before .before .before .before in
-    let c20 = c16 .before .before .before .before in
-    let two = wrote-both _ _ _ _ _ _ _ _ _ _ (c12 .put-plan-top .ensures) (c4 .before .before .before .put-pairs .ensures) in
-    wrote-within _ _ _ _ _ _ _ (omega (arith, c20 .pre .few, c20 .pre .wants)) (wrote-both _ _ _ _ _ _ _ _ _ _ two (c .before .before .put-pairs2 .ensures))
+    let c7 = c .before .before .before .before .before .before .before in
+    let c12 = c7 .before .before .before .before .before in
+    let c21 = c12 .before .before .before .before .before .before .before .before .before in
+    let two = wrote-both _ _ _ _ _ _ _ _ _ _ (c12 .put-plan-top .ensures) (c7 .put-pairs .ensures) in
+    wrote-within _ _ _ _ _ _ _ (omega (arith, c21 .pre .few, c21 .pre .wants)) (wrote-both _ _ _ _ _ _ _ _ _ _ two (c .before .before .put-triples .ensures))
 
 pub put-plan-spec : {M : Type 1} → statement M
 put-plan-spec =
@@ -43,7 +41,7 @@ put-plan-spec =
     put-plan-top-requires
     slice-aggregate-put-pairs
     put-pairs-requires
-    slice-aggregate-put-pairs-2
-    put-pairs-requires-2
+    slice-aggregate-put-triples
+    put-triples-requires
     same-length
     returns)

@@ -4,7 +4,7 @@ use mathlib.Core.Path.{sym, _∙_}
 use native.Mathlib.Omega.{arith}
 use Rattle.runs.specs.Run.{runOf}
 use Rattle.writers.proofs.Sheets.{refused-handed, part-length, page-handed}
-use Rattle.writers.proofs.Plans.{plan-refused, plan-good, plan-list-refused, plan-last, wants-length, plan-fits, plan-wrote}
+use Rattle.writers.proofs.Plans.{plan-refused, plan-good, plan-list-refused, plan-last, times-length, legs-length, plan-fits, plan-wrote}
 use borrow.Author.Needs.{needs}
 use Rattle.runs.proofs.Accepted.{counted-exact}
 use Rattle.writers.proofs.plan.write_plan.Statement.{statement}
@@ -35,6 +35,9 @@ returns c =
 slice-aggregate-price : tie.Need-slice-aggregate-price
 slice-aggregate-price c = search needs
 
+slice-aggregate-price-2 : tie.Need-slice-aggregate-price-2
+slice-aggregate-price-2 c = search needs
+
 price-requires : tie.Need-price-requires
 price-requires c κs = search needs
 
@@ -46,15 +49,13 @@ written-requires-2 c κs = search needs
 
 returns-2 : tie.Need-returns-2
 returns-2 c =
-    let c4 = c .before .before .before .before in
-    let c8 = c4 .before .before .before .before in
-    let c12 = c8 .before .before .before .before in
-    let c16 = c12 .before .before .before .before in
-    let a = c16 .before .before .args in
+    let price = c .before .before .before .before .before in
+    let named = price .before .before .before in
+    let a = named .before .before .before .before .before .before .before .before .before .before .before .before .args in
     let run = runOf (a .starts .now) (a .lengths .now) (a .numbers .now) (a .counts .now) (a .head) (a .turn) in
     refused-handed _ _ _ _ _ _ (plan-list-refused (a .name .now) run (a .froms .now) (a .tos .now) (a .out .now) _ _
-    (c8 .before .judge .ensures) (c8 .judge-name .ensures) _ (c4 .before .before .before .refused .ensures) (c4 .before .before .if1 .left)
-    _ (search needs) (c4 .price .result) (c4 .price .ensures .0) _ (c .before .before .refused2 .ensures) (c .before .if2 .taken)) (sym (c .before .before .refused2 .ensures) ∙ c .before .if2 .taken) (c .written2 .ensures)
+    (named .before .before .before .judge .ensures) (named .before .before .judge-name .ensures) _ (named .before .refused .ensures) (named .if1 .left)
+    _ _ (search needs) (search needs) (price .price .result) (price .price .ensures .0) _ (c .before .before .refused2 .ensures) (c .before .if2 .taken)) (sym (c .before .before .refused2 .ensures) ∙ c .before .if2 .taken) (c .written2 .ensures)
 
 slice-aggregate-put-plan : tie.Need-slice-aggregate-put-plan
 slice-aggregate-put-plan c = search needs
@@ -64,41 +65,53 @@ count-reads-requires c κs = search needs
 
 array-share-prefix-times : tie.Need-array-share-prefix-times
 array-share-prefix-times c =
-    let c4 = c .before .before .before .before in
-    let c8 = c4 .before .before .before .before in
-    let c12 = c8 .before .before .before .before in
-    let c16 = c12 .before .before .before .before in
-    let a = c16 .before .before .before .args in
+    let price = c .before .before .before .before .before .before in
+    let named = price .before .before .before in
+    let a = named .before .before .before .before .before .before .before .before .before .before .before .before .args in
     let run = runOf (a .starts .now) (a .lengths .now) (a .numbers .now) (a .counts .now) (a .head) (a .turn) in
     let few = plan-good (a .name .now) run (a .froms .now) (a .tos .now) (a .out .now) _ _
-    (c8 .before .before .judge .ensures) (c8 .before .judge-name .ensures) _ (c8 .refused .ensures) (c4 .before .before .before .if1 .left) .wants .few in
+    (named .before .before .before .judge .ensures) (named .before .before .judge-name .ensures) _ (named .before .refused .ensures) (named .if1 .left) .wants .few in
     omega (arith, few)
 
 slice-aggregate-put-plan-2 : tie.Need-slice-aggregate-put-plan-2
 slice-aggregate-put-plan-2 c =
-    let c4 = c .before .before .before .before in
-    let c8 = c4 .before .before .before .before in
-    let c12 = c8 .before .before .before .before in
-    let c16 = c12 .before .before .before .before in
-    let c20 = c16 .before .before .before .before in
-    let a = c20 .args in
+    let price = c .before .before .before .before .before .before .before in
+    let named = price .before .before .before in
+    let a = named .before .before .before .before .before .before .before .before .before .before .before .before .args in
     let run = runOf (a .starts .now) (a .lengths .now) (a .numbers .now) (a .counts .now) (a .head) (a .turn) in
-    wants-length (a .name .now) run (a .froms .now) (a .tos .now) (a .out .now) _ _
-    (c8 .before .before .before .judge .ensures) (c8 .before .before .judge-name .ensures) _ (c8 .before .refused .ensures) (c8 .if1 .left)
-    _ (search needs) (c4 .before .before .price .result) (c4 .before .before .price .ensures .0) _ (c4 .refused2 .ensures) (c .before .before .before .if2 .left) _ (c4 .before .before .price .ensures .1)
+    times-length (a .name .now) run (a .froms .now) (a .tos .now) (a .out .now) _ _
+    (named .before .before .before .judge .ensures) (named .before .before .judge-name .ensures) _ (named .before .refused .ensures) (named .if1 .left)
+    _ _ (search needs) (search needs) (price .price .result) (price .price .ensures .0) _ (c .before .before .before .before .refused2 .ensures) (c .before .before .before .if2 .left) _ _ (price .price .ensures .1)
+
+array-share-prefix-legs : tie.Need-array-share-prefix-legs
+array-share-prefix-legs c =
+    let price = c .before .before .before .before .before .before .before in
+    let named = price .before .before .before in
+    let a = named .before .before .before .before .before .before .before .before .before .before .before .before .args in
+    let run = runOf (a .starts .now) (a .lengths .now) (a .numbers .now) (a .counts .now) (a .head) (a .turn) in
+    let few = plan-good (a .name .now) run (a .froms .now) (a .tos .now) (a .out .now) _ _
+    (named .before .before .before .judge .ensures) (named .before .before .judge-name .ensures) _ (named .before .refused .ensures) (named .if1 .left) .wants .few in
+    omega (arith, few)
+
+slice-aggregate-put-plan-3 : tie.Need-slice-aggregate-put-plan-3
+slice-aggregate-put-plan-3 c =
+    let price = c .before .before .before .before .before .before .before .before in
+    let named = price .before .before .before in
+    let a = named .before .before .before .before .before .before .before .before .before .before .before .before .args in
+    let run = runOf (a .starts .now) (a .lengths .now) (a .numbers .now) (a .counts .now) (a .head) (a .turn) in
+    legs-length (a .name .now) run (a .froms .now) (a .tos .now) (a .out .now) _ _
+    (named .before .before .before .judge .ensures) (named .before .before .judge-name .ensures) _ (named .before .refused .ensures) (named .if1 .left)
+    _ _ (search needs) (search needs) (price .price .result) (price .price .ensures .0) _ (c .before .before .before .before .before .refused2 .ensures) (c .before .before .before .before .if2 .left) _ _ (price .price .ensures .1)
 
 put-plan-requires : tie.Need-put-plan-requires
 put-plan-requires c κs =
-    let c4 = c .before .before .before .before in
-    let c8 = c4 .before .before .before .before in
-    let c12 = c8 .before .before .before .before in
-    let c16 = c12 .before .before .before .before in
-    let c20 = c16 .before .before .before .before in
-    let a = c20 .args in
+    let price = c .before .before .before .before .before .before .before .before in
+    let named = price .before .before .before in
+    let a = named .before .before .before .before .before .before .before .before .before .before .before .before .args in
     let run = runOf (a .starts .now) (a .lengths .now) (a .numbers .now) (a .counts .now) (a .head) (a .turn) in
     plan-fits (a .name .now) run (a .froms .now) (a .tos .now) (a .out .now) _ _
-    (c8 .before .before .before .judge .ensures) (c8 .before .before .judge-name .ensures) _ (c8 .before .refused .ensures) (c8 .if1 .left)
-    _ (search needs) (c4 .before .before .price .result) (c4 .before .before .price .ensures .0) _ (c4 .refused2 .ensures) (c .before .before .before .if2 .left) _ (c4 .before .before .price .ensures .1) _ (search needs)
+    (named .before .before .before .judge .ensures) (named .before .before .judge-name .ensures) _ (named .before .refused .ensures) (named .if1 .left)
+    _ _ (search needs) (search needs) (price .price .result) (price .price .ensures .0) _ (c .before .before .before .before .before .refused2 .ensures) (c .before .before .before .before .if2 .left) _ _ (price .price .ensures .1) _ (search needs)
 
 array-share-prefix-page : tie.Need-array-share-prefix-page
 array-share-prefix-page c = search needs
@@ -114,20 +127,17 @@ same-length c = search needs
 
 returns-3 : tie.Need-returns-3
 returns-3 c =
-    let c4 = c .before .before .before .before in
-    let c8 = c4 .before .before .before .before in
-    let c12 = c8 .before .before .before .before in
-    let c16 = c12 .before .before .before .before in
-    let c20 = c16 .before .before .before .before in
-    let c24 = c20 .before .before .before .before in
-    let a = c24 .before .before .before .args in
+    let price = c .before .before .before .before .before .before .before .before .before .before .before .before .before .before .before in
+    let named = price .before .before .before in
+    let a = named .before .before .before .before .before .before .before .before .before .before .before .before .args in
     let run = runOf (a .starts .now) (a .lengths .now) (a .numbers .now) (a .counts .now) (a .head) (a .turn) in
+    let reads = counted-exact (a .counts .now) (plan-good (a .name .now) run (a .froms .now) (a .tos .now) (a .out .now) _ _ (named .before .before .before .judge .ensures) (named .before .before .judge-name .ensures) _ (named .before .refused .ensures) (named .if1 .left) .wants .reads) in
     let wrote = plan-wrote (a .name .now) run (a .froms .now) (a .tos .now) (a .out .now) _ _
-    (c16 .before .before .judge .ensures) (c16 .before .judge-name .ensures) _ (c16 .refused .ensures) (c12 .before .before .before .if1 .left)
-    _ (search needs) (c12 .before .price .result) (c12 .before .price .ensures .0) _ (c8 .before .before .before .refused2 .ensures) (c8 .before .before .if2 .left) _ (c12 .before .price .ensures .1) _ (c8 .count-reads .ensures ∙ counted-exact (a .counts .now) (plan-good (a .name .now) run (a .froms .now) (a .tos .now) (a .out .now) _ _ (c16 .before .before .judge .ensures) (c16 .before .judge-name .ensures) _ (c16 .refused .ensures) (c12 .before .before .before .if1 .left) .wants .reads)) _ _ _ (c4 .before .before .put-plan .ensures) in
+    (named .before .before .before .judge .ensures) (named .before .before .judge-name .ensures) _ (named .before .refused .ensures) (named .if1 .left)
+    _ _ (search needs) (search needs) (price .price .result) (price .price .ensures .0) _ (c .before .before .before .before .before .before .before .before .before .before .before .before .refused2 .ensures) (c .before .before .before .before .before .before .before .before .before .before .before .if2 .left) _ _ (price .price .ensures .1) _ (c .before .before .before .before .before .before .before .before .before .count-reads .ensures ∙ reads) _ _ _ (c .before .before .before .before .before .before .put-plan .ensures) in
     page-handed _ _ _ _ _ wrote _ _ (plan-last (a .name .now) run (a .froms .now) (a .tos .now) (a .out .now) _ _
-    (c16 .before .before .judge .ensures) (c16 .before .judge-name .ensures) _ (c16 .refused .ensures) (c12 .before .before .before .if1 .left)
-    _ (search needs) (c12 .before .price .result) (c12 .before .price .ensures .0) _ (c8 .before .before .before .refused2 .ensures) (c8 .before .before .if2 .left)) _ _ (c .before .before .hand-out .ensures)
+    (named .before .before .before .judge .ensures) (named .before .before .judge-name .ensures) _ (named .before .refused .ensures) (named .if1 .left)
+    _ _ (search needs) (search needs) (price .price .result) (price .price .ensures .0) _ (c .before .before .before .before .before .before .before .before .before .before .before .before .refused2 .ensures) (c .before .before .before .before .before .before .before .before .before .before .before .if2 .left)) _ _ (c .before .before .hand-out .ensures)
 
 pub write-plan-spec : {M : Type 1} → statement M
 write-plan-spec =
@@ -139,6 +149,7 @@ write-plan-spec =
     written-requires
     returns
     slice-aggregate-price
+    slice-aggregate-price-2
     price-requires
     refused-requires-2
     written-requires-2
@@ -147,6 +158,8 @@ write-plan-spec =
     count-reads-requires
     array-share-prefix-times
     slice-aggregate-put-plan-2
+    array-share-prefix-legs
+    slice-aggregate-put-plan-3
     put-plan-requires
     array-share-prefix-page
     slice-aggregate-hand-out
