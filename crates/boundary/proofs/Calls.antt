@@ -6,7 +6,6 @@ use mathlib.Core.Logic.{⊎-elim}
 use mathlib.Core.List.{List, [], _∷_}
 use native.Mathlib.Omega.{arith}
 use lib.ListN.{length, drop, set}
-use lib.Dec.{ltb}
 use borrow.Author.Tests.{lt-ltb, le-ltb, eq-eqb}
 use Rattle.refusals.specs.declared.Refusal.{Refusal}
 use Rattle.refusals.specs.declared.Verdict.{Verdict}
@@ -16,12 +15,12 @@ use Rattle.refusals.specs.Refusals.{numberOf, refuseIf, firstOf, accepted}
 use Rattle.runs.specs.Run.{Run, stopsOf}
 use Rattle.runs.specs.Judging.{judgeOf}
 use Rattle.runs.specs.Lists.{listOf, listVerdict}
-use Rattle.walk.specs.Price.{refusalAnswer, pricedAnswer, priceVerdict, priceAnswer, priceRow}
+use Rattle.walk.specs.Price.{refusalAnswer, pricedAnswer, ReadRows, readRows, shortReadRows, priceVerdict, priceAnswer, priceRows}
 use Rattle.runs.proofs.Search.{true-or-false}
 use Rattle.refusals.proofs.Verdicts.{refuses}
 use Rattle.walk.proofs.Priced.{price-accepted}
 use Rattle.walk.proofs.Places.{placeMost, price-near}
-use Rattle.boundary.specs.Boundary.{codeOf, sumsWith, priceCall, priceTimes, priceSums}
+use Rattle.boundary.specs.Boundary.{codeOf, sumsWith, priceCall, priceReads, priceSums}
 
 -- Four stores are the four numbers before the rest.
 pub four-set : (w x y z : ℕ) (row : List ℕ) → 4 ≤ length row → set (set (set (set row 0 w) 1 x) 2 y) 3 z ≡ w ∷ x ∷ y ∷ z ∷ drop 4 row
@@ -39,7 +38,7 @@ pub code-accepts : (v : Verdict) → codeOf v ≡ 0 → refuses v ≡ false
 code-accepts v e = rw (eq-eqb (numberOf (v .refusal)) 0 (omega arith))
 
 -- The pricer's answer and its code.
-module _ (r : Run) (froms tos row : List ℕ) where
+module _ (r : Run) (froms tos : List ℕ) (row : ReadRows) where
   module _ (a : Answer) (is : a ≡ priceAnswer r froms tos row) where
     when-refused : refuses (priceVerdict r froms tos row) ≡ true → a ≡ refusalAnswer (priceVerdict r froms tos row)
     unfolding priceAnswer
@@ -68,9 +67,9 @@ module _ (r : Run) (froms tos row : List ℕ) where
       rw (le-ltb (length sums) 4 l)
       (⊎-elim (λ h. rw h) (λ h. rw (h, price-accepted r froms tos row h)) (true-or-false (refuses (priceVerdict r froms tos row))))
 
-  pub call-times : (sums out : List ℕ) → 4 ≤ length sums → out ≡ priceRow r froms tos row → out ≡ priceTimes r froms tos row sums
-  unfolding priceTimes priceRow
-  call-times sums out l e = rw (call-is-price sums l) e
+  pub call-reads : (sums : List ℕ) (out : ReadRows) → 4 ≤ length sums → out ≡ priceRows r froms tos row → out ≡ priceReads r froms tos row sums
+  unfolding priceReads priceRows
+  call-reads sums out l e = rw (call-is-price sums l) e
 
   pub call-sums-kept : (sums : List ℕ) → 4 ≤ length sums → refuses (priceVerdict r froms tos row) ≡ true → sums ≡ priceSums r froms tos row sums
   unfolding priceSums
@@ -99,21 +98,21 @@ module _ (r : Run) (froms tos : List ℕ) where
   short-row false = refl
 
   -- Both ways of asking come to the same.
-  call-core : (row sums : List ℕ) → length sums < 4 → priceCall r froms tos row sums ≡ core
+  call-core : (row : ReadRows) (sums : List ℕ) → length sums < 4 → priceCall r froms tos row sums ≡ core
   unfolding priceCall priceVerdict core
   call-core row sums l =
       rw (lt-ltb (length sums) 4 l)
       (⊎-elim
       (λ (h : refuses (judgeOf r) ≡ true). rw (h, h))
-      (λ (h : refuses (judgeOf r) ≡ false). rw h (⊎-elim (λ (g : refuses (listVerdict (stopsOf r) froms tos) ≡ true). rw (g, g)) (λ (g : refuses (listVerdict (stopsOf r) froms tos) ≡ false). rw g (short-row (ltb (length row) (length (r .numbers))))) (true-or-false (refuses (listVerdict (stopsOf r) froms tos)))))
+      (λ (h : refuses (judgeOf r) ≡ false). rw h (⊎-elim (λ (g : refuses (listVerdict (stopsOf r) froms tos) ≡ true). rw (g, g)) (λ (g : refuses (listVerdict (stopsOf r) froms tos) ≡ false). rw g (short-row (shortReadRows (length (r .numbers)) row))) (true-or-false (refuses (listVerdict (stopsOf r) froms tos)))))
       (true-or-false (refuses (judgeOf r))))
 
   short-code : (b : Bool) (n : ℕ) → n ≡ codeOf (firstOf (refuseIf b ShortRow ∷ [])) → (n ≡ 0 → ⊥) → n ≡ 8
   short-code true n e some = e
   short-code false n e some = absurd (some e)
 
-  -- A price into an empty row that is refused names the same code.
-  pub short-refused : (n : ℕ) → n ≡ codeOf (priceVerdict r froms tos []) → (n ≡ 0 → ⊥) → (row sums : List ℕ) → length sums < 4 → n ≡ codeOf (priceCall r froms tos row sums)
+  -- A price into empty rows that is refused names the same code.
+  pub short-refused : (n : ℕ) → n ≡ codeOf (priceVerdict r froms tos (readRows [] [])) → (n ≡ 0 → ⊥) → (row : ReadRows) (sums : List ℕ) → length sums < 4 → n ≡ codeOf (priceCall r froms tos row sums)
   unfolding priceVerdict core
   short-refused n e some row sums l =
       rw (call-core row sums l)
@@ -123,12 +122,12 @@ module _ (r : Run) (froms tos : List ℕ) where
       rw h
       (⊎-elim
       (λ (g : refuses (listVerdict (stopsOf r) froms tos) ≡ true). rw g (rw (h, g) at e))
-      (λ (g : refuses (listVerdict (stopsOf r) froms tos) ≡ false). rw g (short-code (ltb 0 (length (r .numbers))) n (rw (h, g) at e) some))
+      (λ (g : refuses (listVerdict (stopsOf r) froms tos) ≡ false). rw g (short-code (shortReadRows (length (r .numbers)) (readRows [] [])) n (rw (h, g) at e) some))
       (true-or-false (refuses (listVerdict (stopsOf r) froms tos)))))
       (true-or-false (refuses (judgeOf r))))
 
   -- And one that is accepted leaves 8.
-  pub short-accepted : codeOf (priceVerdict r froms tos []) ≡ 0 → (row sums : List ℕ) → length sums < 4 → 8 ≡ codeOf (priceCall r froms tos row sums)
+  pub short-accepted : codeOf (priceVerdict r froms tos (readRows [] [])) ≡ 0 → (row : ReadRows) (sums : List ℕ) → length sums < 4 → 8 ≡ codeOf (priceCall r froms tos row sums)
   unfolding priceVerdict core
   short-accepted e row sums l =
       rw (call-core row sums l)
@@ -142,10 +141,10 @@ module _ (r : Run) (froms tos : List ℕ) where
       (true-or-false (refuses (listVerdict (stopsOf r) froms tos)))))
       (true-or-false (refuses (judgeOf r))))
 
-  pub short-times : (row sums : List ℕ) → length sums < 4 → row ≡ priceTimes r froms tos row sums
-  unfolding priceTimes
-  short-times row sums l = rw (call-core row sums l, core-refuses)
+  pub short-reads : (row : ReadRows) (sums : List ℕ) → length sums < 4 → row ≡ priceReads r froms tos row sums
+  unfolding priceReads
+  short-reads row sums l = rw (call-core row sums l, core-refuses)
 
-  pub short-sums : (row sums : List ℕ) → length sums < 4 → sums ≡ priceSums r froms tos row sums
+  pub short-sums : (row : ReadRows) (sums : List ℕ) → length sums < 4 → sums ≡ priceSums r froms tos row sums
   unfolding priceSums
   short-sums row sums l = rw (call-core row sums l, core-refuses)

@@ -3,7 +3,7 @@
 use Prim.Native.Nat.{ℕ, _+_, _*_}
 use mathlib.Core.Path.{_≡_}
 use mathlib.Core.Bool.{Bool, true, false, cond, _||_, not}
-use mathlib.Core.List.{List, [], _∷_, _++_}
+use mathlib.Core.List.{List, [], _∷_}
 use lib.ListN.{length, drop}
 use lib.Dec.{ltb, eqb}
 use Rattle.refusals.specs.declared.Refusal.the-variants.{ShortRow, ShortRoom, BadRule}
@@ -15,7 +15,7 @@ use Rattle.refusals.specs.Refusals.{numberOf, isRefusal, refuseIf, firstOf}
 use Rattle.runs.specs.Run.{Run}
 use Rattle.runs.specs.Judging.{judgeOf}
 use Rattle.runs.specs.Lists.{listOf}
-use Rattle.walk.specs.Price.{priceVerdict, pricedAnswer, pricedTimes}
+use Rattle.walk.specs.Price.{ReadRows, readRowsWith, priceVerdict, pricedAnswer}
 use Rattle.planner.specs.Plan.{Rows, shortRows, Planned}
 use Rattle.tables.specs.Listing.{roomSize}
 
@@ -32,22 +32,22 @@ abbrev pub shortSums : List ℕ → Bool
 shortSums sums = ltb (length sums) 4
 
 -- The pricer: its own refusals, then 8 for the row of sums.
-unfoldable pub priceCall : Run → List ℕ → List ℕ → List ℕ → List ℕ → Verdict
-priceCall r froms tos times sums = firstOf (priceVerdict r froms tos times ∷ refuseIf (shortSums sums) ShortRow ∷ [])
+unfoldable pub priceCall : Run → List ℕ → List ℕ → ReadRows → List ℕ → Verdict
+priceCall r froms tos rows sums = firstOf (priceVerdict r froms tos rows ∷ refuseIf (shortSums sums) ShortRow ∷ [])
 
-unfoldable pub priceTimes : Run → List ℕ → List ℕ → List ℕ → List ℕ → List ℕ
-priceTimes r froms tos times sums =
-    cond (isRefusal ((priceCall r froms tos times sums) .refusal)) times (pricedTimes r (listOf froms tos) ++ drop (length (r .numbers)) times)
+unfoldable pub priceReads : Run → List ℕ → List ℕ → ReadRows → List ℕ → ReadRows
+priceReads r froms tos rows sums =
+    cond (isRefusal ((priceCall r froms tos rows sums) .refusal)) rows (readRowsWith r (listOf froms tos) rows)
 
-unfoldable pub priceSums : Run → List ℕ → List ℕ → List ℕ → List ℕ → List ℕ
-priceSums r froms tos times sums =
-    cond (isRefusal ((priceCall r froms tos times sums) .refusal)) sums (sumsWith (pricedAnswer r (listOf froms tos)) sums)
+unfoldable pub priceSums : Run → List ℕ → List ℕ → ReadRows → List ℕ → List ℕ
+priceSums r froms tos rows sums =
+    cond (isRefusal ((priceCall r froms tos rows sums) .refusal)) sums (sumsWith (pricedAnswer r (listOf froms tos)) sums)
 
--- What a call of the pricer gives back and leaves in the two rows.
-pub record PriceCalled (r : Run) (froms tos times sums : List ℕ) (code : ℕ) (timesOut sumsOut : List ℕ) : Type 0 where
-  pub says : code ≡ codeOf (priceCall r froms tos times sums)
-  pub timesAre : timesOut ≡ priceTimes r froms tos times sums
-  pub sumsAre : sumsOut ≡ priceSums r froms tos times sums
+-- What a call of the pricer gives back and leaves in the rows for times and legs, and for sums.
+pub record PriceCalled (r : Run) (froms tos : List ℕ) (rows : ReadRows) (sums : List ℕ) (code : ℕ) (rowsOut : ReadRows) (sumsOut : List ℕ) : Type 0 where
+  pub says : code ≡ codeOf (priceCall r froms tos rows sums)
+  pub readsAre : rowsOut ≡ priceReads r froms tos rows sums
+  pub sumsAre : sumsOut ≡ priceSums r froms tos rows sums
 
 -- The rule numbers: 0 is sweep, 1 is least, and any other is refused by 14.
 abbrev pub badRule : ℕ → Bool

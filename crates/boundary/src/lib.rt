@@ -6,6 +6,7 @@ ghost use Prim.Native.Nat.{ℕ, _+_, _*_, _≤_, _<_};
 ghost use lib.ListN.{length};
 ghost use Rattle.refusals.specs.Refusals.{numberOf};
 ghost use Rattle.runs.specs.Run.{runAt};
+ghost use Rattle.walk.specs.Price.{ReadRows, readRowsBefore, readRowsAfter};
 ghost use Rattle.planner.specs.Plan.{rowsBefore, rowsAfter};
 ghost use Rattle.boundary.specs.Boundary.{codeOf, sumsWith, priceCall, ruleNumbered, PriceCalled, PlanCalled};
 use runs::Rule;
@@ -31,7 +32,7 @@ fn fill_sums(a: Answer, sums: &mut [u64])
     sums[3] = a.detours;
 }
 
-// The code of a call whose row of sums is short: what comes before 8 is found by pricing into an empty row, where nothing is written.
+// The code of a call whose row of sums is short: what comes before 8 is found by pricing into empty rows, where nothing is written.
 fn short_price(
     starts: &[u64],
     lengths: &[u64],
@@ -42,9 +43,10 @@ fn short_price(
     froms: &[u64],
     tos: &[u64],
 ) -> u64
-    ensures { λ r. ⌜ ((times sums : List ℕ) → length sums < 4 → r ≡ codeOf (priceCall (runAt starts lengths numbers counts head turn) (now (froms .entry)) (now (tos .entry)) times sums)) ⌝ }
+    ensures { λ r. ⌜ ((rows : ReadRows) (sums : List ℕ) → length sums < 4 → r ≡ codeOf (priceCall (runAt starts lengths numbers counts head turn) (now (froms .entry)) (now (tos .entry)) rows sums)) ⌝ }
 {
-    let mut none = [0u64; 0];
+    let mut no_times = [0u64; 0];
+    let mut no_legs = [0u64; 0];
     let a = walk::price(
         starts,
         lengths,
@@ -54,7 +56,8 @@ fn short_price(
         turn,
         froms,
         tos,
-        &mut none,
+        &mut no_times,
+        &mut no_legs,
     );
     let found = code(a);
     if found == 0 {
@@ -74,9 +77,10 @@ pub extern "C" fn violstream_price(
     detour_starts: &[u64],
     detour_ends: &[u64],
     times: &mut [u64],
+    legs: &mut [u64],
     sums: &mut [u64],
 ) -> u64
-    ensures { λ r. ⌜ PriceCalled (runAt starts lengths numbers counts head turn) (now («detour_starts» .entry)) (now («detour_ends» .entry)) (now (times .entry)) (now (sums .entry)) r (now (times .exit)) (now (sums .exit)) ⌝ }
+    ensures { λ r. ⌜ PriceCalled (runAt starts lengths numbers counts head turn) (now («detour_starts» .entry)) (now («detour_ends» .entry)) (readRowsBefore times legs) (now (sums .entry)) r (readRowsAfter times legs) (now (sums .exit)) ⌝ }
 {
     if sums.len() < 4 {
         return short_price(
@@ -100,6 +104,7 @@ pub extern "C" fn violstream_price(
         detour_starts,
         detour_ends,
         times,
+        legs,
     );
     let price = code(a);
     if price != 0 {
@@ -128,10 +133,11 @@ pub extern "C" fn violstream_plan(
     detour_starts: &mut [u64],
     detour_ends: &mut [u64],
     times: &mut [u64],
+    legs: &mut [u64],
     sums: &mut [u64],
     room: &mut [u64],
 ) -> u64
-    ensures { λ r. ⌜ PlanCalled (runAt starts lengths numbers counts head turn) rule (rowsBefore «detour_starts» «detour_ends» times room) (now (sums .entry)) r (rowsAfter «detour_starts» «detour_ends» times room) (now (sums .exit)) ⌝ }
+    ensures { λ r. ⌜ PlanCalled (runAt starts lengths numbers counts head turn) rule (rowsBefore «detour_starts» «detour_ends» times legs room) (now (sums .entry)) r (rowsAfter «detour_starts» «detour_ends» times legs room) (now (sums .exit)) ⌝ }
 {
     let run = runs::judge(starts, lengths, numbers, counts, head, turn);
     if refusals::refused(run) {
@@ -154,6 +160,7 @@ pub extern "C" fn violstream_plan(
         detour_starts,
         detour_ends,
         times,
+        legs,
         room,
     );
     let plan = code(a);

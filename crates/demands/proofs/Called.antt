@@ -13,12 +13,12 @@ use Rattle.refusals.specs.Refusals.{refuseIf}
 use Rattle.runs.specs.Run.{Run}
 use Rattle.runs.specs.Judging.{judgeOf}
 use Rattle.runs.specs.Lists.{Detour, listOf}
-use Rattle.walk.specs.Price.{pricedAnswer, priceVerdict}
+use Rattle.walk.specs.Price.{ReadRows, pricedAnswer, priceVerdict}
 use Rattle.refusals.proofs.Verdicts.{refuses, all-accept, accepts-if}
 use Rattle.runs.proofs.Search.{or-false-both}
 use Rattle.planner.specs.Plan.{Rows, Plans, planVerdict, shortRows}
 use Rattle.tables.specs.Listing.{roomSize}
-use Rattle.boundary.specs.Boundary.{shortSums, sumsWith, badRule, ruleNumbered, priceCall, priceTimes, priceSums, planCall, PlanCalled, CallPlanned}
+use Rattle.boundary.specs.Boundary.{shortSums, sumsWith, badRule, ruleNumbered, priceCall, priceReads, priceSums, planCall, PlanCalled, CallPlanned}
 use Rattle.boundary.proofs.Calls.{code-accepts}
 use Rattle.demands.specs.Calls.{inSums, PlanCallWalks, Demand2PriceCall, Demand2PlanCall, Demand3PlanCall}
 use Rattle.demands.proofs.Demand2.{price-of-list, demand2-walk, demand2-least, demand2-sweep}
@@ -29,19 +29,19 @@ sums-hold : (r : Run) (list : List Detour) (answer : Answer) (sums out : List �
 unfolding pricedAnswer
 sums-hold r list answer sums out says fills = rw (fills, says)
 
-price-passes : (r : Run) (froms tos times sums : List ℕ) → refuses (priceCall r froms tos times sums) ≡ false → refuses (priceVerdict r froms tos times) ≡ false
+price-passes : (r : Run) (froms tos : List ℕ) (rows : ReadRows) (sums : List ℕ) → refuses (priceCall r froms tos rows sums) ≡ false → refuses (priceVerdict r froms tos rows) ≡ false
 unfolding priceCall
-price-passes r froms tos times sums e = all-accept (priceVerdict r froms tos times ∷ refuseIf (shortSums sums) ShortRow ∷ []) e .0
+price-passes r froms tos rows sums e = all-accept (priceVerdict r froms tos rows ∷ refuseIf (shortSums sums) ShortRow ∷ []) e .0
 
 pub demand2-price-call : Demand2PriceCall
-unfolding priceTimes priceSums pricedAnswer
-demand2-price-call r froms tos times sums code timesOut sumsOut called zero-code =
-    let e = code-accepts (priceCall r froms tos times sums) (sym (called .says) ∙ zero-code) in
-    let passes = price-passes r froms tos times sums e in
+unfolding priceReads priceSums pricedAnswer
+demand2-price-call r froms tos rows sums code rowsOut sumsOut called zero-code =
+    let e = code-accepts (priceCall r froms tos rows sums) (sym (called .says) ∙ zero-code) in
+    let passes = price-passes r froms tos rows sums e in
     let fills : sumsOut ≡ sumsWith (pricedAnswer r (listOf froms tos)) sums = rw e at (called .sumsAre) in
     record {
       four = rw fills (omega arith);
-      price = rw fills (price-of-list r froms tos times passes _ timesOut refl (rw e at (called .timesAre)));
+      price = rw fills (price-of-list r froms tos rows passes _ rowsOut refl (rw e at (called .readsAre)));
     }
 
 -- A call of the planner that gives back 0: what it leaves is an answer of the planner.

@@ -14,12 +14,12 @@ use Rattle.refusals.specs.Refusals.{numberOf, accepted, refuseIf, firstOf}
 use Rattle.runs.specs.Run.{Run, stopsOf}
 use Rattle.runs.specs.Judging.{judgeOf}
 use Rattle.runs.specs.Lists.{listVerdict}
-use Rattle.walk.specs.Price.{priceVerdict}
+use Rattle.walk.specs.Price.{ReadRows, shortReadRows, priceVerdict}
 use Rattle.refusals.proofs.Verdicts.{none-refuses, refuses}
 use Rattle.runs.proofs.Judged.{accepted-run}
 use Rattle.planner.specs.Plan.{Rows, shortRows}
 use Rattle.tables.specs.Listing.{roomSize}
-use Rattle.boundary.specs.Boundary.{shortSums, priceCall, priceTimes, priceSums, PriceCalled, badRule, planCall, PlanCalled}
+use Rattle.boundary.specs.Boundary.{shortSums, priceCall, priceReads, priceSums, PriceCalled, badRule, planCall, PlanCalled}
 use Rattle.demands.specs.Table.{RunApplies, ListIsBad}
 use Rattle.demands.specs.Demand1.{PriceApplies, PlanApplies, priceOrder}
 use Rattle.demands.specs.Calls.{PriceCallApplies, PlanCallApplies, planCallOrder, PlanCallAnswers, Demand1PriceCall, Demand1PlanCall}
@@ -27,7 +27,7 @@ use Rattle.demands.proofs.Tests.{tells-equal, tells-below, tells-not, t
 use Rattle.demands.proofs.Checks.{decides-if, decides-reworded, Finds, finds-none, finds-first, first-of-joined}
 use Rattle.demands.proofs.Judged.{run-finds, run-small}
 use Rattle.demands.proofs.Listed.{decides-list}
-use Rattle.demands.proofs.Demand1.{price-of-run, price-list, price-row, plan-of-run, IsShort, short-row, row-short, room-short, tells-short}
+use Rattle.demands.proofs.Demand1.{tells-reads, price-of-run, price-list, ReadsShort, short-reads, reads-short, plan-of-run, IsShort, short-row, row-short, room-short, tells-short}
 
 -- Two checks for 8, one after the other, are one check.
 one-check : (a b : Bool) → firstOf (refuseIf a ShortRow ∷ refuseIf b ShortRow ∷ []) ≡ firstOf (refuseIf (a || b) ShortRow ∷ [])
@@ -35,32 +35,32 @@ one-check true b = refl
 one-check false b = refl
 
 -- The pricer's call.
-module _ (r : Run) (froms tos times sums : List ℕ) where
+module _ (r : Run) (froms tos : List ℕ) (rows : ReadRows) (sums : List ℕ) where
   abbrev AtPrice : Refusal → ℕ → Type 0
-  AtPrice = PriceCallApplies r froms tos times sums
+  AtPrice = PriceCallApplies r froms tos rows sums
 
   price-call-run : (k : Refusal) (p : ℕ) → numberOf k ≤ 7 → AtPrice k p → RunApplies r k p
-  price-call-run k p l (PriceCallApplies.price h) = price-of-run r froms tos times k p l h
+  price-call-run k p l (PriceCallApplies.price h) = price-of-run r froms tos rows k p l h
   price-call-run k p l (PriceCallApplies.short-sums h) = absurd (omega arith)
 
   price-call-list : (p : ℕ) → AtPrice BadEntry p → ListIsBad r froms tos p
-  price-call-list p (PriceCallApplies.price h) = price-list r froms tos times p h
+  price-call-list p (PriceCallApplies.price h) = price-list r froms tos rows p h
 
   abbrev EitherShort : Type 0
-  EitherShort = (length times < length (r .numbers)) ⊎ (length sums < 4)
+  EitherShort = ReadsShort r froms tos rows ⊎ (length sums < 4)
 
   short-price-call : (p : ℕ) → (p ≡ 0) × EitherShort → AtPrice ShortRow p
-  short-price-call p h = rw (h .0) (⊎-elim (λ s. PriceCallApplies.price (PriceApplies.short-row s)) PriceCallApplies.short-sums (h .1))
+  short-price-call p h = rw (h .0) (⊎-elim (λ s. PriceCallApplies.price (short-reads r froms tos rows 0 (refl, s))) PriceCallApplies.short-sums (h .1))
 
   price-call-short : (p : ℕ) → AtPrice ShortRow p → (p ≡ 0) × EitherShort
-  price-call-short p (PriceCallApplies.price h) = let s = price-row r froms tos times p h in (s .0, inl (s .1))
+  price-call-short p (PriceCallApplies.price h) = let s = reads-short r froms tos rows p h in (s .0, inl (s .1))
   price-call-short p (PriceCallApplies.short-sums h) = (refl, inr h)
 
-  price-call-finds : Finds AtPrice priceOrder (priceCall r froms tos times sums)
+  price-call-finds : Finds AtPrice priceOrder (priceCall r froms tos rows sums)
   unfolding priceCall priceVerdict
   price-call-finds =
       let list = listVerdict (stopsOf r) froms tos in
-      let a = ltb (length times) (length (r .numbers)) in
+      let a = shortReadRows (length (r .numbers)) rows in
       let row = refuseIf a ShortRow in
       let four = refuseIf (shortSums sums) ShortRow in
       rw
@@ -71,29 +71,29 @@ module _ (r : Run) (froms tos times sums : List ℕ) where
       (λ b. rw (one-check a (shortSums sums))
       (finds-first AtPrice [] refl
       (decides-reworded short-price-call price-call-short
-      (decides-if _ ShortRow (tells-either a (shortSums sums) (tells-below (length times) (length (r .numbers))) (tells-below (length sums) 4))))
+      (decides-if _ ShortRow (tells-either a (shortSums sums) (tells-reads (length (r .numbers)) rows) (tells-below (length sums) 4))))
       (λ c. finds-none AtPrice)))))
 
-  price-call-accepted : refuses (priceCall r froms tos times sums) ≡ false → priceCall r froms tos times sums ≡ accepted
+  price-call-accepted : refuses (priceCall r froms tos rows sums) ≡ false → priceCall r froms tos rows sums ≡ accepted
   unfolding priceCall
-  price-call-accepted e = none-refuses (priceVerdict r froms tos times ∷ refuseIf (shortSums sums) ShortRow ∷ []) e
+  price-call-accepted e = none-refuses (priceVerdict r froms tos rows ∷ refuseIf (shortSums sums) ShortRow ∷ []) e
 
-  module _ (code : ℕ) (timesOut sumsOut : List ℕ) (called : PriceCalled r froms tos times sums code timesOut sumsOut) where
-    price-call-kept : (b : Bool) → refuses (priceCall r froms tos times sums) ≡ b → ((priceCall r froms tos times sums) .refusal ≡ Accepted → ⊥)
-        → (timesOut ≡ times) × (sumsOut ≡ sums)
-    unfolding priceTimes priceSums
-    price-call-kept true e n = (rw e at (called .timesAre), rw e at (called .sumsAre))
+  module _ (code : ℕ) (rowsOut : ReadRows) (sumsOut : List ℕ) (called : PriceCalled r froms tos rows sums code rowsOut sumsOut) where
+    price-call-kept : (b : Bool) → refuses (priceCall r froms tos rows sums) ≡ b → ((priceCall r froms tos rows sums) .refusal ≡ Accepted → ⊥)
+        → (rowsOut ≡ rows) × (sumsOut ≡ sums)
+    unfolding priceReads priceSums
+    price-call-kept true e n = (rw e at (called .readsAre), rw e at (called .sumsAre))
     price-call-kept false e n = absurd (n (ap (λ v. v .refusal) (price-call-accepted e)))
 
 pub demand1-price-call : Demand1PriceCall
-demand1-price-call r froms tos times sums code timesOut sumsOut called =
-    let v = priceCall r froms tos times sums in
+demand1-price-call r froms tos rows sums code rowsOut sumsOut called =
+    let v = priceCall r froms tos rows sums in
     record {
       kind = v .refusal;
       place = v .place;
       says = called .says;
-      first = price-call-finds r froms tos times sums;
-      kept = price-call-kept r froms tos times sums code timesOut sumsOut called (refuses v) refl;
+      first = price-call-finds r froms tos rows sums;
+      kept = price-call-kept r froms tos rows sums code rowsOut sumsOut called (refuses v) refl;
     }
 
 -- The planner's call.

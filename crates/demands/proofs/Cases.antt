@@ -9,7 +9,7 @@ use borrow.Author.Tests.{eqb-true, eq-eqb, not-true}
 use Rattle.refusals.specs.Refusals.{isRefusal, firstWhere}
 use Rattle.runs.specs.Run.{Run, stopsOf, stopsFrom, rightEnd}
 use Rattle.runs.specs.Judging.{judgeOf}
-use Rattle.walk.specs.Walk.{headAt, walked, served, timeOf, timesOf, sumOf}
+use Rattle.walk.specs.Walk.{headAt, walked, served, timeOf, timesOf, legFrom, legsFor, sumOf}
 use Rattle.runs.specs.Lists.{Detour, firstBadEntry, wanted, anyBelow}
 use Rattle.walk.specs.Detours.{startOf, endOf, unreadEnd, sweepEnd, lastSweep, legsOf}
 use Rattle.walk.proofs.Laws.{accepted-sound}
@@ -70,6 +70,7 @@ passes c =
     && eqb (firstBadEntry (stopsOf (c .run)) (c .list)) 0
     && eqb (sumOf (c .run .turn) (headAt (c .run .head)) (legsOf (stopsOf (c .run)) (c .list)) (stopsOf (c .run))) (c .sum)
     && sameRow (timesOf (c .run .turn) (headAt (c .run .head)) (legsOf (stopsOf (c .run)) (c .list)) (stopsOf (c .run))) (c .times)
+    && sameRow (legsFor (legsOf (stopsOf (c .run)) (c .list)) (stopsOf (c .run))) (c .legs)
     && eqb ((walked (c .run .turn) (headAt (c .run .head)) (legsOf (stopsOf (c .run)) (c .list))) .clock) (c .finish)
     && eqb ((walked (c .run .turn) (headAt (c .run .head)) (legsOf (stopsOf (c .run)) (c .list))) .place) (c .end)
     && alike (c .least) (sameList (c .list) (leastList (c .run .turn) (stopsOf (c .run))))
@@ -89,7 +90,8 @@ least-if-same r list b accepted same =
 holds-if-passes : (c : Case) → passes c ≡ true → Holds c
 unfolding passes
 holds-if-passes c e =
-    let six = and-true-both _ _ e in
+    let seven = and-true-both _ _ e in
+    let six = and-true-both _ _ (seven .0) in
     let five = and-true-both _ _ (six .0) in
     let four = and-true-both _ _ (five .0) in
     let three = and-true-both _ _ (four .0) in
@@ -101,9 +103,10 @@ holds-if-passes c e =
       formed = eqb-true _ _ (one .1);
       sum = eqb-true _ _ (two .1);
       times = same-row _ _ (three .1);
-      finish = eqb-true _ _ (four .1);
-      end = eqb-true _ _ (five .1);
-      least = least-if-same (c .run) (c .list) (c .least) accepted (alike-equal _ _ (six .1));
+      legs = same-row _ _ (four .1);
+      finish = eqb-true _ _ (five .1);
+      end = eqb-true _ _ (six .1);
+      least = least-if-same (c .run) (c .list) (c .least) accepted (alike-equal _ _ (seven .1));
     }
 
 all-hold : (cs : List Case) → allPass cs ≡ true → AllHold cs
@@ -112,7 +115,7 @@ all-hold [] e = tt
 all-hold (c ∷ cs) e = let both = and-true-both _ _ e in (holds-if-passes c (both .0), all-hold cs (both .1))
 
 cases-pass : allPass cases ≡ true
-unfolding allPass passes alike sameRow sameList judgeOf firstWhere stopsFrom rightEnd firstBadEntry wanted anyBelow startOf endOf served unreadEnd sweepEnd lastSweep legsOf walked timeOf timesOf sumOf leastList planDetours W lowest scan filledTo filled candidate next value choice built nextPlan best
+unfolding allPass passes alike sameRow sameList judgeOf firstWhere stopsFrom rightEnd firstBadEntry wanted anyBelow startOf endOf served unreadEnd sweepEnd lastSweep legsOf walked timeOf timesOf legFrom legsFor sumOf leastList planDetours W lowest scan filledTo filled candidate next value choice built nextPlan best
 cases-pass = refl
 
 pub cases-hold : CasesHold

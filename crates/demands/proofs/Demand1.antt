@@ -17,11 +17,11 @@ use Rattle.refusals.specs.Refusals.{numberOf, accepted, refuseIf}
 use Rattle.runs.specs.Run.{Run, stopsOf}
 use Rattle.runs.specs.Judging.{judgeOf}
 use Rattle.runs.specs.Lists.{listVerdict}
-use Rattle.walk.specs.Price.{refusalAnswer, pricedAnswer, priceVerdict, priceAnswer, priceRow}
+use Rattle.walk.specs.Price.{refusalAnswer, pricedAnswer, ReadRows, shortReadRows, priceVerdict, priceAnswer, priceRows}
 use Rattle.refusals.proofs.Verdicts.{none-refuses, refuses}
 use Rattle.runs.proofs.Judged.{accepted-run}
 use Rattle.walk.proofs.Priced.{price-accepted}
-use Rattle.planner.specs.Plan.{Rows, Plans, shortRows, planVerdict}
+use Rattle.planner.specs.Plan.{Rows, readsIn, Plans, shortRows, planVerdict}
 use Rattle.tables.specs.Listing.{roomSize}
 use Rattle.demands.specs.Table.{RunApplies, ListIsBad}
 use Rattle.demands.specs.Demand1.{OnlyPlace, PriceApplies, PlanApplies, priceOrder, planOrder, PriceAnswers, PlanAnswers, Demand1Price, Demand1Plan, Demand1PriceIff, Demand1PlanIff}
@@ -34,62 +34,76 @@ use Rattle.demands.proofs.Listed.{decides-list}
 refusal-only-place : (v : Verdict) → OnlyPlace (refusalAnswer v)
 refusal-only-place v = record { sum = refl; finish = refl; end = refl; detours = refl }
 
+-- A row for times or legs that is short.
+pub tells-reads : (k : ℕ) (rows : ReadRows) → Tells (shortReadRows k rows) ((length (rows .times) < k) ⊎ (length (rows .legs) < k))
+tells-reads k rows = tells-either (ltb (length (rows .times)) k) (ltb (length (rows .legs)) k) (tells-below (length (rows .times)) k) (tells-below (length (rows .legs)) k)
+
 -- The pricer.
-module _ (r : Run) (froms tos row : List ℕ) where
-  pub price-of-run : (k : Refusal) (p : ℕ) → numberOf k ≤ 7 → PriceApplies r froms tos row k p → RunApplies r k p
+module _ (r : Run) (froms tos : List ℕ) (rows : ReadRows) where
+  pub price-of-run : (k : Refusal) (p : ℕ) → numberOf k ≤ 7 → PriceApplies r froms tos rows k p → RunApplies r k p
   price-of-run k p l (PriceApplies.run h) = h
   price-of-run k p l (PriceApplies.bad-list h) = absurd (omega arith)
-  price-of-run k p l (PriceApplies.short-row h) = absurd (omega arith)
+  price-of-run k p l (PriceApplies.short-times h) = absurd (omega arith)
+  price-of-run k p l (PriceApplies.short-legs h) = absurd (omega arith)
 
-  pub price-list : (p : ℕ) → PriceApplies r froms tos row BadEntry p → ListIsBad r froms tos p
+  pub price-list : (p : ℕ) → PriceApplies r froms tos rows BadEntry p → ListIsBad r froms tos p
   price-list p (PriceApplies.run h) = absurd (omega (arith, run-small r h))
   price-list p (PriceApplies.bad-list h) = h
 
-  pub price-row : (p : ℕ) → PriceApplies r froms tos row ShortRow p → (p ≡ 0) × (length row < length (r .numbers))
-  price-row p (PriceApplies.run h) = absurd (omega (arith, run-small r h))
-  price-row p (PriceApplies.short-row h) = (refl, h)
+  abbrev pub ReadsShort : Type 0
+  ReadsShort = (length (rows .times) < length (r .numbers)) ⊎ (length (rows .legs) < length (r .numbers))
 
-  price-finds : Finds (PriceApplies r froms tos row) priceOrder (priceVerdict r froms tos row)
+  pub short-reads : (p : ℕ) → (p ≡ 0) × ReadsShort → PriceApplies r froms tos rows ShortRow p
+  short-reads p h = rw (h .0) (⊎-elim PriceApplies.short-times PriceApplies.short-legs (h .1))
+
+  pub reads-short : (p : ℕ) → PriceApplies r froms tos rows ShortRow p → (p ≡ 0) × ReadsShort
+  reads-short p (PriceApplies.run h) = absurd (omega (arith, run-small r h))
+  reads-short p (PriceApplies.short-times h) = (refl, inl h)
+  reads-short p (PriceApplies.short-legs h) = (refl, inr h)
+
+  price-finds : Finds (PriceApplies r froms tos rows) priceOrder (priceVerdict r froms tos rows)
   unfolding priceVerdict
   price-finds =
-      let short = refuseIf (ltb (length row) (length (r .numbers))) ShortRow in
-      run-finds r (PriceApplies r froms tos row) (λ k p. PriceApplies.run) price-of-run (BadEntry ∷ ShortRow ∷ []) (listVerdict (stopsOf r) froms tos ∷ short ∷ [])
-      (λ a. finds-first (PriceApplies r froms tos row) (short ∷ []) refl
+      let short = refuseIf (shortReadRows (length (r .numbers)) rows) ShortRow in
+      run-finds r (PriceApplies r froms tos rows) (λ k p. PriceApplies.run) price-of-run (BadEntry ∷ ShortRow ∷ []) (listVerdict (stopsOf r) froms tos ∷ short ∷ [])
+      (λ a. finds-first (PriceApplies r froms tos rows) (short ∷ []) refl
       (decides-reworded (λ p. PriceApplies.bad-list) price-list (decides-list r froms tos (sym (accepted-run r a .wants .equal))))
-      (λ b. finds-first (PriceApplies r froms tos row) [] refl
-      (decides-reworded (λ p h. rw (h .0) (PriceApplies.short-row (h .1))) price-row (decides-if _ ShortRow (tells-below (length row) (length (r .numbers)))))
-      (λ c. finds-none (PriceApplies r froms tos row))))
+      (λ b. finds-first (PriceApplies r froms tos rows) [] refl
+      (decides-reworded short-reads reads-short (decides-if _ ShortRow (tells-reads (length (r .numbers)) rows)))
+      (λ c. finds-none (PriceApplies r froms tos rows))))
 
-  price-says : (b : Bool) → refuses (priceVerdict r froms tos row) ≡ b → PriceAnswers r froms tos row (priceAnswer r froms tos row) (priceRow r froms tos row)
-  unfolding priceAnswer priceRow pricedAnswer
-  price-says true e = rw e (record { first = price-finds; kept = λ n. (refusal-only-place (priceVerdict r froms tos row), refl) })
-  price-says false e = rw e (record { first = rw (price-accepted r froms tos row e) at price-finds; kept = λ n. absurd (n refl) })
+  price-says : (b : Bool) → refuses (priceVerdict r froms tos rows) ≡ b → PriceAnswers r froms tos rows (priceAnswer r froms tos rows) (priceRows r froms tos rows)
+  unfolding priceAnswer priceRows pricedAnswer
+  price-says true e = rw e (record { first = price-finds; kept = λ n. (refusal-only-place (priceVerdict r froms tos rows), refl) })
+  price-says false e = rw e (record { first = rw (price-accepted r froms tos rows e) at price-finds; kept = λ n. absurd (n refl) })
 
 pub demand1-price : Demand1Price
-demand1-price r froms tos row answer out says fills = rw (says, fills) (price-says r froms tos row (refuses (priceVerdict r froms tos row)) refl)
+demand1-price r froms tos rows answer out says fills = rw (says, fills) (price-says r froms tos rows (refuses (priceVerdict r froms tos rows)) refl)
 
 pub price-refused-iff : Demand1PriceIff
-price-refused-iff r froms tos row answer says =
-    refused-iff (PriceApplies r froms tos row) (demand1-price r froms tos row answer (priceRow r froms tos row) says refl .first) (refl, (refl, (refl, (refl, (refl, (refl, (refl, (refl, (refl, tt)))))))))
+price-refused-iff r froms tos rows answer says =
+    refused-iff (PriceApplies r froms tos rows) (demand1-price r froms tos rows answer (priceRows r froms tos rows) says refl .first) (refl, (refl, (refl, (refl, (refl, (refl, (refl, (refl, (refl, tt)))))))))
 
 -- The planner.
 module _ (r : Run) (rows : Rows) where
   pub plan-of-run : (k : Refusal) (p : ℕ) → numberOf k ≤ 7 → PlanApplies r rows k p → RunApplies r k p
   plan-of-run k p l (PlanApplies.run h) = h
   plan-of-run k p l (PlanApplies.short-times h) = absurd (omega arith)
+  plan-of-run k p l (PlanApplies.short-legs h) = absurd (omega arith)
   plan-of-run k p l (PlanApplies.short-starts h) = absurd (omega arith)
   plan-of-run k p l (PlanApplies.short-ends h) = absurd (omega arith)
   plan-of-run k p l (PlanApplies.short-room h) = absurd (omega arith)
 
   abbrev pub IsShort : Type 0
-  IsShort = (length (rows .times) < length (r .numbers)) ⊎ ((length (rows .froms) < length (r .numbers) - 1) ⊎ (length (rows .tos) < length (r .numbers) - 1))
+  IsShort = ((length (rows .times) < length (r .numbers)) ⊎ (length (rows .legs) < length (r .numbers))) ⊎ ((length (rows .froms) < length (r .numbers) - 1) ⊎ (length (rows .tos) < length (r .numbers) - 1))
 
   pub short-row : (p : ℕ) → (p ≡ 0) × IsShort → PlanApplies r rows ShortRow p
-  short-row p h = rw (h .0) (⊎-elim PlanApplies.short-times (⊎-elim PlanApplies.short-starts PlanApplies.short-ends) (h .1))
+  short-row p h = rw (h .0) (⊎-elim (⊎-elim PlanApplies.short-times PlanApplies.short-legs) (⊎-elim PlanApplies.short-starts PlanApplies.short-ends) (h .1))
 
   pub row-short : (p : ℕ) → PlanApplies r rows ShortRow p → (p ≡ 0) × IsShort
   row-short p (PlanApplies.run h) = absurd (omega (arith, run-small r h))
-  row-short p (PlanApplies.short-times h) = (refl, inl h)
+  row-short p (PlanApplies.short-times h) = (refl, inl (inl h))
+  row-short p (PlanApplies.short-legs h) = (refl, inl (inr h))
   row-short p (PlanApplies.short-starts h) = (refl, inr (inl h))
   row-short p (PlanApplies.short-ends h) = (refl, inr (inr h))
 
@@ -100,12 +114,12 @@ module _ (r : Run) (rows : Rows) where
   pub tells-short : Tells (shortRows (length (r .numbers)) rows) IsShort
   tells-short =
       let k = length (r .numbers) in
-      let times = ltb (length (rows .times)) k in
+      let reads = shortReadRows k (readsIn rows) in
       let froms = ltb (length (rows .froms)) (k - 1) in
       let tos = ltb (length (rows .tos)) (k - 1) in
       tells-regrouped
-      (tells-either (times || froms) tos
-      (tells-either times froms (tells-below (length (rows .times)) k) (tells-below (length (rows .froms)) (k - 1)))
+      (tells-either (reads || froms) tos
+      (tells-either reads froms (tells-reads k (readsIn rows)) (tells-below (length (rows .froms)) (k - 1)))
       (tells-below (length (rows .tos)) (k - 1)))
 
   plan-finds : Finds (PlanApplies r rows) planOrder (planVerdict r rows)

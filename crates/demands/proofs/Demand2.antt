@@ -3,26 +3,27 @@ use Prim.Native.Nat.{ℕ}
 use mathlib.Core.Path.{_≡_, refl, sym, ap, _∙_}
 use mathlib.Core.Bool.{Bool, true, false, not, true≢false}
 use mathlib.Core.Logic.{⊎-elim}
-use mathlib.Core.List.{List, [], _∷_, _++_}
+use mathlib.Core.List.{List, [], _∷_, map}
 use lib.ListN.{length, drop}
 use lib.Seq.{take-at}
-use lib.Dec.{ltb, eqb}
+use lib.Dec.{eqb}
 use borrow.Author.Tests.{eqb-true, not-false}
 use Rattle.refusals.specs.declared.Refusal.the-variants.{Accepted, BadEntry, ShortRow}
 use Rattle.walk.specs.declared.Answer.{Answer}
 use Rattle.runs.specs.declared.Rule.{Rule}
 use Rattle.runs.specs.declared.Rule.the-variants.{Sweep, Least}
 use Rattle.refusals.specs.Refusals.{isRefusal, refuseIf, refuseAt, firstWhere}
-use Rattle.runs.specs.Run.{Run, stopsOf}
+use Rattle.runs.specs.Run.{Run, Stop, stopsOf}
+use Rattle.walk.specs.Walk.{timesOf, legsFor}
 use Rattle.runs.specs.Judging.{judgeOf}
 use Rattle.runs.specs.Lists.{Detour, WellFormed, listOf, firstBadEntry, listVerdict}
-use Rattle.walk.specs.Price.{pricedAnswer, pricedTimes, priceVerdict, priceAnswer, priceRow}
+use Rattle.walk.specs.Price.{pricedAnswer, pricedTimes, pricedLegs, ReadRows, readRowsWith, shortReadRows, priceVerdict, priceAnswer, priceRows}
 use Rattle.refusals.proofs.Verdicts.{refuses, AllAccept, all-accept, accepts-if, accepts-at}
 use Rattle.runs.proofs.Judged.{accepted-run}
 use Rattle.runs.proofs.Search.{true-or-false}
-use Rattle.walk.proofs.Filling.{one-time-each, stops-length}
+use Rattle.walk.proofs.Filling.{one-each, stops-length}
 use Rattle.least.specs.Least.{LeastFor}
-use Rattle.planner.specs.Plan.{Rows, rowsWith}
+use Rattle.planner.specs.Plan.{Rows, readsIn, rowsWith}
 use Rattle.least.specs.Least.{ByRule}
 use Rattle.planner.proofs.Determined.{plan-determined}
 use Rattle.demands.specs.Demand2.{listIn, IsWalkOf, IsTheWalk, IsPriceOf, IsLeast, Demand2Price, Demand2Walk, Demand2Least, Demand2Sweep, Demand2One}
@@ -34,16 +35,17 @@ unfolding firstBadEntry firstWhere
 by-rule-formed Sweep r list e = rw e
 by-rule-formed Least r list least = least .formed
 
--- The pricer's numbers and times for a well-formed list, in a row that has its times in front.
-priced-walk : (r : Run) (list : List Detour) (row rest : List ℕ) (answer : Answer) → answer ≡ pricedAnswer r list → row ≡ pricedTimes r list ++ rest
-    → WellFormed (stopsOf r) list → length (r .counts) ≡ length (r .numbers) → IsWalkOf r list row answer
-unfolding pricedAnswer pricedTimes
-priced-walk r list row rest answer says fills formed same =
-    let size = one-time-each _ _ _ (stopsOf r) ∙ stops-length (r .starts) (r .lengths) (r .numbers) (r .counts) same in
+-- The pricer's numbers, times and legs for a well-formed list, in rows that have them in front.
+priced-walk : (r : Run) (list : List Detour) (rows before : ReadRows) (answer : Answer) → answer ≡ pricedAnswer r list → rows ≡ readRowsWith r list before
+    → WellFormed (stopsOf r) list → length (r .counts) ≡ length (r .numbers) → IsWalkOf r list rows answer
+unfolding pricedAnswer pricedTimes pricedLegs timesOf legsFor
+priced-walk r list rows before answer says fills formed same =
+    let size : (f : Stop → ℕ) → length (map f (stopsOf r)) ≡ length (r .numbers) = λ f. one-each f (stopsOf r) ∙ stops-length (r .starts) (r .lengths) (r .numbers) (r .counts) same in
     record {
       number = rw says;
       formed = formed;
-      times = rw fills (take-at (pricedTimes r list) rest (length (r .numbers)) size);
+      times = rw fills (take-at (pricedTimes r list) (drop (length (r .numbers)) (before .times)) (length (r .numbers)) (size _));
+      legs = rw fills (take-at (pricedLegs r list) (drop (length (r .numbers)) (before .legs)) (length (r .numbers)) (size _));
       sum = rw says;
       finish = rw says;
       end = rw says;
@@ -55,7 +57,7 @@ module _ (r : Run) (list : List Detour) (before : Rows) (answer : Answer) (after
 
   walk-of-list : WellFormed (stopsOf r) list → length (r .counts) ≡ length (r .numbers) → IsTheWalk r answer after
   walk-of-list formed same =
-      rw in-rows (priced-walk r list (after .times) (drop (length (r .numbers)) (before .times)) answer says (ap (λ rows. rows .times) rows) formed same)
+      rw in-rows (priced-walk r list (readsIn after) (readsIn before) answer says (ap readsIn rows) formed same)
 
   least-of-list : LeastFor (r .turn) (r .head) (stopsOf r) list → IsLeast r answer after
   unfolding pricedAnswer
@@ -63,10 +65,10 @@ module _ (r : Run) (list : List Detour) (before : Rows) (answer : Answer) (after
       record { smallest = λ other v. rw says (least .smallest other v); first = λ other v e. rw in-rows (least .first other v (rw says at e)) }
 
 -- What an accepted verdict of the pricer says of the run and the list.
-module _ (r : Run) (froms tos row : List ℕ) (e : refuses (priceVerdict r froms tos row) ≡ false) where
-  checks-pass : AllAccept (judgeOf r ∷ listVerdict (stopsOf r) froms tos ∷ refuseIf (ltb (length row) (length (r .numbers))) ShortRow ∷ [])
+module _ (r : Run) (froms tos : List ℕ) (rows : ReadRows) (e : refuses (priceVerdict r froms tos rows) ≡ false) where
+  checks-pass : AllAccept (judgeOf r ∷ listVerdict (stopsOf r) froms tos ∷ refuseIf (shortReadRows (length (r .numbers)) rows) ShortRow ∷ [])
   unfolding priceVerdict
-  checks-pass = all-accept (judgeOf r ∷ listVerdict (stopsOf r) froms tos ∷ refuseIf (ltb (length row) (length (r .numbers))) ShortRow ∷ []) e
+  checks-pass = all-accept (judgeOf r ∷ listVerdict (stopsOf r) froms tos ∷ refuseIf (shortReadRows (length (r .numbers)) rows) ShortRow ∷ []) e
 
   list-passes : AllAccept (refuseIf (not (eqb (length froms) (length tos))) BadEntry ∷ refuseAt (firstBadEntry (stopsOf r) (listOf froms tos)) BadEntry ∷ [])
   unfolding listVerdict
@@ -74,36 +76,36 @@ module _ (r : Run) (froms tos row : List ℕ) (e : refuses (priceVerdict r froms
       all-accept (refuseIf (not (eqb (length froms) (length tos))) BadEntry ∷ refuseAt (firstBadEntry (stopsOf r) (listOf froms tos)) BadEntry ∷ []) (checks-pass .1 .0)
 
   -- So the numbers are those of the walk of that list.
-  pub price-of-list : (answer : Answer) (out : List ℕ) → answer ≡ pricedAnswer r (listOf froms tos)
-      → out ≡ pricedTimes r (listOf froms tos) ++ drop (length (r .numbers)) row → IsPriceOf r froms tos out answer
+  pub price-of-list : (answer : Answer) (out : ReadRows) → answer ≡ pricedAnswer r (listOf froms tos)
+      → out ≡ readRowsWith r (listOf froms tos) rows → IsPriceOf r froms tos out answer
   price-of-list answer out says fills =
       record {
         even = eqb-true (length froms) (length tos) (not-false _ (accepts-if _ BadEntry refl (list-passes .0)));
         walk =
-            priced-walk r (listOf froms tos) out (drop (length (r .numbers)) row) answer says fills
+            priced-walk r (listOf froms tos) out rows answer says fills
             (accepts-at _ BadEntry refl (list-passes .1 .0))
             (sym (accepted-run r (checks-pass .0) .wants .equal));
       }
 
 -- An answer that is no refusal comes of a verdict that is none.
-price-accepts : (r : Run) (froms tos row : List ℕ) (answer : Answer) → answer ≡ priceAnswer r froms tos row → answer .refusal ≡ Accepted
-    → refuses (priceVerdict r froms tos row) ≡ false
+price-accepts : (r : Run) (froms tos : List ℕ) (rows : ReadRows) (answer : Answer) → answer ≡ priceAnswer r froms tos rows → answer .refusal ≡ Accepted
+    → refuses (priceVerdict r froms tos rows) ≡ false
 unfolding priceAnswer
-price-accepts r froms tos row answer says accepts =
+price-accepts r froms tos rows answer says accepts =
     ⊎-elim
     (λ e. absurd (true≢false (sym e ∙ ap isRefusal (sym (ap (λ (a : Answer). a .refusal) (rw e at says)) ∙ accepts))))
     (λ e. e)
-    (true-or-false (refuses (priceVerdict r froms tos row)))
+    (true-or-false (refuses (priceVerdict r froms tos rows)))
 
-pub price-run-accepted : (r : Run) (froms tos row : List ℕ) (answer : Answer) → answer ≡ priceAnswer r froms tos row → answer .refusal ≡ Accepted
+pub price-run-accepted : (r : Run) (froms tos : List ℕ) (rows : ReadRows) (answer : Answer) → answer ≡ priceAnswer r froms tos rows → answer .refusal ≡ Accepted
     → refuses (judgeOf r) ≡ false
-price-run-accepted r froms tos row answer says accepts = checks-pass r froms tos row (price-accepts r froms tos row answer says accepts) .0
+price-run-accepted r froms tos rows answer says accepts = checks-pass r froms tos rows (price-accepts r froms tos rows answer says accepts) .0
 
 pub demand2-price : Demand2Price
-unfolding priceAnswer priceRow
-demand2-price r froms tos row answer out says fills accepts =
-    let e = price-accepts r froms tos row answer says accepts in
-    price-of-list r froms tos row e answer out (rw e at says) (rw e at fills)
+unfolding priceAnswer priceRows
+demand2-price r froms tos rows answer out says fills accepts =
+    let e = price-accepts r froms tos rows answer says accepts in
+    price-of-list r froms tos rows e answer out (rw e at says) (rw e at fills)
 
 pub demand2-walk : Demand2Walk
 demand2-walk r rule before answer after plans accepts =

@@ -19,13 +19,13 @@ use Rattle.runs.specs.Judging.{judgeOf}
 use Rattle.walk.specs.Walk.{headAt, Moves, served, ServesAll, timeOf, sumOf}
 use Rattle.runs.specs.Lists.{Detour, wanted, anyBelow, firstBadEntry, listVerdict, listOf}
 use Rattle.walk.specs.Detours.{startOf, endOf, legOf, unreadEnd, sweepEnd, lastSweep, legsOf}
-use Rattle.walk.specs.Price.{refusalAnswer, pricedAnswer, priceVerdict, priceAnswer, priceRow}
+use Rattle.walk.specs.Price.{refusalAnswer, pricedAnswer, priceVerdict, priceAnswer, priceRows, ReadRows, readRows}
 use Rattle.refusals.proofs.Verdicts.{refuses}
 use Rattle.walk.proofs.Sweeps.{sweeps-to}
 use Rattle.least.specs.Wants.{readsOf}
 use Rattle.least.specs.Recurrence.{planDetours, W, lowest, scan, filledTo, filled, candidate, next, value, choice, built, nextPlan, best, leastList}
 use Rattle.planner.specs.Plan.{Rows, rowsOf, Plans, planVerdict}
-use Rattle.boundary.specs.Boundary.{codeOf, sumsWith, priceCall, priceTimes, priceSums, planCall, PlanCalled}
+use Rattle.boundary.specs.Boundary.{codeOf, sumsWith, priceCall, priceReads, priceSums, planCall, PlanCalled}
 use Rattle.texts.specs.Text.{bytes, allOf, isNumber, isName, startsWith, has, before, behind}
 use Rattle.sheets.specs.declared.Reading.{Reading}
 use Rattle.sheets.specs.Lines.{lineOf, afterLines, isTapeLine, isNumberLine}
@@ -53,7 +53,7 @@ use Rattle.demands.proofs.Fits.{ruleList, planAnswer, planRows, plans-f
 
 -- The sheet's run with rows and room that just suffice: the planner accepts, and reports 367.
 abbrev pub sheetRows : ℕ → Rows
-sheetRows words = rowsOf (7 ∷ 7 ∷ []) (7 ∷ 7 ∷ []) (7 ∷ 7 ∷ 7 ∷ []) (replicate words 7)
+sheetRows words = rowsOf (7 ∷ 7 ∷ []) (7 ∷ 7 ∷ []) (7 ∷ 7 ∷ 7 ∷ []) (7 ∷ 7 ∷ 7 ∷ []) (replicate words 7)
 
 abbrev pub sheetAnswer : ℕ → Answer
 sheetAnswer words = planAnswer exampleRun Least (sheetRows words)
@@ -73,12 +73,19 @@ pub sheet-reports : sheetAnswer 54 .sum ≡ 367
 unfolding planAnswer ruleList planVerdict judgeOf firstWhere stopsFrom rightEnd pricedAnswer startOf endOf served unreadEnd sweepEnd lastSweep legsOf timeOf sumOf leastList planDetours W lowest scan filledTo filled candidate next value choice built nextPlan best
 sheet-reports = refl
 
+-- Rows for the times and legs of four wants, and of three.
+abbrev zeros : ReadRows
+zeros = readRows (0 ∷ 0 ∷ 0 ∷ 0 ∷ []) (0 ∷ 0 ∷ 0 ∷ 0 ∷ [])
+
+abbrev threes : ReadRows
+threes = readRows (7 ∷ 7 ∷ 7 ∷ []) (7 ∷ 7 ∷ 7 ∷ [])
+
 -- One word less, and it refuses by 9; the pricer refuses (3,4)(2,4) at entry 2.
 pub short-room-refused : sheetAnswer 53 .refusal ≡ ShortRoom
 unfolding planAnswer planVerdict judgeOf firstWhere stopsFrom rightEnd
 short-room-refused = refl
 
-pub crossing-list-refused : priceAnswer fourFiles (3 ∷ 2 ∷ []) (4 ∷ 4 ∷ []) (0 ∷ 0 ∷ 0 ∷ 0 ∷ []) ≡ refusalAnswer (record { refusal = BadEntry; place = 2 })
+pub crossing-list-refused : priceAnswer fourFiles (3 ∷ 2 ∷ []) (4 ∷ 4 ∷ []) zeros ≡ refusalAnswer (record { refusal = BadEntry; place = 2 })
 unfolding priceAnswer priceVerdict judgeOf firstWhere stopsFrom rightEnd listVerdict listOf firstBadEntry wanted anyBelow
 crossing-list-refused = refl
 
@@ -159,22 +166,22 @@ short-room-keeps-rows =
     demand1-plan exampleRun Least (sheetRows 53) (sheetAnswer 53) (sheetAfter 53) (sheet-plans 53) .kept
     (λ e. true≢false (ap isRefusal (sym short-room-refused ∙ e))) .1
 
-pub crossing-list-keeps-row : priceRow fourFiles (3 ∷ 2 ∷ []) (4 ∷ 4 ∷ []) (0 ∷ 0 ∷ 0 ∷ 0 ∷ []) ≡ 0 ∷ 0 ∷ 0 ∷ 0 ∷ []
+pub crossing-list-keeps-row : priceRows fourFiles (3 ∷ 2 ∷ []) (4 ∷ 4 ∷ []) zeros ≡ zeros
 crossing-list-keeps-row =
-    demand1-price fourFiles (3 ∷ 2 ∷ []) (4 ∷ 4 ∷ []) (0 ∷ 0 ∷ 0 ∷ 0 ∷ []) (refusalAnswer (record { refusal = BadEntry; place = 2 }))
-    (priceRow fourFiles (3 ∷ 2 ∷ []) (4 ∷ 4 ∷ []) (0 ∷ 0 ∷ 0 ∷ 0 ∷ []))
+    demand1-price fourFiles (3 ∷ 2 ∷ []) (4 ∷ 4 ∷ []) zeros (refusalAnswer (record { refusal = BadEntry; place = 2 }))
+    (priceRows fourFiles (3 ∷ 2 ∷ []) (4 ∷ 4 ∷ []) zeros)
     (sym crossing-list-refused) refl .kept
     (λ e. true≢false (ap isRefusal e)) .1
 
 -- The pricer accepts (2,2) on the sheet's run.
-detour-accepted : priceAnswer exampleRun (2 ∷ []) (2 ∷ []) (7 ∷ 7 ∷ 7 ∷ []) .refusal ≡ Accepted
+detour-accepted : priceAnswer exampleRun (2 ∷ []) (2 ∷ []) threes .refusal ≡ Accepted
 unfolding priceAnswer priceVerdict judgeOf firstWhere stopsFrom rightEnd listVerdict listOf firstBadEntry wanted anyBelow pricedAnswer
 detour-accepted = refl
 
-pub detour-is-priced : IsPriceOf exampleRun (2 ∷ []) (2 ∷ []) (priceRow exampleRun (2 ∷ []) (2 ∷ []) (7 ∷ 7 ∷ 7 ∷ [])) (priceAnswer exampleRun (2 ∷ []) (2 ∷ []) (7 ∷ 7 ∷ 7 ∷ []))
+pub detour-is-priced : IsPriceOf exampleRun (2 ∷ []) (2 ∷ []) (priceRows exampleRun (2 ∷ []) (2 ∷ []) threes) (priceAnswer exampleRun (2 ∷ []) (2 ∷ []) threes)
 detour-is-priced =
-    demand2-price exampleRun (2 ∷ []) (2 ∷ []) (7 ∷ 7 ∷ 7 ∷ []) (priceAnswer exampleRun (2 ∷ []) (2 ∷ []) (7 ∷ 7 ∷ 7 ∷ []))
-    (priceRow exampleRun (2 ∷ []) (2 ∷ []) (7 ∷ 7 ∷ 7 ∷ [])) refl refl detour-accepted
+    demand2-price exampleRun (2 ∷ []) (2 ∷ []) threes (priceAnswer exampleRun (2 ∷ []) (2 ∷ []) threes)
+    (priceRows exampleRun (2 ∷ []) (2 ∷ []) threes) refl refl detour-accepted
 
 pub sheet-is-the-walk : IsTheWalk exampleRun (sheetAnswer 54) (sheetAfter 54)
 sheet-is-the-walk = demand2-walk exampleRun Least (sheetRows 54) (sheetAnswer 54) (sheetAfter 54) (sheet-plans 54) sheet-accepted
@@ -203,17 +210,17 @@ wanderings-beat-nothing-there =
 abbrev fiveWords : List ℕ
 fiveWords = 7 ∷ 7 ∷ 7 ∷ 7 ∷ 7 ∷ []
 
-detour-called-accepted : codeOf (priceCall exampleRun (2 ∷ []) (2 ∷ []) (7 ∷ 7 ∷ 7 ∷ []) fiveWords) ≡ 0
+detour-called-accepted : codeOf (priceCall exampleRun (2 ∷ []) (2 ∷ []) threes fiveWords) ≡ 0
 unfolding priceCall priceVerdict judgeOf firstWhere stopsFrom rightEnd listVerdict listOf firstBadEntry wanted anyBelow
 detour-called-accepted = refl
 
 pub detour-called : PriceCallWalks exampleRun (2 ∷ []) (2 ∷ [])
-    (priceTimes exampleRun (2 ∷ []) (2 ∷ []) (7 ∷ 7 ∷ 7 ∷ []) fiveWords) (priceSums exampleRun (2 ∷ []) (2 ∷ []) (7 ∷ 7 ∷ 7 ∷ []) fiveWords)
+    (priceReads exampleRun (2 ∷ []) (2 ∷ []) threes fiveWords) (priceSums exampleRun (2 ∷ []) (2 ∷ []) threes fiveWords)
 detour-called =
-    demand2-price-call exampleRun (2 ∷ []) (2 ∷ []) (7 ∷ 7 ∷ 7 ∷ []) fiveWords
-    (codeOf (priceCall exampleRun (2 ∷ []) (2 ∷ []) (7 ∷ 7 ∷ 7 ∷ []) fiveWords))
-    (priceTimes exampleRun (2 ∷ []) (2 ∷ []) (7 ∷ 7 ∷ 7 ∷ []) fiveWords) (priceSums exampleRun (2 ∷ []) (2 ∷ []) (7 ∷ 7 ∷ 7 ∷ []) fiveWords)
-    (record { says = refl; timesAre = refl; sumsAre = refl })
+    demand2-price-call exampleRun (2 ∷ []) (2 ∷ []) threes fiveWords
+    (codeOf (priceCall exampleRun (2 ∷ []) (2 ∷ []) threes fiveWords))
+    (priceReads exampleRun (2 ∷ []) (2 ∷ []) threes fiveWords) (priceSums exampleRun (2 ∷ []) (2 ∷ []) threes fiveWords)
+    (record { says = refl; readsAre = refl; sumsAre = refl })
     detour-called-accepted
 
 call-passes : refuses (planCall exampleRun 1 (sheetRows 54) fiveWords) ≡ false

@@ -11,6 +11,7 @@ pub mod Planned
 pub mod Demand2
 pub mod Demand3
 pub mod Ends
+pub mod Legs
 pub mod Called
 pub mod Cases
 pub mod Lines

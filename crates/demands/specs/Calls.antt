@@ -14,6 +14,7 @@ use Rattle.runs.specs.Judging.{judgeOf}
 use Rattle.walk.specs.declared.Answer.{Answer}
 use Rattle.walk.specs.declared.Leg.{Leg}
 use Rattle.walk.specs.Walk.{headAt, Moves, ServesAll, sumOf}
+use Rattle.walk.specs.Price.{ReadRows}
 use Rattle.planner.specs.Plan.{Rows}
 use Rattle.boundary.specs.Boundary.{PriceCalled, PlanCalled}
 use Rattle.demands.specs.Table.{FirstThatApplies}
@@ -22,23 +23,23 @@ use Rattle.demands.specs.Demand2.{listIn, IsTheWalk, IsPriceOf, IsLeast}
 use Rattle.demands.specs.Demand3.{AsksNoLess}
 
 -- The pricer's call: what the pricer is refused for, in its order; 8 also for a row of sums below 4 words.
-pub data PriceCallApplies (r : Run) (froms tos times sums : List ℕ) : Refusal → ℕ → Type 0 where
-  price : {kind : Refusal} {place : ℕ} → PriceApplies r froms tos times kind place → PriceCallApplies r froms tos times sums kind place
-  short-sums : length sums < 4 → PriceCallApplies r froms tos times sums ShortRow 0
+pub data PriceCallApplies (r : Run) (froms tos : List ℕ) (rows : ReadRows) (sums : List ℕ) : Refusal → ℕ → Type 0 where
+  price : {kind : Refusal} {place : ℕ} → PriceApplies r froms tos rows kind place → PriceCallApplies r froms tos rows sums kind place
+  short-sums : length sums < 4 → PriceCallApplies r froms tos rows sums ShortRow 0
 
 -- Whatever is handed to the call, and whatever code and rows fit its contract:
-pub record PriceCallAnswers (r : Run) (froms tos times sums : List ℕ) (code : ℕ) (timesOut sumsOut : List ℕ) : Type 0 where
+pub record PriceCallAnswers (r : Run) (froms tos : List ℕ) (rows : ReadRows) (sums : List ℕ) (code : ℕ) (rowsOut : ReadRows) (sumsOut : List ℕ) : Type 0 where
   pub kind : Refusal
   pub place : ℕ
   pub says : code ≡ numberOf kind + 256 * place
-  pub first : FirstThatApplies (PriceCallApplies r froms tos times sums) priceOrder kind place
-  pub kept : (kind ≡ Accepted → ⊥) → (timesOut ≡ times) × (sumsOut ≡ sums)
+  pub first : FirstThatApplies (PriceCallApplies r froms tos rows sums) priceOrder kind place
+  pub kept : (kind ≡ Accepted → ⊥) → (rowsOut ≡ rows) × (sumsOut ≡ sums)
 
 abbrev pub Demand1PriceCall : Type 0
 Demand1PriceCall =
-    (r : Run) (froms tos times sums : List ℕ) (code : ℕ) (timesOut sumsOut : List ℕ)
-    → PriceCalled r froms tos times sums code timesOut sumsOut
-    → PriceCallAnswers r froms tos times sums code timesOut sumsOut
+    (r : Run) (froms tos : List ℕ) (rows : ReadRows) (sums : List ℕ) (code : ℕ) (rowsOut : ReadRows) (sumsOut : List ℕ)
+    → PriceCalled r froms tos rows sums code rowsOut sumsOut
+    → PriceCallAnswers r froms tos rows sums code rowsOut sumsOut
 
 -- The planner's call: 1 to 7, then 14, then 8, then 9.
 abbrev pub planCallOrder : List Refusal
@@ -68,16 +69,16 @@ abbrev pub inSums : List ℕ → Answer
 inSums sums = record { refusal = Accepted; place = 0; sum = getD sums 0 0; finish = getD sums 1 0; end = getD sums 2 0; detours = getD sums 3 0 }
 
 -- Demand 2: the pricer's call leaves the walk of the list handed in.
-pub record PriceCallWalks (r : Run) (froms tos timesOut sumsOut : List ℕ) : Type 0 where
+pub record PriceCallWalks (r : Run) (froms tos : List ℕ) (rowsOut : ReadRows) (sumsOut : List ℕ) : Type 0 where
   pub four : 4 ≤ length sumsOut
-  pub price : IsPriceOf r froms tos timesOut (inSums sumsOut)
+  pub price : IsPriceOf r froms tos rowsOut (inSums sumsOut)
 
 abbrev pub Demand2PriceCall : Type 0
 Demand2PriceCall =
-    (r : Run) (froms tos times sums : List ℕ) (code : ℕ) (timesOut sumsOut : List ℕ)
-    → PriceCalled r froms tos times sums code timesOut sumsOut
+    (r : Run) (froms tos : List ℕ) (rows : ReadRows) (sums : List ℕ) (code : ℕ) (rowsOut : ReadRows) (sumsOut : List ℕ)
+    → PriceCalled r froms tos rows sums code rowsOut sumsOut
     → code ≡ 0
-    → PriceCallWalks r froms tos timesOut sumsOut
+    → PriceCallWalks r froms tos rowsOut sumsOut
 
 -- The planner's call leaves the walk of the list in the rows: the least under rule 1, the empty one under rule 0.
 pub record PlanCallWalks (r : Run) (rule : ℕ) (after : Rows) (out : List ℕ) : Type 0 where

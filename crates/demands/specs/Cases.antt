@@ -7,18 +7,19 @@ use mathlib.Core.List.{List, [], _∷_}
 use Rattle.refusals.specs.Refusals.{isRefusal}
 use Rattle.runs.specs.Run.{Run, runOf, stopsOf}
 use Rattle.runs.specs.Judging.{judgeOf}
-use Rattle.walk.specs.Walk.{headAt, walked, timesOf, sumOf}
+use Rattle.walk.specs.Walk.{headAt, walked, timesOf, legsFor, sumOf}
 use Rattle.runs.specs.Lists.{Detour, WellFormed}
 use Rattle.walk.specs.Detours.{legsOf}
 use Rattle.least.specs.Least.{LeastForRun}
 
--- A run and a detour list, the sum and the times (one for each want) of its walk, the clock and the place at its end, and whether the list
+-- A run and a detour list, the sum, the times and the legs (one for each want) of its walk, the clock and the place at its end, and whether the list
 -- is the least rule's answer.
 pub record Case : Type 0 where
   pub run : Run
   pub list : List Detour
   pub sum : ℕ
   pub times : List ℕ
+  pub legs : List ℕ
   pub finish : ℕ
   pub end : ℕ
   pub least : Bool
@@ -28,6 +29,7 @@ pub record Holds (c : Case) : Type 0 where
   pub formed : WellFormed (stopsOf (c .run)) (c .list)
   pub sum : sumOf (c .run .turn) (headAt (c .run .head)) (legsOf (stopsOf (c .run)) (c .list)) (stopsOf (c .run)) ≡ c .sum
   pub times : timesOf (c .run .turn) (headAt (c .run .head)) (legsOf (stopsOf (c .run)) (c .list)) (stopsOf (c .run)) ≡ c .times
+  pub legs : legsFor (legsOf (stopsOf (c .run)) (c .list)) (stopsOf (c .run)) ≡ c .legs
   pub finish : (walked (c .run .turn) (headAt (c .run .head)) (legsOf (stopsOf (c .run)) (c .list))) .clock ≡ c .finish
   pub end : (walked (c .run .turn) (headAt (c .run .head)) (legsOf (stopsOf (c .run)) (c .list))) .place ≡ c .end
   pub least : (c .least ≡ true) ↔ LeastForRun (c .run) (c .list)
@@ -36,8 +38,8 @@ abbrev pub AllHold : List Case → Type 0
 AllHold [] = Unit {0}
 AllHold (c ∷ cs) = Holds c × AllHold cs
 
-abbrev case : Run → List Detour → ℕ → List ℕ → ℕ → ℕ → Bool → Case
-case run list sum times finish end least = record { run = run; list = list; sum = sum; times = times; finish = finish; end = end; least = least }
+abbrev case : Run → List Detour → ℕ → List ℕ → List ℕ → ℕ → ℕ → Bool → Case
+case run list sum times legs finish end least = record { run = run; list = list; sum = sum; times = times; legs = legs; finish = finish; end = end; least = least }
 
 abbrev detour : ℕ → ℕ → Detour
 detour from to = record { from = from; to = to }
@@ -57,22 +59,22 @@ fourFiles = runOf (0 ∷ 2 ∷ 4 ∷ 6 ∷ []) (2 ∷ 2 ∷ 2 ∷ 2 ∷ []) (1 �
 
 abbrev pub cases : List Case
 cases =
-    case (sheet [] []) [] 0 [] 0 60 true
-    ∷ case (runOf (5 ∷ []) (3 ∷ []) (1 ∷ []) (3 ∷ []) 8 2) [] 24 (8 ∷ []) 8 8 true
-    ∷ case (twoFiles (1 ∷ 2 ∷ []) (1 ∷ 1 ∷ []) 0) [] 70 (30 ∷ 40 ∷ []) 40 20 true
-    ∷ case (twoFiles (1 ∷ 2 ∷ []) (1 ∷ 1 ∷ []) 0) (detour 2 2 ∷ []) 70 (50 ∷ 20 ∷ []) 50 10 false
-    ∷ case (twoFiles (1 ∷ 2 ∷ []) (1 ∷ 2 ∷ []) 0) [] 110 (30 ∷ 40 ∷ []) 40 20 false
-    ∷ case (twoFiles (1 ∷ 2 ∷ []) (1 ∷ 2 ∷ []) 0) (detour 2 2 ∷ []) 90 (50 ∷ 20 ∷ []) 50 10 true
-    ∷ case (twoFiles (1 ∷ 2 ∷ []) (1 ∷ 1 ∷ []) 1) [] 72 (31 ∷ 41 ∷ []) 41 20 true
-    ∷ case (twoFiles (1 ∷ 2 ∷ []) (1 ∷ 1 ∷ []) 1) (detour 2 2 ∷ []) 74 (53 ∷ 21 ∷ []) 53 10 false
-    ∷ case (twoFiles (2 ∷ []) (1 ∷ []) 0) [] 20 (20 ∷ []) 20 20 true
-    ∷ case exampleRun [] 407 (71 ∷ 75 ∷ 111 ∷ []) 111 50 false
-    ∷ case exampleRun (detour 2 2 ∷ []) 367 (81 ∷ 55 ∷ 121 ∷ []) 121 50 true
-    ∷ case exampleRun (detour 2 3 ∷ []) 409 (153 ∷ 55 ∷ 91 ∷ []) 153 10 false
-    ∷ case exampleRun (detour 3 3 ∷ []) 615 (133 ∷ 137 ∷ 71 ∷ []) 137 14 false
-    ∷ case exampleRun (detour 3 3 ∷ detour 2 2 ∷ []) 565 (143 ∷ 117 ∷ 71 ∷ []) 143 10 false
-    ∷ case fourFiles (detour 3 3 ∷ detour 2 4 ∷ []) 72 (31 ∷ 15 ∷ 7 ∷ 19 ∷ []) 31 2 false
-    ∷ case fourFiles [] 56 (11 ∷ 13 ∷ 15 ∷ 17 ∷ []) 17 8 true
+    case (sheet [] []) [] 0 [] [] 0 60 true
+    ∷ case (runOf (5 ∷ []) (3 ∷ []) (1 ∷ []) (3 ∷ []) 8 2) [] 24 (8 ∷ []) (1 ∷ []) 8 8 true
+    ∷ case (twoFiles (1 ∷ 2 ∷ []) (1 ∷ 1 ∷ []) 0) [] 70 (30 ∷ 40 ∷ []) (1 ∷ 1 ∷ []) 40 20 true
+    ∷ case (twoFiles (1 ∷ 2 ∷ []) (1 ∷ 1 ∷ []) 0) (detour 2 2 ∷ []) 70 (50 ∷ 20 ∷ []) (2 ∷ 1 ∷ []) 50 10 false
+    ∷ case (twoFiles (1 ∷ 2 ∷ []) (1 ∷ 2 ∷ []) 0) [] 110 (30 ∷ 40 ∷ []) (1 ∷ 1 ∷ []) 40 20 false
+    ∷ case (twoFiles (1 ∷ 2 ∷ []) (1 ∷ 2 ∷ []) 0) (detour 2 2 ∷ []) 90 (50 ∷ 20 ∷ []) (2 ∷ 1 ∷ []) 50 10 true
+    ∷ case (twoFiles (1 ∷ 2 ∷ []) (1 ∷ 1 ∷ []) 1) [] 72 (31 ∷ 41 ∷ []) (1 ∷ 1 ∷ []) 41 20 true
+    ∷ case (twoFiles (1 ∷ 2 ∷ []) (1 ∷ 1 ∷ []) 1) (detour 2 2 ∷ []) 74 (53 ∷ 21 ∷ []) (2 ∷ 1 ∷ []) 53 10 false
+    ∷ case (twoFiles (2 ∷ []) (1 ∷ []) 0) [] 20 (20 ∷ []) (1 ∷ []) 20 20 true
+    ∷ case exampleRun [] 407 (71 ∷ 75 ∷ 111 ∷ []) (1 ∷ 1 ∷ 1 ∷ []) 111 50 false
+    ∷ case exampleRun (detour 2 2 ∷ []) 367 (81 ∷ 55 ∷ 121 ∷ []) (2 ∷ 1 ∷ 2 ∷ []) 121 50 true
+    ∷ case exampleRun (detour 2 3 ∷ []) 409 (153 ∷ 55 ∷ 91 ∷ []) (2 ∷ 1 ∷ 1 ∷ []) 153 10 false
+    ∷ case exampleRun (detour 3 3 ∷ []) 615 (133 ∷ 137 ∷ 71 ∷ []) (2 ∷ 2 ∷ 1 ∷ []) 137 14 false
+    ∷ case exampleRun (detour 3 3 ∷ detour 2 2 ∷ []) 565 (143 ∷ 117 ∷ 71 ∷ []) (3 ∷ 2 ∷ 1 ∷ []) 143 10 false
+    ∷ case fourFiles (detour 3 3 ∷ detour 2 4 ∷ []) 72 (31 ∷ 15 ∷ 7 ∷ 19 ∷ []) (3 ∷ 2 ∷ 1 ∷ 2 ∷ []) 31 2 false
+    ∷ case fourFiles [] 56 (11 ∷ 13 ∷ 15 ∷ 17 ∷ []) (1 ∷ 1 ∷ 1 ∷ 1 ∷ []) 17 8 true
     ∷ []
 
 abbrev pub CasesHold : Type 0

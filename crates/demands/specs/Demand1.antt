@@ -9,7 +9,7 @@ use Rattle.refusals.specs.declared.Refusal.the-variants.{Accepted, FileRows, Ba
 use Rattle.walk.specs.declared.Answer.{Answer}
 use Rattle.runs.specs.declared.Rule.{Rule}
 use Rattle.runs.specs.Run.{Run}
-use Rattle.walk.specs.Price.{priceAnswer, priceRow}
+use Rattle.walk.specs.Price.{ReadRows, priceAnswer, priceRows}
 use Rattle.planner.specs.Plan.{Rows, Plans}
 use Rattle.tables.specs.Listing.{roomSize}
 use Rattle.demands.specs.Table.{RunApplies, ListIsBad, FirstThatApplies, SomeApplies}
@@ -25,29 +25,30 @@ pub record OnlyPlace (answer : Answer) : Type 0 where
 abbrev pub priceOrder : List Refusal
 priceOrder = FileRows ∷ BadFile ∷ WantRows ∷ BadWant ∷ TooManyReads ∷ TurnPrice ∷ HeadPlace ∷ BadEntry ∷ ShortRow ∷ []
 
-pub data PriceApplies (r : Run) (froms tos row : List ℕ) : Refusal → ℕ → Type 0 where
-  run : {kind : Refusal} {place : ℕ} → RunApplies r kind place → PriceApplies r froms tos row kind place
-  bad-list : {place : ℕ} → ListIsBad r froms tos place → PriceApplies r froms tos row BadEntry place
-  short-row : length row < length (r .numbers) → PriceApplies r froms tos row ShortRow 0
+pub data PriceApplies (r : Run) (froms tos : List ℕ) (rows : ReadRows) : Refusal → ℕ → Type 0 where
+  run : {kind : Refusal} {place : ℕ} → RunApplies r kind place → PriceApplies r froms tos rows kind place
+  bad-list : {place : ℕ} → ListIsBad r froms tos place → PriceApplies r froms tos rows BadEntry place
+  short-times : length (rows .times) < length (r .numbers) → PriceApplies r froms tos rows ShortRow 0
+  short-legs : length (rows .legs) < length (r .numbers) → PriceApplies r froms tos rows ShortRow 0
 
--- Whatever is handed to the pricer, and whatever answer and row fit its contract:
-pub record PriceAnswers (r : Run) (froms tos row : List ℕ) (answer : Answer) (out : List ℕ) : Type 0 where
-  pub first : FirstThatApplies (PriceApplies r froms tos row) priceOrder (answer .refusal) (answer .place)
-  pub kept : (answer .refusal ≡ Accepted → ⊥) → OnlyPlace answer × (out ≡ row)
+-- Whatever is handed to the pricer, and whatever answer and rows fit its contract:
+pub record PriceAnswers (r : Run) (froms tos : List ℕ) (rows : ReadRows) (answer : Answer) (out : ReadRows) : Type 0 where
+  pub first : FirstThatApplies (PriceApplies r froms tos rows) priceOrder (answer .refusal) (answer .place)
+  pub kept : (answer .refusal ≡ Accepted → ⊥) → OnlyPlace answer × (out ≡ rows)
 
 abbrev pub Demand1Price : Type 0
 Demand1Price =
-    (r : Run) (froms tos row : List ℕ) (answer : Answer) (out : List ℕ)
-    → answer ≡ priceAnswer r froms tos row
-    → out ≡ priceRow r froms tos row
-    → PriceAnswers r froms tos row answer out
+    (r : Run) (froms tos : List ℕ) (rows : ReadRows) (answer : Answer) (out : ReadRows)
+    → answer ≡ priceAnswer r froms tos rows
+    → out ≡ priceRows r froms tos rows
+    → PriceAnswers r froms tos rows answer out
 
 -- Both ways: refused if and only if some condition of the order applies.
 abbrev pub Demand1PriceIff : Type 0
 Demand1PriceIff =
-    (r : Run) (froms tos row : List ℕ) (answer : Answer)
-    → answer ≡ priceAnswer r froms tos row
-    → (answer .refusal ≡ Accepted → ⊥) ↔ SomeApplies (PriceApplies r froms tos row) priceOrder
+    (r : Run) (froms tos : List ℕ) (rows : ReadRows) (answer : Answer)
+    → answer ≡ priceAnswer r froms tos rows
+    → (answer .refusal ≡ Accepted → ⊥) ↔ SomeApplies (PriceApplies r froms tos rows) priceOrder
 
 -- The planner: 1 to 7, then 8, then 9, under either rule.
 abbrev pub planOrder : List Refusal
@@ -56,6 +57,7 @@ planOrder = FileRows ∷ BadFile ∷ WantRows ∷ BadWant ∷ TooManyReads ∷ T
 pub data PlanApplies (r : Run) (rows : Rows) : Refusal → ℕ → Type 0 where
   run : {kind : Refusal} {place : ℕ} → RunApplies r kind place → PlanApplies r rows kind place
   short-times : length (rows .times) < length (r .numbers) → PlanApplies r rows ShortRow 0
+  short-legs : length (rows .legs) < length (r .numbers) → PlanApplies r rows ShortRow 0
   short-starts : length (rows .froms) < length (r .numbers) - 1 → PlanApplies r rows ShortRow 0
   short-ends : length (rows .tos) < length (r .numbers) - 1 → PlanApplies r rows ShortRow 0
   short-room : length (rows .room) < roomSize r → PlanApplies r rows ShortRoom 0

@@ -1,4 +1,4 @@
--- Demand 2: times and sum are the walk's, of the list in the rows and of a list handed in; under the least rule no well-formed list has a smaller sum than the one in the rows, ties by
+-- Demand 2: times, legs and sum are the walk's, of the list in the rows and of a list handed in; under the least rule no well-formed list has a smaller sum than the one in the rows, ties by
 -- the fixed rule; and two answers that fit are equal.
 use Prim.Native.Nat.{ℕ, _≤_}
 use mathlib.Core.Path.{_≡_}
@@ -10,40 +10,41 @@ use Rattle.walk.specs.declared.Answer.{Answer}
 use Rattle.runs.specs.declared.Rule.{Rule}
 use Rattle.runs.specs.declared.Rule.the-variants.{Sweep, Least}
 use Rattle.runs.specs.Run.{Run, stopsOf}
-use Rattle.walk.specs.Walk.{headAt, walked, timesOf, sumOf}
+use Rattle.walk.specs.Walk.{headAt, walked, timesOf, legsFor, sumOf}
 use Rattle.runs.specs.Lists.{Detour, WellFormed, listOf}
 use Rattle.walk.specs.Detours.{legsOf}
-use Rattle.walk.specs.Price.{priceAnswer, priceRow}
+use Rattle.walk.specs.Price.{ReadRows, priceAnswer, priceRows}
 use Rattle.least.specs.Least.{ComesFirst, listSum}
-use Rattle.planner.specs.Plan.{Rows, Plans}
+use Rattle.planner.specs.Plan.{Rows, readsIn, Plans}
 
 -- The list that an accepted answer leaves in the rows: as many entries as the answer says.
 abbrev pub listIn : Answer → Rows → List Detour
 listIn answer after = listOf (take (answer .detours) (after .froms)) (take (answer .detours) (after .tos))
 
--- A row's first entries and an answer's numbers are those of the walk of a list, from the run's head at its price.
-pub record IsWalkOf (r : Run) (list : List Detour) (row : List ℕ) (answer : Answer) : Type 0 where
+-- The first entries of two rows and an answer's numbers are those of the walk of a list, from the run's head at its price.
+pub record IsWalkOf (r : Run) (list : List Detour) (rows : ReadRows) (answer : Answer) : Type 0 where
   pub number : length list ≡ answer .detours
   pub formed : WellFormed (stopsOf r) list
-  pub times : take (length (r .numbers)) row ≡ timesOf (r .turn) (headAt (r .head)) (legsOf (stopsOf r) list) (stopsOf r)
+  pub times : take (length (r .numbers)) (rows .times) ≡ timesOf (r .turn) (headAt (r .head)) (legsOf (stopsOf r) list) (stopsOf r)
+  pub legs : take (length (r .numbers)) (rows .legs) ≡ legsFor (legsOf (stopsOf r) list) (stopsOf r)
   pub sum : answer .sum ≡ sumOf (r .turn) (headAt (r .head)) (legsOf (stopsOf r) list) (stopsOf r)
   pub finish : answer .finish ≡ (walked (r .turn) (headAt (r .head)) (legsOf (stopsOf r) list)) .clock
   pub end : answer .end ≡ (walked (r .turn) (headAt (r .head)) (legsOf (stopsOf r) list)) .place
 
 -- The planner's are those of the list that it leaves.
 abbrev pub IsTheWalk : Run → Answer → Rows → Type 0
-IsTheWalk r answer after = IsWalkOf r (listIn answer after) (after .times) answer
+IsTheWalk r answer after = IsWalkOf r (listIn answer after) (readsIn after) answer
 
 -- The pricer's are those of the list handed in, whose starts and ends are of one number.
-pub record IsPriceOf (r : Run) (froms tos row : List ℕ) (answer : Answer) : Type 0 where
+pub record IsPriceOf (r : Run) (froms tos : List ℕ) (rows : ReadRows) (answer : Answer) : Type 0 where
   pub even : length froms ≡ length tos
-  pub walk : IsWalkOf r (listOf froms tos) row answer
+  pub walk : IsWalkOf r (listOf froms tos) rows answer
 
 abbrev pub Demand2Price : Type 0
 Demand2Price =
-    (r : Run) (froms tos row : List ℕ) (answer : Answer) (out : List ℕ)
-    → answer ≡ priceAnswer r froms tos row
-    → out ≡ priceRow r froms tos row
+    (r : Run) (froms tos : List ℕ) (rows : ReadRows) (answer : Answer) (out : ReadRows)
+    → answer ≡ priceAnswer r froms tos rows
+    → out ≡ priceRows r froms tos rows
     → answer .refusal ≡ Accepted
     → IsPriceOf r froms tos out answer
 

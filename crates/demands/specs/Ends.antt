@@ -13,7 +13,7 @@ use Rattle.runs.specs.Judging.{judgeOf}
 use Rattle.runs.specs.Lists.{Detour}
 use Rattle.walk.specs.Walk.{headAt, timesOf, sumOf}
 use Rattle.walk.specs.Detours.{legsOf, fullLegsOf}
-use Rattle.walk.specs.Price.{priceAnswer, priceRow}
+use Rattle.walk.specs.Price.{ReadRows, priceAnswer, priceRows}
 use Rattle.planner.specs.Plan.{Rows, Plans}
 use Rattle.demands.specs.Table.{endOfFile}
 
@@ -28,12 +28,12 @@ pub record EndsWithARead (r : Run) (times : List ℕ) (answer : Answer) : Type 0
 -- So it is for every list that is priced, and for every plan, where anything is wanted.
 abbrev pub PriceEndsWithARead : Type 0
 PriceEndsWithARead =
-    (r : Run) (froms tos row : List ℕ) (answer : Answer) (out : List ℕ)
-    → answer ≡ priceAnswer r froms tos row
-    → out ≡ priceRow r froms tos row
+    (r : Run) (froms tos : List ℕ) (rows : ReadRows) (answer : Answer) (out : ReadRows)
+    → answer ≡ priceAnswer r froms tos rows
+    → out ≡ priceRows r froms tos rows
     → answer .refusal ≡ Accepted
     → 0 < length (r .numbers)
-    → EndsWithARead r out answer
+    → EndsWithARead r (out .times) answer
 
 abbrev pub PlanEndsWithARead : Type 0
 PlanEndsWithARead =

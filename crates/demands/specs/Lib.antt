@@ -5,6 +5,7 @@ pub mod Demand1
 pub mod Demand2
 pub mod Demand3
 pub mod Ends
+pub mod Legs
 pub mod Calls
 pub mod Cases
 pub mod Lines

@@ -1,5 +1,5 @@
 -- The last sweep ends where nothing is left to read. It still reads every stop that no detour has read, so that no time depends on where it
--- ends; and the walk of a well-formed list ends with a read.
+-- ends; and the walk of a well-formed list ends with a read. Which leg reads a stop, and what that says of its time.
 use Prim.Native.Nat.{ℕ, zero, suc, _+_, _-_, _≤_, _<_}
 use mathlib.Core.Path.{_≡_, refl, sym, ap, _∙_}
 use mathlib.Core.Bool.{true, false, or-true, true≢false}
@@ -7,13 +7,13 @@ use mathlib.Core.Logic.{⊎-elim}
 use mathlib.Core.List.{List, [], _∷_, _++_, map}
 use native.Mathlib.Omega.{arith}
 use lib.Dec.{eqb}
-use lib.ListN.{length}
+use lib.ListN.{length, length-append, length-map}
 use borrow.Author.Tests.{le-leb, lt-leb, leb-false, eqb-true, not-false}
 use Rattle.walk.specs.declared.Head.{Head}
 use Rattle.walk.specs.declared.Leg.{Leg}
 use Rattle.runs.specs.Run.{Stop, rightEnd, stopAt}
 use Rattle.runs.specs.Lists.{Detour, wanted, badAlone, badEntry, entryOf, WellFormed, firstBadEntry}
-use Rattle.walk.specs.Walk.{headAt, setOff, afterLeg, runRight, walked, reads, served, ServesAll, timeOf}
+use Rattle.walk.specs.Walk.{headAt, setOff, afterLeg, runRight, walked, reads, served, ServesAll, timeOf, legFrom, legFor}
 use Rattle.walk.specs.Detours.{startOf, legOf, unreadEnd, sweepEnd, lastSweep, legsOf, fullSweep, fullLegsOf}
 use Rattle.runs.proofs.Search.{true-or-false, or-false-both, first-zero}
 use Rattle.walk.proofs.Sound.{Sound}
@@ -137,24 +137,25 @@ serves-each gs [] h = tt
 serves-each gs (s ∷ ss) h = (rw (h 0 (omega arith)) tt, serves-each gs ss (λ i l. h (suc i) (omega arith)))
 
 -- The walk of a list reads every stop: what no detour reads, the last sweep does.
-pub all-served : (stops : List Stop) (m : ℕ) → Sound stops m → (list : List Detour) → ServesAll (legsOf stops list) stops
+pub each-served : (stops : List Stop) (m : ℕ) → Sound stops m → (list : List Detour) (i : ℕ) → i < length stops → served (legsOf stops list) (stopAt stops i) ≡ true
 unfolding legsOf lastSweep served detours
-all-served [] m ok list = serves-each (legsOf [] list) [] (λ i l. absurd (omega arith))
-all-served (s ∷ ss) m ok list =
-    serves-each (legsOf (s ∷ ss) list) (s ∷ ss)
-    (λ i l.
+each-served [] m ok list i l = absurd (omega arith)
+each-served (s ∷ ss) m ok list i l =
     ⊎-elim
     (λ t. served-before (map (legOf (s ∷ ss)) list) (lastSweep (s ∷ ss) list) (stopAt (s ∷ ss) i) t)
     (λ f. served-after (map (legOf (s ∷ ss)) list) (lastSweep (s ∷ ss) list) (stopAt (s ∷ ss) i) (rw (sweep-reads s ss m ok list i l f)))
-    (true-or-false (served (map (legOf (s ∷ ss)) list) (stopAt (s ∷ ss) i))))
+    (true-or-false (served (map (legOf (s ∷ ss)) list) (stopAt (s ∷ ss) i)))
+
+pub all-served : (stops : List Stop) (m : ℕ) → Sound stops m → (list : List Detour) → ServesAll (legsOf stops list) stops
+all-served stops m ok list = serves-each (legsOf stops list) stops (each-served stops m ok list)
 
 -- The clock never falls, so that no read comes after the walk's end.
-clock-grows : (U : ℕ) (h : Head) (gs : List Leg) → h .clock ≤ walked U h gs .clock
+pub clock-grows : (U : ℕ) (h : Head) (gs : List Leg) → h .clock ≤ walked U h gs .clock
 unfolding walked
 clock-grows U h [] = omega arith
 clock-grows U h (g ∷ gs) = omega (arith, clock-grows U (afterLeg U h g) gs, after-clock U h g, faced-later (h .way) h U)
 
-time-by-end : (U : ℕ) (h : Head) (gs : List Leg) (s : Stop) → timeOf U h gs s ≤ walked U h gs .clock
+pub time-by-end : (U : ℕ) (h : Head) (gs : List Leg) (s : Stop) → timeOf U h gs s ≤ walked U h gs .clock
 unfolding timeOf walked
 time-by-end U h [] s = omega arith
 time-by-end U h (g ∷ gs) s =
@@ -256,3 +257,66 @@ pub last-read : (stops : List Stop) (m : ℕ) → Sound stops m → 0 < length s
     → LastRead U (headAt m) (legsOf stops list) stops
 last-read [] m ok some list formed U = absurd (omega arith)
 last-read (s ∷ ss) m ok some list formed U = ends-with-a-read s ss m ok list formed U
+
+-- The leftmost stop is read by the last leg.
+leg-last : (gs : List Leg) (a : Leg) (s : Stop) (n : ℕ) → served gs s ≡ false → reads a s ≡ true → legFrom n (gs ++ a ∷ []) s ≡ n + length gs
+unfolding served legFrom
+leg-last [] a s n f t = rw t (omega arith)
+leg-last (g ∷ gs) a s n f t =
+    let none = or-false-both (reads g s) (served gs s) f in
+    rw (none .0) (omega (arith, leg-last gs a s (suc n) (none .1) t))
+
+pub leftmost-last : (s : Stop) (ss : List Stop) (m : ℕ) → Sound (s ∷ ss) m → (list : List Detour) → WellFormed (s ∷ ss) list
+    → legFor (legsOf (s ∷ ss) list) s ≡ length list + 1
+unfolding legsOf lastSweep gs detours
+leftmost-last s ss m ok list formed =
+    let f = first-unread s ss m ok list formed 0 in
+    let last = leg-last (map (legOf (s ∷ ss)) list) (record { left = s .start; right = sweepEnd (map (legOf (s ∷ ss)) list) (s ∷ ss) }) s 1 f (sweep-reads s ss m ok list 0 (omega arith) f) in
+    omega (arith, last, length-map list (legOf (s ∷ ss)))
+
+-- How many legs there are: the detours and the sweep.
+pub legs-count : (s : Stop) (ss : List Stop) (list : List Detour) → length (legsOf (s ∷ ss) list) ≡ length list + 1
+unfolding legsOf lastSweep
+legs-count s ss list = rw (length-append, length-map list (legOf (s ∷ ss)))
+
+-- A stop that is read is read after the movement's start; so stops that are read in different legs have different times.
+read-later : (U : ℕ) (h : Head) (gs : List Leg) (s : Stop) → s .start < s .end → served gs s ≡ true → h .clock < timeOf U h gs s
+unfolding served timeOf
+read-later U h [] s o t = absurd (true≢false (sym t))
+read-later U h (g ∷ gs) s o t =
+    ⊎-elim
+    (λ e. rw e (omega (arith, read-inside g s e .0, faced-later (h .way) h U)))
+    (λ e. rw e (omega (arith, read-later U (afterLeg U h g) gs s o (rw e at t), after-clock U h g, faced-later (h .way) h U)))
+    (true-or-false (reads g s))
+
+numbered-from : (n : ℕ) (gs : List Leg) (s : Stop) → served gs s ≡ true → n ≤ legFrom n gs s
+unfolding served legFrom
+numbered-from n [] s t = absurd (true≢false (sym t))
+numbered-from n (g ∷ gs) s t =
+    ⊎-elim (λ e. rw e (omega arith)) (λ e. rw e (omega (arith, numbered-from (suc n) gs s (rw e at t)))) (true-or-false (reads g s))
+
+pub earlier-leg : (U : ℕ) (s t : Stop) → t .start < t .end → (h : Head) (n : ℕ) (gs : List Leg) → served gs s ≡ true → served gs t ≡ true
+    → legFrom n gs s < legFrom n gs t → timeOf U h gs s < timeOf U h gs t
+unfolding served legFrom
+earlier-leg U s t o h n [] a b l = absurd (true≢false (sym a))
+earlier-leg U s t o h n (g ∷ gs) a b l =
+    ⊎-elim
+    (λ e. ⊎-elim (λ f. absurd (both e f)) (λ f. first e f) (true-or-false (reads g t)))
+    (λ e. ⊎-elim (λ f. absurd (second e f)) (λ f. omega (arith, time-when-not U h g gs s e, time-when-not U h g gs t f, earlier-leg U s t o (afterLeg U h g) (suc n) gs (rw e at a) (rw f at b) (neither e f))) (true-or-false (reads g t)))
+    (true-or-false (reads g s))
+  where
+    both : reads g s ≡ true → reads g t ≡ true → ⊥
+    both e f = let no : n < n = rw (e, f) at l in omega arith
+
+    second : reads g s ≡ false → reads g t ≡ true → ⊥
+    second e f =
+        let no : legFrom (suc n) gs s < n = rw (e, f) at l in
+        let from = numbered-from (suc n) gs s (rw e at a) in
+        omega arith
+
+    neither : reads g s ≡ false → reads g t ≡ false → legFrom (suc n) gs s < legFrom (suc n) gs t
+    neither e f = let half : legFrom (suc n) gs s < legFrom n (g ∷ gs) t = rw e at l in rw f at half
+
+    first : reads g s ≡ true → reads g t ≡ false → timeOf U h (g ∷ gs) s < timeOf U h (g ∷ gs) t
+    first e f =
+        omega (arith, time-when-read U h g gs s e, time-when-not U h g gs t f, read-later U (afterLeg U h g) gs t o (rw f at b), read-inside g s e .1)

@@ -15,11 +15,11 @@ use Rattle.runs.specs.Run.{Run, Stop, stopsOf}
 use Rattle.runs.specs.Judging.{judgeOf}
 use Rattle.runs.specs.Lists.{Detour, listOf, listVerdict, firstBadEntry, WellFormed}
 use Rattle.walk.specs.declared.Answer.{Answer}
-use Rattle.walk.specs.Price.{priceVerdict, priceAnswer, priceRow, pricedTimes}
+use Rattle.walk.specs.Price.{ReadRows, readRows, priceVerdict, priceAnswer, priceRows}
 use Rattle.least.specs.Least.{ByRule}
 use Rattle.tables.specs.declared.Listed.{Listed}
 use Rattle.tables.specs.Listing.{listRows, IsListed, roomSize}
-use Rattle.planner.specs.Plan.{Rows, rowsOf, Planned, rowsWith}
+use Rattle.planner.specs.Plan.{Rows, rowsOf, readsIn, Planned, rowsWith}
 use Rattle.planner.proofs.Refusals.{engineRows}
 
 -- The list of a rule is well formed.
@@ -32,10 +32,11 @@ pub list-accepted : (stops : List Stop) (froms tos : List ℕ) → length froms 
 unfolding listVerdict
 list-accepted stops froms tos e w = rw (eq-eqb (length froms) (length tos) e, w)
 
-price-accepted : (r : Run) (froms tos times : List ℕ) → isRefusal (judgeOf r .refusal) ≡ false → length froms ≡ length tos → WellFormed (stopsOf r) (listOf froms tos) → length (r .numbers) ≤ length times
-    → refuses (priceVerdict r froms tos times) ≡ false
+price-accepted : (r : Run) (froms tos : List ℕ) (rows : ReadRows) → isRefusal (judgeOf r .refusal) ≡ false → length froms ≡ length tos → WellFormed (stopsOf r) (listOf froms tos)
+    → length (r .numbers) ≤ length (rows .times) → length (r .numbers) ≤ length (rows .legs) → refuses (priceVerdict r froms tos rows) ≡ false
 unfolding priceVerdict
-price-accepted r froms tos times a e w l = rw (a, list-accepted (stopsOf r) froms tos e w, le-ltb (length times) (length (r .numbers)) l)
+price-accepted r froms tos rows a e w l k =
+    rw (a, list-accepted (stopsOf r) froms tos e w, le-ltb (length (rows .times)) (length (r .numbers)) l, le-ltb (length (rows .legs)) (length (r .numbers)) k)
 
 -- A list is what its starts and ends make.
 pub list-of-halves : (list : List Detour) → listOf (map (λ d. d .from) list) (map (λ d. d .to) list) ≡ list
@@ -57,7 +58,7 @@ front f list n row row′ e is =
     rw (e, ← half-long f list, is) (take-append-seam (map f list) (drop (length list) row))
 
 module _ (r : Run) (rule : Rule) (rows : Rows) (accepts : isRefusal (judgeOf r .refusal) ≡ false) (long : length (r .numbers) ≤ length (rows .times))
-    (l : Listed) (froms′ tos′ room′ : List ℕ) (listed : IsListed r rule (engineRows rows) l (listRows froms′ tos′ room′)) where
+    (long-legs : length (r .numbers) ≤ length (rows .legs)) (l : Listed) (froms′ tos′ room′ : List ℕ) (listed : IsListed r rule (engineRows rows) l (listRows froms′ tos′ room′)) where
   n-is : l .detours ≡ length (listed .list)
   n-is = ap (λ x. x .detours) (listed .says)
 
@@ -79,24 +80,25 @@ module _ (r : Run) (rule : Rule) (rows : Rows) (accepts : isRefusal (judgeOf r .
       rw (front (λ d. d .from) (listed .list) (l .detours) (rows .froms) froms′ n-is froms-are, front (λ d. d .to) (listed .list) (l .detours) (rows .tos) tos′ n-is tos-are)
       (list-of-halves (listed .list))
 
-  priced : refuses (priceVerdict r (take (l .detours) froms′) (take (l .detours) tos′) (rows .times)) ≡ false
+  priced : refuses (priceVerdict r (take (l .detours) froms′) (take (l .detours) tos′) (readsIn rows)) ≡ false
   priced =
-      price-accepted r (take (l .detours) froms′) (take (l .detours) tos′) (rows .times) accepts
+      price-accepted r (take (l .detours) froms′) (take (l .detours) tos′) (readsIn rows) accepts
       (rw (front (λ d. d .from) (listed .list) (l .detours) (rows .froms) froms′ n-is froms-are, front (λ d. d .to) (listed .list) (l .detours) (rows .tos) tos′ n-is tos-are) (halves-even (λ d. d .from) (λ d. d .to) (listed .list)))
-      (rw priced-list (rule-formed r rule (listed .list) (listed .by-rule))) long
+      (rw priced-list (rule-formed r rule (listed .list) (listed .by-rule))) long long-legs
 
   -- The pricer's answer for the list is the planner's.
-  pub planned-so : (answer : Answer) (times′ : List ℕ) → answer ≡ priceAnswer r (take (l .detours) froms′) (take (l .detours) tos′) (rows .times)
-      → times′ ≡ priceRow r (take (l .detours) froms′) (take (l .detours) tos′) (rows .times)
-      → Planned r rule rows answer (rowsOf froms′ tos′ times′ room′)
-  unfolding priceAnswer priceRow
-  planned-so answer times′ a t =
+  pub planned-so : (answer : Answer) (times′ legs′ : List ℕ) → answer ≡ priceAnswer r (take (l .detours) froms′) (take (l .detours) tos′) (readsIn rows)
+      → readRows times′ legs′ ≡ priceRows r (take (l .detours) froms′) (take (l .detours) tos′) (readsIn rows)
+      → Planned r rule rows answer (rowsOf froms′ tos′ times′ legs′ room′)
+  unfolding priceAnswer priceRows
+  planned-so answer times′ legs′ a t =
+      let reads = rw (priced, priced-list) at t in
       record {
         list = listed .list;
         by-rule = listed .by-rule;
         says = rw (priced, priced-list) at a;
-        rows = rows-are froms-are tos-are (rw (priced, priced-list) at t) (ap (λ x. x .room) (listed .rows));
+        rows = rows-are froms-are tos-are (ap (λ x. x .times) reads) (ap (λ x. x .legs) reads) (ap (λ x. x .room) (listed .rows));
       }
     where
-      rows-are : {a a′ b b′ c c′ d d′ : List ℕ} → a ≡ a′ → b ≡ b′ → c ≡ c′ → d ≡ d′ → rowsOf a b c d ≡ rowsOf a′ b′ c′ d′
-      rows-are e f g h = rw (e, f, g, h)
+      rows-are : {a a′ b b′ c c′ d d′ e e′ : List ℕ} → a ≡ a′ → b ≡ b′ → c ≡ c′ → d ≡ d′ → e ≡ e′ → rowsOf a b c d e ≡ rowsOf a′ b′ c′ d′ e′
+      rows-are p q s t u = rw (p, q, s, t, u)

@@ -1,7 +1,7 @@
--- The planner's refusals in the order of the checks, as the code makes them: the run, the row for times, then what the engine refuses.
+-- The planner's refusals in the order of the checks, as the code makes them: the run, the rows for times and legs, then what the engine refuses.
 use Prim.Native.Nat.{ℕ, _≤_, _<_}
 use mathlib.Core.Path.{_≡_, refl, sym, ap, _∙_}
-use mathlib.Core.Bool.{Bool, true, false, true≢false}
+use mathlib.Core.Bool.{Bool, true, false, true≢false, or-true}
 use mathlib.Core.List.{List, [], _∷_}
 use lib.ListN.{length}
 use lib.Dec.{ltb}
@@ -14,10 +14,10 @@ use Rattle.runs.specs.declared.Rule.{Rule}
 use Rattle.runs.specs.Run.{Run}
 use Rattle.runs.specs.Judging.{judgeOf}
 use Rattle.walk.specs.declared.Answer.{Answer}
-use Rattle.walk.specs.Price.{refusalAnswer}
+use Rattle.walk.specs.Price.{refusalAnswer, shortReadRows}
 use Rattle.tables.specs.declared.Listed.{Listed}
 use Rattle.tables.specs.Listing.{ListRows, listRows, Lists, IsListed, listingVerdict, shortListRows, roomSize}
-use Rattle.planner.specs.Plan.{Rows, rowsOf, Plans, Planned, planVerdict, shortRows}
+use Rattle.planner.specs.Plan.{Rows, rowsOf, readsIn, Plans, Planned, planVerdict, shortRows}
 
 -- The rows that the engine is lent.
 abbrev pub engineRows : Rows → ListRows
@@ -46,20 +46,23 @@ module _ (r : Run) (rule : Rule) (rows : Rows) where
     unfolding planVerdict later
     passes-run e = first-passes (judgeOf r) later (test-says v-is f-is e)
 
-    pub times-refused : f ≡ false → length (rows .times) < length (r .numbers) → (a : Answer) → a ≡ refusalAnswer (record { refusal = ShortRow; place = 0 }) → Plans r rule rows a rows
+    reads-refused : f ≡ false → shortReadRows (length (r .numbers)) (readsIn rows) ≡ true → (a : Answer) → a ≡ refusalAnswer (record { refusal = ShortRow; place = 0 }) → Plans r rule rows a rows
     unfolding later
-    times-refused e short a s =
-        refused-so (record { refusal = ShortRow; place = 0 })
-        (sym (passes-run e ∙ rw (lt-ltb (length (rows .times)) (length (r .numbers)) short)))
-        refl a s rows refl
+    reads-refused e short a s = refused-so (record { refusal = ShortRow; place = 0 }) (sym (passes-run e ∙ rw short)) refl a s rows refl
 
-    module _ (passed : f ≡ false) (long : length (r .numbers) ≤ length (rows .times)) where
+    pub times-refused : f ≡ false → length (rows .times) < length (r .numbers) → (a : Answer) → a ≡ refusalAnswer (record { refusal = ShortRow; place = 0 }) → Plans r rule rows a rows
+    times-refused e short a s = reads-refused e (rw (lt-ltb (length (rows .times)) (length (r .numbers)) short)) a s
+
+    pub legs-refused : f ≡ false → length (rows .legs) < length (r .numbers) → (a : Answer) → a ≡ refusalAnswer (record { refusal = ShortRow; place = 0 }) → Plans r rule rows a rows
+    legs-refused e short a s = reads-refused e (rw (lt-ltb (length (rows .legs)) (length (r .numbers)) short, or-true)) a s
+
+    module _ (passed : f ≡ false) (long : length (r .numbers) ≤ length (rows .times)) (long-legs : length (r .numbers) ≤ length (rows .legs)) where
       engine-later : List Verdict
       engine-later = refuseIf (shortListRows (length (r .numbers)) (engineRows rows)) ShortRow ∷ refuseIf (ltb (length (rows .room)) (roomSize r)) ShortRoom ∷ []
 
       same-later : firstOf engine-later ≡ firstOf later
       unfolding later engine-later
-      same-later = rw (le-ltb (length (rows .times)) (length (r .numbers)) long)
+      same-later = rw (le-ltb (length (rows .times)) (length (r .numbers)) long, le-ltb (length (rows .legs)) (length (r .numbers)) long-legs)
 
       -- What the engine judges is what is left to judge.
       engine-decides : listingVerdict r (engineRows rows) ≡ planVerdict r rows
@@ -87,7 +90,7 @@ module _ (r : Run) (rule : Rule) (rows : Rows) where
             go false is = is
 
         pub engine-refused : g ≡ true → (a : Answer) → a ≡ refusalAnswer (l .verdict) → (froms tos room : List ℕ) → after ≡ listRows froms tos room
-            → Plans r rule rows a (rowsOf froms tos (rows .times) room)
+            → Plans r rule rows a (rowsOf froms tos (rows .times) (rows .legs) room)
         engine-refused e a s froms tos room is =
             let no = lists .refused (engine-refuses e) in
             let v-says = ap (λ x. x .verdict) (no .says) ∙ engine-decides in
@@ -95,7 +98,7 @@ module _ (r : Run) (rule : Rule) (rows : Rows) where
             refused-so (l .verdict) v-says (sym g-is ∙ e) a s _
             (rows-are (ap (λ x. x .froms) same) (ap (λ x. x .tos) same) (ap (λ x. x .room) same))
           where
-            rows-are : {x y z : List ℕ} → x ≡ rows .froms → y ≡ rows .tos → z ≡ rows .room → rowsOf x y (rows .times) z ≡ rows
+            rows-are : {x y z : List ℕ} → x ≡ rows .froms → y ≡ rows .tos → z ≡ rows .room → rowsOf x y (rows .times) (rows .legs) z ≡ rows
             rows-are e f g = rw (e, f, g)
 
         pub engine-listed : g ≡ false → IsListed r rule (engineRows rows) l after

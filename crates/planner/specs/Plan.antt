@@ -13,31 +13,36 @@ use Rattle.refusals.specs.Refusals.{isRefusal, refuseIf, firstOf}
 use Rattle.runs.specs.Run.{Run, Row}
 use Rattle.runs.specs.Judging.{judgeOf}
 use Rattle.runs.specs.Lists.{Detour}
-use Rattle.walk.specs.Price.{refusalAnswer, pricedAnswer, pricedTimes}
+use Rattle.walk.specs.Price.{refusalAnswer, pricedAnswer, pricedTimes, pricedLegs, ReadRows, readRows, shortReadRows}
 use Rattle.least.specs.Least.{ByRule}
 use Rattle.tables.specs.Listing.{roomSize}
 use Rattle.runs.specs.declared.Rule.{Rule}
 
--- The lent rows: for starts, ends and times, and the working room.
+-- The lent rows: for starts, ends, times and legs, and the working room.
 pub record Rows : Type 0 where
   pub froms : List ℕ
   pub tos : List ℕ
   pub times : List ℕ
+  pub legs : List ℕ
   pub room : List ℕ
 
-abbrev pub rowsOf : List ℕ → List ℕ → List ℕ → List ℕ → Rows
-rowsOf froms tos times room = record { froms = froms; tos = tos; times = times; room = room }
+abbrev pub rowsOf : List ℕ → List ℕ → List ℕ → List ℕ → List ℕ → Rows
+rowsOf froms tos times legs room = record { froms = froms; tos = tos; times = times; legs = legs; room = room }
 
--- The rows that four parameters of a function hold, when it is called and when it returns.
-abbrev pub rowsBefore : Both Row Row → Both Row Row → Both Row Row → Both Row Row → Rows
-rowsBefore froms tos times room = rowsOf (froms .entry .now) (tos .entry .now) (times .entry .now) (room .entry .now)
+-- The rows that five parameters of a function hold, when it is called and when it returns.
+abbrev pub rowsBefore : Both Row Row → Both Row Row → Both Row Row → Both Row Row → Both Row Row → Rows
+rowsBefore froms tos times legs room = rowsOf (froms .entry .now) (tos .entry .now) (times .entry .now) (legs .entry .now) (room .entry .now)
 
-abbrev pub rowsAfter : Both Row Row → Both Row Row → Both Row Row → Both Row Row → Rows
-rowsAfter froms tos times room = rowsOf (froms .exit .now) (tos .exit .now) (times .exit .now) (room .exit .now)
+abbrev pub rowsAfter : Both Row Row → Both Row Row → Both Row Row → Both Row Row → Both Row Row → Rows
+rowsAfter froms tos times legs room = rowsOf (froms .exit .now) (tos .exit .now) (times .exit .now) (legs .exit .now) (room .exit .now)
 
--- 8: a row for times shorter than k, or one for starts or ends shorter than k - 1 (0 when k is 0).
+-- The two of them that the pricer is lent.
+abbrev pub readsIn : Rows → ReadRows
+readsIn rows = readRows (rows .times) (rows .legs)
+
+-- 8: a row for times or legs shorter than k, or one for starts or ends shorter than k - 1 (0 when k is 0).
 abbrev pub shortRows : ℕ → Rows → Bool
-shortRows k rows = ltb (length (rows .times)) k || ltb (length (rows .froms)) (k - 1) || ltb (length (rows .tos)) (k - 1)
+shortRows k rows = shortReadRows k (readsIn rows) || ltb (length (rows .froms)) (k - 1) || ltb (length (rows .tos)) (k - 1)
 
 -- The planner's refusals, under either rule: 1 to 7, then 8, then 9.
 unfoldable pub planVerdict : Run → Rows → Verdict
@@ -48,13 +53,14 @@ planVerdict r rows =
     ∷ refuseIf (ltb (length (rows .room)) (roomSize r)) ShortRoom
     ∷ [])
 
--- The rows afterwards: the list and the times in the first entries, zero in the words of the working room; later entries as they were.
+-- The rows afterwards: the list, the times and the legs in the first entries, zero in the words of the working room; later entries as they were.
 abbrev pub rowsWith : Run → List Detour → Rows → Rows
 rowsWith r list rows =
     record {
       froms = map (λ d. d .from) list ++ drop (length list) (rows .froms);
       tos = map (λ d. d .to) list ++ drop (length list) (rows .tos);
       times = pricedTimes r list ++ drop (length (r .numbers)) (rows .times);
+      legs = pricedLegs r list ++ drop (length (r .numbers)) (rows .legs);
       room = replicate (roomSize r) 0 ++ drop (roomSize r) (rows .room);
     }
 

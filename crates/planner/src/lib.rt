@@ -8,7 +8,7 @@ use refusals::refused;
 use runs::Rule;
 use walk::Answer;
 
-// The plan of a run: its answer, and in the lent rows the list and the times.
+// The plan of a run: its answer, and in the lent rows the list, the times and the legs.
 pub fn plan(
     starts: &[u64],
     lengths: &[u64],
@@ -20,15 +20,22 @@ pub fn plan(
     froms: &mut [u64],
     tos: &mut [u64],
     times: &mut [u64],
+    legs: &mut [u64],
     room: &mut [u64],
 ) -> Answer
-    ensures { λ r. ⌜ Plans (runAt starts lengths numbers counts head turn) rule (rowsBefore froms tos times room) r (rowsAfter froms tos times room) ⌝ }
+    ensures { λ r. ⌜ Plans (runAt starts lengths numbers counts head turn) rule (rowsBefore froms tos times legs room) r (rowsAfter froms tos times legs room) ⌝ }
 {
     let run = runs::judge(starts, lengths, numbers, counts, head, turn);
     if refused(run) {
         return walk::refuse(run);
     }
     if times.len() < numbers.len() {
+        return walk::refuse(Verdict {
+            refusal: Refusal::ShortRow,
+            place: 0,
+        });
+    }
+    if legs.len() < numbers.len() {
         return walk::refuse(Verdict {
             refusal: Refusal::ShortRow,
             place: 0,
@@ -61,5 +68,6 @@ pub fn plan(
         &froms[..n],
         &tos[..n],
         times,
+        legs,
     )
 }

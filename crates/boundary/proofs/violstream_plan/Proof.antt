@@ -12,7 +12,7 @@ abbrev run : tie.Start → Run
 run s = let a = s .args in runOf (a .starts .now) (a .lengths .now) (a .numbers .now) (a .counts .now) (a .head) (a .turn)
 
 abbrev rows : tie.Start → Rows
-rows s = let a = s .args in rowsOf (a .detour-starts .now) (a .detour-ends .now) (a .times .now) (a .room .now)
+rows s = let a = s .args in rowsOf (a .detour-starts .now) (a .detour-ends .now) (a .times .now) (a .legs .now) (a .room .now)
 
 judge-requires : tie.Need-judge-requires
 judge-requires c κs = search needs
@@ -26,27 +26,27 @@ refuse-requires c κs = search needs
 code-requires : tie.Need-code-requires
 code-requires c κs =
     let j = c .before .before .before in
-    let s = j .before .before .before .before .before .before .before .before .before .before in
+    let s = j .before .before .before .before .before .before .before .before .before .before .before in
     run-placed (run s) (s .args .rule) (rows s) (s .args .sums .now) _ _ (j .judge .ensures) (c .before .before .refused .ensures) _ (c .refuse .ensures)
 
 returns : tie.Need-returns
 returns c =
     let j = c .before .before .before .before in
-    let s = j .before .before .before .before .before .before .before .before .before .before in
+    let s = j .before .before .before .before .before .before .before .before .before .before .before in
     run-refused (run s) (s .args .rule) (rows s) (s .args .sums .now) _ _ (j .judge .ensures) (c .before .before .before .refused .ensures) (c .before .before .if1 .taken) _ (c .before .refuse .ensures) _ (c .code .ensures)
 
 returns-2 : tie.Need-returns-2
 returns-2 c =
     let e = c .before in
     let j = e .before .before in
-    let s = j .before .before .before .before .before .before .before .before .before .before in
+    let s = j .before .before .before .before .before .before .before .before .before .before .before in
     rule-refused (run s) (s .args .rule) (rows s) (s .args .sums .now) _ _ (j .judge .ensures) (e .before .refused .ensures) (e .if1 .left) (c .if2 .taken)
 
 returns-3 : tie.Need-returns-3
 returns-3 c =
     let e = c .before .before in
     let j = e .before .before in
-    let s = j .before .before .before .before .before .before .before .before .before .before in
+    let s = j .before .before .before .before .before .before .before .before .before .before .before in
     sums-refused (run s) (s .args .rule) (rows s) (s .args .sums .now) _ _ (j .judge .ensures) (e .before .refused .ensures) (e .if1 .left) (c .before .if2 .left) (c .if3 .taken)
 
 rule-numbered-requires : tie.Need-rule-numbered-requires
@@ -57,12 +57,12 @@ plan-requires c κs = search needs
 
 code-requires-2 : tie.Need-code-requires-2
 code-requires-2 c κs =
-    let p = c .before .before .before .before .before .before .before .before in
-    let g = p .before .before .before .before .before .before in
+    let p = c .before .before .before .before .before .before .before .before .before .before in
+    let g = p .before .before .before .before .before .before .before in
     let e = g .before .before in
     let j = e .before .before in
-    let s = j .before .before .before .before .before .before .before .before .before .before in
-    plan-placed (run s) (s .args .rule) (rows s) (s .args .sums .now) _ _ (j .judge .ensures) (e .before .refused .ensures) (e .if1 .left) (g .before .if2 .left) (g .if3 .left) _ _ (rw (p .before .before .before .before .before .rule-numbered .ensures) at (p .plan .ensures))
+    let s = j .before .before .before .before .before .before .before .before .before .before .before in
+    plan-placed (run s) (s .args .rule) (rows s) (s .args .sums .now) _ _ (j .judge .ensures) (e .before .refused .ensures) (e .if1 .left) (g .before .if2 .left) (g .if3 .left) _ _ (rw (p .before .before .before .before .before .before .rule-numbered .ensures) at (p .plan .ensures))
 
 same-length : tie.Need-same-length
 same-length c = search needs
@@ -78,12 +78,12 @@ same-length-4 c = search needs
 
 returns-4 : tie.Need-returns-4
 returns-4 c =
-    let p = c .before .before .before .before .before .before .before .before .before .before in
-    let g = p .before .before .before .before .before .before in
+    let p = c .before .before .before .before .before .before .before .before .before .before .before .before in
+    let g = p .before .before .before .before .before .before .before in
     let e = g .before .before in
     let j = e .before .before in
-    let s = j .before .before .before .before .before .before .before .before .before .before in
-    plan-refused (run s) (s .args .rule) (rows s) (s .args .sums .now) _ _ (j .judge .ensures) (e .before .refused .ensures) (e .if1 .left) (g .before .if2 .left) (g .if3 .left) _ _ (rw (p .before .before .before .before .before .rule-numbered .ensures) at (p .plan .ensures))
+    let s = j .before .before .before .before .before .before .before .before .before .before .before in
+    plan-refused (run s) (s .args .rule) (rows s) (s .args .sums .now) _ _ (j .judge .ensures) (e .before .refused .ensures) (e .if1 .left) (g .before .if2 .left) (g .if3 .left) _ _ (rw (p .before .before .before .before .before .before .rule-numbered .ensures) at (p .plan .ensures))
     _ (c .before .code2 .ensures) (c .if4 .taken)
 
 fill-sums-requires : tie.Need-fill-sums-requires
@@ -104,15 +104,21 @@ same-length-8 c = search needs
 same-length-9 : tie.Need-same-length-9
 same-length-9 c = search needs
 
+same-length-10 : tie.Need-same-length-10
+same-length-10 c = search needs
+
+same-length-11 : tie.Need-same-length-11
+same-length-11 c = search needs
+
 returns-5 : tie.Need-returns-5
 returns-5 c =
     let d = c .before .before .before .before in
-    let p = d .before .before .before .before .before .before .before .before .before .before in
-    let g = p .before .before .before .before .before .before in
+    let p = d .before .before .before .before .before .before .before .before .before .before .before .before in
+    let g = p .before .before .before .before .before .before .before in
     let e = g .before .before in
     let j = e .before .before in
-    let s = j .before .before .before .before .before .before .before .before .before .before in
-    plan-filled (run s) (s .args .rule) (rows s) (s .args .sums .now) _ _ (j .judge .ensures) (e .before .refused .ensures) (e .if1 .left) (g .before .if2 .left) (g .if3 .left) _ _ (rw (p .before .before .before .before .before .rule-numbered .ensures) at (p .plan .ensures))
+    let s = j .before .before .before .before .before .before .before .before .before .before .before in
+    plan-filled (run s) (s .args .rule) (rows s) (s .args .sums .now) _ _ (j .judge .ensures) (e .before .refused .ensures) (e .if1 .left) (g .before .if2 .left) (g .if3 .left) _ _ (rw (p .before .before .before .before .before .before .rule-numbered .ensures) at (p .plan .ensures))
     _ (d .before .code2 .ensures) (d .if4 .left) _ (c .before .before .fill-sums .ensures)
 
 pub violstream-plan-spec : {M : Type 1} → statement M
@@ -133,11 +139,13 @@ violstream-plan-spec =
     same-length-2
     same-length-3
     same-length-4
+    same-length-5
     returns-4
     fill-sums-requires
-    same-length-5
     same-length-6
     same-length-7
     same-length-8
     same-length-9
+    same-length-10
+    same-length-11
     returns-5)

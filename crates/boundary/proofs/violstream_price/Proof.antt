@@ -2,10 +2,10 @@
 -- Assumes nothing.
 use mathlib.Core.Path.{sym, ap, _∙_}
 use Rattle.runs.specs.Run.{Run, runOf}
-use Rattle.walk.specs.Price.{priceVerdict}
+use Rattle.walk.specs.Price.{ReadRows, readRows, priceVerdict}
 use Rattle.boundary.specs.Boundary.{codeOf}
 use Rattle.walk.proofs.Priced.{price-accepted}
-use Rattle.boundary.proofs.Calls.{price-code, price-placed, code-refuses, code-accepts, call-is-price, call-times, call-sums-kept, call-sums-filled, short-times, short-sums}
+use Rattle.boundary.proofs.Calls.{price-code, price-placed, code-refuses, code-accepts, call-is-price, call-reads, call-sums-kept, call-sums-filled, short-reads, short-sums}
 use borrow.Author.Needs.{needs}
 use Rattle.boundary.proofs.violstream_price.Statement.{statement}
 use Rattle.boundary.proofs.violstream_price.Tie as tie
@@ -14,39 +14,42 @@ use Rattle.boundary.proofs.violstream_price.Tie as tie
 abbrev run : tie.Start → Run
 run s = let a = s .args in runOf (a .starts .now) (a .lengths .now) (a .numbers .now) (a .counts .now) (a .head) (a .turn)
 
+abbrev rows : tie.Start → ReadRows
+rows s = readRows (s .args .times .now) (s .args .legs .now)
+
 short-price-requires : tie.Need-short-price-requires
 short-price-requires c κs = search needs
 
 returns : tie.Need-returns
 returns c =
-    let s = c .before .before .before .before .before .before .before .before .before .before in
+    let s = c .before .before .before .before .before .before .before .before .before .before .before in
     record {
-      says = c .short-price .ensures (s .args .times .now) (s .args .sums .now) (c .before .if1 .taken);
-      timesAre = short-times (run s) (s .args .detour-starts .now) (s .args .detour-ends .now) (s .args .times .now) (s .args .sums .now) (c .before .if1 .taken);
-      sumsAre = short-sums (run s) (s .args .detour-starts .now) (s .args .detour-ends .now) (s .args .times .now) (s .args .sums .now) (c .before .if1 .taken);
+      says = c .short-price .ensures (rows s) (s .args .sums .now) (c .before .if1 .taken);
+      readsAre = short-reads (run s) (s .args .detour-starts .now) (s .args .detour-ends .now) (rows s) (s .args .sums .now) (c .before .if1 .taken);
+      sumsAre = short-sums (run s) (s .args .detour-starts .now) (s .args .detour-ends .now) (rows s) (s .args .sums .now) (c .before .if1 .taken);
     }
 
 price-requires : tie.Need-price-requires
 price-requires c κs = search needs
 
 code-requires : tie.Need-code-requires
-code-requires c κs = price-placed _ _ _ _ _ (c .before .before .price .ensures .0)
+code-requires c κs = price-placed _ _ _ _ _ (c .before .before .before .before .price .ensures .0)
 
 same-length : tie.Need-same-length
 same-length c = search needs
 
 returns-2 : tie.Need-returns-2
 returns-2 c =
-    let p = c .before .before .before .before in
-    let e = p .before .before in
-    let s = e .before .before .before .before .before .before .before .before .before in
-    let is = c .before .code .ensures ∙ price-code (run s) (s .args .detour-starts .now) (s .args .detour-ends .now) (s .args .times .now) _ (p .price .ensures .0) in
+    let p = c .before .before .before .before .before .before in
+    let e = p .before .before .before in
+    let s = e .before .before .before .before .before .before .before .before .before .before in
+    let is = c .before .code .ensures ∙ price-code (run s) (s .args .detour-starts .now) (s .args .detour-ends .now) (rows s) _ (p .price .ensures .0) in
     record {
-      says = is ∙ sym (ap codeOf (call-is-price (run s) (s .args .detour-starts .now) (s .args .detour-ends .now) (s .args .times .now) (s .args .sums .now) (e .if1 .left)));
-      timesAre = call-times (run s) (s .args .detour-starts .now) (s .args .detour-ends .now) (s .args .times .now) (s .args .sums .now) _ (e .if1 .left) (p .price .ensures .1);
+      says = is ∙ sym (ap codeOf (call-is-price (run s) (s .args .detour-starts .now) (s .args .detour-ends .now) (rows s) (s .args .sums .now) (e .if1 .left)));
+      readsAre = call-reads (run s) (s .args .detour-starts .now) (s .args .detour-ends .now) (rows s) (s .args .sums .now) _ (e .if1 .left) (p .price .ensures .1);
       sumsAre =
-          call-sums-kept (run s) (s .args .detour-starts .now) (s .args .detour-ends .now) (s .args .times .now) (s .args .sums .now) (e .if1 .left)
-          (code-refuses _ (λ z. c .if2 .taken (is ∙ z)) (price-accepted (run s) (s .args .detour-starts .now) (s .args .detour-ends .now) (s .args .times .now)));
+          call-sums-kept (run s) (s .args .detour-starts .now) (s .args .detour-ends .now) (rows s) (s .args .sums .now) (e .if1 .left)
+          (code-refuses _ (λ z. c .if2 .taken (is ∙ z)) (price-accepted (run s) (s .args .detour-starts .now) (s .args .detour-ends .now) (rows s)));
     }
 
 fill-sums-requires : tie.Need-fill-sums-requires
@@ -58,20 +61,26 @@ same-length-2 c = search needs
 same-length-3 : tie.Need-same-length-3
 same-length-3 c = search needs
 
+same-length-4 : tie.Need-same-length-4
+same-length-4 c = search needs
+
+same-length-5 : tie.Need-same-length-5
+same-length-5 c = search needs
+
 returns-3 : tie.Need-returns-3
 returns-3 c =
     let d = c .before .before .before .before in
-    let p = d .before .before .before .before in
-    let e = p .before .before in
-    let s = e .before .before .before .before .before .before .before .before .before in
-    let is = d .before .code .ensures ∙ price-code (run s) (s .args .detour-starts .now) (s .args .detour-ends .now) (s .args .times .now) _ (p .price .ensures .0) in
+    let p = d .before .before .before .before .before .before in
+    let e = p .before .before .before in
+    let s = e .before .before .before .before .before .before .before .before .before .before in
+    let is = d .before .code .ensures ∙ price-code (run s) (s .args .detour-starts .now) (s .args .detour-ends .now) (rows s) _ (p .price .ensures .0) in
     let none = sym is ∙ d .if2 .left in
     record {
-      says = is ∙ sym (ap codeOf (call-is-price (run s) (s .args .detour-starts .now) (s .args .detour-ends .now) (s .args .times .now) (s .args .sums .now) (e .if1 .left)));
-      timesAre = call-times (run s) (s .args .detour-starts .now) (s .args .detour-ends .now) (s .args .times .now) (s .args .sums .now) _ (e .if1 .left) (p .price .ensures .1);
+      says = is ∙ sym (ap codeOf (call-is-price (run s) (s .args .detour-starts .now) (s .args .detour-ends .now) (rows s) (s .args .sums .now) (e .if1 .left)));
+      readsAre = call-reads (run s) (s .args .detour-starts .now) (s .args .detour-ends .now) (rows s) (s .args .sums .now) _ (e .if1 .left) (p .price .ensures .1);
       sumsAre =
-          call-sums-filled (run s) (s .args .detour-starts .now) (s .args .detour-ends .now) (s .args .times .now) (s .args .sums .now) _ _ (e .if1 .left)
-          (code-accepts (priceVerdict (run s) (s .args .detour-starts .now) (s .args .detour-ends .now) (s .args .times .now)) none) (p .price .ensures .0) (c .before .before .fill-sums .ensures);
+          call-sums-filled (run s) (s .args .detour-starts .now) (s .args .detour-ends .now) (rows s) (s .args .sums .now) _ _ (e .if1 .left)
+          (code-accepts (priceVerdict (run s) (s .args .detour-starts .now) (s .args .detour-ends .now) (rows s)) none) (p .price .ensures .0) (c .before .before .fill-sums .ensures);
     }
 
 pub violstream-price-spec : {M : Type 1} → statement M
@@ -83,8 +92,10 @@ violstream-price-spec =
     price-requires
     code-requires
     same-length
+    same-length-2
     returns-2
     fill-sums-requires
-    same-length-2
     same-length-3
+    same-length-4
+    same-length-5
     returns-3)

@@ -1,0 +1,110 @@
+-- The leg that is told of a want is the one that reads it first.
+use Prim.Native.Nat.{ℕ, zero, suc, _+_, _-_, _<_}
+use mathlib.Core.Path.{_≡_, refl, sym, ap, _∙_}
+use mathlib.Core.Bool.{true, false, true≢false}
+use mathlib.Core.Logic.{⊎-elim}
+use mathlib.Core.List.{List, [], _∷_}
+use native.Mathlib.Omega.{arith}
+use lib.ListN.{length, getD}
+use lib.Seq.{getD-take}
+use Rattle.walk.specs.declared.Answer.{Answer}
+use Rattle.walk.specs.declared.Head.{Head}
+use Rattle.walk.specs.declared.Leg.{Leg}
+use Rattle.runs.specs.Run.{Run, Stop, stopsOf, stopAt}
+use Rattle.runs.specs.Judging.{judgeOf}
+use Rattle.runs.specs.Lists.{Detour, WellFormed, listOf}
+use Rattle.walk.specs.Walk.{headAt, afterLeg, walked, reads, served, timeOf, legFrom, legFor, legsFor}
+use Rattle.walk.specs.Detours.{legsOf}
+use Rattle.walk.specs.Price.{ReadRows}
+use Rattle.refusals.proofs.Verdicts.{refuses}
+use Rattle.runs.proofs.Search.{true-or-false}
+use Rattle.walk.proofs.Sound.{Sound}
+use Rattle.walk.proofs.Laws.{accepted-sound}
+use Rattle.least.proofs.Sweeps.{each-served, leftmost-last, legs-count, earlier-leg}
+use Rattle.planner.specs.Plan.{readsIn}
+use Rattle.demands.specs.Demand2.{listIn, IsWalkOf}
+use Rattle.demands.specs.Legs.{legNumbered, ReadsIn, LegsTold, PriceTellsLegs, PlanTellsLegs}
+use Rattle.demands.proofs.Planned.{run-accepted}
+use Rattle.demands.proofs.Demand2.{demand2-price, demand2-walk, price-run-accepted}
+use Rattle.demands.proofs.Ends.{in-row, size, entry-at}
+
+-- Counted from one more, a leg's number is one more.
+leg-shift : (n : ℕ) (gs : List Leg) (s : Stop) → served gs s ≡ true → legFrom (suc n) gs s ≡ suc (legFrom n gs s)
+unfolding served legFrom
+leg-shift n [] s t = absurd (true≢false (sym t))
+leg-shift n (g ∷ gs) s t = ⊎-elim (λ e. rw e) (λ e. rw e (leg-shift (suc n) gs s (rw e at t))) (true-or-false (reads g s))
+
+-- One leg more in front that does not read the file.
+one-leg-more : (U : ℕ) (h : Head) (g : Leg) (gs : List Leg) (s : Stop) (t n : ℕ) → reads g s ≡ false → ReadsIn U (afterLeg U h g) gs s t n → ReadsIn U h (g ∷ gs) s t (suc n)
+unfolding walked
+one-leg-more U h g gs s t zero e r = absurd (omega (arith, r .counted .0))
+one-leg-more U h g gs s t (suc n) e r =
+    record { counted = (omega arith, omega (arith, r .counted .1)); here = r .here; first = before; clock = r .clock }
+  where
+    before : (m : ℕ) → 0 < m → m < suc (suc n) → reads (legNumbered (g ∷ gs) m) s ≡ false
+    before zero l h = absurd (omega arith)
+    before (suc zero) l h = e
+    before (suc (suc m)) l h = r .first (suc m) (omega arith) (omega arith)
+
+reads-in : (U : ℕ) (h : Head) (gs : List Leg) (s : Stop) → served gs s ≡ true → ReadsIn U h gs s (timeOf U h gs s) (legFor gs s)
+unfolding served timeOf legFrom walked
+reads-in U h [] s t = absurd (true≢false (sym t))
+reads-in U h (g ∷ gs) s t =
+    ⊎-elim
+    (λ e. rw e (record { counted = (omega arith, omega arith); here = e; first = λ m a b. absurd (omega arith); clock = refl }))
+    (λ e. rw (e, leg-shift 1 gs s (rw e at t)) (one-leg-more U h g gs s _ _ e (reads-in U (afterLeg U h g) gs s (rw e at t))))
+    (true-or-false (reads g s))
+
+leftmost-leg : (stops : List Stop) (m : ℕ) → Sound stops m → (list : List Detour) → WellFormed stops list → 0 < length stops → legFor (legsOf stops list) (stopAt stops 0) ≡ length list + 1
+leftmost-leg [] m ok list formed some = absurd (omega arith)
+leftmost-leg (s ∷ ss) m ok list formed some = leftmost-last s ss m ok list formed
+
+many-legs : (stops : List Stop) (list : List Detour) → 0 < length stops → length (legsOf stops list) ≡ length list + 1
+many-legs [] list some = absurd (omega arith)
+many-legs (s ∷ ss) list some = legs-count s ss list
+
+-- An accepted run, and rows that are the walk of a list.
+module _ (r : Run) (ok : refuses (judgeOf r) ≡ false) (list : List Detour) (rows : ReadRows) (answer : Answer) (walk : IsWalkOf r list rows answer) where
+  long : length (stopsOf r) ≡ length (r .numbers)
+  long = size r ok
+
+  leg-in-row : (i : ℕ) → i < length (r .numbers) → getD (rows .legs) i 0 ≡ legFor (legsOf (stopsOf r) list) (stopAt (stopsOf r) i)
+  unfolding legsFor
+  leg-in-row i l =
+      sym (getD-take (length (r .numbers)) (rows .legs) i 0 l)
+      ∙ ap (λ ns. getD ns i 0) (walk .legs)
+      ∙ entry-at (legFor (legsOf (stopsOf r) list)) (stopsOf r) i (omega (arith, long))
+
+  is-served : (i : ℕ) → i < length (r .numbers) → served (legsOf (stopsOf r) list) (stopAt (stopsOf r) i) ≡ true
+  is-served i l = each-served (stopsOf r) (r .head) (accepted-sound r ok) list i (omega (arith, long))
+
+  told-each : (i : ℕ) → i < length (r .numbers)
+      → ReadsIn (r .turn) (headAt (r .head)) (legsOf (stopsOf r) list) (stopAt (stopsOf r) i) (getD (rows .times) i 0) (getD (rows .legs) i 0)
+  told-each i l =
+      rw (in-row r ok list rows answer walk i l, leg-in-row i l) (reads-in (r .turn) (headAt (r .head)) (legsOf (stopsOf r) list) (stopAt (stopsOf r) i) (is-served i l))
+
+  only-one : list ≡ [] → (i : ℕ) → i < length (r .numbers) → getD (rows .legs) i 0 ≡ 1
+  only-one e i l =
+      let many = many-legs (stopsOf r) list (omega (arith, long)) in
+      omega (arith, ap length e, many, told-each i l .counted .0, told-each i l .counted .1)
+
+  told : LegsTold r list rows
+  told =
+      record {
+        many = λ some. many-legs (stopsOf r) list (omega (arith, long));
+        each = told-each;
+        leftmost = λ some. leg-in-row 0 some ∙ leftmost-leg (stopsOf r) (r .head) (accepted-sound r ok) list (walk .formed) (omega (arith, long));
+        one = only-one;
+        apart = λ i j a b l.
+            rw (in-row r ok list rows answer walk i a, in-row r ok list rows answer walk j b)
+            (earlier-leg (r .turn) (stopAt (stopsOf r) i) (stopAt (stopsOf r) j) (accepted-sound r ok .extends j (omega (arith, long))) (headAt (r .head)) 1 (legsOf (stopsOf r) list)
+            (is-served i a) (is-served j b) (rw (leg-in-row i a, leg-in-row j b) at l));
+      }
+
+pub price-tells-legs : PriceTellsLegs
+price-tells-legs r froms tos rows answer out says fills accepts =
+    told r (price-run-accepted r froms tos rows answer says accepts) (listOf froms tos) out answer (demand2-price r froms tos rows answer out says fills accepts .walk)
+
+pub plan-tells-legs : PlanTellsLegs
+plan-tells-legs r rule before answer after plans accepts =
+    told r (run-accepted r rule before answer after plans accepts) (listIn answer after) (readsIn after) answer (demand2-walk r rule before answer after plans accepts)
