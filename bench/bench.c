@@ -88,7 +88,8 @@ static void make_request(struct request *q, size_t k, uint64_t reads, size_t fil
 /* ---- Engines ---- */
 
 static uint64_t *room;                      /* shared by all engines */
-static uint64_t from[VIOLSTREAM_MAX_WANTS], to[VIOLSTREAM_MAX_WANTS], times[VIOLSTREAM_MAX_WANTS], sums[VIOLSTREAM_SUMS];
+static uint64_t from[VIOLSTREAM_MAX_WANTS], to[VIOLSTREAM_MAX_WANTS], times[VIOLSTREAM_MAX_WANTS];
+static uint64_t legs[VIOLSTREAM_MAX_WANTS], sums[VIOLSTREAM_SUMS];
 static struct stop_list plain_list;
 
 static uint64_t by_boundary(const struct request *q)
@@ -96,8 +97,8 @@ static uint64_t by_boundary(const struct request *q)
     const struct stops *p = &q->stops;
     uint64_t result = violstream_plan(q->starts, q->files, q->lengths, q->files, q->numbers, p->k, p->count, p->k,
                                       p->head, p->turn, VIOLSTREAM_LEAST, from, VIOLSTREAM_MAX_WANTS, to,
-                                      VIOLSTREAM_MAX_WANTS, times, VIOLSTREAM_MAX_WANTS, sums, VIOLSTREAM_SUMS,
-                                      room, VIOLSTREAM_ROOM_MOST);
+                                      VIOLSTREAM_MAX_WANTS, times, VIOLSTREAM_MAX_WANTS, legs, VIOLSTREAM_MAX_WANTS,
+                                      sums, VIOLSTREAM_SUMS, room, VIOLSTREAM_ROOM_MOST);
     if (result != 0)
         fail(violstream_reason(result), p->k, p->reads);
     return sums[VIOLSTREAM_SUM];
@@ -216,8 +217,8 @@ static void price(const struct request *q, size_t detours)
 {
     const struct stops *p = &q->stops;
     uint64_t result = violstream_price(q->starts, q->files, q->lengths, q->files, q->numbers, p->k, p->count, p->k,
-                                       p->head, p->turn, from, detours, to, detours, times, VIOLSTREAM_MAX_WANTS,
-                                       sums, VIOLSTREAM_SUMS);
+                                       p->head, p->turn, from, detours, to, detours, times, VIOLSTREAM_MAX_WANTS, legs,
+                                       VIOLSTREAM_MAX_WANTS, sums, VIOLSTREAM_SUMS);
     if (result != 0)
         fail(violstream_reason(result), p->k, p->reads);
 }

@@ -6,7 +6,7 @@
  *
  * RULE is least or sweep. An answer is
  *
- *   sum=367 finish=121 end=50 detours=2,2 times=1:81,2:55,3:121
+ *   sum=367 finish=121 end=50 detours=2,2 times=1:81,2:55,3:121 legs=1:2,2:1,3:2
  *   refused=7 place=0 head above 2^40, or left of the rightmost wanted file's end
  *   unreadable: word 4: a number was expected, not 'x'
  *
@@ -35,7 +35,7 @@ struct pairs {
 
 static struct {
     struct pairs files, wants, detours;
-    uint64_t times[WANTS];
+    uint64_t times[WANTS], legs[WANTS];
     uint64_t *room;
 } rows;
 
@@ -151,8 +151,17 @@ static struct violstream_rows lent(const struct request *request)
         .detour_starts = rows.detours.first, .detour_ends = rows.detours.second,
         .detours = request->plan ? WANTS : rows.detours.length,
         .times = rows.times, .times_len = WANTS,
+        .legs = rows.legs, .legs_len = WANTS,
         .room = rows.room, .room_len = VIOLSTREAM_ROOM_MOST,
     };
+}
+
+/* A row of the answer: for each want its file number and its entry. */
+static void print_entries(const char *key, const uint64_t *entries)
+{
+    printf(" %s=", key);
+    for (size_t i = 0; i < rows.wants.length; i++)
+        printf("%s%" PRIu64 ":%" PRIu64, i == 0 ? "" : ",", rows.wants.first[i], entries[i]);
 }
 
 static void print_accepted(const uint64_t *sums)
@@ -161,9 +170,8 @@ static void print_accepted(const uint64_t *sums)
            sums[VIOLSTREAM_FINISH], sums[VIOLSTREAM_END]);
     for (size_t i = 0; i < sums[VIOLSTREAM_DETOURS]; i++)
         printf("%s%" PRIu64 ",%" PRIu64, i == 0 ? "" : ";", rows.detours.first[i], rows.detours.second[i]);
-    printf(" times=");
-    for (size_t i = 0; i < rows.wants.length; i++)
-        printf("%s%" PRIu64 ":%" PRIu64, i == 0 ? "" : ",", rows.wants.first[i], rows.times[i]);
+    print_entries("times", rows.times);
+    print_entries("legs", rows.legs);
     printf("\n");
 }
 

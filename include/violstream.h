@@ -32,6 +32,8 @@
  *   the leftmost wanted file, then right to the end of the rightmost wanted file that no detour has read, where the
  *   run finishes: the last thing that happens is a read. Without wants there is no sweep, only the empty list is
  *   well formed, and the head stays where it is.
+ *   Legs are counted from 1: detour i of the list is leg i, and the last sweep is the last leg, leg 1 if the list is
+ *   empty. A want's leg is the one whose rightward run reads its file.
  *   Of two lists with the same sum, look at the rightmost file at which they differ in whether a detour ends
  *   there or in where that detour starts: the list with no detour ending there comes first, else the one whose
  *   detour starts further right. So there is one best list.
@@ -61,7 +63,7 @@
  *         const uint64_t starts[] = {0, 10, 20}, lengths[] = {10, 4, 30}; // three files
  *         const uint64_t numbers[] = {1, 2, 3}, counts[] = {1, 3, 1};     // all wanted, file 2 three times
  *         static uint64_t room[VIOLSTREAM_ROOM_WORDS(3, 5)];              // 3 wants, 5 reads
- *         uint64_t from[2], to[2], times[3];
+ *         uint64_t from[2], to[2], times[3], legs[3];
  *         struct violstream_run run;
  *         struct violstream_rows rows;
  *
@@ -70,6 +72,7 @@
  *         run.head = 60, run.turn = 1;
  *         rows.detour_starts = from, rows.detour_ends = to, rows.detours = 2;
  *         rows.times = times, rows.times_len = 3;
+ *         rows.legs = legs, rows.legs_len = 3;
  *         rows.room = room, rows.room_len = VIOLSTREAM_ROOM_WORDS(3, 5);
  *         uint64_t result = violstream_plan_rows(&run, VIOLSTREAM_LEAST, &rows);
  *         if (result != 0) {
@@ -81,7 +84,7 @@
  *         for (uint64_t i = 0; i < rows.sums[VIOLSTREAM_DETOURS]; i++)
  *             printf("detour %" PRIu64 ",%" PRIu64 "\n", from[i], to[i]);
  *         for (int i = 0; i < 3; i++)
- *             printf("file %" PRIu64 " at %" PRIu64 "\n", numbers[i], times[i]);
+ *             printf("file %" PRIu64 " at %" PRIu64 " in leg %" PRIu64 "\n", numbers[i], times[i], legs[i]);
  *         return 0;
  *     }
  * ---- end of example.c ----
@@ -91,9 +94,9 @@
  * ---- output ----
  *     sum 367
  *     detour 2,2
- *     file 1 at 81
- *     file 2 at 55
- *     file 3 at 121
+ *     file 1 at 81 in leg 2
+ *     file 2 at 55 in leg 1
+ *     file 3 at 121 in leg 2
  * ---- end of output ----
  */
 #ifndef VIOLSTREAM_H
@@ -163,8 +166,8 @@ enum violstream_refusal {
     VIOLSTREAM_BAD_RULE = 14,      /* violstream_plan: rule neither 0 nor 1; place 0 */
     VIOLSTREAM_BAD_ENTRY = 10,     /* violstream_price: list not well formed; place: the first entry that breaks a rule
                                       by itself or against an earlier one, 0 if starts and ends differ in number */
-    VIOLSTREAM_SHORT_ROW = 8,      /* times shorter than the wants, or sums below 4 words; violstream_plan: also a row
-                                      for starts or ends of detours shorter than the wants less one (0 for
+    VIOLSTREAM_SHORT_ROW = 8,      /* times or legs shorter than the wants, or sums below 4 words; violstream_plan: also
+                                      a row for starts or ends of detours shorter than the wants less one (0 for
                                       none); place 0 */
     VIOLSTREAM_SHORT_ROOM = 9      /* violstream_plan, either rule: room below VIOLSTREAM_ROOM_WORDS; place 0 */
 };
@@ -208,11 +211,11 @@ static inline const char *violstream_reason(uint64_t result)
  *   numbers, counts              the wants: each wanted file's number and its reads, lent to be read
  *   head, turn                   where the head starts, in units of tape; what a turn costs, in units of time
  *   detour_starts, detour_ends   the list: each detour's start file and end file, lent to be read
- *   times                        for the answer, at least one word for each want
+ *   times, legs                  for the answer, each at least one word for each want
  *   sums                         for the answer, at least 4 words
  *
- * Gives 0, or the refusal's number plus 256 times its place. On 0, times[i] is the time of want i + 1 and sums holds
- * sum, finish, end and the number of detours.
+ * Gives 0, or the refusal's number plus 256 times its place. On 0, times[i] is the time of want i + 1 and legs[i] its
+ * leg, and sums holds sum, finish, end and the number of detours.
  */
 uint64_t violstream_price(const uint64_t *starts, size_t starts_len,
                           const uint64_t *lengths, size_t lengths_len,
@@ -222,6 +225,7 @@ uint64_t violstream_price(const uint64_t *starts, size_t starts_len,
                           const uint64_t *detour_starts, size_t detour_starts_len,
                           const uint64_t *detour_ends, size_t detour_ends_len,
                           uint64_t *times, size_t times_len,
+                          uint64_t *legs, size_t legs_len,
                           uint64_t *sums, size_t sums_len);
 
 /*
@@ -230,12 +234,12 @@ uint64_t violstream_price(const uint64_t *starts, size_t starts_len,
  *   starts, lengths, numbers, counts, head, turn   the run, as above
  *   rule                         VIOLSTREAM_SWEEP or VIOLSTREAM_LEAST
  *   detour_starts, detour_ends   for the answer, each at least one word for each want but one
- *   times, sums                  for the answer, as above
+ *   times, legs, sums            for the answer, as above
  *   room                         working room, at least VIOLSTREAM_ROOM_WORDS(wants, reads) words, of any content
  *
  * Gives 0, or the refusal's number plus 256 times its place. On 0, the first sums[VIOLSTREAM_DETOURS] words of
- * detour_starts and detour_ends hold the list in the order done, times and sums are as violstream_price gives them for
- * that list, and the first VIOLSTREAM_ROOM_WORDS(wants, reads) words of room are 0 under either rule.
+ * detour_starts and detour_ends hold the list in the order done, times, legs and sums are as violstream_price gives them
+ * for that list, and the first VIOLSTREAM_ROOM_WORDS(wants, reads) words of room are 0 under either rule.
  */
 uint64_t violstream_plan(const uint64_t *starts, size_t starts_len,
                          const uint64_t *lengths, size_t lengths_len,
@@ -245,6 +249,7 @@ uint64_t violstream_plan(const uint64_t *starts, size_t starts_len,
                          uint64_t *detour_starts, size_t detour_starts_len,
                          uint64_t *detour_ends, size_t detour_ends_len,
                          uint64_t *times, size_t times_len,
+                         uint64_t *legs, size_t legs_len,
                          uint64_t *sums, size_t sums_len,
                          uint64_t *room, size_t room_len);
 
@@ -265,6 +270,8 @@ struct violstream_rows {
     size_t detours;
     uint64_t *times;
     size_t times_len;
+    uint64_t *legs;
+    size_t legs_len;
     uint64_t *room; /* for a plan; a price takes none */
     size_t room_len;
     uint64_t sums[VIOLSTREAM_SUMS];
@@ -274,15 +281,16 @@ static inline uint64_t violstream_price_rows(const struct violstream_run *run, s
 {
     return violstream_price(run->starts, run->files, run->lengths, run->files, run->numbers, run->wants, run->counts,
                             run->wants, run->head, run->turn, rows->detour_starts, rows->detours, rows->detour_ends,
-                            rows->detours, rows->times, rows->times_len, rows->sums, VIOLSTREAM_SUMS);
+                            rows->detours, rows->times, rows->times_len, rows->legs, rows->legs_len, rows->sums,
+                            VIOLSTREAM_SUMS);
 }
 
 static inline uint64_t violstream_plan_rows(const struct violstream_run *run, uint64_t rule, struct violstream_rows *rows)
 {
     return violstream_plan(run->starts, run->files, run->lengths, run->files, run->numbers, run->wants, run->counts,
                            run->wants, run->head, run->turn, rule, rows->detour_starts, rows->detours, rows->detour_ends,
-                           rows->detours, rows->times, rows->times_len, rows->sums, VIOLSTREAM_SUMS, rows->room,
-                           rows->room_len);
+                           rows->detours, rows->times, rows->times_len, rows->legs, rows->legs_len, rows->sums,
+                           VIOLSTREAM_SUMS, rows->room, rows->room_len);
 }
 
 #ifdef __cplusplus

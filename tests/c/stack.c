@@ -4,8 +4,8 @@
  *
  * A figure is what a call writes on a stack painted before (bench/stack.c), less what the same call writes if it reaches a
  * function that does nothing. So it holds the return address, which is added again, and every word below it. It does not
- * hold the caller's frame, to which the arguments beyond the sixth belong (x86-64: twelve words for violstream_price,
- * fifteen for violstream_plan).
+ * hold the caller's frame, to which the arguments beyond the sixth belong (x86-64: fourteen words for violstream_price,
+ * seventeen for violstream_plan).
  *
  * make -C tests/c stack      (Makefile beside this file says against what)
  * target/tests/stack [MOST]  exit status: 0 none above MOST (default 1,024), 1 some, or a wrong result */
@@ -38,6 +38,7 @@ static struct {
     ROW(from, WANTS);
     ROW(to, WANTS);
     ROW(times, WANTS);
+    ROW(legs, WANTS);
     ROW(sums, VIOLSTREAM_SUMS);
     uint64_t head, turn, result;
 } call;
@@ -50,13 +51,13 @@ static __typeof__(&violstream_plan) volatile plan;
 static void call_price(void)
 {
     call.result = price(LEND(starts), LEND(lengths), LEND(numbers), LEND(counts), call.head, call.turn, LEND(from), LEND(to),
-                        LEND(times), LEND(sums));
+                        LEND(times), LEND(legs), LEND(sums));
 }
 
 static void call_plan(void)
 {
     call.result = plan(LEND(starts), LEND(lengths), LEND(numbers), LEND(counts), call.head, call.turn, VIOLSTREAM_LEAST,
-                       LEND(from), LEND(to), LEND(times), LEND(sums), room, VIOLSTREAM_ROOM_MOST);
+                       LEND(from), LEND(to), LEND(times), LEND(legs), LEND(sums), room, VIOLSTREAM_ROOM_MOST);
 }
 
 /* In the place of either function. It looks at no argument, the caller clears them away; compiled with -O2 it writes no word. */
@@ -109,7 +110,7 @@ static void at_the_limits(void)
         call.counts[i] = VIOLSTREAM_MAX_READS / WANTS;
     }
     call.starts_len = call.lengths_len = FILES;
-    call.numbers_len = call.counts_len = call.times_len = WANTS;
+    call.numbers_len = call.counts_len = call.times_len = call.legs_len = WANTS;
     call.from_len = call.to_len = 0;
     call.sums_len = VIOLSTREAM_SUMS;
     call.head = VIOLSTREAM_MAX_POSITION;
@@ -118,7 +119,7 @@ static void at_the_limits(void)
 
 static void no_wants(void)
 {
-    call.numbers_len = call.counts_len = call.times_len = 0;
+    call.numbers_len = call.counts_len = call.times_len = call.legs_len = 0;
 }
 
 static void no_files(void)
@@ -168,6 +169,7 @@ static void last_leftmost(void) { apart(); call.from[WANTS - 2] = call.numbers[0
 static void last_again(void) { nested(); call.to[WANTS / 2 - 1] = call.to[WANTS / 2 - 2]; }
 static void last_not_falling(void) { apart(); call.from[WANTS - 2] = call.to[WANTS - 2] = call.from[WANTS - 3]; }
 static void times_short(void) { apart(); call.times_len--; }
+static void legs_short(void) { apart(); call.legs_len--; }
 
 #define AT(number, place) ((number) + UINT64_C(256) * (place))
 
@@ -203,6 +205,7 @@ static const struct {
     {"10: the last start does not fall", last_not_falling, AT(VIOLSTREAM_BAD_ENTRY, WANTS - 1)},
     {"10: the last entry ends where one inside it does", last_again, AT(VIOLSTREAM_BAD_ENTRY, WANTS / 2)},
     {"8: a time too few", times_short, VIOLSTREAM_SHORT_ROW},
+    {"8: a leg too few", legs_short, VIOLSTREAM_SHORT_ROW},
 };
 
 enum { CASES = sizeof cases / sizeof *cases };

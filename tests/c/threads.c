@@ -18,8 +18,8 @@ struct run {
     uint64_t wants, head, turn, rule, starts[FILES], lengths[FILES], numbers[WANTS], counts[WANTS];
 };
 struct answer {
-    uint64_t planned, from[WANTS], to[WANTS], times[WANTS], sums[VIOLSTREAM_SUMS];
-    uint64_t priced, times_again[WANTS], sums_again[VIOLSTREAM_SUMS];
+    uint64_t planned, from[WANTS], to[WANTS], times[WANTS], legs[WANTS], sums[VIOLSTREAM_SUMS];
+    uint64_t priced, times_again[WANTS], legs_again[WANTS], sums_again[VIOLSTREAM_SUMS];
 };
 
 static struct desk {
@@ -61,12 +61,12 @@ static void plan_and_price(const struct run *r, struct answer *a, uint64_t *room
 {
     memset(a, 0x5a, sizeof *a);
     a->planned = violstream_plan(r->starts, FILES, r->lengths, FILES, r->numbers, r->wants, r->counts, r->wants, r->head,
-                                 r->turn, r->rule, a->from, WANTS, a->to, WANTS, a->times, WANTS, a->sums, VIOLSTREAM_SUMS,
-                                 room, ROOM);
+                                 r->turn, r->rule, a->from, WANTS, a->to, WANTS, a->times, WANTS, a->legs, WANTS, a->sums,
+                                 VIOLSTREAM_SUMS, room, ROOM);
     size_t detours = a->planned == 0 ? a->sums[VIOLSTREAM_DETOURS] : 0;
     a->priced = violstream_price(r->starts, FILES, r->lengths, FILES, r->numbers, r->wants, r->counts, r->wants, r->head,
-                                 r->turn, a->from, detours, a->to, detours, a->times_again, WANTS, a->sums_again,
-                                 VIOLSTREAM_SUMS);
+                                 r->turn, a->from, detours, a->to, detours, a->times_again, WANTS, a->legs_again, WANTS,
+                                 a->sums_again, VIOLSTREAM_SUMS);
 }
 
 static void *work(void *given)

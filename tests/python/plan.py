@@ -38,10 +38,10 @@ def answer(sheet):
             return None
     else:
         best = min(lists(files), key=lambda d: (total(d), order(files, d)))
-    times, clock, place = walk(head, turn, table, asked, best)
+    times, legs, clock, place = walk(head, turn, table, asked, best)
     lines = [b"tape=" + name, b"sum=%d" % total(best), b"reads=%d" % reads, b"finish=%d" % clock, b"end=%d" % place,
              b"detours=%d" % len(best)]
-    lines += [b"detour=%d,%d" % d for d in best] + [b"time=%d,%d" % (n, times[n]) for n in files]
+    lines += [b"detour=%d,%d" % d for d in best] + [b"time=%d,%d,%d" % (n, times[n], legs[n]) for n in files]
     return b"\n".join(lines) + b"\n"
 
 

@@ -38,10 +38,11 @@ def line(label, table, asked, head, turn, froms=(), tos=()):
         judge_list(asked, froms, tos)
     except runs.Refused as refusal:
         return label + ": " + refusal.args[0].decode().replace("\n", " ").strip()
-    times, clock, place = runs.walk(head, turn, table, asked, list(zip(froms, tos)))
+    times, legs, clock, place = runs.walk(head, turn, table, asked, list(zip(froms, tos)))
     total = sum(count * times[number] for number, count in asked)
-    rest = "".join(" %d" % times[number] for number, _ in asked)
-    return f"{label}: sum={total} finish={clock} end={place} detours={len(froms)} times={rest}"
+    when = "".join(" %d" % times[number] for number, _ in asked)
+    which = "".join(" %d" % legs[number] for number, _ in asked)
+    return f"{label}: sum={total} finish={clock} end={place} detours={len(froms)} times={when} legs={which}"
 
 
 def small_runs():

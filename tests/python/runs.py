@@ -26,8 +26,8 @@ def judge(head, turn, table, asked):
 
 
 def walk(head, turn, table, asked, detours):
-    """The times of the wants, and the clock and the place at the end."""
-    place, clock, times = head, 0, {}
+    """The times of the wants and the legs that read them, counted from 1, and the clock and the place at the end."""
+    place, clock, times, read_by = head, 0, {}, {}
     legs = [(table[a - 1][0], sum(table[b - 1])) for a, b in detours]
     if asked:
         unread = [number for number, _ in asked if not any(a <= number <= b for a, b in detours)]
@@ -38,9 +38,10 @@ def walk(head, turn, table, asked, detours):
             start, length = table[number - 1]
             if number not in times and left <= start and start + length <= right:
                 times[number] = clock + start + length - left
+                read_by[number] = i + 1
         clock += right - left
         place = right
-    return times, clock, place
+    return times, read_by, clock, place
 
 
 def lists(files):

@@ -13,21 +13,20 @@ fn field(name: &[u8], value: u64) {
     io::print_decimal(STDOUT_FILENO, value);
 }
 
-// The times of an accepted answer, and the end of the line.
-fn times_line(times: &[u64], wants: usize) {
-    text(b" times=");
+// A row of an accepted answer: an entry for each want.
+fn entries(name: &[u8], row: &[u64], wants: usize) {
+    text(name);
     let mut i: usize = 0;
     while i < wants {
-        if i >= times.len() {
+        if i >= row.len() {
             return;
         }
-        field(b" ", times[i]);
+        field(b" ", row[i]);
         i += 1;
     }
-    text(b"\n");
 }
 
-fn answer_line(a: Answer, times: &[u64], wants: usize) {
+fn answer_line(a: Answer, times: &[u64], legs: &[u64], wants: usize) {
     let kind = a.refusal;
     let number = refusals::number(kind);
     if number != 0 {
@@ -40,7 +39,9 @@ fn answer_line(a: Answer, times: &[u64], wants: usize) {
     field(b" finish=", a.finish);
     field(b" end=", a.end);
     field(b" detours=", a.detours);
-    times_line(times, wants);
+    entries(b" times=", times, wants);
+    entries(b" legs=", legs, wants);
+    text(b"\n");
 }
 
 fn show(
@@ -55,6 +56,7 @@ fn show(
     tos: &[u64],
 ) {
     let mut times = [9u64; 65];
+    let mut legs = [9u64; 65];
     let a = walk::price(
         starts,
         lengths,
@@ -65,9 +67,10 @@ fn show(
         froms,
         tos,
         &mut times,
+        &mut legs,
     );
     text(label);
-    answer_line(a, &times, numbers.len());
+    answer_line(a, &times, &legs, numbers.len());
 }
 
 // Files at 0 and 10, length 10 each, head 20.

@@ -13,10 +13,10 @@ fn front(row: &[u8], n: u64) -> &[u8] {
     row
 }
 
-// A byte more than a sheet may have is read. No answer is longer than 6,428 bytes.
+// A byte more than a sheet may have is read. No answer is longer than 7,644 bytes.
 fn main() {
     let mut sheet = [0u8; 16385];
-    let mut out = [0u8; 6428];
+    let mut out = [0u8; 7644];
     let n = io::read_full(STDIN_FILENO, &mut sheet);
     let bytes = recalls::recall(&sheet[..n], &mut out);
     io::write_all(STDOUT_FILENO, front(&out, bytes));

@@ -62,6 +62,7 @@ pub record Lent (rows : Rows) : Type 0 where
   pub froms : length (rows .froms) ≡ 63
   pub tos : length (rows .tos) ≡ 63
   pub times : length (rows .times) ≡ 64
+  pub legs : length (rows .legs) ≡ 64
   pub room : length (rows .room) ≡ roomWords
 
 module _ (run : Run) (rule : Rule) (rows : Rows) (lent : Lent rows) where
@@ -74,7 +75,7 @@ module _ (run : Run) (rule : Rule) (rows : Rows) (lent : Lent rows) where
       go true e = rw e
       go false e =
           let few = accepted-run run e .wants .few in
-          rw (e, le-ltb (length (rows .times)) (length (run .numbers)) (omega (arith, few, lent .times)), le-ltb (length (rows .froms)) (length (run .numbers) - 1) (omega (arith, few, lent .froms)), le-ltb (length (rows .tos)) (length (run .numbers) - 1) (omega (arith, few, lent .tos)), lent .room)
+          rw (e, le-ltb (length (rows .times)) (length (run .numbers)) (omega (arith, few, lent .times)), le-ltb (length (rows .legs)) (length (run .numbers)) (omega (arith, few, lent .legs)), le-ltb (length (rows .froms)) (length (run .numbers) - 1) (omega (arith, few, lent .froms)), le-ltb (length (rows .tos)) (length (run .numbers) - 1) (omega (arith, few, lent .tos)), lent .room)
 
   module _ (a : Answer) (after : Rows) (plans : Plans run rule rows a after) (f : Bool) (f-is : f ≡ isRefusal (a .refusal)) where
     -- The planner's answer refuses just where its verdict does.

@@ -27,6 +27,7 @@ fn recall_run(
     let mut froms = [0u64; 63];
     let mut tos = [0u64; 63];
     let mut times = [0u64; 64];
+    let mut legs = [0u64; 64];
     let mut room = [0u64; 5120];
     let plan = planner::plan(
         starts,
@@ -39,6 +40,7 @@ fn recall_run(
         &mut froms,
         &mut tos,
         &mut times,
+        &mut legs,
         &mut room,
     );
     let refusal = plan.refusal;

@@ -109,6 +109,7 @@ void write_answer(void)
     find_list(&list);
     walk_list(&run, &list, &walk);
     memcpy(due + offset[TIMES], walk.times, run.k * sizeof *due);
+    memcpy(due + offset[LEGS], walk.legs, run.k * sizeof *due);
     uint64_t sums[4] = {walk.sum, walk.finish, walk.end, list.length};
     memcpy(due + offset[SUMS], sums, sizeof sums);
     if (!call.plan)

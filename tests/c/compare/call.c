@@ -18,7 +18,7 @@ _Static_assert(VIOLSTREAM_FILE_ROWS == 1 && VIOLSTREAM_BAD_FILE == 2 && VIOLSTRE
 _Static_assert(VIOLSTREAM_SWEEP == 0 && VIOLSTREAM_LEAST == 1, "rule numbers");
 
 const char *const row_names[ROWS] = {
-    "starts", "lengths", "numbers", "counts", "detour_starts", "detour_ends", "times", "sums", "room",
+    "starts", "lengths", "numbers", "counts", "detour_starts", "detour_ends", "times", "legs", "sums", "room",
 };
 
 struct call call;
@@ -147,9 +147,9 @@ static uint64_t call_library(void)
 {
     if (call.plan)
         return violstream_plan(LENT(STARTS), LENT(LENGTHS), LENT(NUMBERS), LENT(COUNTS), call.head, call.turn, call.rule,
-                               LENT(DETOUR_STARTS), LENT(DETOUR_ENDS), LENT(TIMES), LENT(SUMS), LENT(ROOM));
+                               LENT(DETOUR_STARTS), LENT(DETOUR_ENDS), LENT(TIMES), LENT(LEGS), LENT(SUMS), LENT(ROOM));
     return violstream_price(LENT(STARTS), LENT(LENGTHS), LENT(NUMBERS), LENT(COUNTS), call.head, call.turn,
-                            LENT(DETOUR_STARTS), LENT(DETOUR_ENDS), LENT(TIMES), LENT(SUMS));
+                            LENT(DETOUR_STARTS), LENT(DETOUR_ENDS), LENT(TIMES), LENT(LEGS), LENT(SUMS));
 }
 
 uint64_t make_call(void)

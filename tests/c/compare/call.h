@@ -7,11 +7,11 @@
 #include <stdint.h>
 #include "bounds.h"
 
-enum row { STARTS, LENGTHS, NUMBERS, COUNTS, DETOUR_STARTS, DETOUR_ENDS, TIMES, SUMS, ROOM, ROWS };
+enum row { STARTS, LENGTHS, NUMBERS, COUNTS, DETOUR_STARTS, DETOUR_ENDS, TIMES, LEGS, SUMS, ROOM, ROWS };
 enum { INPUTS = TIMES, MOST_DRAFTED = 4200, GUARD = 8, MOST_SHIFT = 3 };
 enum { MOST_ANSWER = 8192 };      /* words in a row for an answer other than the room */
 #define MOST_ROOM ((size_t)LIMIT_WANTS * LIMIT_WANTS * (LIMIT_READS + 1) + 64)
-#define ARENA_WORDS (INPUTS * (size_t)MOST_DRAFTED + 2 * (size_t)MOST_ANSWER + MOST_ROOM \
+#define ARENA_WORDS (INPUTS * (size_t)MOST_DRAFTED + 3 * (size_t)MOST_ANSWER + MOST_ROOM \
                      + (ROWS + 1) * (size_t)(GUARD + MOST_SHIFT))
 
 struct call {

@@ -1,7 +1,7 @@
 /* Calls violstream_price and violstream_plan at random and compares every answer with one worked out here:
  *
  *   - refusals by judging the call in the order of the table, literally;
- *   - times, sum, finish and end by moving a head along the legs of the list;
+ *   - times, legs, sum, finish and end by moving a head along the legs of the list;
  *   - the least list of up to 10 wants by trying all well-formed lists, enumerated from the three rules as they are
  *     written (1,430 lists for 8 wants), and the literal tie rule;
  *   - for more wants, the least sum by the cells of document 000 (paper.c), and no cheaper or earlier list among lists

@@ -53,7 +53,7 @@ static void print_answer(void)
     uint64_t detours = due[offset[SUMS] + 3];
     fprintf(stderr, "  the answer, as far as the rows hold it\n");
     for (int r = DETOUR_STARTS; r <= SUMS; r++) {
-        size_t n = r == SUMS ? 4 : r == TIMES ? call.length[NUMBERS] : (size_t)detours;
+        size_t n = r == SUMS ? 4 : r == TIMES || r == LEGS ? call.length[NUMBERS] : (size_t)detours;
         if (is_read((enum row)r))
             continue;
         print_words(row_names[r], "must be", due + offset[r], n);

@@ -101,11 +101,12 @@ static void run_at_edge(bool over)
 static void rows_at_edge(bool over)
 {
     size_t k = call.length[NUMBERS], most_detours = k == 0 ? 0 : k - 1;
-    switch (below(call.plan ? 5 : 2)) {
+    switch (below(call.plan ? 6 : 3)) {
     case 0: lend_edge(TIMES, k, over); break;
-    case 1: lend_edge(SUMS, 4, over); break;
-    case 2: lend_edge(ROOM, k * k * (size_t)(drafted_reads() + 1), over); break;
-    case 3: lend_edge(DETOUR_STARTS, most_detours, over); break;
+    case 1: lend_edge(LEGS, k, over); break;
+    case 2: lend_edge(SUMS, 4, over); break;
+    case 3: lend_edge(ROOM, k * k * (size_t)(drafted_reads() + 1), over); break;
+    case 4: lend_edge(DETOUR_STARTS, most_detours, over); break;
     default: lend_edge(DETOUR_ENDS, most_detours, over);
     }
 }

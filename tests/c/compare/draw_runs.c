@@ -69,6 +69,7 @@ void draw_answer_rows(void)
     if (call.plan)
         call.length[DETOUR_ENDS] = a_little_more(k == 0 ? 0 : k - 1);
     call.length[TIMES] = a_little_more(k);
+    call.length[LEGS] = a_little_more(k);
     call.length[SUMS] = a_little_more(4);
     call.length[ROOM] = call.plan ? a_little_more(k * k * (size_t)(drafted_reads() + 1)) : 0;
     for (int r = 0; r < ROWS; r++)

@@ -105,7 +105,7 @@ size_t room_words(void)
 static bool a_row_is_short(void)
 {
     size_t most_detours = run.k == 0 ? 0 : run.k - 1;
-    if (call.length[TIMES] < run.k || call.length[SUMS] < 4)
+    if (call.length[TIMES] < run.k || call.length[LEGS] < run.k || call.length[SUMS] < 4)
         return true;
     return call.plan && (call.length[DETOUR_STARTS] < most_detours || call.length[DETOUR_ENDS] < most_detours);
 }

@@ -30,7 +30,7 @@ void enumerate_lists(void);
 /* ---- walk.c ---- */
 
 struct walk {
-    uint64_t sum, finish, end, times[LIMIT_WANTS];
+    uint64_t sum, finish, end, times[LIMIT_WANTS], legs[LIMIT_WANTS];
 };
 
 void walk_list(const struct stops *run, const struct list *list, struct walk *walk);

@@ -9,8 +9,8 @@ uint64_t results[2][256];
 enum met {
     LARGEST_PLAN, LARGEST_PRICE, FILES_4096, FILES_4097, WANTS_64, WANTS_65, READS_1024, READS_1025, END_AT_LIMIT,
     END_OVER_LIMIT, TURN_AT_LIMIT, TURN_OVER_LIMIT, HEAD_AT_LIMIT, HEAD_OVER_LIMIT, HEAD_AT_END, HEAD_LEFT_OF_END,
-    RULE_2, RULE_255, RULE_256, RULE_LARGEST, UNEQUAL_HALVES, ROWS_JUST_ENOUGH, TIMES_SHORT, SUMS_SHORT,
-    DETOUR_STARTS_SHORT, DETOUR_ENDS_SHORT, ROOM_SHORT_SWEEP, ROOM_SHORT_LEAST, NULL_ROWS, METS
+    RULE_2, RULE_255, RULE_256, RULE_LARGEST, UNEQUAL_HALVES, ROWS_JUST_ENOUGH, TIMES_SHORT, LEGS_SHORT,
+    SUMS_SHORT, DETOUR_STARTS_SHORT, DETOUR_ENDS_SHORT, ROOM_SHORT_SWEEP, ROOM_SHORT_LEAST, NULL_ROWS, METS
 };
 
 static const char *const met_names[METS] = {
@@ -22,9 +22,10 @@ static const char *const met_names[METS] = {
     "accepted: head at the rightmost wanted end", "refused: head one left of the rightmost wanted end",
     "refused: rule 2", "refused: rule 255", "refused: rule 256", "refused: rule 2^64 - 1",
     "refused: halves of a list of unequal number", "accepted: rows and room of just the words needed",
-    "refused: times one word short", "refused: sums one word short", "refused: detour starts one word short",
-    "refused: detour ends one word short", "refused: room one word short, sweep",
-    "refused: room one word short, least", "accepted: a plan with every empty row a null pointer",
+    "refused: times one word short", "refused: legs one word short", "refused: sums one word short",
+    "refused: detour starts one word short", "refused: detour ends one word short",
+    "refused: room one word short, sweep", "refused: room one word short, least",
+    "accepted: a plan with every empty row a null pointer",
 };
 
 static uint64_t times_met[METS];
@@ -81,13 +82,15 @@ static bool all_empty_rows_are_null(void)
 static void note_rows(uint64_t result)
 {
     const size_t *length = call.length, k = length[NUMBERS];
+    bool both_for_wants = length[TIMES] >= k && length[LEGS] >= k;
     bool row_short = result == 8, room_short = result == 9 && length[ROOM] + 1 == room_words();
-    note(ROWS_JUST_ENOUGH, result == 0 && call.plan && k > 1 && length[TIMES] == k && length[SUMS] == 4
+    note(ROWS_JUST_ENOUGH, result == 0 && call.plan && k > 1 && length[TIMES] == k && length[LEGS] == k && length[SUMS] == 4
          && length[DETOUR_STARTS] == k - 1 && length[DETOUR_ENDS] == k - 1 && length[ROOM] == room_words());
-    note(TIMES_SHORT, row_short && length[TIMES] + 1 == k && length[SUMS] >= 4);
-    note(SUMS_SHORT, row_short && length[SUMS] == 3 && length[TIMES] >= k);
-    note(DETOUR_STARTS_SHORT, row_short && call.plan && length[DETOUR_STARTS] + 2 == k && length[TIMES] >= k);
-    note(DETOUR_ENDS_SHORT, row_short && call.plan && length[DETOUR_ENDS] + 2 == k && length[TIMES] >= k);
+    note(TIMES_SHORT, row_short && length[TIMES] + 1 == k && length[LEGS] >= k && length[SUMS] >= 4);
+    note(LEGS_SHORT, row_short && length[LEGS] + 1 == k && length[TIMES] >= k && length[SUMS] >= 4);
+    note(SUMS_SHORT, row_short && length[SUMS] == 3 && both_for_wants);
+    note(DETOUR_STARTS_SHORT, row_short && call.plan && length[DETOUR_STARTS] + 2 == k && both_for_wants);
+    note(DETOUR_ENDS_SHORT, row_short && call.plan && length[DETOUR_ENDS] + 2 == k && both_for_wants);
     note(ROOM_SHORT_SWEEP, room_short && call.rule == 0);
     note(ROOM_SHORT_LEAST, room_short && call.rule == 1);
     note(NULL_ROWS, result == 0 && call.plan && k == 0 && length[ROOM] == 0 && all_empty_rows_are_null());

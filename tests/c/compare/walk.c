@@ -3,7 +3,7 @@
 #include "lists.h"
 
 struct head {
-    uint64_t place, clock;
+    uint64_t place, clock, leg;
 };
 
 static void move_left(struct head *head, uint64_t to)
@@ -22,32 +22,35 @@ static void move_right(struct head *head, uint64_t to)
     head->place = to;
 }
 
-/* One leg: left to `from`, turn, right to `to`. What lies wholly inside and is not yet read is read. */
-static void go_leg(const struct stops *run, struct head *head, uint64_t from, uint64_t to, bool *read, uint64_t *times)
+/* One leg: left to `from`, turn, right to `to`. What lies wholly inside and is not yet read is read, in this leg. The first
+ * leg that is gone has number 1; a stop that is not read yet has leg 0. */
+static void go_leg(const struct stops *run, struct head *head, uint64_t from, uint64_t to, struct walk *walk)
 {
+    head->leg++;
     move_left(head, from);
     head->clock += run->turn;
     for (size_t i = 0; i < run->k; i++)
-        if (!read[i] && from <= run->start[i] && run->end[i] <= to) {
-            read[i] = true;
-            times[i] = head->clock + (run->end[i] - from);
+        if (walk->legs[i] == 0 && from <= run->start[i] && run->end[i] <= to) {
+            walk->legs[i] = head->leg;
+            walk->times[i] = head->clock + (run->end[i] - from);
         }
     move_right(head, to);
 }
 
 void walk_list(const struct stops *run, const struct list *list, struct walk *walk)
 {
-    struct head head = {run->head, 0};
-    bool read[LIMIT_WANTS] = {false};
+    struct head head = {run->head, 0, 0};
+    for (size_t i = 0; i < run->k; i++)
+        walk->legs[i] = 0;
     for (size_t i = 0; i < list->length; i++) {
-        go_leg(run, &head, run->start[list->start[i]], run->end[list->end[i]], read, walk->times);
+        go_leg(run, &head, run->start[list->start[i]], run->end[list->end[i]], walk);
         head.clock += run->turn;
     }
     if (run->k > 0) {
         size_t last = run->k - 1;
-        while (last > 0 && read[last])
+        while (last > 0 && walk->legs[last] > 0)
             last--;
-        go_leg(run, &head, run->start[0], run->end[last], read, walk->times);
+        go_leg(run, &head, run->start[0], run->end[last], walk);
     }
     walk->sum = 0;
     for (size_t i = 0; i < run->k; i++)

@@ -9,11 +9,12 @@ pub const COUNTS: usize = 3;
 pub const FROM: usize = 4;
 pub const TO: usize = 5;
 pub const TIMES: usize = 6;
-pub const SUMS: usize = 7;
-pub const ROOM: usize = 8;
-pub const ROWS: usize = 9;
+pub const LEGS: usize = 7;
+pub const SUMS: usize = 8;
+pub const ROOM: usize = 9;
+pub const ROWS: usize = 10;
 pub const NAMES: [&str; ROWS] =
-    ["starts", "lengths", "numbers", "counts", "detour_starts", "detour_ends", "times", "sums", "room"];
+    ["starts", "lengths", "numbers", "counts", "detour_starts", "detour_ends", "times", "legs", "sums", "room"];
 
 /// The parameters, with every row as it stands before the call.
 #[derive(Clone, Default)]

@@ -22,7 +22,7 @@ fn room_needed(call: &Call) -> usize {
 fn one_short(call: &Call, row: usize) -> bool {
     let k = call.len(NUMBERS);
     let detours = if call.plan { k.saturating_sub(1) } else { 0 };
-    let needed = [(FROM, detours), (TO, detours), (TIMES, k), (SUMS, 4)];
+    let needed = [(FROM, detours), (TO, detours), (TIMES, k), (LEGS, k), (SUMS, 4)];
     needed.iter().all(|&(r, n)| if r == row { call.len(r) + 1 == n } else { call.len(r) >= n })
 }
 
@@ -55,6 +55,7 @@ pub const TO_MEET: &[(&str, fn(&Call, u64) -> bool)] = &[
     ("rule 2^64 - 1", |c, r| r == 14 && c.rule == u64::MAX),
     ("unequal halves of a list", |_, r| r == 10),
     ("times one short", |c, r| r == 8 && one_short(c, TIMES)),
+    ("legs one short", |c, r| r == 8 && one_short(c, LEGS)),
     ("sums one short", |c, r| r == 8 && one_short(c, SUMS)),
     ("detour starts one short", |c, r| r == 8 && one_short(c, FROM)),
     ("detour ends one short", |c, r| r == 8 && one_short(c, TO)),

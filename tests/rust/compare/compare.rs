@@ -1,7 +1,7 @@
 //! Calls violstream_price and violstream_plan at random and compares every answer with one worked out here:
 //!
 //! - refusals: the first row of the table that applies, over whole numbers wide enough never to wrap;
-//! - times, sum, finish and end: the legs of the list, walked one after the other;
+//! - times, legs, sum, finish and end: the legs of the list, walked one after the other;
 //! - the least list of up to 10 wants: every choice of an end for every start is written down, the three rules are held
 //!   against each pair of entries, and of the lists left (1,430 for 8 wants) the tie rule picks one;
 //! - for more wants: the cheapest plan of each window of wants, remembered by window.

@@ -85,6 +85,7 @@ fn noise(random: &mut Random, least: usize) -> Vec<u64> {
 pub fn lend_rows(random: &mut Random, call: &mut Call) {
     let k = call.len(NUMBERS);
     call.rows[TIMES] = noise(random, k);
+    call.rows[LEGS] = noise(random, k);
     call.rows[SUMS] = noise(random, 4);
     if call.plan {
         call.rows[FROM] = noise(random, k.saturating_sub(1));

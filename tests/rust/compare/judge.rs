@@ -80,7 +80,8 @@ fn judge_list(run: &Run, call: &Call) -> Result<Vec<Detour>, Refusal> {
 
 fn a_row_is_short(run: &Run, call: &Call) -> bool {
     let detours = if call.plan { run.k().saturating_sub(1) } else { 0 };
-    call.len(TIMES) < run.k() || call.len(SUMS) < 4 || call.len(FROM) < detours || call.len(TO) < detours
+    let for_wants = call.len(TIMES).min(call.len(LEGS));
+    for_wants < run.k() || call.len(SUMS) < 4 || call.len(FROM) < detours || call.len(TO) < detours
 }
 
 /// The run and, for the pricer, its list; or the refusal.

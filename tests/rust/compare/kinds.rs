@@ -123,8 +123,8 @@ fn run_at_a_limit(random: &mut Random, call: &mut Call, over: u64) {
 fn row_at_its_limit(random: &mut Random, call: &mut Call, short: u64) {
     let k = call.len(NUMBERS);
     let room = k * k * (reads_drawn(call) as usize + 1);
-    let needed = [0, 0, 0, 0, k.saturating_sub(1), k.saturating_sub(1), k, 4, room];
-    let row = if call.plan { random.pick(&[FROM, TO, TIMES, SUMS, ROOM]) } else { random.pick(&[TIMES, SUMS]) };
+    let needed = [0, 0, 0, 0, k.saturating_sub(1), k.saturating_sub(1), k, k, 4, room];
+    let row = random.pick(if call.plan { &[FROM, TO, TIMES, LEGS, SUMS, ROOM][..] } else { &[TIMES, LEGS, SUMS] });
     call.rows[row].truncate(needed[row].saturating_sub(short as usize));
 }
 

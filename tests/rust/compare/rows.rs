@@ -3,7 +3,7 @@
 use crate::call::*;
 use crate::fence::{guard_word, Fenced};
 use crate::lists::Detour;
-use crate::walk::{rightward_runs, sum_of, time_of, Run};
+use crate::walk::{leg_of, rightward_runs, sum_of, time_of, Run};
 use std::fmt;
 
 /// The first entries of each row that the call writes, and how much of the room it clears.
@@ -21,10 +21,10 @@ pub fn by_position(run: &Run, list: &[Detour]) -> Vec<Detour> {
 /// `list` by position.
 pub fn written(call: &Call, run: &Run, list: &[Detour]) -> Written {
     let (runs, head) = rightward_runs(run, list);
-    let times: Vec<u64> = run.stops.iter().map(|stop| time_of(stop, &runs)).collect();
     let mut written = Written::default();
     written.first[SUMS] = vec![sum_of(run, list), head.clock, head.place, list.len() as u64];
-    written.first[TIMES] = times;
+    written.first[TIMES] = run.stops.iter().map(|stop| time_of(stop, &runs)).collect();
+    written.first[LEGS] = run.stops.iter().map(|stop| leg_of(stop, &runs)).collect();
     if call.plan {
         written.first[FROM] = list.iter().map(|d| run.stops[d.0 as usize].file).collect();
         written.first[TO] = list.iter().map(|d| run.stops[d.1 as usize].file).collect();

@@ -79,9 +79,19 @@ pub fn rightward_runs(run: &Run, list: &[Detour]) -> (Vec<Rightward>, Head) {
     (runs, head)
 }
 
+/// The runs before the one that reads a stop, which is the first from its start or further left to its end or further right.
+fn runs_before(stop: &Stop, runs: &[Rightward]) -> usize {
+    let reads = |r: &Rightward| r.from.place <= stop.start && stop.end <= r.to;
+    runs.iter().position(reads).expect("the last sweep reads every want")
+}
+
 pub fn time_of(stop: &Stop, runs: &[Rightward]) -> u64 {
-    let reads = |r: &&Rightward| r.from.place <= stop.start && stop.end <= r.to;
-    runs.iter().find(reads).expect("the last sweep reads every want").from.right_to(stop.end).clock
+    runs[runs_before(stop, runs)].from.right_to(stop.end).clock
+}
+
+/// Each leg has one rightward run; the first is leg 1.
+pub fn leg_of(stop: &Stop, runs: &[Rightward]) -> u64 {
+    runs_before(stop, runs) as u64 + 1
 }
 
 pub fn sum_of(run: &Run, list: &[Detour]) -> u64 {

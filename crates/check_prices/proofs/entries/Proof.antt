@@ -1,18 +1,15 @@
--- `check_prices::times_line` is safe and ends.
+-- `check_prices::entries` is safe and ends.
 -- Assumes nothing.
 use borrow.Author.Needs.{needs}
 use Prim.Native.Nat.{_-_}
-use Rattle.check_prices.proofs.times_line.Statement.{statement}
-use Rattle.check_prices.proofs.times_line.Tie as tie
+use Rattle.check_prices.proofs.entries.Statement.{statement}
+use Rattle.check_prices.proofs.entries.Tie as tie
 
 abbrev Inv-loop : tie.InvT-loop
-Inv-loop times wants i₀ t5 t6 i = Unit {0}
+Inv-loop name row wants i₀ t5 i = Unit {0}
 
 abbrev μ-loop : tie.MeasureT-loop
-μ-loop times wants i₀ t5 t6 i = wants - i
-
-slice-aggregate-text : tie.Need-slice-aggregate-text Inv-loop μ-loop
-slice-aggregate-text c = search needs
+μ-loop name row wants i₀ t5 i = wants - i
 
 text-requires : tie.Need-text-requires Inv-loop μ-loop
 text-requires c κs = search needs
@@ -44,22 +41,15 @@ loop-less c = search needs
 loop-again : tie.Need-loop-again Inv-loop μ-loop
 loop-again c = search needs
 
-slice-aggregate-text-2 : tie.Need-slice-aggregate-text-2 Inv-loop μ-loop
-slice-aggregate-text-2 c = search needs
-
-text-requires-2 : tie.Need-text-requires-2 Inv-loop μ-loop
-text-requires-2 c κs = search needs
-
 returns-2 : tie.Need-returns-2 Inv-loop μ-loop
 returns-2 c = search needs
 
-pub times-line-spec : {M : Type 1} → statement M
-times-line-spec =
+pub entries-spec : {M : Type 1} → statement M
+entries-spec =
     tie.close
     (tie.spec
     Inv-loop
     μ-loop
-    slice-aggregate-text
     text-requires
     loop-holds
     returns
@@ -70,6 +60,4 @@ times-line-spec =
     add-i
     loop-less
     loop-again
-    slice-aggregate-text-2
-    text-requires-2
     returns-2)
