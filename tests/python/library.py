@@ -23,13 +23,13 @@ def main():
         sys.exit(__doc__)
     plan = ctypes.CDLL(sys.argv[1]).violstream_plan
     plan.restype = WORD
-    starts, ends, times, sums = row(0, 0), row(0, 0), row(0, 0, 0), row(0, 0, 0, 0)
+    starts, ends, times, legs, sums = row(0, 0), row(0, 0), row(0, 0, 0), row(0, 0, 0), row(0, 0, 0, 0)
     run = lent(row(0, 10, 20), row(10, 4, 30), row(1, 2, 3), row(1, 3, 1)) + [WORD(60), WORD(1), WORD(1)]
-    result = plan(*run, *lent(starts, ends, times, sums, row(*[7] * 54)))
-    found = (result, list(sums), starts[0], ends[0], list(times))
-    if found != (0, [367, 121, 50, 1], 2, 2, [81, 55, 121]):
+    result = plan(*run, *lent(starts, ends, times, legs, sums, row(*[7] * 54)))
+    found = (result, list(sums), starts[0], ends[0], list(times), list(legs))
+    if found != (0, [367, 121, 50, 1], 2, 2, [81, 55, 121], [2, 1, 2]):
         sys.exit(f"library.py: violstream_plan gives {found}")
-    result = plan(*run, *lent(starts, ends, times, sums, row(*[7] * 53)))
+    result = plan(*run, *lent(starts, ends, times, legs, sums, row(*[7] * 53)))
     if result != 9:
         sys.exit(f"library.py: violstream_plan with too little room gives {result}")
     print("library.py: the shared library answers from Python")
