@@ -253,3 +253,14 @@ keeps sheet good = go (priceIsEmpty sheet) refl
           name = ap sheetName is;
           again = ap rewritten is;
         }
+
+-- The result is longer by a byte at most.
+pub little-longer : (sheet : List ℕ) → Readable sheet → length (rewritten sheet) ≤ length sheet + 1
+little-longer sheet good = go (priceIsEmpty sheet) refl
+  where
+    go : (b : Bool) → priceIsEmpty sheet ≡ b → length (rewritten sheet) ≤ length sheet + 1
+    go true e =
+        let front = upper sheet good e ++ turnKey in
+        let back = lineFeed ∷ afterLines 3 sheet in
+        omega (arith, ap length (new-cut sheet good e) ∙ length-append front (code "0" ∷ back), ap length (old-cut sheet good e) ∙ length-append front back)
+    go false e = omega (arith, ap length (unchanged sheet good e))
