@@ -29,11 +29,11 @@ handed-so v text row e = record { answer = rw e; left = rw e }
 -- The sheet's own verdict, then that on the result.
 module _ (sheet row : List ℕ) (read : Verdict) (read-is : read ≡ sheetVerdict sheet) (f : Bool) (f-is : f ≡ refuses read) where
   pub unread : f ≡ true → (r : Written) → r ≡ refusedWriting read → SheetRewritten sheet row r row
-  unfolding rewriteVerdict rowVerdict
+  unfolding rewriteVerdict
   unread e r is =
-      let so : refuses read ≡ true = sym f-is ∙ e in
-      let first : read ≡ rewriteVerdict sheet row = first-refuses read (resultVerdict (length (rewritten sheet)) (length row)) so ∙ rw read-is in
-      subst (λ v. Handed v (rewritten sheet) row r row) first (refused-so read (rewritten sheet) row so r is)
+      let so : refuses (sheetVerdict sheet) ≡ true = ap refuses (sym read-is) ∙ sym f-is ∙ e in
+      let first : rewriteVerdict sheet row ≡ sheetVerdict sheet = rw so in
+      rw first (refused-so (sheetVerdict sheet) (rewritten sheet) row so r (is ∙ rw read-is))
 
   module _ (passed : f ≡ false) where
     pub readable : refuses (sheetVerdict sheet) ≡ false
