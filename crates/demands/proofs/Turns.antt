@@ -1,34 +1,31 @@
 -- The request on empty turn prices: what the reader gives, what the rewriting gives, and that the one reads the other as the old reader read the old sheet.
 use Prim.Native.Nat.{ℕ, _+_, _≤_, _<_}
-use Prim.Native.Char.{code}
 use mathlib.Core.Path.{_≡_, refl, sym, ap, _∙_}
-use mathlib.Core.Bool.{Bool, true, false, _||_, true≢false}
-use mathlib.Core.List.{List, [], _∷_, _++_, append-nil}
+use mathlib.Core.Bool.{Bool, true, false, true≢false}
+use mathlib.Core.List.{List, [], _∷_, _++_}
 use native.Mathlib.Omega.{arith}
-use lib.ListN.{length, take, drop, length-append}
+use lib.ListN.{length, take, drop}
 use lib.Seq.{take-append-seam, drop-append-seam}
-use lib.Dec.{ltb, eqb}
+use lib.Dec.{ltb}
 use borrow.Author.Tests.{le-ltb, ltb-false, ne-eqb}
-use Rattle.refusals.specs.declared.Refusal.{Refusal}
 use Rattle.refusals.specs.declared.Refusal.the-variants.{Accepted, BadLine, LongSheet, ShortRow}
 use Rattle.refusals.specs.declared.Verdict.{Verdict}
 use Rattle.refusals.specs.Refusals.{isRefusal, accepted, refuseIf, refuseAt, firstOf}
-use Rattle.refusals.proofs.Verdicts.{refuses, first-refuses, first-passes, all-accept, none-refuses, accepts-if}
-use Rattle.texts.specs.Text.{lineFeed, has, isEmpty, isText, startsWith, valueOf}
-use Rattle.texts.proofs.Bytes.{not-empty}
+use Rattle.refusals.proofs.Verdicts.{refuses, first-refuses, first-passes, all-accept, accepts-if}
+use Rattle.texts.specs.Text.{lineFeed, has, isEmpty, isText, startsWith}
 use Rattle.sheets.specs.declared.Reading.{Reading}
-use Rattle.sheets.specs.Lines.{lineAfter, afterLines, turnKey, valueText, turnWith}
-use Rattle.sheets.specs.Sheet.{longestSheet, firstBadLine, sheetFiles, sheetWants, sheetTurnWith, sheetRunWith, sheetName}
-use Rattle.sheets.specs.Reading.{sheetVerdict, shortPairRows, readVerdict, refusedReading, readRow, RunRows, rowsVerdict, ReadWith, SheetRead, readName}
+use Rattle.sheets.specs.Lines.{lineAfter, afterLines, turnKey, turnWith}
+use Rattle.sheets.specs.Sheet.{longestSheet, firstBadLine, sheetFiles, sheetWants, sheetTurnWith}
+use Rattle.sheets.specs.Reading.{sheetVerdict, readVerdict, refusedReading, readRow, RunRows, rowsVerdict, ReadWith, readName}
 use Rattle.sheets.proofs.Good.{short-sheet, accepted-sheet}
 use Rattle.writers.specs.declared.Written.{Written}
-use Rattle.writers.specs.Writing.{refusedWriting, rowVerdict, writtenAnswer, writtenRow, Handed}
-use Rattle.writers.proofs.Reread.{key-begins, key-value}
+use Rattle.writers.specs.Writing.{rowVerdict, writtenAnswer, writtenRow}
+use Rattle.writers.proofs.Reread.{key-value}
 use Rattle.turns.specs.Rewriting.{priceIsEmpty, rewritten, rewriteVerdict, SheetRewritten}
-use Rattle.turns.proofs.Meaning.{upper, old-cut, new-cut, unchanged, Keeps, keeps, little-longer}
+use Rattle.turns.proofs.Meaning.{upper, old-cut, new-cut, unchanged, keeps, little-longer}
 use Rattle.demands.specs.Table.{FirstBad}
-use Rattle.demands.specs.Lines.{Stands, Number, LineIsBad, linesDue}
-use Rattle.demands.specs.Turns.{EmptyPrice, GivenPrice, PriceRead, DrivesOwnPrice, ZeroPutIn, Rewrites, RewrittenBytes, ReadsAsBefore, RewrittenMeans, RewrittenOnce, UnreadApplies, ResultApplies, UnreadFirst, ResultFirst, RewriteFinds, unread, result, RewriteAnswers, Demand1Rewrite}
+use Rattle.demands.specs.Lines.{Number, LineIsBad, linesDue}
+use Rattle.demands.specs.Turns.{EmptyPrice, GivenPrice, DrivesOwnPrice, RewrittenBytes, RewrittenMeans, RewrittenOnce, UnreadApplies, ResultApplies, UnreadFirst, RewriteFinds, unread, result, Demand1Rewrite}
 use Rattle.demands.proofs.Tests.{tells-below}
 use Rattle.demands.proofs.Checks.{decides-if, decides-reworded, Finds, finds-none, finds-first, refused-iff}
 use Rattle.demands.proofs.FirstLine.{decides-line}

@@ -1,16 +1,15 @@
--- What is answered: the first refusal that applies, or the result; and that the contract determines it.
+-- What is answered: the first refusal that applies, or the result.
 use Prim.Native.Nat.{ℕ, _≤_}
 use mathlib.Core.Path.{_≡_, refl, sym, ap, _∙_, subst}
-use mathlib.Core.Bool.{Bool, true, false, cond}
-use mathlib.Core.List.{List, [], _∷_, _++_}
-use lib.ListN.{length, drop}
+use mathlib.Core.Bool.{Bool, true, false}
+use mathlib.Core.List.{List}
+use lib.ListN.{length}
 use lib.Dec.{ltb}
 use borrow.Author.Tests.{ltb-false}
 use Rattle.refusals.specs.declared.Refusal.the-variants.{Accepted, ShortRow}
 use Rattle.refusals.specs.declared.Verdict.{Verdict}
-use Rattle.refusals.specs.Refusals.{isRefusal, refuseIf, firstOf}
-use Rattle.refusals.proofs.Verdicts.{refuses, first-refuses, first-passes, all-accept, accepts-if}
-use Rattle.sheets.specs.Sheet.{longestSheet}
+use Rattle.refusals.specs.Refusals.{firstOf}
+use Rattle.refusals.proofs.Verdicts.{refuses, first-passes, all-accept, accepts-if}
 use Rattle.sheets.specs.Reading.{sheetVerdict}
 use Rattle.writers.specs.declared.Written.{Written}
 use Rattle.writers.specs.Writing.{refusedWriting, writtenAnswer, writtenRow, rowVerdict, Handed}
@@ -58,7 +57,3 @@ module _ (sheet row : List ℕ) (read : Verdict) (read-is : read ≡ sheetVerdic
           let named : Handed (rewriteVerdict sheet row) (rewritten sheet) row (record { refusal = Accepted; place = 0; bytes = length (rewritten sheet) }) (filledRow (rewritten sheet) row)
           = subst (λ w. Handed w (rewritten sheet) row (record { refusal = Accepted; place = 0; bytes = length (rewritten sheet) }) (filledRow (rewritten sheet) row)) verdict-is so in
           record { answer = rw long (named .answer); left = row-is ∙ rw text-is (named .left) }
-
--- Two results that fit the contract are equal.
-pub rewrite-determined : (sheet row : List ℕ) (r s : Written) (row′ row″ : List ℕ) → SheetRewritten sheet row r row′ → SheetRewritten sheet row s row″ → (r ≡ s) × (row′ ≡ row″)
-rewrite-determined sheet row r s row′ row″ p q = (p .answer ∙ sym (q .answer), p .left ∙ sym (q .left))

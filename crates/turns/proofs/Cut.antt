@@ -1,25 +1,25 @@
 -- Where the price of a readable sheet stands, and how the sheet is cut there.
 use Prim.Native.Nat.{ℕ, zero, suc, _+_, _-_, _≤_, _<_}
 use Prim.Native.Char.{code}
-use mathlib.Core.Path.{_≡_, refl, sym, ap, _∙_, subst}
-use mathlib.Core.Bool.{Bool, true, false, cond, _&&_, _||_, true≢false}
-use mathlib.Core.List.{List, [], _∷_, _++_, append-assoc}
+use mathlib.Core.Path.{_≡_, sym, ap, _∙_, subst}
+use mathlib.Core.Bool.{Bool, true, false, _||_, true≢false}
+use mathlib.Core.List.{List, [], _∷_, _++_}
 use native.Mathlib.Omega.{arith}
 use native.Mathlib.Decide.{decLt}
-use lib.ListN.{length, getD, take, drop, length-append, length-drop, take-append-drop, List·getD-append}
-use lib.Seq.{take-at, drop-at, drop-drop, getD-drop, getD-at, length-take-le, take-all}
+use lib.ListN.{length, getD, take, drop, length-append, length-drop, List·getD-append}
+use lib.Seq.{drop-drop, getD-drop, getD-at, take-all}
 use lib.Dec.{eqb}
-use borrow.Author.Tests.{eq-eqb, ne-eqb, eqb-true}
-use Rattle.texts.specs.Text.{bytes, lineFeed, has, before, behind, startsWith, isText}
+use borrow.Author.Tests.{eq-eqb, ne-eqb}
+use Rattle.texts.specs.Text.{bytes, lineFeed, has, behind}
 use Rattle.texts.specs.declared.Found.{Found}
 use Rattle.texts.specs.Found.{FoundIn, FirstAt}
-use Rattle.texts.proofs.Bytes.{and-true-both, begun-long}
+use Rattle.texts.proofs.Bytes.{begun-long}
 use Rattle.texts.proofs.Split.{has-here}
-use Rattle.sheets.specs.Lines.{lineOf, afterLines, lineAfter, turnKey}
+use Rattle.sheets.specs.Lines.{afterLines, lineAfter, turnKey}
 use Rattle.sheets.proofs.Good.{tape-begun, head-begun, turn-begun, line-split, line-flat}
-use Rattle.turns.specs.declared.Price.{Price}
 use Rattle.turns.specs.Rewriting.{priceIsEmpty, bytesBefore, zeroAt, rewritten}
-use Rattle.turns.specs.Private.{Readable, LineAt, priced, PriceFound}
+use Rattle.turns.specs.Private.{Readable, LineAt, PriceFound}
+use Rattle.turns.proofs.Filling.{zero-long}
 
 -- A byte that a text has not stands at none of its places.
 none-at : (c : ℕ) (text : List ℕ) (i : ℕ) → has c text ≡ false → i < length text → getD text i 0 ≡ c → ⊥
@@ -149,10 +149,7 @@ module _ (sheet : List ℕ) (good : Readable sheet) where
     price-empty e =
         let whole : eqb 5 (length (lineAfter 2 sheet)) ≡ true = eq-eqb 5 (length (lineAfter 2 sheet)) (sym (line-whole e)) in
         let is : rewritten sheet ≡ zeroAt (at + 5) sheet = rw (whole, turn-begun sheet good, bytes-before) in
-        record { within = omega (arith, price-within); result = sym is; long = sym (ap length is ∙ zero-long (at + 5) (omega (arith, price-within))) }
-      where
-        zero-long : (n : ℕ) → n ≤ length sheet → length (zeroAt n sheet) ≡ length sheet + 1
-        zero-long n l = omega (arith, length-append (take n sheet) (code "0" ∷ drop n sheet), length-take-le n sheet l, length-drop n sheet)
+        record { within = omega (arith, price-within); result = sym is; long = sym (ap length is ∙ zero-long sheet (at + 5) (omega (arith, price-within))) }
 
     pub price-given : (getD sheet (at + 5) 0 ≡ lineFeed → ⊥) → PriceFound sheet (record { empty = false; at = at + 5; bytes = length sheet })
     unfolding rewritten priceIsEmpty

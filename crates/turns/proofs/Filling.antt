@@ -1,9 +1,9 @@
 -- The bytes of the result, and the row that takes them.
 use Prim.Native.Nat.{ℕ, suc, _+_, _-_, _≤_, _<_}
 use Prim.Native.Char.{code}
-use mathlib.Core.Path.{_≡_, refl, sym, ap, _∙_}
-use mathlib.Core.Bool.{Bool, true, false, not, cond, true≢false}
-use mathlib.Core.List.{List, [], _∷_, _++_}
+use mathlib.Core.Path.{_≡_, sym, ap, _∙_}
+use mathlib.Core.Bool.{Bool, true, false}
+use mathlib.Core.List.{List, _∷_}
 use native.Mathlib.Omega.{arith}
 use native.Mathlib.Nat.{zero-add}
 use lib.ListN.{length, getD, take, drop, set, length-append, length-drop, List·getD-append}
@@ -12,15 +12,7 @@ use Rattle.writers.proofs.Pages.{Putting, byte-put}
 use Rattle.turns.specs.Rewriting.{zeroAt}
 use Rattle.turns.specs.Private.{priced, filledRow}
 
--- What the tests of a loop say.
-pub not-true : (b : Bool) → not b ≡ true → b ≡ false
-not-true true e = absurd (true≢false (sym e))
-not-true false e = refl
-
-pub not-false : (b : Bool) → not b ≡ false → b ≡ true
-not-false true e = refl
-not-false false e = absurd (true≢false e)
-
+-- A place that is not before another, and not that one, is behind it.
 pub past : (i at : ℕ) → at ≤ i → (i ≡ at → ⊥) → at < i
 past i at l n = omega arith
 

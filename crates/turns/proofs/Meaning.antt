@@ -1,25 +1,22 @@
 -- The rewritten sheet is cut and read: where the 0 stands, and that it means, to a reader of any kind, what the old sheet meant to one to whom an
 -- empty price is 0.
-use Prim.Native.Nat.{ℕ, suc, _+_, _-_, _≤_, _<_}
+use Prim.Native.Nat.{ℕ, _+_, _≤_, _<_}
 use Prim.Native.Char.{code}
 use mathlib.Core.Path.{_≡_, refl, sym, ap, _∙_}
-use mathlib.Core.Bool.{Bool, true, false, cond, _&&_, true≢false}
+use mathlib.Core.Bool.{Bool, true, false, true≢false}
 use mathlib.Core.List.{List, [], _∷_, _++_, append-assoc}
 use native.Mathlib.Omega.{arith}
 use lib.ListN.{length, take, drop, length-append, length-drop}
 use lib.Seq.{take-at, drop-at}
 use lib.Dec.{eqb}
 use borrow.Author.Tests.{eq-eqb, eqb-true}
-use Rattle.runs.specs.Run.{Run}
-use Rattle.runs.specs.declared.Rule.{Rule}
-use Rattle.texts.specs.Text.{lineFeed, has, before, behind, startsWith, isText, isEmpty, isNumber, allOf, valueFrom}
+use Rattle.texts.specs.Text.{lineFeed, has, behind, startsWith, isText, isNumber, allOf, valueFrom}
 use Rattle.texts.proofs.Bytes.{and-true-both, begun-long, not-empty}
-use Rattle.texts.proofs.Decimals.{has-append}
 use Rattle.texts.proofs.Split.{has-here, before-here, behind-here, whole-key}
 use Rattle.sheets.specs.Lines.{lineOf, afterLines, lineAfter, turnKey, valueText, isTurnLine, turnWith}
 use Rattle.sheets.specs.Sheet.{sheetHead, sheetTurnWith, sheetRule, sheetFiles, fileText, wantsText, sheetWants, wantText, endText, firstBadTop, firstBadBelow, firstBadLine, sheetRunWith, sheetName}
 use Rattle.sheets.proofs.Good.{turn-begun, no-bad-line}
-use Rattle.turns.specs.Rewriting.{priceIsEmpty, bytesBefore, zeroAt, rewritten}
+use Rattle.turns.specs.Rewriting.{priceIsEmpty, bytesBefore, rewritten}
 use Rattle.turns.specs.Private.{Readable}
 use Rattle.turns.proofs.Cut.{tape-split, head-split, turn-split, tape-flat, head-flat}
 

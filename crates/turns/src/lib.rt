@@ -3,7 +3,6 @@
 ghost use Prim.Native.Nat.{_≤_, _<_};
 ghost use mathlib.Core.Path.{_≡_};
 ghost use mathlib.Core.Bool.{true, false};
-ghost use mathlib.Core.List.{[], _∷_};
 ghost use lib.ListN.{length, getD};
 ghost use Rattle.refusals.specs.Refusals.{firstOf};
 ghost use Rattle.writers.specs.Writing.{refusedWriting};

@@ -1,12 +1,11 @@
 -- Reading what was written, line by line.
 use Prim.Native.Nat.{ℕ, zero, suc, _^_, _≤_, _<_}
 use mathlib.Core.Path.{_≡_, refl, ap, sym, _∙_}
-use mathlib.Core.Bool.{Bool, true, false, not}
+use mathlib.Core.Bool.{true, false, not}
 use mathlib.Core.List.{List, [], _∷_, _++_, append-assoc}
 use native.Mathlib.Omega.{arith}
 use lib.ListN.{length, getD, take}
 use lib.Seq.{drop-append-seam, take-suc, take-length}
-use lib.Dec.{eqb}
 use borrow.Author.Tests.{eq-eqb, le-leb}
 use Rattle.runs.proofs.Search.{first-all}
 use Rattle.texts.specs.Text.{lineFeed, comma, has, before, behind, startsWith, valueOf, decimal}

@@ -1,6 +1,7 @@
 -- `turns::byte_at` meets its contract: the bytes before the price, the 0 if one is due, the bytes behind it.
 -- Assumes nothing.
-use Rattle.turns.proofs.Filling.{given-byte, given-within, byte-before, byte-zero, byte-behind, behind-within, not-true, not-false, past}
+use Rattle.turns.proofs.Filling.{given-byte, given-within, byte-before, byte-zero, byte-behind, behind-within, past}
+use borrow.Author.Tests.{not-true, not-false}
 use borrow.Author.Needs.{needs}
 use Rattle.turns.proofs.byte_at.Statement.{statement}
 use Rattle.turns.proofs.byte_at.Tie as tie
