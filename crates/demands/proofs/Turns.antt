@@ -2,6 +2,7 @@
 use Prim.Native.Nat.{ℕ, _+_, _≤_, _<_}
 use mathlib.Core.Path.{_≡_, refl, sym, ap, _∙_}
 use mathlib.Core.Bool.{Bool, true, false, true≢false}
+use mathlib.Core.Logic.{_⊎_, inl, inr, ⊎-elim}
 use mathlib.Core.List.{List, [], _∷_, _++_}
 use native.Mathlib.Omega.{arith}
 use lib.ListN.{length, take, drop}
@@ -17,7 +18,7 @@ use Rattle.sheets.specs.declared.Reading.{Reading}
 use Rattle.sheets.specs.Lines.{lineAfter, afterLines, turnKey, turnWith}
 use Rattle.sheets.specs.Sheet.{longestSheet, firstBadLine, sheetFiles, sheetWants, sheetTurnWith}
 use Rattle.sheets.specs.Reading.{sheetVerdict, readVerdict, refusedReading, readRow, RunRows, rowsVerdict, ReadWith, readName}
-use Rattle.sheets.proofs.Good.{short-sheet, accepted-sheet}
+use Rattle.sheets.proofs.Good.{short-sheet, accepted-sheet, good-lines}
 use Rattle.writers.specs.declared.Written.{Written}
 use Rattle.writers.specs.Writing.{rowVerdict, writtenAnswer, writtenRow}
 use Rattle.writers.proofs.Reread.{key-value}
@@ -29,7 +30,7 @@ use Rattle.demands.specs.Turns.{EmptyPrice, GivenPrice, DrivesOwnPrice, 
 use Rattle.demands.proofs.Tests.{tells-below}
 use Rattle.demands.proofs.Checks.{decides-if, decides-reworded, Finds, finds-none, finds-first, refused-iff}
 use Rattle.demands.proofs.FirstLine.{decides-line}
-use Rattle.demands.proofs.Lines.{line-read, number-flat, nothing-no-number}
+use Rattle.demands.proofs.Lines.{line-read, number-flat, nothing-no-number, tells-turn}
 use Rattle.demands.proofs.Sheets.{same-rows, told}
 use Rattle.demands.proofs.WriteRead.{written-passes}
 
@@ -61,6 +62,12 @@ module _ (sheet : List ℕ) where
       longer : (v : List ℕ) → isEmpty v ≡ false → isText turnKey (turnKey ++ v) ≡ false
       longer [] e = absurd (true≢false e)
       longer (b ∷ v) e = rw (ne-eqb 5 (length (turnKey ++ (b ∷ v))) (λ h. omega (arith, h)))
+
+  -- In a sheet that can be read one of the two does.
+  price-stands : refuses (sheetVerdict sheet) ≡ false → EmptyPrice sheet ⊎ GivenPrice sheet
+  price-stands readable =
+      let s = tells-turn sheet 2 .when-true (good-lines sheet readable .turn) in
+      ⊎-elim (λ e. inl (record { value = s .value; rest = s .rest; is = s .is; kind = e })) (λ n. inr (record { value = s .value; rest = s .rest; is = s .is; kind = n })) (s .kind)
 
 -- What the reader hands on.
 pub drives-own-price : DrivesOwnPrice
@@ -127,6 +134,7 @@ rewritten-bytes sheet row answer out says accepts =
     let readable = good sheet row answer out says accepts in
     let text = text-is sheet row answer out says accepts in
     record {
+      either = price-stands sheet readable;
       empty = λ p.
           let e = is-empty sheet p in
           record { above = upper sheet readable e; back = afterLines 3 sheet; old = old-cut sheet readable e; new = text ∙ new-cut sheet readable e };

@@ -4,6 +4,7 @@
 use Prim.Native.Nat.{ℕ, _≤_, _<_}
 use Prim.Native.Char.{code}
 use mathlib.Core.Path.{_≡_}
+use mathlib.Core.Logic.{_⊎_}
 use mathlib.Core.List.{List, [], _∷_, _++_}
 use lib.ListN.{length, take, drop}
 use Rattle.refusals.specs.declared.Refusal.{Refusal}
@@ -44,8 +45,9 @@ pub record ZeroPutIn (sheet result : List ℕ) : Type 0 where
   pub old : sheet ≡ (above ++ turnKey) ++ (lineFeed ∷ back)
   pub new : result ≡ (above ++ turnKey) ++ (code "0" ∷ (lineFeed ∷ back))
 
--- An accepted rewriting: its bytes, with the later ones of the row as they were.
+-- An accepted rewriting: one of the two stands there; the bytes for each, with the later ones of the row as they were.
 pub record Rewrites (sheet row : List ℕ) (answer : Written) (out : List ℕ) : Type 0 where
+  pub either : EmptyPrice sheet ⊎ GivenPrice sheet
   pub empty : EmptyPrice sheet → ZeroPutIn sheet (take (answer .bytes) out)
   pub given : GivenPrice sheet → take (answer .bytes) out ≡ sheet
   pub later : drop (answer .bytes) out ≡ drop (answer .bytes) row
