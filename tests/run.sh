@@ -238,6 +238,7 @@ run bench
 run c/compare ${calls:+--calls "$calls"}
 run rust/compare ${calls:+--calls "$calls"}
 run python/plan
+run python/rewrite
 run python/ltfs --cases 2000
 run python/prices
 run python/pricer_rows

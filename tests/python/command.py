@@ -49,7 +49,7 @@ class Checkout:
             (shutil.copytree if os.path.isdir(source) else shutil.copy2)(source, to)
         os.makedirs(os.path.join(self.root, "crates/refusals"))
         os.makedirs(os.path.join(self.root, "target/bin"))
-        for name in ("cmd_plan", "cmd_ltfs"):
+        for name in ("cmd_plan", "cmd_rewrite", "cmd_ltfs"):
             source = os.path.join(programs.ROOT, "target/bin", name)
             if not os.path.exists(source):
                 sys.exit(f"command.py: no program {source}; 'rt check {name}' makes it")
@@ -111,6 +111,24 @@ def answers(at):
     at.must("cd / && \"$OLDPWD/violstream\" plan \"$OLDPWD/examples/VX0041.run\"", 0, PLAN, silent=True)
 
 
+def rewriting(at):
+    """An old sheet comes back with turn=0 where nothing stood; any other as it is. Files, statuses and words as for plan."""
+    old, new = changed(3, b"turn="), changed(3, b"turn=0")
+    at.write("old.run", old)
+    at.must("./violstream rewrite old.run", 0, new, silent=True)
+    at.must("./violstream rewrite", 0, new, data=old, silent=True)
+    at.must("./violstream rewrite - < old.run | ./violstream rewrite", 0, new, silent=True)
+    at.must("./violstream rewrite examples/VX0041.run", 0, RUN, silent=True)
+    at.must("./violstream rewrite examples/head-too-far-left.run", 0, contents("examples/head-too-far-left.run"), silent=True)
+    at.must("./violstream rewrite old.run | ./violstream plan", 0, answer(new), silent=True)
+    at.must("./violstream plan old.run", 0, answer(changed(3, b"turn=12000")), silent=True)
+    at.must("./violstream rewrite", 3, refusal(11, 3), ['line 3: expected turn=NUMBER; found "turn=x"'], data=changed(3, b"turn=x"))
+    at.must("./violstream rewrite < /dev/zero", 3, refusal(12), ["refused (12): the sheet has over 16384 bytes"])
+    at.must("./violstream rewrite old.run no-such examples/VX0041.plan", 1, b"sheet=old.run\n" + new + b"sheet=examples/VX0041.plan\n" + refusal(11, 2),
+            ["cannot read no-such", "examples/VX0041.plan: refused (11)"])
+    at.must("./violstream rewrite old.run > /dev/full", 1, b"", ["cannot write to standard output"])
+
+
 def statuses(at):
     at.must("./violstream plan examples/head-too-far-left.run", 3, refusal(7))
     at.must("./violstream plan", 3, refusal(11, 1))
@@ -118,7 +136,7 @@ def statuses(at):
     at.must(f"./violstream ltfs vx0041 {LABEL} {INDEX}", 3, refusal(13))
     at.must(f"set -o pipefail; ./violstream ltfs VX0041 {INDEX} {INDEX} | ./violstream plan", 3, refusal(11, 1))
     at.must("./violstream help", 0, silent=True)
-    for line in ("nothing", "plan -x", "plan - -", "ltfs", "ltfs A B", "ltfs A B C D", "ltfs A - -", "ltfs -A B C", "install a", "install /a /b",
+    for line in ("nothing", "plan -x", "plan - -", "rewrite -x", "rewrite - -", "ltfs", "ltfs A B", "ltfs A B C D", "ltfs A - -", "ltfs -A B C", "install a", "install /a /b",
                  "uninstall a", "install -x", "build x", "test x"):
         at.must(f"./violstream {line}", 2, b"", ["violstream: ", "\nusage: ./violstream "])
         said = at.shell(f"./violstream {line}")[1]
@@ -134,7 +152,7 @@ def help_and_version(at):
     text = at.shell("./violstream help")[0]
     if not text.startswith(b"usage: ./violstream plan"):
         raise Wrong(f"./violstream help prints {text!r}")
-    for line in ("--help", "-h", "", "plan --help", "ltfs -h", "build --help", "test --help", "install --help", "version --help"):
+    for line in ("--help", "-h", "", "plan --help", "rewrite --help", "ltfs -h", "build --help", "test --help", "install --help", "version --help"):
         at.must(f"./violstream {line}", 0, text, silent=True)
     version = at.shell("./violstream --version")[0]
     if re.fullmatch(rb"violstream [0-9]+\.[0-9]+\.[0-9]+ \(rattle-kit-\S+ logic [0-9a-f]{16}\)\n", version) is None:
@@ -450,11 +468,12 @@ def building(at):
         raise Wrong(f"rt was called so: {called(at)}")
     at.must(f"./violstream ltfs VX0041 {LABEL} {INDEX}", 0, SHEET, ["building cmd_ltfs"])
     at.must("rm target/bin/cmd_plan && ./violstream plan examples/VX0041.run", 0, PLAN, ["building cmd_plan"])
-    at.must("./violstream build", 0, b"", ["building libboundary.a"])
-    at.must("touch -d '+1 minute' crates/refusals/newer && ./violstream build", 0, b"", ["cmd_plan", "cmd_ltfs", "libboundary.a"])
+    at.must("./violstream build", 0, b"", ["building cmd_rewrite", "building libboundary.a"])
+    at.must("touch -d '+1 minute' crates/refusals/newer && ./violstream build", 0, b"", ["cmd_plan", "cmd_rewrite", "cmd_ltfs", "libboundary.a"])
     at.must("rm crates/refusals/newer && ./violstream build", 0, b"", ["violstream: built"])
     at.must("./violstream build more", 2, b"")
-    if called(at) != ["check cmd_plan", "check cmd_ltfs", "check cmd_plan", "staticlib boundary", "check cmd_plan", "check cmd_ltfs", "staticlib boundary"]:
+    every = ["check cmd_plan", "check cmd_rewrite", "check cmd_ltfs", "staticlib boundary"]
+    if called(at) != ["check cmd_plan", "check cmd_ltfs", "check cmd_plan", "check cmd_rewrite", "staticlib boundary"] + every:
         raise Wrong(f"rt was called so: {called(at)}")
 
 
@@ -510,7 +529,7 @@ def until(true, otherwise):
     raise Wrong(otherwise)
 
 
-TESTS = (answers, statuses, help_and_version, nothing_lost, broken_program, several, ltfs_inputs, words_of_sheets, words_of_damaged_sheets,
+TESTS = (answers, rewriting, statuses, help_and_version, nothing_lost, broken_program, several, ltfs_inputs, words_of_sheets, words_of_damaged_sheets,
          words_of_tapes, keyboard, transcripts, manual, interrupted, building, building_fails, building_twice, building_interrupted)
 
 

@@ -27,7 +27,8 @@ def pairs(sheet, line, at, key, count):
     return rows, line, at
 
 
-def read(sheet):
+def read(sheet, empty=12000):
+    """What a sheet holds, where nothing after `turn=` means `empty`."""
     if len(sheet) > 16384:
         raise Refused(12)
     (name,), at = field(sheet, 1, 0, rb"tape=([A-Z0-9]{1,16})")
@@ -44,4 +45,4 @@ def read(sheet):
     asked, line, at = pairs(sheet, line + 1, at, rb"want", int(wants))
     if at < len(sheet):
         raise Refused(11, line)
-    return name, int(head), int(turn or 0), rule, table, asked
+    return name, int(head), int(turn or empty), rule, table, asked

@@ -26,16 +26,18 @@ use Rattle.least.specs.Wants.{readsOf}
 use Rattle.least.specs.Recurrence.{planDetours, W, lowest, scan, filledTo, filled, candidate, next, value, choice, built, nextPlan, best, leastList}
 use Rattle.planner.specs.Plan.{Rows, rowsOf, Plans, planVerdict}
 use Rattle.boundary.specs.Boundary.{codeOf, sumsWith, priceCall, priceReads, priceSums, planCall, PlanCalled}
-use Rattle.texts.specs.Text.{bytes, allOf, isNumber, isName, startsWith, has, before, behind}
+use Rattle.texts.specs.Text.{bytes, allOf, isNumber, isName, valueFrom, startsWith, has, before, behind}
 use Rattle.sheets.specs.declared.Reading.{Reading}
-use Rattle.sheets.specs.Lines.{lineOf, afterLines, isTapeLine, isNumberLine}
-use Rattle.sheets.specs.Sheet.{firstBadTop, firstBadLine, sheetRun}
+use Rattle.sheets.specs.Lines.{lineOf, afterLines, isTapeLine, isNumberLine, isCountLine, isTurnLine, isRuleLine, isPair, isPairLine}
+use Rattle.sheets.specs.Sheet.{sheetFiles, fileText, wantsText, sheetWants, wantText, endText, firstBadPair, firstBadTop, firstBadBelow, firstBadLine, sheetRun}
 use Rattle.sheets.specs.Reading.{sheetVerdict, readVerdict, readAnswer, readRow, RunRows, runRows, rowsVerdict}
 use Rattle.writers.specs.declared.Written.{Written}
 use Rattle.writers.specs.Writing.{sheetText, rowVerdict, writeVerdict, writtenAnswer, writtenRow}
+use Rattle.turns.specs.Rewriting.{priceIsEmpty, bytesBefore, rewritten, rewriteVerdict}
 use Rattle.demands.specs.Table.{FirstBad}
 use Rattle.demands.specs.Lines.{LineIsBad, linesDue}
 use Rattle.demands.specs.Sheets.{GivesBack, ComesBack}
+use Rattle.demands.specs.Turns.{Rewrites}
 use Rattle.demands.specs.Formed.{ObeysTheRules}
 use Rattle.demands.specs.Demand2.{listIn, IsTheWalk, IsPriceOf, IsLeast}
 use Rattle.demands.specs.Demand3.{AsksNoLess}
@@ -49,6 +51,7 @@ use Rattle.demands.proofs.Called.{demand2-price-call, demand2-plan-call
 use Rattle.demands.proofs.FirstLine.{lines-by-the-table}
 use Rattle.demands.proofs.Sheets.{demand1-read}
 use Rattle.demands.proofs.WriteRead.{demand2-round-trip, write-then-read}
+use Rattle.demands.proofs.Turns.{rewritten-bytes}
 use Rattle.demands.proofs.Fits.{ruleList, planAnswer, planRows, plans-for-every-input}
 
 -- The sheet's run with rows and room that just suffice: the planner accepts, and reports 367.
@@ -297,6 +300,7 @@ rowsBack sheet =
     runRows (readRow v (run .starts) (sevens .starts)) (readRow v (run .lengths) (sevens .lengths)) (readRow v (run .numbers) (sevens .numbers)) (readRow v (run .counts) (sevens .counts))
 
 pub written-comes-back : ComesBack sheetName Least exampleRun (take (sheetWritten .bytes) sheetOut) (readBack (take (sheetWritten .bytes) sheetOut)) (rowsBack (take (sheetWritten .bytes) sheetOut))
+unfolding readAnswer sheetRun
 written-comes-back =
     let sheet = take (sheetWritten .bytes) sheetOut in
     write-then-read sheetName Least exampleRun sheetRow sheetWritten sheetOut (record { answer = refl; left = refl }) write-accepted sevens (readBack sheet) (rowsBack sheet)
@@ -309,6 +313,7 @@ unfolding readAnswer readVerdict sheetVerdict firstBadLine firstBadTop isTapeLin
 empty-refused = refl
 
 pub empty-keeps-rows : rowsBack [] ≡ sevens
+unfolding readAnswer sheetRun
 empty-keeps-rows =
     demand1-read [] sevens (readBack []) (rowsBack []) (record { answer = refl; starts = refl; lengths = refl; numbers = refl; counts = refl }) .kept
     (λ e. true≢false (ap isRefusal (sym empty-refused ∙ e))) .1
@@ -323,3 +328,31 @@ second-line-found = refl
 
 pub second-line-bad : FirstBad (LineIsBad letterForHead) (linesDue letterForHead) 2
 second-line-bad = lines-by-the-table letterForHead 1 .0 second-line-found
+
+-- An old sheet whose run is refused by 4: it is rewritten all the same.
+abbrev oldSheet : List ℕ
+oldSheet = bytes "tape=A\nhead=0\nturn=\nrule=least\nfiles=0\nwants=1\nwant=0,0\n"
+
+abbrev oldRow : List ℕ
+oldRow = replicate 60 7
+
+abbrev oldWritten : Written
+oldWritten = writtenAnswer (rewriteVerdict oldSheet oldRow) (rewritten oldSheet)
+
+abbrev oldOut : List ℕ
+oldOut = writtenRow (rewriteVerdict oldSheet oldRow) (rewritten oldSheet) oldRow
+
+old-passes : refuses (rewriteVerdict oldSheet oldRow) ≡ false
+unfolding rewriteVerdict rewritten priceIsEmpty bytesBefore rowVerdict sheetVerdict firstBadLine firstBadTop firstBadBelow firstBadPair firstWhere endText wantText sheetWants wantsText fileText sheetFiles isPairLine isPair isRuleLine isTurnLine isCountLine isNumberLine isTapeLine afterLines lineOf isName isNumber valueFrom allOf startsWith behind before has
+old-passes = refl
+
+old-accepted : oldWritten .refusal ≡ Accepted
+unfolding writtenAnswer
+old-accepted = rw old-passes
+
+pub old-rewrites : Rewrites oldSheet oldRow oldWritten oldOut
+old-rewrites = rewritten-bytes oldSheet oldRow oldWritten oldOut (record { answer = refl; left = refl }) old-accepted
+
+pub old-rewritten : rewritten oldSheet ≡ bytes "tape=A\nhead=0\nturn=0\nrule=least\nfiles=0\nwants=1\nwant=0,0\n"
+unfolding rewritten priceIsEmpty bytesBefore afterLines lineOf startsWith behind before has
+old-rewritten = refl

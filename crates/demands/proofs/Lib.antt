@@ -18,6 +18,7 @@ pub mod Lines
 pub mod FirstLine
 pub mod Sheets
 pub mod WriteRead
+pub mod Turns
 pub mod Tapes
 pub mod Fits
 pub mod Instances

@@ -5,61 +5,25 @@ use mathlib.Core.Bool.{Bool, true, false, not, _&&_, _||_, true≢false}
 use mathlib.Core.Logic.{inl, inr}
 use mathlib.Core.List.{List, [], _∷_, _++_, append-assoc}
 use native.Mathlib.Omega.{arith}
-use lib.ListN.{length, drop}
+use lib.ListN.{length}
 use lib.Dec.{leb, ltb, eqb}
 use borrow.Author.Tests.{eqb-true, eq-eqb}
 use Rattle.runs.proofs.Search.{or-false-both}
 use Rattle.texts.specs.Text.{lineFeed, comma, isEmpty, has, before, behind, startsWith, isText, allOf, isDigit, between, isNameByte, isNumber, isName, valueOf, leadingZero}
 use Rattle.texts.proofs.Bytes.{and-true-both, short-text}
 use Rattle.texts.proofs.Decimals.{has-append, has-none}
+use Rattle.texts.proofs.Split.{before-here, behind-here, split-at, key-split, whole-key}
 use Rattle.sheets.specs.Lines.{lineOf, afterLines, lineAfter, valueText, isTapeLine, isNumberLine, isCountLine, isTurnLine, isRuleLine, isPair, isPairLine, tapeKey, turnKey, ruleKey, sweepText, leastText}
 use Rattle.writers.proofs.Reread.{line-first, key-begins, key-value}
 use Rattle.demands.specs.Lines.{Stands, Name, Number, NumberOrNothing, RuleName, UpTo, Pair}
 use Rattle.demands.proofs.Tests.{Tells, tells-true, tells-at-most, tells-either, tells-both}
 
--- A text that has a byte: what stands before it, the byte, and what stands behind it.
+-- A byte that a text has not has nothing behind it.
 module _ (c : ℕ) where
-  split-at : (text : List ℕ) → has c text ≡ true → text ≡ before c text ++ (c ∷ behind c text)
-  unfolding has before behind
-  split-at [] e = absurd (true≢false (sym e))
-  split-at (b ∷ text) e = go (eqb b c) refl (split-at text)
-    where
-      go : (t : Bool) → eqb b c ≡ t → (has c text ≡ true → text ≡ before c text ++ (c ∷ behind c text)) → b ∷ text ≡ before c (b ∷ text) ++ (c ∷ behind c (b ∷ text))
-      go true h rest = rw h (ap (λ x. x ∷ text) (eqb-true b c h))
-      go false h rest = rw h (ap (λ t. b ∷ t) (rest (rw h at e)))
-
-  before-first : (a b : List ℕ) → has c a ≡ false → before c (a ++ (c ∷ b)) ≡ a
-  unfolding has before
-  before-first [] b e = rw (eq-eqb c c refl)
-  before-first (x ∷ a) b e = let both = or-false-both (eqb x c) (has c a) e in rw (both .0) (ap (λ t. x ∷ t) (before-first a b (both .1)))
-
-  behind-first : (a b : List ℕ) → has c a ≡ false → behind c (a ++ (c ∷ b)) ≡ b
-  unfolding has behind
-  behind-first [] b e = rw (eq-eqb c c refl)
-  behind-first (x ∷ a) b e = let both = or-false-both (eqb x c) (has c a) e in rw (both .0) (behind-first a b (both .1))
-
   behind-none : (text : List ℕ) → has c text ≡ false → behind c text ≡ []
   unfolding has behind
   behind-none [] e = refl
   behind-none (b ∷ text) e = let both = or-false-both (eqb b c) (has c text) e in rw (both .0) (behind-none text (both .1))
-
--- A text that begins with a key is the key and the rest; one of the key's length is the key.
-key-split : (key text : List ℕ) → startsWith key text ≡ true → text ≡ key ++ drop (length key) text
-unfolding startsWith
-key-split [] text e = refl
-key-split (k ∷ key) [] e = absurd (true≢false (sym e))
-key-split (k ∷ key) (b ∷ text) e =
-    let both = and-true-both (eqb k b) (startsWith key text) e in
-    rw (← eqb-true k b (both .0)) (ap (λ t. k ∷ t) (key-split key text (both .1)))
-
-whole-key : (key text : List ℕ) → length key ≡ length text → startsWith key text ≡ true → text ≡ key
-unfolding startsWith
-whole-key [] [] l e = refl
-whole-key [] (b ∷ text) l e = absurd (omega arith)
-whole-key (k ∷ key) [] l e = absurd (omega arith)
-whole-key (k ∷ key) (b ∷ text) l e =
-    let both = and-true-both (eqb k b) (startsWith key text) e in
-    rw (← eqb-true k b (both .0)) (ap (λ t. k ∷ t) (whole-key key text (omega arith) (both .1)))
 
 begins-itself : (key : List ℕ) → startsWith key key ≡ true
 unfolding startsWith
@@ -84,11 +48,11 @@ digits-of text e =
     let begun = not (isEmpty text) && not (leadingZero text) in
     and-true-both begun (allOf isDigit text) (and-true-both (begun && allOf isDigit text) (ltb (valueOf text) (2 ^ 64)) e .0) .1
 
-nothing-no-number : Number [] → ⊥
+pub nothing-no-number : Number [] → ⊥
 unfolding isNumber
 nothing-no-number e = true≢false (sym e)
 
-number-flat : (c : ℕ) → isDigit c ≡ false → (text : List ℕ) → Number text → has c text ≡ false
+pub number-flat : (c : ℕ) → isDigit c ≡ false → (text : List ℕ) → Number text → has c text ≡ false
 number-flat c n text e = has-none isDigit c n text (digits-of text e)
 
 name-flat : (text : List ℕ) → Name text → has lineFeed text ≡ false
@@ -121,16 +85,17 @@ tells-pair text = record { when-true = λ e. go (has comma text) refl (and-true-
     both : Pair text → (isNumber (before comma text) && isNumber (behind comma text)) ≡ true
     both p =
         let flat = number-flat comma refl (p .first) (p .left) in
-        rw (p .is, before-first comma (p .first) (p .second) flat, behind-first comma (p .first) (p .second) flat, p .left) (p .right)
+        rw (p .is, before-here comma (p .first) (p .second) flat, behind-here comma (p .first) (p .second) flat, p .left) (p .right)
+
+-- A text that begins with a key, a value and an LF: its first line.
+pub line-read : (key value rest text : List ℕ) → has lineFeed key ≡ false → has lineFeed value ≡ false → text ≡ key ++ value ++ (lineFeed ∷ rest) → lineOf text ≡ key ++ value
+line-read key value rest text plain f is = ap lineOf (is ∙ sym (append-assoc (key ++ value) (lineFeed ∷ []) rest)) ∙ line-first key value rest plain f
 
 -- A line of a key and a value, behind so many lines.
 module _ (key : List ℕ) (long : 0 < length key) (plain : has lineFeed key ≡ false) (Kind : List ℕ → Type 0) (test : List ℕ → Bool) (tells : (v : List ℕ) → Tells (test v) (Kind v))
     (flat : (v : List ℕ) → Kind v → has lineFeed v ≡ false) (sheet : List ℕ) (i : ℕ) where
   text : List ℕ
   text = afterLines i sheet
-
-  line-read : (value rest : List ℕ) → has lineFeed value ≡ false → text ≡ key ++ value ++ (lineFeed ∷ rest) → lineOf text ≡ key ++ value
-  line-read value rest f is = ap lineOf (is ∙ sym (append-assoc (key ++ value) (lineFeed ∷ []) rest)) ∙ line-first key value rest plain f
 
   no-line : has lineFeed text ≡ false → startsWith key (lineOf text) ≡ false
   unfolding lineOf
@@ -157,7 +122,7 @@ module _ (key : List ℕ) (long : 0 < length key) (plain : has lineFeed key ≡ 
 
       reads : Stands key Kind sheet i → (startsWith key (lineOf text) && test (valueText key (lineOf text))) ≡ true
       reads s =
-          rw (line-read (s .value) (s .rest) (flat (s .value) (s .kind)) (s .is), key-begins key (s .value), key-value key (s .value))
+          rw (line-read key (s .value) (s .rest) text plain (flat (s .value) (s .kind)) (s .is), key-begins key (s .value), key-value key (s .value))
           (passes (test (s .value)) (s .value) refl (s .kind))
 
 -- Two tests and a third, as one and two.

@@ -1,6 +1,6 @@
 -- The sheets' share of demand 1: the reader's and the writers' verdicts are the first of the table that applies, and a refusal changes nothing.
 use Prim.Native.Nat.{ℕ, _≤_, _<_}
-use mathlib.Core.Path.{_≡_, refl, sym, ap₂, _∙_}
+use mathlib.Core.Path.{_≡_, refl, sym, ap, ap₂, _∙_}
 use mathlib.Core.Bool.{Bool, true, false, not, _||_}
 use mathlib.Core.Logic.{_⊎_, inl, inr, ⊎-elim}
 use mathlib.Core.List.{List, [], _∷_}
@@ -21,7 +21,8 @@ use Rattle.texts.specs.Text.{isName}
 use Rattle.sheets.specs.Sheet.{longestSheet, mostSheetFiles, firstBadLine, sheetFiles, sheetWants}
 use Rattle.sheets.specs.Reading.{sheetVerdict, shortPairRows, readVerdict, refusedReading, readAnswer, readRow, RunRows, runRows, rowsVerdict, SheetRead}
 use Rattle.sheets.specs.declared.Reading.{Reading}
-use Rattle.writers.specs.Writing.{sheetText, rowVerdict, writeVerdict, writtenAnswer, writtenRow}
+use Rattle.writers.specs.declared.Written.{Written}
+use Rattle.writers.specs.Writing.{refusedWriting, sheetText, rowVerdict, writeVerdict, writtenAnswer, writtenRow, Handed}
 use Rattle.writers.specs.PlanSheet.{planText, planSheetVerdict}
 use Rattle.demands.specs.Table.{FirstBad, RunApplies, ListIsBad}
 use Rattle.demands.specs.Lines.{LineIsBad, linesDue}
@@ -33,7 +34,7 @@ use Rattle.demands.proofs.Judged.{run-finds, run-small}
 use Rattle.demands.proofs.Listed.{decides-list}
 
 -- Rows with the same entries.
-same-rows : (a b : RunRows) → a .starts ≡ b .starts → a .lengths ≡ b .lengths → a .numbers ≡ b .numbers → a .counts ≡ b .counts → a ≡ b
+pub same-rows : (a b : RunRows) → a .starts ≡ b .starts → a .lengths ≡ b .lengths → a .numbers ≡ b .numbers → a .counts ≡ b .counts → a ≡ b
 same-rows a b s l n c = ap₂ (λ x y. runRows x y (a .numbers) (a .counts)) s l ∙ ap₂ (λ x y. runRows (b .starts) (b .lengths) x y) n c
 
 -- The reader.
@@ -109,12 +110,35 @@ module _ (sheet : List ℕ) (rows : RunRows) where
 pub demand1-read : Demand1Read
 demand1-read sheet before answer after read = read-says sheet before answer after read (refuses (rowsVerdict sheet before)) refl
 
--- A writer, whatever its verdict: a refusal has no bytes and keeps the row.
-module _ (applies : Refusal → ℕ → Type 0) (order : List Refusal) (vs : List Verdict) (text row : List ℕ) (finds : Finds applies order (firstOf vs)) where
-  pub writer-says : (b : Bool) → refuses (firstOf vs) ≡ b → WriteAnswers applies order row (writtenAnswer (firstOf vs) text) (writtenRow (firstOf vs) text row)
+-- What a writer's answer has of its verdict: kind and place; and a refusal has no bytes and keeps the row.
+module _ (vs : List Verdict) (text row : List ℕ) (answer : Written) (out : List ℕ) (says : Handed (firstOf vs) text row answer out) where
+  pub record Told : Type 0 where
+    pub kind : answer .refusal ≡ firstOf vs .refusal
+    pub place : answer .place ≡ firstOf vs .place
+    pub kept : (answer .refusal ≡ Accepted → ⊥) → (answer .bytes ≡ 0) × (out ≡ row)
+
+  told-so : (b : Bool) → refuses (firstOf vs) ≡ b → Told
   unfolding writtenAnswer writtenRow
-  writer-says true e = rw e (record { first = finds; kept = λ n. (refl, refl) })
-  writer-says false e = rw e (record { first = rw (none-refuses vs e) at finds; kept = λ n. absurd (n refl) })
+  told-so true e =
+      let is : answer ≡ refusedWriting (firstOf vs) = says .answer ∙ rw e in
+      record { kind = ap (λ (x : Written). x .refusal) is; place = ap (λ (x : Written). x .place) is; kept = λ n. (ap (λ (x : Written). x .bytes) is, says .left ∙ rw e) }
+  told-so false e =
+      let is : answer ≡ record { refusal = Accepted; place = 0; bytes = length text } = says .answer ∙ rw e in
+      let none = none-refuses vs e in
+      record {
+        kind = ap (λ (x : Written). x .refusal) is ∙ ap (λ (v : Verdict). v .refusal) (sym none);
+        place = ap (λ (x : Written). x .place) is ∙ ap (λ (v : Verdict). v .place) (sym none);
+        kept = λ n. absurd (n (ap (λ (x : Written). x .refusal) is));
+      }
+
+  pub told : Told
+  told = told-so (refuses (firstOf vs)) refl
+
+module _ (applies : Refusal → ℕ → Type 0) (order : List Refusal) (vs : List Verdict) (text row : List ℕ) (finds : Finds applies order (firstOf vs)) where
+  pub writer-says : WriteAnswers applies order row (writtenAnswer (firstOf vs) text) (writtenRow (firstOf vs) text row)
+  writer-says =
+      let tells = told vs text row (writtenAnswer (firstOf vs) text) (writtenRow (firstOf vs) text row) (record { answer = refl; left = refl }) in
+      record { first = rw (tells .kind, tells .place) finds; kept = tells .kept }
 
 -- The run sheet writer.
 module _ (name : List ℕ) (rule : Rule) (r : Run) (row : List ℕ) where
@@ -153,7 +177,7 @@ module _ (name : List ℕ) (rule : Rule) (r : Run) (row : List ℕ) where
   write-says =
       writer-says (WriteApplies name rule r row) writeOrder
       (judgeOf r ∷ refuseIf (ltb mostSheetFiles (length (r .starts)) || not (isName name)) BadName ∷ rowVerdict (sheetText name rule r) row ∷ [])
-      (sheetText name rule r) row write-finds (refuses (writeVerdict name rule r row)) refl
+      (sheetText name rule r) row write-finds
 
 pub demand1-write : Demand1Write
 demand1-write name rule r row answer out says fills = rw (says, fills) (write-says name rule r row)
@@ -202,7 +226,7 @@ module _ (name : List ℕ) (r : Run) (froms tos row : List ℕ) where
   sheet-says =
       writer-says PlanSheet planSheetOrder
       (judgeOf r ∷ refuseIf (not (isName name)) BadName ∷ listVerdict (stopsOf r) froms tos ∷ rowVerdict (planText name r froms tos) row ∷ [])
-      (planText name r froms tos) row sheet-finds (refuses (planSheetVerdict name r froms tos row)) refl
+      (planText name r froms tos) row sheet-finds
 
 pub demand1-plan-sheet : Demand1PlanSheet
 demand1-plan-sheet name r froms tos row answer out says fills = rw (says, fills) (sheet-says name r froms tos row)

@@ -58,7 +58,7 @@ reads-sheet sheet starts lengths numbers counts e a b c d =
     rw (e, le-ltb (length starts) (sheetFiles sheet) a, le-ltb (length lengths) (sheetFiles sheet) b, le-ltb (length numbers) (sheetWants sheet) c, le-ltb (length counts) (sheetWants sheet) d)
 
 -- An accepted writing has an accepted verdict.
-written-passes : (v : Verdict) (text : List ℕ) (answer : Written) → answer ≡ writtenAnswer v text → answer .refusal ≡ Accepted → refuses v ≡ false
+pub written-passes : (v : Verdict) (text : List ℕ) (answer : Written) → answer ≡ writtenAnswer v text → answer .refusal ≡ Accepted → refuses v ≡ false
 unfolding writtenAnswer
 written-passes v text answer a e = by-test (refuses v) refl
   where
@@ -111,9 +111,11 @@ write-needs name rule r row e =
 module _ (name : List ℕ) (rule : Rule) (r : Run) (before : RunRows) (answer : Reading) (after : RunRows) (files : length (r .lengths) ≡ length (r .starts)) (wants : length (r .counts) ≡ length (r .numbers))
     (read : SheetRead (sheetText name rule r) before answer after) (back : GivesBack name rule r (before .starts) (before .lengths) (before .numbers) (before .counts)) where
   is-back : answer ≡ record { refusal = Accepted; place = 0; head = r .head; turn = r .turn; rule = rule; files = length (r .starts); wants = length (r .numbers) }
+  unfolding readAnswer
   is-back = read .answer ∙ back .answer
 
   run-back : runRead answer after ≡ r
+  unfolding sheetRun
   run-back =
       rw
       (is-back, read .starts, back .startsAre, read .lengths, back .lengthsAre, read .numbers, back .numbersAre, read .counts, back .countsAre)

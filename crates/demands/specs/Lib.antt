@@ -1,4 +1,4 @@
--- The three demands, in document 01's order, and the table of worked cases. Each statement is a type; proofs/ has its proof.
+-- The three demands, in document 01's order, the table of worked cases and the promises of requests. Each statement is a type; proofs/ has its proof.
 pub mod Table
 pub mod Formed
 pub mod Demand1
@@ -11,3 +11,4 @@ pub mod Cases
 pub mod Lines
 pub mod Sheets
 pub mod Tapes
+pub mod Turns

@@ -1,98 +1,28 @@
 -- What the reader hands on: a sheet that it accepts fits the program's rows, and their first entries are the run that the sheet holds.
-use Prim.Native.Nat.{ℕ, zero, suc, _+_, _≤_}
+use Prim.Native.Nat.{ℕ, _+_, _≤_}
 use mathlib.Core.Path.{_≡_, refl, sym, ap, _∙_, subst}
-use mathlib.Core.Bool.{Bool, true, false, _||_, true≢false}
-use mathlib.Core.List.{List, [], _∷_, _++_}
+use mathlib.Core.Bool.{Bool, true, false}
+use mathlib.Core.List.{List, _++_}
 use native.Mathlib.Omega.{arith}
 use lib.ListN.{length, take, drop, length-append}
 use lib.Seq.{take-append-seam}
-use lib.Dec.{ltb, leb}
-use borrow.Author.Tests.{le-ltb, leb-true}
-use Rattle.refusals.specs.declared.Refusal.the-variants.{Accepted, BadLine, LongSheet, ShortRow}
+use borrow.Author.Tests.{le-ltb}
+use Rattle.refusals.specs.declared.Refusal.the-variants.{Accepted}
 use Rattle.refusals.specs.declared.Verdict.{Verdict}
-use Rattle.refusals.specs.Refusals.{isRefusal, accepted, refuseIf, refuseAt, firstOf}
-use Rattle.refusals.proofs.Verdicts.{refuses, first-refuses, first-passes, all-accept, none-refuses, accepts-at}
-use Rattle.runs.specs.Run.{Run, runOf, mostWants}
-use Rattle.texts.specs.Text.{isName, isEmpty, startsWith}
-use Rattle.texts.proofs.Bytes.{and-true-both}
+use Rattle.refusals.specs.Refusals.{isRefusal}
+use Rattle.refusals.proofs.Verdicts.{refuses, first-refuses, first-passes}
+use Rattle.runs.specs.Run.{Run, runOf}
+use Rattle.texts.specs.Text.{isName}
 use Rattle.sheets.specs.declared.Reading.{Reading}
-use Rattle.sheets.specs.Lines.{lineOf, lineAfter, tapeKey, headKey, filesKey, fileKey, wantsKey, wantKey, valueText, isTapeLine, isNumberLine, numberBehind, isCountLine, isTurnLine, isRuleLine}
-use Rattle.sheets.specs.Sheet.{longestSheet, mostSheetFiles, sheetHead, sheetTurn, sheetRule, sheetFiles, sheetWants, fileText, wantsText, wantText, endText, unless, shifted, firstBadPair, firstSome, firstBadTop, firstBadBelow, firstBadLine, eachOf, sheetRun, sheetName}
+use Rattle.sheets.specs.Sheet.{sheetHead, sheetTurn, sheetRule, sheetFiles, sheetWants, eachOf, sheetRun, sheetName}
 use Rattle.sheets.specs.Reading.{sheetVerdict, readVerdict, refusedReading, readAnswer, readRow, RunRows, rowsVerdict, SheetRead, readName}
 use Rattle.sheets.proofs.Rows.{length-each}
+use Rattle.sheets.proofs.Good.{accepted-sheet, good-name, few-files, few-wants}
 use Rattle.writers.specs.declared.Written.{Written}
 use Rattle.writers.specs.Writing.{Handed, rowVerdict}
 use Rattle.writers.specs.RefusalLines.{refusalText}
 use Rattle.recalls.specs.Recall.{runChecks, recallVerdict, Recalled, RunRecalled, SheetRecalled}
 use Rattle.recalls.proofs.Planned.{refused-out}
-
--- Where no line is bad, each is as described.
-none-some : (line : ℕ) (lines : List ℕ) → firstSome (line ∷ lines) ≡ 0 → (line ≡ 0) × (firstSome lines ≡ 0)
-none-some zero lines e = (refl, e)
-none-some (suc line) lines e = absurd (omega (arith, e))
-
-second-none : (a b : ℕ) (lines : List ℕ) → firstSome (a ∷ b ∷ lines) ≡ 0 → b ≡ 0
-second-none a b lines e = none-some b lines (none-some a (b ∷ lines) e .1) .0
-
-fourth-none : (a b c d : ℕ) → firstSome (a ∷ b ∷ c ∷ d ∷ []) ≡ 0 → d ≡ 0
-fourth-none a b c d e = second-none c d [] (none-some b (c ∷ d ∷ []) (none-some a (b ∷ c ∷ d ∷ []) e .1) .1)
-
-line-good : (b : Bool) (line : ℕ) → (line ≡ 0 → ⊥) → unless b line ≡ 0 → b ≡ true
-line-good true line some e = refl
-line-good false line some e = absurd (some e)
-
-count-few : (key : List ℕ) (most : ℕ) (line : List ℕ) → isCountLine key most line ≡ true → numberBehind key line ≤ most
-unfolding isCountLine
-count-few key most line e = leb-true (numberBehind key line) most (and-true-both (isNumberLine key line) (leb (numberBehind key line) most) e .1)
-
-module _ (sheet : List ℕ) (good : refuses (sheetVerdict sheet) ≡ false) where
-  no-bad-line : (firstBadTop sheet ≡ 0) × (firstBadBelow sheet ≡ 0)
-  unfolding sheetVerdict firstBadLine
-  no-bad-line =
-      let all = all-accept (refuseIf (ltb longestSheet (length sheet)) LongSheet ∷ refuseAt (firstBadLine sheet) BadLine ∷ []) good in
-      let both = none-some (firstBadTop sheet) (firstBadBelow sheet ∷ []) (accepts-at (firstBadLine sheet) BadLine refl (all .1 .0)) in
-      (both .0, none-some (firstBadBelow sheet) [] (both .1) .0)
-
-  accepted-sheet : sheetVerdict sheet ≡ accepted
-  unfolding sheetVerdict
-  accepted-sheet = none-refuses (refuseIf (ltb longestSheet (length sheet)) LongSheet ∷ refuseAt (firstBadLine sheet) BadLine ∷ []) good
-
-  tops : List ℕ
-  tops =
-      unless (isNumberLine headKey (lineAfter 1 sheet)) 2
-      ∷ unless (isTurnLine (lineAfter 2 sheet)) 3
-      ∷ unless (isRuleLine (lineAfter 3 sheet)) 4
-      ∷ unless (isCountLine filesKey mostSheetFiles (lineAfter 4 sheet)) 5
-      ∷ []
-
-  top-lines : (unless (isTapeLine (lineAfter 0 sheet)) 1 ≡ 0) × (firstSome tops ≡ 0)
-  unfolding firstBadTop tops
-  top-lines = none-some (unless (isTapeLine (lineAfter 0 sheet)) 1) tops (no-bad-line .0)
-
-  -- The name is a name.
-  pub good-name : isName (sheetName sheet) ≡ true
-  unfolding sheetName isTapeLine
-  good-name =
-      and-true-both (startsWith tapeKey (lineAfter 0 sheet)) (isName (valueText tapeKey (lineAfter 0 sheet)))
-      (line-good (isTapeLine (lineAfter 0 sheet)) 1 (λ e. omega (arith, e)) (top-lines .0)) .1
-
-  -- There are at most 256 files and 64 wants.
-  pub few-files : sheetFiles sheet ≤ 256
-  unfolding sheetFiles tops
-  few-files =
-      count-few filesKey mostSheetFiles (lineAfter 4 sheet)
-      (line-good (isCountLine filesKey mostSheetFiles (lineAfter 4 sheet)) 5 (λ e. omega (arith, e))
-      (fourth-none (unless (isNumberLine headKey (lineAfter 1 sheet)) 2) (unless (isTurnLine (lineAfter 2 sheet)) 3) (unless (isRuleLine (lineAfter 3 sheet)) 4)
-      (unless (isCountLine filesKey mostSheetFiles (lineAfter 4 sheet)) 5) (top-lines .1)))
-
-  pub few-wants : sheetWants sheet ≤ 64
-  unfolding sheetWants firstBadBelow
-  few-wants =
-      count-few wantsKey mostWants (lineOf (wantsText sheet))
-      (line-good (isCountLine wantsKey mostWants (lineOf (wantsText sheet))) (sheetFiles sheet + 6) (λ e. omega (arith, e))
-      (second-none (shifted 5 (firstBadPair fileKey (sheetFiles sheet) (fileText sheet))) (unless (isCountLine wantsKey mostWants (lineOf (wantsText sheet))) (sheetFiles sheet + 6))
-      (shifted (sheetFiles sheet + 6) (firstBadPair wantKey (sheetWants sheet) (wantText sheet)) ∷ unless (isEmpty (endText sheet)) (sheetFiles sheet + sheetWants sheet + 7) ∷ [])
-      (no-bad-line .1)))
 
 -- The program's rows.
 pub record Wide (rows : RunRows) : Type 0 where
@@ -125,6 +55,7 @@ module _ (sheet : List ℕ) (rows : RunRows) (wide : Wide rows) where
 
   module _ (r : Reading) (rows′ : RunRows) (read : SheetRead sheet rows r rows′) (f : Bool) (f-is : f ≡ isRefusal (r .refusal)) where
     answer-is : r ≡ readAnswer (sheetVerdict sheet) sheet
+    unfolding readAnswer
     answer-is = read .answer ∙ ap (λ v. readAnswer v sheet) sheet-verdict
 
     -- The reader's answer refuses just where its verdict does.
@@ -182,15 +113,19 @@ module _ (sheet : List ℕ) (rows : RunRows) (wide : Wide rows) where
 
       -- So many entries are in the rows.
       pub in-starts : r .files ≤ length (rows′ .starts)
+      unfolding sheetRun
       in-starts = filled-long (sheetRun sheet .starts) (rows .starts) (rows′ .starts) (r .files) starts-long (row-is _ _ _ (read .starts))
 
       pub in-lengths : r .files ≤ length (rows′ .lengths)
+      unfolding sheetRun
       in-lengths = filled-long (sheetRun sheet .lengths) (rows .lengths) (rows′ .lengths) (r .files) lengths-long (row-is _ _ _ (read .lengths))
 
       pub in-numbers : r .wants ≤ length (rows′ .numbers)
+      unfolding sheetRun
       in-numbers = filled-long (sheetRun sheet .numbers) (rows .numbers) (rows′ .numbers) (r .wants) numbers-long (row-is _ _ _ (read .numbers))
 
       pub in-counts : r .wants ≤ length (rows′ .counts)
+      unfolding sheetRun
       in-counts = filled-long (sheetRun sheet .counts) (rows .counts) (rows′ .counts) (r .wants) counts-long (row-is _ _ _ (read .counts))
 
       run-read : Run

@@ -116,7 +116,7 @@ module _ (sheet : List ℕ) (judged : Judged) (found : JudgedFound sheet judged)
           → (starts′ ≡ leftRow fileKey (drop (judged .top .next) sheet) m starts) × (lengths′ ≡ rightRow fileKey (drop (judged .top .next) sheet) m lengths)
           → (numbers′ ≡ leftRow wantKey (drop (judged .at) sheet) n numbers) × (counts′ ≡ rightRow wantKey (drop (judged .at) sheet) n counts)
           → SheetRead sheet (runRows starts lengths numbers counts) r (runRows starts′ lengths′ numbers′ counts′)
-      unfolding sheetRun
+      unfolding readAnswer
       sheet-read r starts′ lengths′ numbers′ counts′ r-is files wants =
           record {
             answer = rw (← read-verdict) (r-is ∙ answer-read);

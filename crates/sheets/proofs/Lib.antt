@@ -3,3 +3,4 @@ pub mod Passing
 pub mod Order
 pub mod Rows
 pub mod Answers
+pub mod Good

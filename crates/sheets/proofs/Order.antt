@@ -23,7 +23,7 @@ use Rattle.sheets.specs.declared.reader.BelowRead.{BelowRead}
 use Rattle.sheets.specs.declared.reader.Judged.{Judged}
 use Rattle.texts.specs.Text.{lineFeed, behind, isEmpty}
 use Rattle.sheets.specs.Lines.{lineOf, afterLines, lineAfter, headKey, filesKey, fileKey, wantsKey, wantKey, isTapeLine, isNumberLine, numberBehind, isCountLine, isTurnLine, turnIn, isRuleLine, ruleIn}
-use Rattle.sheets.specs.Sheet.{longestSheet, mostSheetFiles, sheetHead, sheetTurn, sheetRule, sheetFiles, fileText, wantsText, sheetWants, wantText, endText, shifted, firstSome, firstBadPair, firstBadTop, firstBadBelow, firstBadLine}
+use Rattle.sheets.specs.Sheet.{longestSheet, mostSheetFiles, sheetHead, sheetTurnWith, sheetRule, sheetFiles, fileText, wantsText, sheetWants, wantText, endText, shifted, firstSome, firstBadPair, firstBadTop, firstBadBelow, firstBadLine}
 use Rattle.sheets.specs.Reading.{sheetVerdict}
 use Rattle.sheets.specs.Private.{Passed, NamePart, NameLineFound, NumberLineFound, RuleLineFound, PairsPassed, PairBad, TopIs, TopBad, TopFound, FilesAt, WantsAt, BelowIs, BelowBad, BelowFound, Unread, JudgedFound}
 use Rattle.texts.proofs.Bytes.{and-true-both}
@@ -126,7 +126,7 @@ module _ (sheet : List ℕ) (r₁ : NameLine) (f₁ : NameLineFound sheet r₁) 
 
                   pub top-good : (files at₅ : ℕ) → r₅ ≡ NumberLine.Value files at₅
                       → TopIs sheet (record { end = end; head = head; turn = turn; rule = rule; files = files; next = at₅ })
-                  unfolding firstBadTop sheetHead sheetTurn sheetRule sheetFiles fileText
+                  unfolding firstBadTop sheetHead sheetTurnWith sheetRule sheetFiles fileText
                   top-good files at₅ e₅ =
                       let read : Passed (isCountLine filesKey mostSheetFiles) sheet at₄ at₅ × (files ≡ numberBehind filesKey (lineOf (drop at₄ sheet))) = subst (λ r. NumberLineFound (isCountLine filesKey mostSheetFiles) (numberBehind filesKey) sheet at₄ r) e₅ f₅ in
                       let test₅ = passes sheet 4 at₄ at-files (isCountLine filesKey mostSheetFiles) at₅ (read .0) in

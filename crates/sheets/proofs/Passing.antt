@@ -20,7 +20,7 @@ use Rattle.sheets.specs.declared.lines.PairLines.{PairLines}
 use Rattle.refusals.specs.Refusals.{firstWhere}
 use Rattle.runs.proofs.Search.{first-more, first-here, or-false-both}
 use Rattle.texts.specs.Text.{lineFeed, comma, isEmpty, has, behind, startsWith, isText, isNumber, isName}
-use Rattle.sheets.specs.Lines.{lineOf, afterLines, lineAfter, tapeKey, turnKey, ruleKey, leastText, sweepText, valueText, isTapeLine, isNumberLine, numberBehind, isCountLine, emptyTurn, isTurnLine, turnIn, isRuleLine, ruleIn, isPair, isPairLine}
+use Rattle.sheets.specs.Lines.{lineOf, afterLines, lineAfter, tapeKey, turnKey, ruleKey, leastText, sweepText, valueText, isTapeLine, isNumberLine, numberBehind, isCountLine, isTurnLine, turnWith, emptyTurn, turnIn, isRuleLine, ruleIn, isPair, isPairLine}
 use Rattle.sheets.specs.Sheet.{firstBadPair}
 use Rattle.texts.specs.Found.{FirstAt, FoundIn, NumberIs, NumberFound}
 use Rattle.sheets.specs.Private.{ValueAt, ValueFound, Passed, NamePart, NumberLineFound, PairIs, PairFound, PairAt, PairLineFound, PairsPassed, PairBad, PairLinesFound}
@@ -141,7 +141,7 @@ module _ (key sheet : List ℕ) (at : ℕ) (r : Keyed) (found : ValueFound key s
 -- `turn=` with a number, or with nothing.
 module _ (sheet : List ℕ) (at : ℕ) (r : Keyed) (found : ValueFound turnKey sheet at r) (from end : ℕ) (e : r ≡ Keyed.Text from end) where
   pub turn-line-empty : from ≡ end → Passed isTurnLine sheet at (end + 1) × (emptyTurn ≡ turnIn (lineOf (drop at sheet)))
-  unfolding isTurnLine turnIn
+  unfolding isTurnLine turnWith
   turn-line-empty d =
       let none = no-text turnKey sheet at r found from end e d in
       (line-passed turnKey sheet at r found from end e isTurnLine (rw (value-at turnKey sheet at r found from end e .begun, none)), rw none)
@@ -153,7 +153,7 @@ module _ (sheet : List ℕ) (at : ℕ) (r : Keyed) (found : ValueFound turnKey s
         rw (no-number turnKey sheet at r found from end e q reads f, some-text turnKey sheet at r found from end e some, and-false)
 
     pub turn-line-good : (n : ℕ) → q ≡ Number.Value n → Passed isTurnLine sheet at (end + 1) × (n ≡ turnIn (lineOf (drop at sheet)))
-    unfolding isTurnLine turnIn
+    unfolding isTurnLine turnWith
     turn-line-good n f =
         let is = number-is turnKey sheet at r found from end e q reads n f in
         let text = some-text turnKey sheet at r found from end e some in (

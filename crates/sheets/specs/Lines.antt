@@ -75,16 +75,19 @@ numberBehind key line = valueOf (valueText key line)
 unfoldable pub isCountLine : List ℕ → ℕ → List ℕ → Bool
 isCountLine key most line = isNumberLine key line && leb (numberBehind key line) most
 
--- `turn=` with nothing after it means this price.
-abbrev pub emptyTurn : ℕ
-emptyTurn = 0
-
 -- `turn=` and a number, or nothing after it.
 unfoldable pub isTurnLine : List ℕ → Bool
 isTurnLine line = startsWith turnKey line && (isEmpty (valueText turnKey line) || isNumber (valueText turnKey line))
 
-unfoldable pub turnIn : List ℕ → ℕ
-turnIn line = cond (isEmpty (valueText turnKey line)) emptyTurn (numberBehind turnKey line)
+-- The price on such a line, where nothing after `turn=` means the price e; and what nothing means: the drives' own price.
+unfoldable pub turnWith : ℕ → List ℕ → ℕ
+turnWith e line = cond (isEmpty (valueText turnKey line)) e (numberBehind turnKey line)
+
+abbrev pub emptyTurn : ℕ
+emptyTurn = 12000
+
+abbrev pub turnIn : List ℕ → ℕ
+turnIn line = turnWith emptyTurn line
 
 -- `rule=least` or `rule=sweep`.
 unfoldable pub isRuleLine : List ℕ → Bool

@@ -10,8 +10,8 @@ use Rattle.refusals.specs.declared.Verdict.{Verdict}
 use Rattle.refusals.specs.Refusals.{isRefusal, refuseIf, refuseAt, firstOf}
 use Rattle.runs.specs.declared.Rule.the-variants.{Least}
 use Rattle.sheets.specs.declared.Reading.{Reading}
-use Rattle.sheets.specs.Lines.{tapeKey}
-use Rattle.sheets.specs.Sheet.{longestSheet, sheetHead, sheetTurn, sheetRule, sheetFiles, sheetWants, firstBadLine, sheetRun, sheetName}
+use Rattle.sheets.specs.Lines.{tapeKey, emptyTurn}
+use Rattle.sheets.specs.Sheet.{longestSheet, sheetHead, sheetTurnWith, sheetRule, sheetFiles, sheetWants, firstBadLine, sheetRunWith, sheetName}
 
 -- 12, then 11 with its line.
 unfoldable pub sheetVerdict : List ℕ → Verdict
@@ -35,18 +35,22 @@ abbrev pub refusedReading : Verdict → Reading
 refusedReading v =
     record { refusal = v .refusal; place = v .place; head = 0; turn = 0; rule = Least; files = 0; wants = 0 }
 
-unfoldable pub readAnswer : Verdict → List ℕ → Reading
-readAnswer v sheet =
+-- What a sheet says, where an empty price means e.
+abbrev pub readAnswerWith : ℕ → Verdict → List ℕ → Reading
+readAnswerWith e v sheet =
     cond (isRefusal (v .refusal)) (refusedReading v)
     (record {
       refusal = Accepted;
       place = 0;
       head = sheetHead sheet;
-      turn = sheetTurn sheet;
+      turn = sheetTurnWith e sheet;
       rule = sheetRule sheet;
       files = sheetFiles sheet;
       wants = sheetWants sheet;
     })
+
+unfoldable pub readAnswer : Verdict → List ℕ → Reading
+readAnswer v sheet = readAnswerWith emptyTurn v sheet
 
 -- A row afterwards: the values read, then the later entries as they were; on a refusal the whole row as it was.
 unfoldable pub readRow : Verdict → List ℕ → List ℕ → List ℕ
@@ -66,13 +70,17 @@ runRows starts lengths numbers counts =
 abbrev pub rowsVerdict : List ℕ → RunRows → Verdict
 rowsVerdict sheet rows = readVerdict sheet (rows .starts) (rows .lengths) (rows .numbers) (rows .counts)
 
--- What the reader answers, and the rows that it leaves.
-pub record SheetRead (sheet : List ℕ) (rows : RunRows) (r : Reading) (rows′ : RunRows) : Type 0 where
-  pub answer : r ≡ readAnswer (rowsVerdict sheet rows) sheet
-  pub starts : rows′ .starts ≡ readRow (rowsVerdict sheet rows) (sheetRun sheet .starts) (rows .starts)
-  pub lengths : rows′ .lengths ≡ readRow (rowsVerdict sheet rows) (sheetRun sheet .lengths) (rows .lengths)
-  pub numbers : rows′ .numbers ≡ readRow (rowsVerdict sheet rows) (sheetRun sheet .numbers) (rows .numbers)
-  pub counts : rows′ .counts ≡ readRow (rowsVerdict sheet rows) (sheetRun sheet .counts) (rows .counts)
+-- What a reader to whom an empty price means e answers, and the rows that it leaves.
+pub record ReadWith (e : ℕ) (sheet : List ℕ) (rows : RunRows) (r : Reading) (rows′ : RunRows) : Type 0 where
+  pub answer : r ≡ readAnswerWith e (rowsVerdict sheet rows) sheet
+  pub starts : rows′ .starts ≡ readRow (rowsVerdict sheet rows) (sheetRunWith e sheet .starts) (rows .starts)
+  pub lengths : rows′ .lengths ≡ readRow (rowsVerdict sheet rows) (sheetRunWith e sheet .lengths) (rows .lengths)
+  pub numbers : rows′ .numbers ≡ readRow (rowsVerdict sheet rows) (sheetRunWith e sheet .numbers) (rows .numbers)
+  pub counts : rows′ .counts ≡ readRow (rowsVerdict sheet rows) (sheetRunWith e sheet .counts) (rows .counts)
+
+-- The reader.
+abbrev pub SheetRead : List ℕ → RunRows → Reading → RunRows → Type 0
+SheetRead sheet rows r rows′ = ReadWith emptyTurn sheet rows r rows′
 
 -- The name: an empty part where 12 or 11 applies.
 unfoldable pub readName : List ℕ → List ℕ

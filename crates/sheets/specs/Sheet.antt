@@ -6,7 +6,7 @@ use Rattle.refusals.specs.Refusals.{firstWhere}
 use Rattle.runs.specs.Run.{Run, mostWants}
 use Rattle.runs.specs.declared.Rule.{Rule}
 use Rattle.texts.specs.Text.{isEmpty}
-use Rattle.sheets.specs.Lines.{lineOf, afterLines, lineAfter, tapeKey, headKey, filesKey, fileKey, wantsKey, wantKey, valueText, isTapeLine, isNumberLine, numberBehind, isCountLine, isTurnLine, turnIn, isRuleLine, ruleIn, isPairLine, firstIn, secondIn}
+use Rattle.sheets.specs.Lines.{lineOf, afterLines, lineAfter, tapeKey, headKey, filesKey, fileKey, wantsKey, wantKey, valueText, isTapeLine, isNumberLine, numberBehind, isCountLine, isTurnLine, turnWith, emptyTurn, isRuleLine, ruleIn, isPairLine, firstIn, secondIn}
 
 -- The limits of a sheet. `wants` is limited as the run is.
 abbrev pub longestSheet : ℕ
@@ -19,8 +19,12 @@ mostSheetFiles = 256
 unfoldable pub sheetHead : List ℕ → ℕ
 sheetHead sheet = numberBehind headKey (lineAfter 1 sheet)
 
-unfoldable pub sheetTurn : List ℕ → ℕ
-sheetTurn sheet = turnIn (lineAfter 2 sheet)
+-- Where an empty price means e, and as it is read.
+unfoldable pub sheetTurnWith : ℕ → List ℕ → ℕ
+sheetTurnWith e sheet = turnWith e (lineAfter 2 sheet)
+
+abbrev pub sheetTurn : List ℕ → ℕ
+sheetTurn sheet = sheetTurnWith emptyTurn sheet
 
 unfoldable pub sheetRule : List ℕ → Rule
 sheetRule sheet = ruleIn (lineAfter 3 sheet)
@@ -91,17 +95,20 @@ unfoldable pub eachOf : (ℕ → ℕ) → ℕ → List ℕ
 eachOf value zero = []
 eachOf value (suc n) = eachOf value n ++ (value n ∷ [])
 
--- The run that a sheet holds: `file` is start and length, `want` is file number and count.
-unfoldable pub sheetRun : List ℕ → Run
-sheetRun sheet =
+-- The run that a sheet holds, where an empty price means e: `file` is start and length, `want` is file number and count.
+abbrev pub sheetRunWith : ℕ → List ℕ → Run
+sheetRunWith e sheet =
     record {
       starts = eachOf (λ i. firstIn fileKey (lineAfter i (fileText sheet))) (sheetFiles sheet);
       lengths = eachOf (λ i. secondIn fileKey (lineAfter i (fileText sheet))) (sheetFiles sheet);
       numbers = eachOf (λ i. firstIn wantKey (lineAfter i (wantText sheet))) (sheetWants sheet);
       counts = eachOf (λ i. secondIn wantKey (lineAfter i (wantText sheet))) (sheetWants sheet);
       head = sheetHead sheet;
-      turn = sheetTurn sheet;
+      turn = sheetTurnWith e sheet;
     }
+
+unfoldable pub sheetRun : List ℕ → Run
+sheetRun sheet = sheetRunWith emptyTurn sheet
 
 -- The tape name that a sheet holds.
 unfoldable pub sheetName : List ℕ → List ℕ

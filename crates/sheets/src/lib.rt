@@ -4,6 +4,7 @@
 mod lines;
 mod reader;
 
+pub use reader::judge;
 pub use reader::read_sheet;
 pub use reader::tape_name;
 
@@ -12,8 +13,8 @@ pub const LONGEST_SHEET: usize = 16384;
 
 pub const MOST_SHEET_FILES: u64 = 256;
 
-// `turn=` with nothing after it means this price.
-pub const EMPTY_TURN: u64 = 0;
+// `turn=` with nothing after it means the drives' own price.
+pub const EMPTY_TURN: u64 = 12000;
 
 // What the reader answers: on a refusal every number but the place is 0 and the rule is least.
 pub struct Reading {

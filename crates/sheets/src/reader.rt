@@ -6,7 +6,7 @@ ghost use lib.ListN.{drop};
 ghost use lib.Dec.{ltb};
 ghost use Rattle.refusals.specs.declared.Refusal.the-variants.{ShortRow};
 ghost use Rattle.refusals.specs.Refusals.{refuseIf, firstOf};
-ghost use Rattle.sheets.specs.Reading.{runRows, SheetRead, readName, readFrom, placeOn};
+ghost use Rattle.sheets.specs.Reading.{sheetVerdict, runRows, SheetRead, readName, readFrom, placeOn};
 ghost use Rattle.sheets.specs.Private.{TopFound, FilesAt, WantsAt, BelowFound, Unread, JudgedFound, PairsReady, leftRow, rightRow, linesFilled, readingOf};
 use crate::LONGEST_SHEET;
 use crate::MOST_SHEET_FILES;
@@ -264,6 +264,14 @@ pub fn read_sheet(
     fill_pair(sheet, top.next, b"file=", file_lines, starts, lengths);
     fill_pair(sheet, judged.at, b"want=", want_lines, numbers, counts);
     reading_of(verdict, top, judged.wants)
+}
+
+// 12 and 11, for those who ask no more of a sheet.
+pub fn judge(sheet: &[u8]) -> Verdict
+    ensures { λ r. ⌜ r ≡ sheetVerdict (now (sheet .entry)) ⌝ }
+{
+    let judged = judge_sheet(sheet);
+    judged.verdict
 }
 
 // The part of the sheet that holds the tape name; an empty part where 12 or 11 applies.

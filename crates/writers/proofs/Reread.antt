@@ -1,36 +1,19 @@
 -- Reading what was written, line by line.
 use Prim.Native.Nat.{ℕ, zero, suc, _^_, _≤_, _<_}
 use mathlib.Core.Path.{_≡_, refl, ap, sym, _∙_}
-use mathlib.Core.Bool.{Bool, true, false, not}
+use mathlib.Core.Bool.{true, false, not}
 use mathlib.Core.List.{List, [], _∷_, _++_, append-assoc}
 use native.Mathlib.Omega.{arith}
 use lib.ListN.{length, getD, take}
 use lib.Seq.{drop-append-seam, take-suc, take-length}
-use lib.Dec.{eqb}
 use borrow.Author.Tests.{eq-eqb, le-leb}
-use Rattle.runs.proofs.Search.{or-false-both, first-all}
+use Rattle.runs.proofs.Search.{first-all}
 use Rattle.texts.specs.Text.{lineFeed, comma, has, before, behind, startsWith, valueOf, decimal}
 use Rattle.sheets.specs.Lines.{lineOf, afterLines, lineAfter, valueText, isNumberLine, numberBehind, isCountLine, isPair, isPairLine, firstIn, secondIn}
 use Rattle.sheets.specs.Sheet.{firstBadPair, eachOf}
 use Rattle.writers.specs.Writing.{line, pairText, pairLine, pairLines}
 use Rattle.texts.proofs.Decimals.{has-append, decimal-without, decimal-number, decimal-value}
-
--- A byte behind a text without it: what stands before it and what stands behind it.
-module _ (c : ℕ) where
-  has-here : (a b : List ℕ) → has c (a ++ c ∷ b) ≡ true
-  unfolding has
-  has-here [] b = rw (eq-eqb c c refl)
-  has-here (x ∷ a) b = rw (has-here a b) (mathlib.Core.Bool.or-true (eqb x c))
-
-  before-here : (a b : List ℕ) → has c a ≡ false → before c (a ++ c ∷ b) ≡ a
-  unfolding has before
-  before-here [] b e = rw (eq-eqb c c refl)
-  before-here (x ∷ a) b e = let both = or-false-both (eqb x c) (has c a) e in rw (both .0) (ap (λ t. x ∷ t) (before-here a b (both .1)))
-
-  behind-here : (a b : List ℕ) → has c a ≡ false → behind c (a ++ c ∷ b) ≡ b
-  unfolding has behind
-  behind-here [] b e = rw (eq-eqb c c refl)
-  behind-here (x ∷ a) b e = let both = or-false-both (eqb x c) (has c a) e in rw (both .0) (behind-here a b (both .1))
+use Rattle.texts.proofs.Split.{has-here, before-here, behind-here}
 
 -- A line and what follows it.
 module _ (key text rest : List ℕ) (plain : has lineFeed key ≡ false) (flat : has lineFeed text ≡ false) where

@@ -16,8 +16,8 @@ use Rattle.runs.proofs.Judged.{accepted-run}
 use Rattle.runs.specs.declared.Rule.{Rule}
 use Rattle.runs.specs.declared.Rule.the-variants.{Sweep, Least}
 use Rattle.texts.specs.Text.{lineFeed, has, behind, isName, isNameByte, between, allOf, isEmpty, startsWith, isNumber, decimal}
-use Rattle.sheets.specs.Lines.{lineOf, afterLines, lineAfter, tapeKey, headKey, turnKey, ruleKey, ruleText, filesKey, fileKey, wantsKey, wantKey, valueText, isTapeLine, isNumberLine, numberBehind, isCountLine, emptyTurn, isTurnLine, turnIn, isRuleLine, ruleIn, firstIn, secondIn}
-use Rattle.sheets.specs.Sheet.{longestSheet, mostSheetFiles, sheetHead, sheetTurn, sheetRule, sheetFiles, fileText, wantsText, sheetWants, wantText, endText, firstBadPair, firstBadTop, firstBadBelow, firstBadLine, eachOf, sheetRun, sheetName}
+use Rattle.sheets.specs.Lines.{lineOf, afterLines, lineAfter, tapeKey, headKey, turnKey, ruleKey, ruleText, filesKey, fileKey, wantsKey, wantKey, valueText, isTapeLine, isNumberLine, numberBehind, isCountLine, isTurnLine, turnWith, emptyTurn, turnIn, isRuleLine, ruleIn, firstIn, secondIn}
+use Rattle.sheets.specs.Sheet.{longestSheet, mostSheetFiles, sheetHead, sheetTurnWith, sheetTurn, sheetRule, sheetFiles, fileText, wantsText, sheetWants, wantText, endText, firstBadPair, firstBadTop, firstBadBelow, firstBadLine, eachOf, sheetRun, sheetName}
 use Rattle.sheets.specs.Reading.{sheetVerdict, readName}
 use Rattle.writers.specs.Writing.{line, numberLine, pairText, pairLine, pairLines, topText, sheetText}
 use Rattle.texts.proofs.Bytes.{and-true-both, not-empty}
@@ -306,7 +306,7 @@ module _ (name : List ℕ) (rule : Rule) (run : Run) (named : isName name ≡ tr
   head-back = ap (numberBehind headKey) line₁ ∙ value-back headKey (run .head) (small .head)
 
   turn-back : sheetTurn text ≡ run .turn
-  unfolding sheetTurn turnIn
+  unfolding sheetTurnWith turnWith
   turn-back = ap turnIn line₂ ∙ price-value turnKey (run .turn)
 
   rule-back : sheetRule text ≡ rule

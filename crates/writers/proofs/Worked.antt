@@ -10,8 +10,8 @@ use Rattle.runs.specs.Lists.{listOf}
 use Rattle.walk.specs.Detours.{startOf, endOf, unreadEnd, sweepEnd, legsOf, lastSweep}
 use Rattle.walk.specs.Price.{pricedAnswer, pricedTimes, pricedLegs}
 use Rattle.texts.specs.Text.{bytes, has, before, behind, startsWith, allOf, valueFrom, isNumber, isName, decimalIn}
-use Rattle.sheets.specs.Lines.{lineOf, afterLines, isTapeLine, isNumberLine, isCountLine, isTurnLine, turnIn, isRuleLine, isPair, isPairLine}
-use Rattle.sheets.specs.Sheet.{sheetHead, sheetTurn, sheetFiles, fileText, wantsText, sheetWants, wantText, endText, firstBadPair, firstBadTop, firstBadBelow, firstBadLine, eachOf, sheetRun}
+use Rattle.sheets.specs.Lines.{lineOf, afterLines, isTapeLine, isNumberLine, isCountLine, isTurnLine, turnWith, isRuleLine, isPair, isPairLine}
+use Rattle.sheets.specs.Sheet.{sheetHead, sheetTurnWith, sheetFiles, fileText, wantsText, sheetWants, wantText, endText, firstBadPair, firstBadTop, firstBadBelow, firstBadLine, eachOf, sheetRun}
 use Rattle.writers.specs.Writing.{pairLines, tripleLines, topText, sheetText}
 use Rattle.writers.specs.PlanSheet.{planTop, planLines, planText}
 
@@ -48,5 +48,5 @@ unfolding firstBadLine firstBadTop firstBadBelow firstBadPair firstWhere endText
 damaged-refused = refl
 
 pub example-read : sheetRun sheet ≡ run
-unfolding sheetRun eachOf sheetHead sheetTurn turnIn wantText sheetWants wantsText fileText sheetFiles afterLines lineOf valueFrom behind before has
+unfolding sheetRun eachOf sheetHead sheetTurnWith turnWith wantText sheetWants wantsText fileText sheetFiles afterLines lineOf valueFrom behind before has
 example-read = refl

@@ -1,0 +1,41 @@
+// cmd_rewrite: an old run sheet from standard input, the same sheet with `turn=0` for an empty price to standard output; or two lines that
+// say why not. The answer is proved in `turns` and `writers`; what is read and written here is tested and not proved.
+use libc::STDIN_FILENO;
+use libc::STDOUT_FILENO;
+use refusals::Verdict;
+use refusals::refused;
+
+// The first n bytes of a row, or the row where it has fewer.
+fn front(row: &[u8], n: u64) -> &[u8] {
+    let start: usize = 0;
+    let end = n as usize;
+    if end <= row.len() {
+        return &row[start..end];
+    }
+    row
+}
+
+// The two lines of a refusal, which are at most 38 bytes.
+fn print_refusal(verdict: Verdict) {
+    let mut lines = [0u8; 38];
+    let said = writers::write_refusal(verdict, &mut lines);
+    io::write_all(STDOUT_FILENO, front(&lines, said.bytes));
+}
+
+// A byte more than a sheet may have is read. No result is longer than a sheet may be.
+fn main() {
+    let mut sheet = [0u8; 16385];
+    let mut out = [0u8; 16384];
+    let n = io::read_full(STDIN_FILENO, &mut sheet);
+    let written = turns::rewrite(&sheet[..n], &mut out);
+    let refusal = written.refusal;
+    let verdict = Verdict {
+        refusal,
+        place: written.place,
+    };
+    if refused(verdict) {
+        print_refusal(verdict);
+        return;
+    }
+    io::write_all(STDOUT_FILENO, front(&out, written.bytes));
+}

@@ -1,0 +1,249 @@
+-- The request on empty turn prices: what the reader gives, what the rewriting gives, and that the one reads the other as the old reader read the old sheet.
+use Prim.Native.Nat.{ℕ, _+_, _≤_, _<_}
+use mathlib.Core.Path.{_≡_, refl, sym, ap, _∙_}
+use mathlib.Core.Bool.{Bool, true, false, true≢false}
+use mathlib.Core.Logic.{_⊎_, inl, inr, ⊎-elim}
+use mathlib.Core.List.{List, [], _∷_, _++_}
+use native.Mathlib.Omega.{arith}
+use lib.ListN.{length, take, drop}
+use lib.Seq.{take-append-seam, drop-append-seam}
+use lib.Dec.{ltb}
+use borrow.Author.Tests.{le-ltb, ltb-false, ne-eqb}
+use Rattle.refusals.specs.declared.Refusal.the-variants.{Accepted, BadLine, LongSheet, ShortRow}
+use Rattle.refusals.specs.declared.Verdict.{Verdict}
+use Rattle.refusals.specs.Refusals.{isRefusal, accepted, refuseIf, refuseAt, firstOf}
+use Rattle.refusals.proofs.Verdicts.{refuses, first-refuses, first-passes, all-accept, accepts-if}
+use Rattle.texts.specs.Text.{lineFeed, has, isEmpty, isText, startsWith}
+use Rattle.sheets.specs.declared.Reading.{Reading}
+use Rattle.sheets.specs.Lines.{lineAfter, afterLines, turnKey, turnWith}
+use Rattle.sheets.specs.Sheet.{longestSheet, firstBadLine, sheetFiles, sheetWants, sheetTurnWith}
+use Rattle.sheets.specs.Reading.{sheetVerdict, readVerdict, refusedReading, readRow, RunRows, rowsVerdict, ReadWith, readName}
+use Rattle.sheets.proofs.Good.{short-sheet, accepted-sheet, good-lines}
+use Rattle.writers.specs.declared.Written.{Written}
+use Rattle.writers.specs.Writing.{rowVerdict, writtenAnswer, writtenRow}
+use Rattle.writers.proofs.Reread.{key-value}
+use Rattle.turns.specs.Rewriting.{priceIsEmpty, rewritten, rewriteVerdict, SheetRewritten}
+use Rattle.turns.proofs.Meaning.{upper, old-cut, new-cut, unchanged, keeps, little-longer}
+use Rattle.demands.specs.Table.{FirstBad}
+use Rattle.demands.specs.Lines.{Number, LineIsBad, linesDue}
+use Rattle.demands.specs.Turns.{EmptyPrice, GivenPrice, DrivesOwnPrice, RewrittenBytes, RewrittenMeans, RewrittenOnce, UnreadApplies, ResultApplies, UnreadFirst, RewriteFinds, unread, result, Demand1Rewrite}
+use Rattle.demands.proofs.Tests.{tells-below}
+use Rattle.demands.proofs.Checks.{decides-if, decides-reworded, Finds, finds-none, finds-first, refused-iff}
+use Rattle.demands.proofs.FirstLine.{decides-line}
+use Rattle.demands.proofs.Lines.{line-read, number-flat, nothing-no-number, tells-turn}
+use Rattle.demands.proofs.Sheets.{same-rows, told}
+use Rattle.demands.proofs.WriteRead.{written-passes}
+
+-- The third line, where nothing stands after `turn=` and where a number does.
+module _ (sheet : List ℕ) where
+  empty-line : EmptyPrice sheet → lineAfter 2 sheet ≡ turnKey
+  unfolding has
+  empty-line p = line-read turnKey (p .value) (p .rest) (afterLines 2 sheet) refl (ap (has lineFeed) (p .kind)) (p .is) ∙ ap (λ v. turnKey ++ v) (p .kind)
+
+  given-line : (p : GivenPrice sheet) → lineAfter 2 sheet ≡ turnKey ++ p .value
+  unfolding has
+  given-line p = line-read turnKey (p .value) (p .rest) (afterLines 2 sheet) refl (number-flat lineFeed refl (p .value) (p .kind)) (p .is)
+
+  some-value : (p : GivenPrice sheet) → isEmpty (p .value) ≡ false
+  some-value p = go (p .value) (p .kind)
+    where
+      go : (v : List ℕ) → Number v → isEmpty v ≡ false
+      go [] n = absurd (nothing-no-number n)
+      go (b ∷ v) n = refl
+
+  is-empty : EmptyPrice sheet → priceIsEmpty sheet ≡ true
+  unfolding priceIsEmpty startsWith
+  is-empty p = ap (isText turnKey) (empty-line p)
+
+  is-given : GivenPrice sheet → priceIsEmpty sheet ≡ false
+  unfolding priceIsEmpty
+  is-given p = ap (isText turnKey) (given-line p) ∙ longer (p .value) (some-value p)
+    where
+      longer : (v : List ℕ) → isEmpty v ≡ false → isText turnKey (turnKey ++ v) ≡ false
+      longer [] e = absurd (true≢false e)
+      longer (b ∷ v) e = rw (ne-eqb 5 (length (turnKey ++ (b ∷ v))) (λ h. omega (arith, h)))
+
+  -- In a sheet that can be read one of the two does.
+  price-stands : refuses (sheetVerdict sheet) ≡ false → EmptyPrice sheet ⊎ GivenPrice sheet
+  price-stands readable =
+      let s = tells-turn sheet 2 .when-true (good-lines sheet readable .turn) in
+      ⊎-elim (λ e. inl (record { value = s .value; rest = s .rest; is = s .is; kind = e })) (λ n. inr (record { value = s .value; rest = s .rest; is = s .is; kind = n })) (s .kind)
+
+-- What the reader hands on.
+pub drives-own-price : DrivesOwnPrice
+unfolding sheetTurnWith turnWith
+drives-own-price sheet before answer after read accepts =
+    record {
+      empty = λ p. price ∙ rw (empty-line sheet p);
+      given = λ p. price ∙ rw (given-line sheet p, key-value turnKey (p .value), some-value sheet p);
+    }
+  where
+    go : (b : Bool) → refuses (rowsVerdict sheet before) ≡ b → answer .turn ≡ sheetTurnWith 12000 sheet
+    go true e =
+        let is : answer ≡ refusedReading (rowsVerdict sheet before) = read .answer ∙ rw e in
+        absurd (true≢false (sym e ∙ ap isRefusal (sym (ap (λ (x : Reading). x .refusal) is) ∙ accepts)))
+    go false e = ap (λ (x : Reading). x .turn) (read .answer) ∙ rw e
+
+    price : answer .turn ≡ sheetTurnWith 12000 sheet
+    price = go (refuses (rowsVerdict sheet before)) refl
+
+-- An accepted rewriting.
+module _ (sheet row : List ℕ) (answer : Written) (out : List ℕ) (says : SheetRewritten sheet row answer out) (accepts : answer .refusal ≡ Accepted) where
+  passes : refuses (rewriteVerdict sheet row) ≡ false
+  passes = written-passes (rewriteVerdict sheet row) (rewritten sheet) answer (says .answer) accepts
+
+  each-passes : (refuses (sheetVerdict sheet) ≡ false) × (length (rewritten sheet) ≤ longestSheet)
+  unfolding rewriteVerdict
+  each-passes =
+      let all = all-accept (sheetVerdict sheet ∷ refuseIf (ltb longestSheet (length (rewritten sheet))) LongSheet ∷ rowVerdict (rewritten sheet) row ∷ []) passes in
+      (all .0, ltb-false longestSheet (length (rewritten sheet)) (accepts-if (ltb longestSheet (length (rewritten sheet))) LongSheet refl (all .1 .0)))
+
+  good : refuses (sheetVerdict sheet) ≡ false
+  good = each-passes .0
+
+  answer-is : answer ≡ record { refusal = Accepted; place = 0; bytes = length (rewritten sheet) }
+  unfolding writtenAnswer
+  answer-is = says .answer ∙ rw passes
+
+  out-is : out ≡ rewritten sheet ++ drop (length (rewritten sheet)) row
+  unfolding writtenRow
+  out-is = says .left ∙ rw passes
+
+  text-is : take (answer .bytes) out ≡ rewritten sheet
+  text-is = rw (answer-is, out-is) (take-append-seam (rewritten sheet) (drop (length (rewritten sheet)) row))
+
+  later-is : drop (answer .bytes) out ≡ drop (answer .bytes) row
+  later-is = rw (answer-is, out-is) (drop-append-seam (rewritten sheet) (drop (length (rewritten sheet)) row))
+
+  -- The result is accepted by 12 and 11.
+  result-good : sheetVerdict (rewritten sheet) ≡ accepted
+  unfolding sheetVerdict
+  result-good = rw (le-ltb longestSheet (length (rewritten sheet)) (each-passes .1), keeps sheet good .lines)
+
+  passes-again : (more : List ℕ) → length (rewritten sheet) ≤ length more → refuses (rewriteVerdict (rewritten sheet) more) ≡ false
+  unfolding rewriteVerdict rowVerdict
+  passes-again more long =
+      rw (result-good, keeps sheet good .again, le-ltb longestSheet (length (rewritten sheet)) (each-passes .1), le-ltb (length more) (length (rewritten sheet)) long)
+
+  name-kept : readName (rewritten sheet) ≡ readName sheet
+  unfolding readName
+  name-kept = rw (result-good, accepted-sheet sheet good) (keeps sheet good .name)
+
+pub rewritten-bytes : RewrittenBytes
+rewritten-bytes sheet row answer out says accepts =
+    let readable = good sheet row answer out says accepts in
+    let text = text-is sheet row answer out says accepts in
+    record {
+      either = price-stands sheet readable;
+      empty = λ p.
+          let e = is-empty sheet p in
+          record { above = upper sheet readable e; back = afterLines 3 sheet; old = old-cut sheet readable e; new = text ∙ new-cut sheet readable e };
+      given = λ p. text ∙ unchanged sheet readable (is-given sheet p);
+      later = later-is sheet row answer out says accepts;
+    }
+
+-- Two sheets that hold the same, each to its reader.
+module _ (e : ℕ) (old new : List ℕ) (rows : RunRows) (old-good : sheetVerdict old ≡ accepted) (new-good : sheetVerdict new ≡ accepted) (files : sheetFiles new ≡ sheetFiles old) (wants : sheetWants new ≡ sheetWants old) where
+  same-verdict : rowsVerdict new rows ≡ rowsVerdict old rows
+  unfolding readVerdict
+  same-verdict = rw (old-good, new-good, files, wants)
+
+pub rewritten-means : RewrittenMeans
+unfolding readRow
+rewritten-means sheet row written out says accepts e rows old new oldRows newRows old-read new-read =
+    let readable = good sheet row written out says accepts in
+    let text = text-is sheet row written out says accepts in
+    let kept = keeps sheet readable in
+    let run = kept .run e in
+    let verdict = same-verdict e sheet (rewritten sheet) rows (accepted-sheet sheet readable) (result-good sheet row written out says accepts) (kept .files) (kept .wants) in
+    let read : ReadWith e (rewritten sheet) rows new newRows = rw text at new-read in
+    record {
+      answers = read .answer ∙ rw (verdict, ap (λ r. r .head) run, ap (λ r. r .turn) run, kept .rule, kept .files, kept .wants) (sym (old-read .answer));
+      rows = same-rows newRows oldRows
+          (read .starts ∙ rw (verdict, ap (λ r. r .starts) run) (sym (old-read .starts)))
+          (read .lengths ∙ rw (verdict, ap (λ r. r .lengths) run) (sym (old-read .lengths)))
+          (read .numbers ∙ rw (verdict, ap (λ r. r .numbers) run) (sym (old-read .numbers)))
+          (read .counts ∙ rw (verdict, ap (λ r. r .counts) run) (sym (old-read .counts)));
+      named = ap readName text ∙ name-kept sheet row written out says accepts;
+    }
+
+-- The result rewritten.
+pub rewritten-once : RewrittenOnce
+unfolding writtenAnswer writtenRow
+rewritten-once sheet row written out says accepts more again outAgain room says-again =
+    let text = text-is sheet row written out says accepts in
+    let once = keeps sheet (good sheet row written out says accepts) .again in
+    let is = answer-is sheet row written out says accepts in
+    let long : length (rewritten sheet) ≤ length more = rw is at room in
+    let reads : SheetRewritten (rewritten sheet) more again outAgain = rw text at says-again in
+    let passes = passes-again sheet row written out says accepts more long in
+    let answered : again ≡ record { refusal = Accepted; place = 0; bytes = length (rewritten sheet) } = reads .answer ∙ rw (passes, once) in
+    let filled : outAgain ≡ rewritten sheet ++ drop (length (rewritten sheet)) more = reads .left ∙ rw (passes, once) in
+    (answered ∙ sym is, rw (text, answered, filled) (take-append-seam (rewritten sheet) (drop (length (rewritten sheet)) more)))
+
+-- The refusals.
+module _ (sheet : List ℕ) where
+  sheet-long : (p : ℕ) → UnreadApplies sheet LongSheet p → (p ≡ 0) × (longestSheet < length sheet)
+  sheet-long p (UnreadApplies.too-long h) = (refl, h)
+
+  sheet-line : (p : ℕ) → UnreadApplies sheet BadLine p → FirstBad (LineIsBad sheet) (linesDue sheet) p
+  sheet-line p (UnreadApplies.bad-line h) = h
+
+  unread-finds : Finds (UnreadApplies sheet) (LongSheet ∷ BadLine ∷ []) (sheetVerdict sheet)
+  unfolding sheetVerdict
+  unread-finds =
+      finds-first (UnreadApplies sheet) (refuseAt (firstBadLine sheet) BadLine ∷ []) refl
+      (decides-reworded (λ p h. rw (h .0) (UnreadApplies.too-long (h .1))) sheet-long (decides-if _ LongSheet (tells-below longestSheet (length sheet))))
+      (λ a. finds-first (UnreadApplies sheet) [] refl (decides-reworded (λ p. UnreadApplies.bad-line) sheet-line (decides-line sheet))
+      (λ b. finds-none (UnreadApplies sheet)))
+
+  module _ (row : List ℕ) where
+    abbrev resultChecks : List Verdict
+    resultChecks = refuseIf (ltb longestSheet (length (rewritten sheet))) LongSheet ∷ refuseIf (ltb (length row) (length (rewritten sheet))) ShortRow ∷ []
+
+    result-long : (p : ℕ) → ResultApplies sheet row LongSheet p → (p ≡ 0) × (longestSheet < length (rewritten sheet))
+    result-long p (ResultApplies.too-long h) = (refl, h)
+
+    result-row : (p : ℕ) → ResultApplies sheet row ShortRow p → (p ≡ 0) × (length row < length (rewritten sheet))
+    result-row p (ResultApplies.short-row h) = (refl, h)
+
+    result-finds : Finds (ResultApplies sheet row) (LongSheet ∷ ShortRow ∷ []) (firstOf resultChecks)
+    result-finds =
+        finds-first (ResultApplies sheet row) (refuseIf (ltb (length row) (length (rewritten sheet))) ShortRow ∷ []) refl
+        (decides-reworded (λ p h. rw (h .0) (ResultApplies.too-long (h .1))) result-long (decides-if _ LongSheet (tells-below longestSheet (length (rewritten sheet)))))
+        (λ a. finds-first (ResultApplies sheet row) [] refl
+        (decides-reworded (λ p h. rw (h .0) (ResultApplies.short-row (h .1))) result-row (decides-if _ ShortRow (tells-below (length row) (length (rewritten sheet)))))
+        (λ b. finds-none (ResultApplies sheet row)))
+
+    verdict-refused : refuses (sheetVerdict sheet) ≡ true → rewriteVerdict sheet row ≡ sheetVerdict sheet
+    unfolding rewriteVerdict rowVerdict
+    verdict-refused e = sym (first-refuses (sheetVerdict sheet) resultChecks e)
+
+    verdict-passed : refuses (sheetVerdict sheet) ≡ false → rewriteVerdict sheet row ≡ firstOf resultChecks
+    unfolding rewriteVerdict rowVerdict
+    verdict-passed e = first-passes (sheetVerdict sheet) resultChecks e
+
+    verdict-finds : (b : Bool) → refuses (sheetVerdict sheet) ≡ b → RewriteFinds sheet row (rewriteVerdict sheet row .refusal) (rewriteVerdict sheet row .place)
+    verdict-finds true e = rw (verdict-refused e) (unread (λ k. true≢false (sym e ∙ ap isRefusal k)) unread-finds)
+    verdict-finds false e = rw (verdict-passed e) (result (rw (accepted-sheet sheet e) at unread-finds) result-finds)
+
+  -- A sheet for which neither of the first two applies can be read.
+  none-applies : UnreadFirst sheet Accepted 0 → refuses (sheetVerdict sheet) ≡ false
+  none-applies first = go (refuses (sheetVerdict sheet)) refl
+    where
+      go : (b : Bool) → refuses (sheetVerdict sheet) ≡ b → refuses (sheetVerdict sheet) ≡ false
+      go true e =
+          let some = refused-iff (UnreadApplies sheet) unread-finds (refl, (refl, tt)) .0 (λ k. true≢false (sym e ∙ ap isRefusal k)) in
+          absurd (refused-iff (UnreadApplies sheet) first (refl, (refl, tt)) .1 some refl)
+      go false e = e
+
+pub demand1-rewrite : Demand1Rewrite
+unfolding rewriteVerdict
+demand1-rewrite sheet row answer out says =
+    let checks = sheetVerdict sheet ∷ refuseIf (ltb longestSheet (length (rewritten sheet))) LongSheet ∷ rowVerdict (rewritten sheet) row ∷ [] in
+    let tells = told checks (rewritten sheet) row answer out says in
+    record {
+      first = rw (tells .kind, tells .place) (verdict-finds sheet row (refuses (sheetVerdict sheet)) refl);
+      kept = tells .kept;
+      longest = λ first long. let readable = none-applies sheet first in omega (arith, long, short-sheet sheet readable, little-longer sheet readable);
+    }

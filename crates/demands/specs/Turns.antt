@@ -1,0 +1,119 @@
+-- The request on empty turn prices (L3): nothing after `turn=` means the drives' own price; an old sheet is rewritten byte for byte with a 0 there,
+-- and then means, whatever nothing means to its reader, what the old one meant when that was 0. Demands 2 and 3 speak of a run's price: for a run
+-- that was read from a sheet it is the number that the reader gives by this rule.
+use Prim.Native.Nat.{ℕ, _≤_, _<_}
+use Prim.Native.Char.{code}
+use mathlib.Core.Path.{_≡_}
+use mathlib.Core.Logic.{_⊎_}
+use mathlib.Core.List.{List, [], _∷_, _++_}
+use lib.ListN.{length, take, drop}
+use Rattle.refusals.specs.declared.Refusal.{Refusal}
+use Rattle.refusals.specs.declared.Refusal.the-variants.{Accepted, BadLine, LongSheet, ShortRow}
+use Rattle.texts.specs.Text.{lineFeed, valueOf}
+use Rattle.sheets.specs.declared.Reading.{Reading}
+use Rattle.sheets.specs.Lines.{turnKey}
+use Rattle.sheets.specs.Sheet.{longestSheet}
+use Rattle.sheets.specs.Reading.{RunRows, ReadWith, SheetRead, readName}
+use Rattle.writers.specs.declared.Written.{Written}
+use Rattle.turns.specs.Rewriting.{rewritten, SheetRewritten}
+use Rattle.demands.specs.Table.{FirstBad, FirstThatApplies}
+use Rattle.demands.specs.Lines.{Stands, Number, LineIsBad, linesDue}
+
+-- Behind two lines stands `turn=` with nothing after it, or with a number.
+abbrev pub EmptyPrice : List ℕ → Type 0
+EmptyPrice sheet = Stands turnKey (λ text. text ≡ []) sheet 2
+
+abbrev pub GivenPrice : List ℕ → Type 0
+GivenPrice sheet = Stands turnKey Number sheet 2
+
+-- What the reader hands on: 12,000 where nothing stands there, else the number.
+pub record PriceRead (sheet : List ℕ) (answer : Reading) : Type 0 where
+  pub empty : EmptyPrice sheet → answer .turn ≡ 12000
+  pub given : (price : GivenPrice sheet) → answer .turn ≡ valueOf (price .value)
+
+abbrev pub DrivesOwnPrice : Type 0
+DrivesOwnPrice =
+    (sheet : List ℕ) (before : RunRows) (answer : Reading) (after : RunRows)
+    → SheetRead sheet before answer after
+    → answer .refusal ≡ Accepted
+    → PriceRead sheet answer
+
+-- Byte for byte the same elsewhere: the sheet is a front that ends in `turn=`, an LF and a back, and the result has a 0 before that LF.
+pub record ZeroPutIn (sheet result : List ℕ) : Type 0 where
+  pub above : List ℕ
+  pub back : List ℕ
+  pub old : sheet ≡ (above ++ turnKey) ++ (lineFeed ∷ back)
+  pub new : result ≡ (above ++ turnKey) ++ (code "0" ∷ (lineFeed ∷ back))
+
+-- An accepted rewriting: one of the two stands there; the bytes for each, with the later ones of the row as they were.
+pub record Rewrites (sheet row : List ℕ) (answer : Written) (out : List ℕ) : Type 0 where
+  pub either : EmptyPrice sheet ⊎ GivenPrice sheet
+  pub empty : EmptyPrice sheet → ZeroPutIn sheet (take (answer .bytes) out)
+  pub given : GivenPrice sheet → take (answer .bytes) out ≡ sheet
+  pub later : drop (answer .bytes) out ≡ drop (answer .bytes) row
+
+abbrev pub RewrittenBytes : Type 0
+RewrittenBytes =
+    (sheet row : List ℕ) (answer : Written) (out : List ℕ)
+    → SheetRewritten sheet row answer out
+    → answer .refusal ≡ Accepted
+    → Rewrites sheet row answer out
+
+-- Whatever nothing means to the reader of the new sheet: it answers, and leaves in rows of any lengths, what the old reader, to whom nothing meant 0,
+-- answered and left for the old sheet: head, price, rule, files and wants, or the refusal. The name is the same.
+pub record ReadsAsBefore (old new : Reading) (oldRows newRows : RunRows) (oldName newName : List ℕ) : Type 0 where
+  pub answers : new ≡ old
+  pub rows : newRows ≡ oldRows
+  pub named : newName ≡ oldName
+
+abbrev pub RewrittenMeans : Type 0
+RewrittenMeans =
+    (sheet row : List ℕ) (written : Written) (out : List ℕ)
+    → SheetRewritten sheet row written out
+    → written .refusal ≡ Accepted
+    → (e : ℕ) (rows : RunRows) (old new : Reading) (oldRows newRows : RunRows)
+    → ReadWith 0 sheet rows old oldRows
+    → ReadWith e (take (written .bytes) out) rows new newRows
+    → ReadsAsBefore old new oldRows newRows (readName sheet) (readName (take (written .bytes) out))
+
+-- A rewritten sheet rewritten again is itself.
+abbrev pub RewrittenOnce : Type 0
+RewrittenOnce =
+    (sheet row : List ℕ) (written : Written) (out : List ℕ)
+    → SheetRewritten sheet row written out
+    → written .refusal ≡ Accepted
+    → (more : List ℕ) (again : Written) (outAgain : List ℕ)
+    → written .bytes ≤ length more
+    → SheetRewritten (take (written .bytes) out) more again outAgain
+    → (again ≡ written) × (take (again .bytes) outAgain ≡ take (written .bytes) out)
+
+-- The refusals: 12 and 11 of the sheet, as the reader gives them; then 12 and 8 of the result. Nothing else: the run is not judged.
+pub data UnreadApplies (sheet : List ℕ) : Refusal → ℕ → Type 0 where
+  too-long : longestSheet < length sheet → UnreadApplies sheet LongSheet 0
+  bad-line : {place : ℕ} → FirstBad (LineIsBad sheet) (linesDue sheet) place → UnreadApplies sheet BadLine place
+
+pub data ResultApplies (sheet row : List ℕ) : Refusal → ℕ → Type 0 where
+  too-long : longestSheet < length (rewritten sheet) → ResultApplies sheet row LongSheet 0
+  short-row : length row < length (rewritten sheet) → ResultApplies sheet row ShortRow 0
+
+abbrev pub UnreadFirst : List ℕ → Refusal → ℕ → Type 0
+UnreadFirst sheet kind place = FirstThatApplies (UnreadApplies sheet) (LongSheet ∷ BadLine ∷ []) kind place
+
+abbrev pub ResultFirst : List ℕ → List ℕ → Refusal → ℕ → Type 0
+ResultFirst sheet row kind place = FirstThatApplies (ResultApplies sheet row) (LongSheet ∷ ShortRow ∷ []) kind place
+
+pub data RewriteFinds (sheet row : List ℕ) (kind : Refusal) (place : ℕ) : Type 0 where
+  unread : (kind ≡ Accepted → ⊥) → UnreadFirst sheet kind place → RewriteFinds sheet row kind place
+  result : UnreadFirst sheet Accepted 0 → ResultFirst sheet row kind place → RewriteFinds sheet row kind place
+
+-- A refusal has no bytes, and the row is as it was. Of sheets that can be read, only one of exactly 16,384 bytes has too long a result.
+pub record RewriteAnswers (sheet row : List ℕ) (answer : Written) (out : List ℕ) : Type 0 where
+  pub first : RewriteFinds sheet row (answer .refusal) (answer .place)
+  pub kept : (answer .refusal ≡ Accepted → ⊥) → (answer .bytes ≡ 0) × (out ≡ row)
+  pub longest : UnreadFirst sheet Accepted 0 → longestSheet < length (rewritten sheet) → length sheet ≡ longestSheet
+
+abbrev pub Demand1Rewrite : Type 0
+Demand1Rewrite =
+    (sheet row : List ℕ) (answer : Written) (out : List ℕ)
+    → SheetRewritten sheet row answer out
+    → RewriteAnswers sheet row answer out

@@ -1,0 +1,146 @@
+#!/usr/bin/env python3
+"""Runs the program behind `./violstream rewrite` on whole and damaged sheets and compares every byte it prints with an answer worked out here.
+
+usage: tests/python/rewrite.py [--native] [PROGRAM]           (default target/bin/cmd_rewrite)
+       tests/python/rewrite.py [--native] --time [PROGRAM]    how long one call takes on a long sheet, and on none
+
+The program is for x86-64; on another processor it is started as tools/machine.sh says.
+
+The reader (sheets.py) shares nothing with the program. A sheet that can be read comes back byte for byte, with a 0 after a bare `turn=`;
+what comes back is read once more, with several meanings of a bare `turn=`, and must be what the old sheet was where that meant 0.
+"""
+import os
+import random
+import subprocess
+import sys
+import time
+
+import programs
+from plan import contents, stored
+from runs import Refused
+from sheets import read
+
+LIMIT = 16384
+
+
+def answer(sheet):
+    """What the program must print."""
+    try:
+        read(sheet)
+    except Refused as refusal:
+        return refusal.args[0]
+    lines = sheet.split(b"\n")
+    if lines[2] == b"turn=":
+        lines[2] = b"turn=0"
+    rewritten = b"\n".join(lines)
+    return rewritten if len(rewritten) <= LIMIT else Refused(12).args[0]
+
+
+def compare_meaning(sheet, rewritten):
+    """Whatever nothing means to its reader, the new sheet is the old one to a reader to whom it meant 0."""
+    old = read(sheet, 0)
+    for empty in (12000, 2**64 - 1):
+        if read(rewritten, empty) != old:
+            sys.exit(f"rewrite.py: with an empty price that means {empty},\n{rewritten!r}\nis not the sheet\n{sheet!r}\nread with 0")
+
+
+def number(draw):
+    """A number below 2 to the 64 of any length, often 0 or the greatest."""
+    return draw.choice((0, 1, 9, 10, 2**64 - 1, draw.randrange(10 ** draw.randrange(1, 20))))
+
+
+def drawn(draw):
+    """A sheet that can be read; most of the runs that these hold are refused by the planner."""
+    name = bytes(draw.choice(b"ABCXYZ0189") for _ in range(draw.randrange(1, 17)))
+    files, wants = draw.choice((0, 1, 2, 3, 5, 12)), draw.choice((0, 1, 3, 8))
+    turn = draw.choice((b"", b"", b"0", b"12000", b"%d" % number(draw)))
+    lines = [b"tape=" + name, b"head=%d" % number(draw), b"turn=" + turn, draw.choice((b"rule=least", b"rule=sweep")), b"files=%d" % files]
+    lines += [b"file=%d,%d" % (number(draw), number(draw)) for _ in range(files)] + [b"wants=%d" % wants]
+    return b"\n".join(lines + [b"want=%d,%d" % (number(draw), number(draw)) for _ in range(wants)]) + b"\n"
+
+
+def longest(turn):
+    """The longest sheet that can be read, but for the price: 256 files and 64 wants of the longest numbers."""
+    most = b"%d,%d" % (2**64 - 1, 2**64 - 1)
+    return b"tape=ABCDEFGHIJKLMNOP\nhead=%d\nturn=%s\nrule=least\nfiles=256\n" % (2**64 - 1, turn) + (b"file=" + most + b"\n") * 256 \
+        + b"wants=64\n" + (b"want=" + most + b"\n") * 64
+
+
+def damaged(draw, sheet):
+    """The sheet with a byte changed, put in or taken out, most often near the price."""
+    at = draw.choice((draw.randrange(len(sheet)), min(len(sheet) - 1, max(0, sheet.find(b"turn=") + draw.randrange(-2, 9)))))
+    byte = draw.choice((b"0", b"1", b"=", b",", b"\n", b"\r", b" ", b"t", b"\x00", b"\xff"))
+    return sheet[:at] + draw.choice((byte, b"")) + sheet[at + draw.choice((0, 1)):]
+
+
+def cases():
+    example = contents(os.path.join(programs.ROOT, "examples/VX0041.run"))
+    old = example.replace(b"turn=1\n", b"turn=\n")
+    for path in stored():
+        yield contents(path)
+    for sheet in (example, old):
+        for cut in range(len(sheet) + 1):
+            yield sheet[:cut]
+        for at in range(len(sheet)):
+            for byte in (b"0", b"\n"):
+                yield sheet[:at] + byte + sheet[at + 1:]
+    for bad in (b"turn=00", b"turn=01", b"turn= ", b"turn=\r", b"turn=\nturn=", b"turn", b"Turn=", b"turn=-0", b"turn=%d" % 2**64, b"turn=%d" % (2**64 - 1)):
+        yield old.replace(b"turn=", bad)
+    for turn in (b"", b"0", b"%d" % (2**64 - 1)):
+        yield longest(turn)
+        yield longest(turn) + b"\n"
+    for size in (LIMIT - 1, LIMIT, LIMIT + 1):
+        yield old + b" " * (size - len(old))
+        yield b"\n" * size
+    draw = random.Random(3)
+    for _ in range(450):
+        sheet = drawn(draw)
+        yield sheet
+        yield damaged(draw, sheet)
+        yield damaged(draw, damaged(draw, sheet))
+
+
+def compare(start):
+    seen, tried, changed = set(), 0, 0
+    for sheet in cases():
+        must = answer(sheet)
+        out = subprocess.run(start, input=sheet, capture_output=True).stdout
+        tried += 1
+        if out != must:
+            sys.exit(f"rewrite.py: for the sheet\n{sheet!r}\nthe program printed\n{out!r}\nand should have printed\n{must!r}")
+        if out.startswith(b"refused"):
+            seen.add(out.split(b"\n")[0])
+            continue
+        compare_meaning(sheet, out)
+        if out != sheet:
+            changed += 1
+            if changed <= 100 and subprocess.run(start, input=out, capture_output=True).stdout != out:
+                sys.exit(f"rewrite.py: rewritten again, this sheet is not itself:\n{out!r}")
+    if seen != {b"refused=11", b"refused=12"} or changed < 200:
+        sys.exit(f"rewrite.py: the sheets tried met {sorted(seen)}, and {changed} were changed")
+    print(f"rewrite.py: {tried} sheets answered as they must be, {changed} of them with a price put in")
+
+
+def timed(start, sheet, calls=300):
+    taken = []
+    for _ in range(calls):
+        began = time.perf_counter()
+        subprocess.run(start, input=sheet, capture_output=True)
+        taken.append(1000 * (time.perf_counter() - began))
+    taken.sort()
+    return f"best {taken[0]:.2f} ms, median {taken[calls // 2]:.2f} ms of {calls} calls"
+
+
+def main():
+    words = programs.arguments(__doc__.split("\n")[0], "cmd_rewrite").parse_args()
+    start = programs.started(words)
+    if not words.time:
+        compare(start)
+        return
+    programs.say_if_emulated(start)
+    print(f"long sheet ({len(longest(b''))} bytes): {timed(start, longest(b''))}")
+    print(f"empty sheet, refused at once: {timed(start, b'')}")
+
+
+if __name__ == "__main__":
+    main()
