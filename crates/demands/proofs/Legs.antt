@@ -39,12 +39,22 @@ one-leg-more : (U : ℕ) (h : Head) (g : Leg) (gs : List Leg) (s : Stop) (t n : 
 unfolding walked
 one-leg-more U h g gs s t zero e r = absurd (omega (arith, r .counted .0))
 one-leg-more U h g gs s t (suc n) e r =
-    record { counted = (omega arith, omega (arith, r .counted .1)); here = r .here; first = before; clock = r .clock }
+    let up : suc (suc n) - 1 ≡ suc n = omega arith in
+    let down : suc n - 1 ≡ n = omega arith in
+    record {
+      counted = (omega arith, omega (arith, r .counted .1));
+      here = rw up (rw down at (r .here));
+      first = before;
+      clock = rw up (rw down at (r .clock));
+    }
   where
     before : (m : ℕ) → 0 < m → m < suc (suc n) → reads (legNumbered (g ∷ gs) m) s ≡ false
     before zero l h = absurd (omega arith)
     before (suc zero) l h = e
-    before (suc (suc m)) l h = r .first (suc m) (omega arith) (omega arith)
+    before (suc (suc m)) l h =
+        let up : suc (suc m) - 1 ≡ suc m = omega arith in
+        let down : suc m - 1 ≡ m = omega arith in
+        rw up (rw down at (r .first (suc m) (omega arith) (omega arith)))
 
 reads-in : (U : ℕ) (h : Head) (gs : List Leg) (s : Stop) → served gs s ≡ true → ReadsIn U h gs s (timeOf U h gs s) (legFor gs s)
 unfolding served timeOf legFrom walked
