@@ -105,7 +105,7 @@
 #include <stddef.h>
 #include <stdint.h>
 
-#define VIOLSTREAM_VERSION "0.1.0"
+#define VIOLSTREAM_VERSION "1.0.0"
 
 /* A value as another type, in the words of either language. */
 #ifdef __cplusplus
