@@ -124,6 +124,9 @@ command_installed() {
     path=$(printf '%s' "$PATH" | tr ':' '\n' | while IFS= read -r folder; do [ -x "$folder/rt" ] || printf '%s:' "$folder"; done)
     step "the installed command" env -u RATTLE_HOME PATH="${path%:}" "$prefix/bin/violstream" plan - < "$here/examples/VX0041.run" > "$out/plan.is"
     same "the installed command" "$here/examples/VX0041.plan" "$out/plan.is"
+    sed 's/^turn=$/turn=0/' "$here/examples/no-wants.run" > "$out/sheet.must"
+    step "the installed command's rewriting" env -u RATTLE_HOME PATH="${path%:}" "$prefix/bin/violstream" rewrite "$here/examples/no-wants.run" > "$out/sheet.is"
+    same "the installed command's rewriting" "$out/sheet.must" "$out/sheet.is"
     "$prefix/bin/violstream" version > "$out/version.is" || fail "the installed command does not say its version"
     "$here/violstream" version > "$out/version.must"
     same "the installed command's version" "$out/version.must" "$out/version.is"

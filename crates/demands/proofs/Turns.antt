@@ -23,7 +23,7 @@ use Rattle.writers.specs.declared.Written.{Written}
 use Rattle.writers.specs.Writing.{rowVerdict, writtenAnswer, writtenRow}
 use Rattle.writers.proofs.Reread.{key-value}
 use Rattle.turns.specs.Rewriting.{priceIsEmpty, rewritten, rewriteVerdict, SheetRewritten}
-use Rattle.turns.proofs.Meaning.{upper, old-cut, new-cut, unchanged, keeps, little-longer}
+use Rattle.turns.proofs.Meaning.{upper, rest-is, old-cut, new-cut, unchanged, keeps, little-longer}
 use Rattle.demands.specs.Table.{FirstBad}
 use Rattle.demands.specs.Lines.{Number, LineIsBad, linesDue}
 use Rattle.demands.specs.Turns.{EmptyPrice, GivenPrice, DrivesOwnPrice, RewrittenBytes, RewrittenMeans, RewrittenOnce, UnreadApplies, ResultApplies, UnreadFirst, RewriteFinds, unread, result, Demand1Rewrite}
@@ -137,7 +137,7 @@ rewritten-bytes sheet row answer out says accepts =
       either = price-stands sheet readable;
       empty = λ p.
           let e = is-empty sheet p in
-          record { above = upper sheet readable e; back = afterLines 3 sheet; old = old-cut sheet readable e; new = text ∙ new-cut sheet readable e };
+          record { above = upper sheet readable e; back = afterLines 3 sheet; third = rest-is sheet readable e; old = old-cut sheet readable e; new = text ∙ new-cut sheet readable e };
       given = λ p. text ∙ unchanged sheet readable (is-given sheet p);
       later = later-is sheet row answer out says accepts;
     }

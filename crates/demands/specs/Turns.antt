@@ -11,7 +11,7 @@ use Rattle.refusals.specs.declared.Refusal.{Refusal}
 use Rattle.refusals.specs.declared.Refusal.the-variants.{Accepted, BadLine, LongSheet, ShortRow}
 use Rattle.texts.specs.Text.{lineFeed, valueOf}
 use Rattle.sheets.specs.declared.Reading.{Reading}
-use Rattle.sheets.specs.Lines.{turnKey}
+use Rattle.sheets.specs.Lines.{afterLines, turnKey}
 use Rattle.sheets.specs.Sheet.{longestSheet}
 use Rattle.sheets.specs.Reading.{RunRows, ReadWith, SheetRead, readName}
 use Rattle.writers.specs.declared.Written.{Written}
@@ -38,10 +38,12 @@ DrivesOwnPrice =
     → answer .refusal ≡ Accepted
     → PriceRead sheet answer
 
--- Byte for byte the same elsewhere: the sheet is a front that ends in `turn=`, an LF and a back, and the result has a 0 before that LF.
+-- Byte for byte the same elsewhere: the sheet is a front that ends in `turn=`, an LF and a back, cut in the third line, and the result has a 0 before
+-- that LF.
 pub record ZeroPutIn (sheet result : List ℕ) : Type 0 where
   pub above : List ℕ
   pub back : List ℕ
+  pub third : afterLines 2 sheet ≡ turnKey ++ (lineFeed ∷ back)
   pub old : sheet ≡ (above ++ turnKey) ++ (lineFeed ∷ back)
   pub new : result ≡ (above ++ turnKey) ++ (code "0" ∷ (lineFeed ∷ back))
 

@@ -154,7 +154,7 @@ module _ (sheet : List ℕ) (good : Readable sheet) (empty : priceIsEmpty sheet 
   pub upper-rest : sheet ≡ upper ++ afterLines 2 sheet
   upper-rest = tape-split sheet good ∙ ap (λ y. lineAfter 0 sheet ++ (lineFeed ∷ y)) (head-split sheet good) ∙ sym (upper-then (afterLines 2 sheet))
 
-  rest-is : afterLines 2 sheet ≡ turnKey ++ (lineFeed ∷ afterLines 3 sheet)
+  pub rest-is : afterLines 2 sheet ≡ turnKey ++ (lineFeed ∷ afterLines 3 sheet)
   rest-is = turn-split sheet good ∙ ap (λ y. y ++ (lineFeed ∷ afterLines 3 sheet)) turn-line
 
   pub old-cut : sheet ≡ (upper ++ turnKey) ++ (lineFeed ∷ afterLines 3 sheet)
