@@ -44,12 +44,13 @@ static uint64_t upto(uint64_t most)
     return 1 + state % most;
 }
 
-/* A run as the table programs take it and as the boundary takes it. */
+/* A run as the boundary takes it, and its stops as the table programs take them. */
 struct request {
+    size_t files, wants;
+    uint64_t starts[VIOLSTREAM_MAX_FILES], lengths[VIOLSTREAM_MAX_FILES], aggregates[VIOLSTREAM_MAX_FILES];
+    uint64_t numbers[VIOLSTREAM_MAX_WANTS], counts[VIOLSTREAM_MAX_WANTS];
     struct stops stops;
-    size_t files;
-    uint64_t starts[VIOLSTREAM_MAX_FILES], lengths[VIOLSTREAM_MAX_FILES];
-    uint64_t numbers[VIOLSTREAM_MAX_WANTS];
+    uint64_t names[VIOLSTREAM_MAX_WANTS];   /* of the stops: their first files */
 };
 
 static void add_file(struct request *q, uint64_t most_length)
@@ -58,31 +59,76 @@ static void add_file(struct request *q, uint64_t most_length)
     uint64_t end = n == 0 ? 0 : q->starts[n - 1] + q->lengths[n - 1];
     q->starts[n] = end + upto(most_length / 4 + 1);
     q->lengths[n] = upto(most_length);
+    q->aggregates[n] = 0;
 }
 
 static void want_last_file(struct request *q)
 {
-    size_t file = q->files - 1, i = q->stops.k++;
-    q->numbers[i] = file + 1;
-    q->stops.start[i] = q->starts[file];
-    q->stops.end[i] = q->starts[file] + q->lengths[file];
-    q->stops.count[i] = 1;
+    q->counts[q->wants] = 1;
+    q->numbers[q->wants++] = q->files;
+}
+
+static bool one_aggregate(const struct request *q, size_t file, size_t next)
+{
+    return q->aggregates[file] != 0 && q->aggregates[file] == q->aggregates[next];
+}
+
+/* The stops of the wants: those of one aggregate are one. */
+static void join(struct request *q)
+{
+    struct stops *p = &q->stops;
+    p->k = 0;
+    for (size_t i = 0; i < q->wants; i++) {
+        size_t first = (size_t)q->numbers[i] - 1, last = first;
+        while (first > 0 && one_aggregate(q, first - 1, first))
+            first--;
+        while (last + 1 < q->files && one_aggregate(q, last, last + 1))
+            last++;
+        if (p->k > 0 && q->names[p->k - 1] == first + 1) {
+            p->count[p->k - 1] += q->counts[i];
+            continue;
+        }
+        q->names[p->k] = first + 1;
+        p->start[p->k] = q->starts[first];
+        p->end[p->k] = q->starts[last] + q->lengths[last];
+        p->count[p->k++] = q->counts[i];
+    }
 }
 
 /* k wants on a tape of at least 2 * k files: of the leftmost files all but every third are wanted. */
 static void make_request(struct request *q, size_t k, uint64_t reads, size_t files)
 {
     const uint64_t most_length = 100000000;
-    q->files = 0;
+    q->files = q->wants = 0;
     q->stops = (struct stops){.reads = reads, .turn = upto(1000000)};
     while (q->files < files) {
         add_file(q, most_length);
-        if (q->stops.k < k && q->files % 3 != 0)
+        if (q->wants < k && q->files % 3 != 0)
             want_last_file(q);
     }
     for (uint64_t rest = reads - k; rest > 0; rest--)
-        q->stops.count[upto(k) - 1]++;
+        q->counts[upto(k) - 1]++;
     q->stops.head = q->starts[files - 1] + q->lengths[files - 1];
+    join(q);
+}
+
+/* Every so many files in an aggregate. The numbers fall, so that none is looked for. */
+static void aggregate(struct request *q, size_t together)
+{
+    for (size_t i = 0; i < q->files; i++)
+        q->aggregates[i] = VIOLSTREAM_MAX_AGGREGATE - i / together;
+    join(q);
+}
+
+/* Every file in an aggregate of its own, in the order in which judging takes longest: the lowest number, the highest, and then
+ * the others, so that each lies between numbers that were met and is looked for among them. */
+static void aggregate_worst(struct request *q)
+{
+    for (size_t i = 0; i < q->files; i++)
+        q->aggregates[i] = i;
+    q->aggregates[0] = 1;
+    q->aggregates[1] = VIOLSTREAM_MAX_AGGREGATE;
+    join(q);
 }
 
 /* ---- Engines ---- */
@@ -95,10 +141,10 @@ static struct stop_list plain_list;
 static uint64_t by_boundary(const struct request *q)
 {
     const struct stops *p = &q->stops;
-    uint64_t result = violstream_plan(q->starts, q->files, q->lengths, q->files, q->numbers, p->k, p->count, p->k,
-                                      p->head, p->turn, VIOLSTREAM_LEAST, from, VIOLSTREAM_MAX_WANTS, to,
-                                      VIOLSTREAM_MAX_WANTS, times, VIOLSTREAM_MAX_WANTS, legs, VIOLSTREAM_MAX_WANTS,
-                                      sums, VIOLSTREAM_SUMS, room, VIOLSTREAM_ROOM_MOST);
+    uint64_t result = violstream_plan(q->starts, q->files, q->lengths, q->files, q->aggregates, q->files, q->numbers,
+                                      q->wants, q->counts, q->wants, p->head, p->turn, VIOLSTREAM_LEAST, from,
+                                      VIOLSTREAM_MAX_WANTS, to, VIOLSTREAM_MAX_WANTS, times, VIOLSTREAM_MAX_WANTS, legs,
+                                      VIOLSTREAM_MAX_WANTS, sums, VIOLSTREAM_SUMS, room, VIOLSTREAM_ROOM_MOST);
     if (result != 0)
         fail(violstream_reason(result), p->k, p->reads);
     return sums[VIOLSTREAM_SUM];
@@ -146,7 +192,7 @@ static void compare_lists(const struct request *q)
     if (sums[VIOLSTREAM_DETOURS] != plain_list.length)
         fail("the planner's list and plain C's differ in length", q->stops.k, q->stops.reads);
     for (size_t i = 0; i < plain_list.length; i++)
-        if (from[i] != q->numbers[plain_list.start[i]] || to[i] != q->numbers[plain_list.end[i]])
+        if (from[i] != q->names[plain_list.start[i]] || to[i] != q->names[plain_list.end[i]])
             fail("the planner's list and plain C's differ", q->stops.k, q->stops.reads);
 }
 
@@ -178,7 +224,7 @@ static void print_size(const struct request *q, const char *where)
 {
     double best[ENGINES];
     time_all(q, best);
-    printf("%6zu %6" PRIu64 "  %-9s | %8.3f  %8.3f  %8.3f     %8.3f  %8.3f | %10.2f | %5.2f  %5.2f  %11.2f\n", q->stops.k,
+    printf("%6zu %6" PRIu64 "  %-9s | %8.3f  %8.3f  %8.3f     %8.3f  %8.3f | %10.2f | %5.2f  %5.2f  %11.2f\n", q->wants,
            q->stops.reads, where, best[BOUNDARY], best[PLAIN], best[PAPER], best[PAPER_ROWS], best[CLEARING],
            best[BOUNDARY] / best[PLAIN], same_job(best, PLAIN), same_job(best, PAPER), same_job(best, PAPER_ROWS));
     fflush(stdout);
@@ -187,9 +233,10 @@ static void print_size(const struct request *q, const char *where)
 /* One read for each want, and all the others at one of them: the dearest shapes have it at one end. */
 static void crowd(struct request *q, size_t at)
 {
-    for (size_t i = 0; i < q->stops.k; i++)
-        q->stops.count[i] = 1;
-    q->stops.count[at] += q->stops.reads - q->stops.k;
+    for (size_t i = 0; i < q->wants; i++)
+        q->counts[i] = 1;
+    q->counts[at] += q->stops.reads - q->wants;
+    join(q);
 }
 
 static void print_sizes(struct request *q)
@@ -205,10 +252,18 @@ static void print_sizes(struct request *q)
         }
     crowd(q, 0);
     print_size(q, "leftmost");
-    crowd(q, q->stops.k / 2);
+    crowd(q, q->wants / 2);
     print_size(q, "middle");
-    crowd(q, q->stops.k - 1);
+    crowd(q, q->wants - 1);
     print_size(q, "rightmost");
+    static const size_t together[] = {1, 2, 6};
+    for (size_t i = 0; i < sizeof together / sizeof *together; i++) {
+        char where[32];
+        make_request(q, 64, 1024, 128);
+        aggregate(q, together[i]);
+        snprintf(where, sizeof where, "%zu by %zu", q->stops.k, together[i]);
+        print_size(q, where);
+    }
 }
 
 /* ---- The pricer ---- */
@@ -216,19 +271,19 @@ static void print_sizes(struct request *q)
 static void price(const struct request *q, size_t detours)
 {
     const struct stops *p = &q->stops;
-    uint64_t result = violstream_price(q->starts, q->files, q->lengths, q->files, q->numbers, p->k, p->count, p->k,
-                                       p->head, p->turn, from, detours, to, detours, times, VIOLSTREAM_MAX_WANTS, legs,
-                                       VIOLSTREAM_MAX_WANTS, sums, VIOLSTREAM_SUMS);
+    uint64_t result = violstream_price(q->starts, q->files, q->lengths, q->files, q->aggregates, q->files, q->numbers,
+                                       q->wants, q->counts, q->wants, p->head, p->turn, from, detours, to, detours, times,
+                                       VIOLSTREAM_MAX_WANTS, legs, VIOLSTREAM_MAX_WANTS, sums, VIOLSTREAM_SUMS);
     if (result != 0)
         fail(violstream_reason(result), p->k, p->reads);
 }
 
-/* Each want by a detour of its own, from the right. */
+/* Each stop by a detour of its own, from the right. */
 static size_t single_detours(const struct request *q)
 {
     size_t k = q->stops.k;
     for (size_t i = 0; i + 1 < k; i++)
-        from[i] = to[i] = q->numbers[k - 1 - i];
+        from[i] = to[i] = q->names[k - 1 - i];
     return k - 1;
 }
 
@@ -237,8 +292,8 @@ static size_t nested_detours(const struct request *q)
 {
     size_t middle = q->stops.k / 2, n = 0;
     for (; n + 1 < middle; n++) {
-        from[n] = q->numbers[middle - n];
-        to[n] = q->numbers[middle + n];
+        from[n] = q->names[middle - n];
+        to[n] = q->names[middle + n];
     }
     return n;
 }
@@ -264,6 +319,32 @@ static void print_prices(struct request *q)
     print_price(q, "nested", nested_detours(q));
     make_request(q, 64, 1024, VIOLSTREAM_MAX_FILES);
     print_price(q, "one each", single_detours(q));
+    for (size_t i = 0; i < q->wants; i++)
+        q->numbers[i] = (i + 1) * 64;
+    aggregate(q, 64);
+    print_price(q, "one each, aggregates of 64", single_detours(q));
+}
+
+/* ---- Aggregate numbers in the worst order ---- */
+
+/* 4,096 files, each in an aggregate of its own. Judging looks for each number among those before it; the bar is 10 ms. */
+static void print_worst_order(struct request *q)
+{
+    enum { TURNS = 200 };
+    double price_best = 0, plan_best = 0;
+    make_request(q, 2, 2, VIOLSTREAM_MAX_FILES);
+    aggregate_worst(q);
+    for (int turn = 0; turn < (quick ? 1 : TURNS); turn++) {
+        double began = milliseconds();
+        price(q, 0);
+        double priced = milliseconds();
+        by_boundary(q);
+        double planned = milliseconds();
+        price_best = turn == 0 || priced - began < price_best ? priced - began : price_best;
+        plan_best = turn == 0 || planned - priced < plan_best ? planned - priced : plan_best;
+    }
+    printf("4,096 aggregates of one file, numbers in the worst order, 2 wants: price %.2f ms, plan %.2f ms (bar: 10)\n", price_best,
+           plan_best);
 }
 
 /* ---- Small plans ---- */
@@ -330,11 +411,13 @@ int main(int argc, char **argv)
            "One buffer serves all: before every timed call, outside the clock, it is filled with a pattern other than zero.\n"
            "No buffer is cleared first. boundary: violstream_plan, which judges, plans, prices and clears its room at the end.\n"
            "plain: table and list. paper: document 000's cells one by one. paper, rows: the same with n_skip innermost.\n"
-           "None of these clears its table. clearing: that alone. with clearing: a program's time and that of clearing together.\n\n",
+           "None of these clears its table. clearing: that alone. with clearing: a program's time and that of clearing together.\n"
+           "n by m: as no file, all files in aggregates of m, which make n stops of the wants; the table programs take the stops.\n\n",
            quick ? "one" : "at least 5", FLAGS);
     print_sizes(&request);
     printf("\n");
     print_prices(&request);
+    print_worst_order(&request);
     print_small(4, 8);
     print_small(10, 50);
     print_stack(&request);

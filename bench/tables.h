@@ -8,7 +8,7 @@
 
 enum { MOST_STOPS = 64 };
 
-/* The wanted files of a run, left to right. */
+/* The stops of a run, left to right: aggregates, and files in none, that are wanted. */
 struct stops {
     size_t k;
     uint64_t reads; /* of all stops together */

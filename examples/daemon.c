@@ -1,13 +1,13 @@
 /* A caller in the manner of a recall daemon: rows and room are set aside once, then each line of standard input is a
  * request and gets one line of answer.
  *
- *   plan HEAD TURN RULE files N START LENGTH ... wants N FILE COUNT ...
- *   price HEAD TURN files N START LENGTH ... wants N FILE COUNT ... detours N START END ...
+ *   plan HEAD TURN RULE files N START LENGTH AGGREGATE ... wants N FILE COUNT ...
+ *   price HEAD TURN files N START LENGTH AGGREGATE ... wants N FILE COUNT ... detours N START END ...
  *
- * RULE is least or sweep. An answer is
+ * RULE is least or sweep, AGGREGATE 0 for a file that lies in none. An answer is
  *
  *   sum=367 finish=121 end=50 detours=2,2 times=1:81,2:55,3:121 legs=1:2,2:1,3:2
- *   refused=7 place=0 head above 2^40, or left of the rightmost wanted file's end
+ *   refused=7 place=0 head above 2^40, or left of the end of the rightmost wanted file or its aggregate
  *   unreadable: word 4: a number was expected, not 'x'
  *
  * Against an installed library:  cc examples/daemon.c $(pkg-config --cflags --libs violstream) -o daemon
@@ -22,19 +22,20 @@
 #include <string.h>
 #include <violstream.h>
 
-static const char example[] = "plan 60 1 least files 3 0 10 10 4 20 30 wants 3 1 1 2 3 3 1";
+static const char example[] = "plan 60 1 least files 3 0 10 0 10 4 0 20 30 0 wants 3 1 1 2 3 3 1";
 
 /* One place more than the limits, so that a request over a limit can be lent as it is, and refused by the library. */
 enum { FILES = VIOLSTREAM_MAX_FILES + 1, WANTS = VIOLSTREAM_MAX_WANTS + 1 };
 
-/* Two rows of the same length. */
-struct pairs {
+/* Rows of the same length: two for wants and detours, three for files. */
+enum { MOST_ROWS = 3 };
+struct entries {
     size_t length;
-    uint64_t first[FILES], second[FILES];
+    uint64_t row[MOST_ROWS][FILES];
 };
 
 static struct {
-    struct pairs files, wants, detours;
+    struct entries files, wants, detours;
     uint64_t times[WANTS], legs[WANTS];
     uint64_t *room;
 } rows;
@@ -84,19 +85,20 @@ static void expect_word(struct words *words, const char *expected)
         say_unreadable(words, expected, word);
 }
 
-/* A key, the number of pairs, and the pairs. Pairs past what the rows hold are read and left out. */
-static void read_pairs(struct words *words, const char *key, size_t most, struct pairs *pairs)
+/* A key, the number of entries, and the entries, with a number for each row. Those past what the rows hold are read and
+ * left out. */
+static void read_entries(struct words *words, const char *key, int numbers, size_t most, struct entries *entries)
 {
     expect_word(words, key);
-    uint64_t number = next_number(words);
-    pairs->length = 0;
-    for (uint64_t i = 0; words->good && i < number; i++) {
-        uint64_t first = next_number(words), second = next_number(words);
-        if (i < most) {
-            pairs->first[i] = first;
-            pairs->second[i] = second;
-            pairs->length++;
+    uint64_t length = next_number(words);
+    entries->length = 0;
+    for (uint64_t i = 0; words->good && i < length; i++) {
+        for (int r = 0; r < numbers; r++) {
+            uint64_t number = next_number(words);
+            if (i < most)
+                entries->row[r][i] = number;
         }
+        entries->length += i < most;
     }
 }
 
@@ -124,10 +126,10 @@ static bool read_request(char *line, struct request *request)
     request->turn = next_number(&words);
     if (request->plan)
         request->rule = next_rule(&words);
-    read_pairs(&words, "files", FILES, &rows.files);
-    read_pairs(&words, "wants", WANTS, &rows.wants);
+    read_entries(&words, "files", 3, FILES, &rows.files);
+    read_entries(&words, "wants", 2, WANTS, &rows.wants);
     if (!request->plan)
-        read_pairs(&words, "detours", WANTS, &rows.detours);
+        read_entries(&words, "detours", 2, WANTS, &rows.detours);
     expect_word(&words, "");
     return words.good;
 }
@@ -138,8 +140,9 @@ static bool read_request(char *line, struct request *request)
 static struct violstream_run run_of(const struct request *request)
 {
     return (struct violstream_run){
-        .starts = rows.files.first, .lengths = rows.files.second, .files = rows.files.length,
-        .numbers = rows.wants.first, .counts = rows.wants.second, .wants = rows.wants.length,
+        .starts = rows.files.row[0], .lengths = rows.files.row[1], .aggregates = rows.files.row[2],
+        .files = rows.files.length,
+        .numbers = rows.wants.row[0], .counts = rows.wants.row[1], .wants = rows.wants.length,
         .head = request->head, .turn = request->turn,
     };
 }
@@ -148,7 +151,7 @@ static struct violstream_run run_of(const struct request *request)
 static struct violstream_rows lent(const struct request *request)
 {
     return (struct violstream_rows){
-        .detour_starts = rows.detours.first, .detour_ends = rows.detours.second,
+        .detour_starts = rows.detours.row[0], .detour_ends = rows.detours.row[1],
         .detours = request->plan ? WANTS : rows.detours.length,
         .times = rows.times, .times_len = WANTS,
         .legs = rows.legs, .legs_len = WANTS,
@@ -161,7 +164,7 @@ static void print_entries(const char *key, const uint64_t *entries)
 {
     printf(" %s=", key);
     for (size_t i = 0; i < rows.wants.length; i++)
-        printf("%s%" PRIu64 ":%" PRIu64, i == 0 ? "" : ",", rows.wants.first[i], entries[i]);
+        printf("%s%" PRIu64 ":%" PRIu64, i == 0 ? "" : ",", rows.wants.row[0][i], entries[i]);
 }
 
 static void print_accepted(const uint64_t *sums)
@@ -169,7 +172,7 @@ static void print_accepted(const uint64_t *sums)
     printf("sum=%" PRIu64 " finish=%" PRIu64 " end=%" PRIu64 " detours=", sums[VIOLSTREAM_SUM],
            sums[VIOLSTREAM_FINISH], sums[VIOLSTREAM_END]);
     for (size_t i = 0; i < sums[VIOLSTREAM_DETOURS]; i++)
-        printf("%s%" PRIu64 ",%" PRIu64, i == 0 ? "" : ";", rows.detours.first[i], rows.detours.second[i]);
+        printf("%s%" PRIu64 ",%" PRIu64, i == 0 ? "" : ";", rows.detours.row[0][i], rows.detours.row[1][i]);
     print_entries("times", rows.times);
     print_entries("legs", rows.legs);
     printf("\n");

@@ -4,8 +4,8 @@
  * Two calls. violstream_price says what a list of detours costs; violstream_plan finds the best list. Both work on
  * 64-bit numbers and on rows that the caller lends. They allocate nothing and keep nothing between calls, so several
  * threads can call at once, each with rows of its own. Whatever the run, violstream_price takes at most 1,024 bytes of
- * stack beside its arguments (672 measured) and violstream_plan at most 3 KB (2,592 measured); a plan at the limits takes
- * some tens of milliseconds. C99 or later, or C++. Link with libviolstream.a (x86-64, beside the C library alone):
+ * stack beside its arguments and violstream_plan at most 6 KB; a plan at the limits takes some tens of milliseconds. C99
+ * or later, or C++. Link with libviolstream.a (x86-64, beside the C library alone):
  *
  *   cc example.c $(pkg-config --cflags --libs violstream)
  *
@@ -15,26 +15,35 @@
  *
  *   Positions on the tape are whole numbers from 0 to 2^40. One unit of tape takes one unit of time, in both
  *   directions.
- *   Files are numbered from 1 in tape order; file f is entry f - 1 of `starts` and `lengths`. Gaps are allowed.
+ *   Files are numbered from 1 in tape order; file f is entry f - 1 of `starts`, `lengths` and `aggregates`. Gaps
+ *   are allowed.
+ *   Entry f - 1 of `aggregates` is the number of the aggregate in which file f lies, 1 to 4,096, or 0 for none. The
+ *   files of one aggregate are neighbours in the table; its number need not be higher than that of the one before.
+ *   An aggregate is read as a whole, from the start of its first file to the end of its last, the gaps between them
+ *   included.
  *   A want is a file number and how many reads of that file are waiting; wants stand in rising file number.
- *   The head starts at `head`, at or right of the end of the rightmost wanted file, set to move left, at clock 0.
- *   Each turn of the head, the first among them, costs `turn`. A file is read by the first rightward run that
+ *   A want of a file that lies in an aggregate is a want of the aggregate, also where none of its other files is
+ *   wanted. A stop is what is wanted so: an aggregate, or a file in none. Wants of files of one aggregate are one stop,
+ *   and their reads add up; its name is the number of the aggregate's first file, wanted or not. With 0 everywhere in
+ *   `aggregates` each want is a stop by itself.
+ *   The head starts at `head`, at or right of the end of the rightmost stop, set to move left, at clock 0.
+ *   Each turn of the head, the first among them, costs `turn`. A stop is read by the first rightward run that
  *   starts at or left of its start and ends at or right of its end; its time is the clock when the head reaches
- *   its end in that run. All reads of a file share that time. The sum of a run is the total, over wants, of reads
- *   times time.
+ *   its end in that run. That is the time of every want of the stop, and of all their reads. The sum of a run is the
+ *   total, over wants, of reads times time.
  *
  * DETOURS
  *
- *   A detour (a, b) names two wanted files by file number, a <= b: on first reaching the start of a, the head
- *   goes right to the end of b and comes back. A list of detours is well formed when every a lies right of the
- *   leftmost wanted file, the starts strictly fall from entry to entry (the order in which they are done), and of
+ *   A detour (a, b) names two stops, a <= b, each by the number of its first file: on first reaching the start of a,
+ *   the head goes right to the end of b and comes back. A list of detours is well formed when every a lies right of the
+ *   leftmost stop, the starts strictly fall from entry to entry (the order in which they are done), and of
  *   two detours with a < a' either b < a' or b' < b. After the list comes the last sweep: left to the start of
- *   the leftmost wanted file, then right to the end of the rightmost wanted file that no detour has read, where the
+ *   the leftmost stop, then right to the end of the rightmost stop that no detour has read, where the
  *   run finishes: the last thing that happens is a read. Without wants there is no sweep, only the empty list is
  *   well formed, and the head stays where it is.
  *   Legs are counted from 1: detour i of the list is leg i, and the last sweep is the last leg, leg 1 if the list is
- *   empty. A want's leg is the one whose rightward run reads its file.
- *   Of two lists with the same sum, look at the rightmost file at which they differ in whether a detour ends
+ *   empty. A want's leg is the one whose rightward run reads its stop.
+ *   Of two lists with the same sum, look at the rightmost stop at which they differ in whether a detour ends
  *   there or in where that detour starts: the list with no detour ending there comes first, else the one whose
  *   detour starts further right. So there is one best list.
  *
@@ -60,14 +69,15 @@
  *
  *     int main(void)
  *     {
- *         const uint64_t starts[] = {0, 10, 20}, lengths[] = {10, 4, 30}; // three files
- *         const uint64_t numbers[] = {1, 2, 3}, counts[] = {1, 3, 1};     // all wanted, file 2 three times
- *         static uint64_t room[VIOLSTREAM_ROOM_WORDS(3, 5)];              // 3 wants, 5 reads
+ *         const uint64_t starts[] = {0, 10, 16, 20}, lengths[] = {10, 4, 4, 30}; // four files
+ *         const uint64_t aggregates[] = {0, 7, 7, 0};                 // files 2 and 3 lie in aggregate 7
+ *         const uint64_t numbers[] = {1, 3, 4}, counts[] = {1, 3, 1}; // three are wanted, file 3 three times
+ *         static uint64_t room[VIOLSTREAM_ROOM_WORDS(3, 5)];          // 3 stops, 5 reads
  *         uint64_t from[2], to[2], times[3], legs[3];
  *         struct violstream_run run;
  *         struct violstream_rows rows;
  *
- *         run.starts = starts, run.lengths = lengths, run.files = 3;
+ *         run.starts = starts, run.lengths = lengths, run.aggregates = aggregates, run.files = 4;
  *         run.numbers = numbers, run.counts = counts, run.wants = 3;
  *         run.head = 60, run.turn = 1;
  *         rows.detour_starts = from, rows.detour_ends = to, rows.detours = 2;
@@ -92,12 +102,15 @@
  * It prints
  *
  * ---- output ----
- *     sum 367
+ *     sum 409
  *     detour 2,2
- *     file 1 at 81 in leg 2
- *     file 2 at 55 in leg 1
- *     file 3 at 121 in leg 2
+ *     file 1 at 93 in leg 2
+ *     file 3 at 61 in leg 1
+ *     file 4 at 133 in leg 2
  * ---- end of output ----
+ *
+ * The detour is to stop 2, which is aggregate 7: the head reads it from 10 to 20 for the three who wait for file 3. Were
+ * all four numbers 0, the sum would be 349, and the detour 3,3.
  */
 #ifndef VIOLSTREAM_H
 #define VIOLSTREAM_H
@@ -105,7 +118,7 @@
 #include <stddef.h>
 #include <stdint.h>
 
-#define VIOLSTREAM_VERSION "1.0.0"
+#define VIOLSTREAM_VERSION "2.0.0"
 
 /* A value as another type, in the words of either language. */
 #ifdef __cplusplus
@@ -116,19 +129,21 @@
 
 /* Limits. Each is itself still accepted. */
 #define VIOLSTREAM_MAX_FILES 4096
+#define VIOLSTREAM_MAX_AGGREGATE 4096                   /* the largest aggregate number */
 #define VIOLSTREAM_MAX_WANTS 64
 #define VIOLSTREAM_MAX_READS 1024                       /* of all wants together */
 #define VIOLSTREAM_MAX_POSITION (UINT64_C(1) << 40)     /* of the head and of every file's end */
 #define VIOLSTREAM_MAX_TURN (UINT64_C(1) << 32)
 
 /*
- * The words of room that violstream_plan needs for that many wants and that many reads of all wants together.
- * A constant when its arguments are; it takes `wants` twice. For a run at the limits it is 4,198,400 words (33,587,200
+ * The words of room that violstream_plan needs for that many stops and that many reads of all wants together. There are
+ * no more stops than wants, so the number of wants will do for `stops`.
+ * A constant when its arguments are; it takes `stops` twice. For a run at the limits it is 4,198,400 words (33,587,200
  * bytes); VIOLSTREAM_ROOM_MOST words do for every run that is accepted. With numbers past the limits it may wrap: check
  * them first, or lend VIOLSTREAM_ROOM_MOST words.
  */
-#define VIOLSTREAM_ROOM_WORDS(wants, reads) \
-    (VIOLSTREAM_AS(size_t, wants) * VIOLSTREAM_AS(size_t, wants) * (VIOLSTREAM_AS(size_t, reads) + 1))
+#define VIOLSTREAM_ROOM_WORDS(stops, reads) \
+    (VIOLSTREAM_AS(size_t, stops) * VIOLSTREAM_AS(size_t, stops) * (VIOLSTREAM_AS(size_t, reads) + 1))
 #define VIOLSTREAM_ROOM_MOST VIOLSTREAM_ROOM_WORDS(VIOLSTREAM_MAX_WANTS, VIOLSTREAM_MAX_READS)
 
 #ifdef __cplusplus
@@ -145,7 +160,7 @@ enum violstream_rule {
 enum violstream_sums {
     VIOLSTREAM_SUM = 0,     /* the total, over wants, of reads times time */
     VIOLSTREAM_FINISH = 1,  /* the clock at the end of the last sweep, which is the largest time; 0 without wants */
-    VIOLSTREAM_END = 2,     /* where the head is then, at the end of the file read last; `head` without wants */
+    VIOLSTREAM_END = 2,     /* where the head is then, at the end of the stop read last; `head` without wants */
     VIOLSTREAM_DETOURS = 3, /* the number of detours in the list */
     VIOLSTREAM_SUMS = 4     /* the words that `sums` must have */
 };
@@ -156,20 +171,25 @@ enum violstream_sums {
  */
 enum violstream_refusal {
     VIOLSTREAM_ACCEPTED = 0,
-    VIOLSTREAM_FILE_ROWS = 1,      /* over 4,096 files, or starts and lengths of unequal number; place 0 */
-    VIOLSTREAM_BAD_FILE = 2,       /* length 0, start before the previous end, or end above 2^40; place: the file */
+    VIOLSTREAM_FILE_ROWS = 1,      /* over 4,096 files, or starts, lengths and aggregates of unequal number; place 0 */
+    VIOLSTREAM_BAD_FILE = 2,       /* length 0, start before the previous end, end above 2^40, aggregate number above
+                                      4,096, or an aggregate number that returns after a file with another or none;
+                                      place: the first file with any of these */
     VIOLSTREAM_WANT_ROWS = 3,      /* over 64 wants, or numbers and counts of unequal number; place 0 */
     VIOLSTREAM_BAD_WANT = 4,       /* file not in the table or not ascending, or count 0; place: the want */
     VIOLSTREAM_TOO_MANY_READS = 5, /* over 1,024 reads; place 0 */
     VIOLSTREAM_TURN_PRICE = 6,     /* turn price above 2^32; place 0 */
-    VIOLSTREAM_HEAD_PLACE = 7,     /* head above 2^40, or left of the rightmost wanted file's end; place 0 */
+    VIOLSTREAM_HEAD_PLACE = 7,     /* head above 2^40, or left of the rightmost stop's end: of the aggregate's, where
+                                      the last want is of a file in one; place 0 */
     VIOLSTREAM_BAD_RULE = 14,      /* violstream_plan: rule neither 0 nor 1; place 0 */
     VIOLSTREAM_BAD_ENTRY = 10,     /* violstream_price: list not well formed; place: the first entry that breaks a rule
-                                      by itself or against an earlier one, 0 if starts and ends differ in number */
+                                      by itself or against an earlier one, 0 if starts and ends differ in number. An
+                                      entry that names a file of an aggregate other than the first breaks one */
     VIOLSTREAM_SHORT_ROW = 8,      /* times or legs shorter than the wants, or sums below 4 words; violstream_plan: also
-                                      a row for starts or ends of detours shorter than the wants less one (0 for
+                                      a row for starts or ends of detours shorter than the stops less one (0 for
                                       none); place 0 */
-    VIOLSTREAM_SHORT_ROOM = 9      /* violstream_plan, either rule: room below VIOLSTREAM_ROOM_WORDS; place 0 */
+    VIOLSTREAM_SHORT_ROOM = 9      /* violstream_plan, either rule: room below VIOLSTREAM_ROOM_WORDS of the stops and the
+                                      reads; place 0 */
 };
 
 /* The refusal's number in a result; VIOLSTREAM_ACCEPTED for 0. */
@@ -189,13 +209,14 @@ static inline const char *violstream_reason(uint64_t result)
 {
     switch (violstream_number(result)) {
     case VIOLSTREAM_ACCEPTED: return "accepted";
-    case VIOLSTREAM_FILE_ROWS: return "over 4,096 files, or starts and lengths of unequal number";
-    case VIOLSTREAM_BAD_FILE: return "file of length 0, before the previous end, or ending above 2^40";
+    case VIOLSTREAM_FILE_ROWS: return "over 4,096 files, or starts, lengths and aggregates of unequal number";
+    case VIOLSTREAM_BAD_FILE:
+        return "file of length 0, before the previous end or ending above 2^40, or aggregate number above 4,096 or returning";
     case VIOLSTREAM_WANT_ROWS: return "over 64 wants, or numbers and counts of unequal number";
     case VIOLSTREAM_BAD_WANT: return "want of a file not in the table or not ascending, or with count 0";
     case VIOLSTREAM_TOO_MANY_READS: return "over 1,024 reads";
     case VIOLSTREAM_TURN_PRICE: return "turn price above 2^32";
-    case VIOLSTREAM_HEAD_PLACE: return "head above 2^40, or left of the rightmost wanted file's end";
+    case VIOLSTREAM_HEAD_PLACE: return "head above 2^40, or left of the end of the rightmost wanted file or its aggregate";
     case VIOLSTREAM_BAD_RULE: return "rule number neither 0 nor 1";
     case VIOLSTREAM_BAD_ENTRY: return "list of detours not well formed";
     case VIOLSTREAM_SHORT_ROW: return "row for the answer too short";
@@ -207,18 +228,19 @@ static inline const char *violstream_reason(uint64_t result)
 /*
  * What a list of detours costs.
  *
- *   starts, lengths              the tape: each file's start and length, lent to be read
+ *   starts, lengths, aggregates  the tape: each file's start, length and aggregate number, lent to be read
  *   numbers, counts              the wants: each wanted file's number and its reads, lent to be read
  *   head, turn                   where the head starts, in units of tape; what a turn costs, in units of time
- *   detour_starts, detour_ends   the list: each detour's start file and end file, lent to be read
+ *   detour_starts, detour_ends   the list: each detour's first and last stop, by their first files, lent to be read
  *   times, legs                  for the answer, each at least one word for each want
  *   sums                         for the answer, at least 4 words
  *
  * Gives 0, or the refusal's number plus 256 times its place. On 0, times[i] is the time of want i + 1 and legs[i] its
- * leg, and sums holds sum, finish, end and the number of detours.
+ * leg, the same for wants of one aggregate, and sums holds sum, finish, end and the number of detours.
  */
 uint64_t violstream_price(const uint64_t *starts, size_t starts_len,
                           const uint64_t *lengths, size_t lengths_len,
+                          const uint64_t *aggregates, size_t aggregates_len,
                           const uint64_t *numbers, size_t numbers_len,
                           const uint64_t *counts, size_t counts_len,
                           uint64_t head, uint64_t turn,
@@ -231,18 +253,19 @@ uint64_t violstream_price(const uint64_t *starts, size_t starts_len,
 /*
  * The best list of detours by a rule, and what it costs.
  *
- *   starts, lengths, numbers, counts, head, turn   the run, as above
+ *   starts, lengths, aggregates, numbers, counts, head, turn   the run, as above
  *   rule                         VIOLSTREAM_SWEEP or VIOLSTREAM_LEAST
- *   detour_starts, detour_ends   for the answer, each at least one word for each want but one
+ *   detour_starts, detour_ends   for the answer, each at least one word for each stop but one
  *   times, legs, sums            for the answer, as above
- *   room                         working room, at least VIOLSTREAM_ROOM_WORDS(wants, reads) words, of any content
+ *   room                         working room, at least VIOLSTREAM_ROOM_WORDS(stops, reads) words, of any content
  *
  * Gives 0, or the refusal's number plus 256 times its place. On 0, the first sums[VIOLSTREAM_DETOURS] words of
  * detour_starts and detour_ends hold the list in the order done, times, legs and sums are as violstream_price gives them
- * for that list, and the first VIOLSTREAM_ROOM_WORDS(wants, reads) words of room are 0 under either rule.
+ * for that list, and the first VIOLSTREAM_ROOM_WORDS(stops, reads) words of room are 0 under either rule.
  */
 uint64_t violstream_plan(const uint64_t *starts, size_t starts_len,
                          const uint64_t *lengths, size_t lengths_len,
+                         const uint64_t *aggregates, size_t aggregates_len,
                          const uint64_t *numbers, size_t numbers_len,
                          const uint64_t *counts, size_t counts_len,
                          uint64_t head, uint64_t turn, uint64_t rule,
@@ -255,10 +278,11 @@ uint64_t violstream_plan(const uint64_t *starts, size_t starts_len,
 
 /*
  * The same two calls with their parameters by name. There is nothing behind them but the functions above: a length that two
- * rows share is handed on for each of them. Set every member that a call takes; sums alone is for the answer only.
+ * rows share is handed on for each of them. Set every member that a call takes; sums alone is for the answer only. Where no
+ * file lies in an aggregate, `aggregates` is a row of zeros, as long as the others.
  */
 struct violstream_run {
-    const uint64_t *starts, *lengths; /* the tape: `files` words each */
+    const uint64_t *starts, *lengths, *aggregates; /* the tape: `files` words each */
     size_t files;
     const uint64_t *numbers, *counts; /* the wants: `wants` words each */
     size_t wants;
@@ -279,18 +303,18 @@ struct violstream_rows {
 
 static inline uint64_t violstream_price_rows(const struct violstream_run *run, struct violstream_rows *rows)
 {
-    return violstream_price(run->starts, run->files, run->lengths, run->files, run->numbers, run->wants, run->counts,
-                            run->wants, run->head, run->turn, rows->detour_starts, rows->detours, rows->detour_ends,
-                            rows->detours, rows->times, rows->times_len, rows->legs, rows->legs_len, rows->sums,
-                            VIOLSTREAM_SUMS);
+    return violstream_price(run->starts, run->files, run->lengths, run->files, run->aggregates, run->files, run->numbers,
+                            run->wants, run->counts, run->wants, run->head, run->turn, rows->detour_starts, rows->detours,
+                            rows->detour_ends, rows->detours, rows->times, rows->times_len, rows->legs, rows->legs_len,
+                            rows->sums, VIOLSTREAM_SUMS);
 }
 
 static inline uint64_t violstream_plan_rows(const struct violstream_run *run, uint64_t rule, struct violstream_rows *rows)
 {
-    return violstream_plan(run->starts, run->files, run->lengths, run->files, run->numbers, run->wants, run->counts,
-                           run->wants, run->head, run->turn, rule, rows->detour_starts, rows->detours, rows->detour_ends,
-                           rows->detours, rows->times, rows->times_len, rows->legs, rows->legs_len, rows->sums,
-                           VIOLSTREAM_SUMS, rows->room, rows->room_len);
+    return violstream_plan(run->starts, run->files, run->lengths, run->files, run->aggregates, run->files, run->numbers,
+                           run->wants, run->counts, run->wants, run->head, run->turn, rule, rows->detour_starts,
+                           rows->detours, rows->detour_ends, rows->detours, rows->times, rows->times_len, rows->legs,
+                           rows->legs_len, rows->sums, VIOLSTREAM_SUMS, rows->room, rows->room_len);
 }
 
 #ifdef __cplusplus

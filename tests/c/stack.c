@@ -4,8 +4,8 @@
  *
  * A figure is what a call writes on a stack painted before (bench/stack.c), less what the same call writes if it reaches a
  * function that does nothing. So it holds the return address, which is added again, and every word below it. It does not
- * hold the caller's frame, to which the arguments beyond the sixth belong (x86-64: fourteen words for violstream_price,
- * seventeen for violstream_plan).
+ * hold the caller's frame, to which the arguments beyond the sixth belong (x86-64: sixteen words for violstream_price,
+ * nineteen for violstream_plan).
  *
  * make -C tests/c stack      (Makefile beside this file says against what)
  * target/tests/stack [MOST]  exit status: 0 none above MOST (default 1,024), 1 some, or a wrong result */
@@ -33,6 +33,7 @@ static _Noreturn void fail(const char *why, const char *what)
 static struct {
     ROW(starts, FILES);
     ROW(lengths, FILES);
+    ROW(aggregates, FILES);
     ROW(numbers, WANTS);
     ROW(counts, WANTS);
     ROW(from, WANTS);
@@ -50,14 +51,15 @@ static __typeof__(&violstream_plan) volatile plan;
 
 static void call_price(void)
 {
-    call.result = price(LEND(starts), LEND(lengths), LEND(numbers), LEND(counts), call.head, call.turn, LEND(from), LEND(to),
-                        LEND(times), LEND(legs), LEND(sums));
+    call.result = price(LEND(starts), LEND(lengths), LEND(aggregates), LEND(numbers), LEND(counts), call.head, call.turn,
+                        LEND(from), LEND(to), LEND(times), LEND(legs), LEND(sums));
 }
 
 static void call_plan(void)
 {
-    call.result = plan(LEND(starts), LEND(lengths), LEND(numbers), LEND(counts), call.head, call.turn, VIOLSTREAM_LEAST,
-                       LEND(from), LEND(to), LEND(times), LEND(legs), LEND(sums), room, VIOLSTREAM_ROOM_MOST);
+    call.result = plan(LEND(starts), LEND(lengths), LEND(aggregates), LEND(numbers), LEND(counts), call.head, call.turn,
+                       VIOLSTREAM_LEAST, LEND(from), LEND(to), LEND(times), LEND(legs), LEND(sums), room,
+                       VIOLSTREAM_ROOM_MOST);
 }
 
 /* In the place of either function. It looks at no argument, the caller clears them away; compiled with -O2 it writes no word. */
@@ -104,12 +106,13 @@ static void at_the_limits(void)
     for (size_t i = 0; i <= FILES; i++) {
         call.starts[i] = i * part;
         call.lengths[i] = part;
+        call.aggregates[i] = 0;
     }
     for (size_t i = 0; i <= WANTS; i++) {
         call.numbers[i] = (i + 1) * (FILES / WANTS);
         call.counts[i] = VIOLSTREAM_MAX_READS / WANTS;
     }
-    call.starts_len = call.lengths_len = FILES;
+    call.starts_len = call.lengths_len = call.aggregates_len = FILES;
     call.numbers_len = call.counts_len = call.times_len = call.legs_len = WANTS;
     call.from_len = call.to_len = 0;
     call.sums_len = VIOLSTREAM_SUMS;
@@ -125,7 +128,7 @@ static void no_wants(void)
 static void no_files(void)
 {
     no_wants();
-    call.starts_len = call.lengths_len = 0;
+    call.starts_len = call.lengths_len = call.aggregates_len = 0;
 }
 
 /* A detour for each want but the leftmost, from the right: no longer list is well formed. */
@@ -147,8 +150,42 @@ static void nested(void)
     call.from_len = call.to_len = WANTS / 2;
 }
 
-static void file_over(void) { call.starts_len = call.lengths_len = FILES + 1; }
+/* Every file in an aggregate of its own: the lowest number, the highest, then those between them, so that each is looked for
+ * among all before it. */
+static void each_its_own(void)
+{
+    for (size_t i = 0; i < FILES; i++)
+        call.aggregates[i] = i;
+    call.aggregates[0] = 1;
+    call.aggregates[1] = VIOLSTREAM_MAX_AGGREGATE;
+}
+
+/* The 64 files up to each wanted one in an aggregate, which the list names by the first of them. */
+static void in_aggregates(void)
+{
+    for (size_t i = 0; i < FILES; i++)
+        call.aggregates[i] = WANTS - i / (FILES / WANTS);
+    for (size_t i = 0; i + 1 < WANTS; i++)
+        call.from[i] = call.to[i] = call.numbers[WANTS - 1 - i] - (FILES / WANTS - 1);
+    call.from_len = call.to_len = WANTS - 1;
+}
+
+/* The last 64 files wanted, all in one aggregate with every other file: one stop. */
+static void all_in_one(void)
+{
+    for (size_t i = 0; i < FILES; i++)
+        call.aggregates[i] = VIOLSTREAM_MAX_AGGREGATE;
+    for (size_t i = 0; i < WANTS; i++)
+        call.numbers[i] = FILES - WANTS + 1 + i;
+}
+
+static void file_over(void) { call.starts_len = call.lengths_len = call.aggregates_len = FILES + 1; }
 static void lengths_short(void) { call.lengths_len--; }
+static void aggregates_short(void) { call.aggregates_len--; }
+static void number_over(void) { call.aggregates[FILES - 1] = VIOLSTREAM_MAX_AGGREGATE + 1; }
+static void number_returns(void) { each_its_own(); call.aggregates[FILES - 1] = call.aggregates[0]; }
+static void head_in_aggregate(void) { all_in_one(); call.numbers_len = call.counts_len = WANTS - 1; call.head = call.starts[FILES - 1]; }
+static void last_later_member(void) { in_aggregates(); call.from[WANTS - 2]++; }
 static void file_empty(void) { call.lengths[FILES - 1] = 0; }
 static void file_early(void) { call.starts[FILES - 1]--; }
 static void file_far(void) { call.lengths[FILES - 1]++; }
@@ -181,10 +218,16 @@ static const struct {
     {"no detours", at_the_limits, 0},
     {"63 detours apart", apart, 0},
     {"32 detours nested", nested, 0},
+    {"4,096 aggregates of one file", each_its_own, 0},
+    {"64 aggregates of 64 files, a detour for each", in_aggregates, 0},
+    {"all files in one aggregate, 64 of them wanted", all_in_one, 0},
     {"no wants", no_wants, 0},
     {"no files", no_files, 0},
     {"1: 4,097 files", file_over, VIOLSTREAM_FILE_ROWS},
     {"1: a length too few", lengths_short, VIOLSTREAM_FILE_ROWS},
+    {"1: an aggregate number too few", aggregates_short, VIOLSTREAM_FILE_ROWS},
+    {"2: the last aggregate number is too high", number_over, AT(VIOLSTREAM_BAD_FILE, FILES)},
+    {"2: the last aggregate number is that of the first file", number_returns, AT(VIOLSTREAM_BAD_FILE, FILES)},
     {"2: the last file is empty", file_empty, AT(VIOLSTREAM_BAD_FILE, FILES)},
     {"2: the last file starts too early", file_early, AT(VIOLSTREAM_BAD_FILE, FILES)},
     {"2: the last file ends past the tape", file_far, AT(VIOLSTREAM_BAD_FILE, FILES)},
@@ -198,10 +241,12 @@ static const struct {
     {"6: a turn price over the limit", turn_over, VIOLSTREAM_TURN_PRICE},
     {"7: the head past the tape", head_over, VIOLSTREAM_HEAD_PLACE},
     {"7: the head left of the last end", head_left, VIOLSTREAM_HEAD_PLACE},
+    {"7: the head left of the last aggregate's end", head_in_aggregate, VIOLSTREAM_HEAD_PLACE},
     {"10: an end too few", ends_short, VIOLSTREAM_BAD_ENTRY},
     {"10: the last entry starts at an unwanted file", last_unwanted, AT(VIOLSTREAM_BAD_ENTRY, WANTS - 1)},
     {"10: the last entry ends left of its start", last_backwards, AT(VIOLSTREAM_BAD_ENTRY, WANTS - 1)},
     {"10: the last entry starts at the leftmost want", last_leftmost, AT(VIOLSTREAM_BAD_ENTRY, WANTS - 1)},
+    {"10: the last entry starts at the second file of an aggregate", last_later_member, AT(VIOLSTREAM_BAD_ENTRY, WANTS - 1)},
     {"10: the last start does not fall", last_not_falling, AT(VIOLSTREAM_BAD_ENTRY, WANTS - 1)},
     {"10: the last entry ends where one inside it does", last_again, AT(VIOLSTREAM_BAD_ENTRY, WANTS / 2)},
     {"8: a time too few", times_short, VIOLSTREAM_SHORT_ROW},

@@ -92,6 +92,12 @@ def refusal(number, place=0):
     return b"refused=%d\nplace=%d\n" % (number, place)
 
 
+def in_aggregate(wants):
+    """The sheet with files 2 and 3 in an aggregate, and other wants."""
+    table = contents("examples/aggregate.run")
+    return table[:table.index(b"wants=")] + b"wants=%d\n" % wants.count(b"\n") + wants
+
+
 def changed(line, text):
     """The example with one line put in the place of another."""
     lines = RUN.split(b"\n")
@@ -233,10 +239,12 @@ def words_of_sheets(at):
     """Each refusal of a run sheet in words: which sheet, what is wrong, what stands at the place."""
     cut = b"x" * 70
     for sheet, out, words in (
-            (changed(8, b"file=13,30"), refusal(2, 3), 'file 3 (line 8, "file=13,30") starts at 13, before the end of file 2, which is 14'),
-            (changed(7, b"file=10,0"), refusal(2, 2), 'file 2 (line 7, "file=10,0") has length 0'),
-            (changed(8, b"file=20,1099511627776"), refusal(2, 3), "ends above 1099511627776 (2^40)"),
-            (changed(8, b"file=18446744073709551615,1"), refusal(2, 3), "ends above 1099511627776 (2^40)"),
+            (changed(8, b"file=13,30,0"), refusal(2, 3), 'file 3 (line 8, "file=13,30,0") starts at 13, before the end of file 2, which is 14'),
+            (changed(7, b"file=10,0,0"), refusal(2, 2), 'file 2 (line 7, "file=10,0,0") has length 0'),
+            (changed(8, b"file=20,1099511627776,0"), refusal(2, 3), "ends above 1099511627776 (2^40)"),
+            (changed(8, b"file=18446744073709551615,1,0"), refusal(2, 3), "ends above 1099511627776 (2^40)"),
+            (changed(8, b"file=20,30,4097"), refusal(2, 3), "has an aggregate number above 4096"),
+            (changed(8, b"file=20,30,7").replace(b"0,10,0", b"0,10,7"), refusal(2, 3), "lies in aggregate 7 again, after a file that does not"),
             (changed(12, b"want=2,1"), refusal(4, 3), 'want 3 (line 12, "want=2,1") does not name a larger file number than the want before it, "want=2,3"'),
             (changed(12, b"want=4,1"), refusal(4, 3), 'want 3 (line 12, "want=4,1") names file 4, and the table has files 1 to 3'),
             (changed(10, b"want=0,1"), refusal(4, 1), "want 1 (line 10, \"want=0,1\") names file 0"),
@@ -246,21 +254,24 @@ def words_of_sheets(at):
             (changed(3, b"turn=4294967297"), refusal(6), 'the turn price (line 3, "turn=4294967297") is above 4294967296'),
             (changed(2, b"head=49"), refusal(7), 'the head (line 2, "head=49") stands left of 50, the end of file 3'),
             (changed(2, b"head=1099511627777"), refusal(7), "stands above 1099511627776 (2^40)"),
+            (in_aggregate(b"want=2,1\n").replace(b"head=60", b"head=19"), refusal(7), "left of 20, the end of file 3, the last of the aggregate of file 2"),
             (changed(10, b"want=1,564"), refusal(9), "3 wants with 568 reads in all ask for 3 * 3 * 569 = 5121 words of working room; there are 5120"),
+            (in_aggregate(b"want=1,564\nwant=2,1\nwant=3,2\nwant=4,1\n"), refusal(9), "4 wants at 3 stops with 568 reads in all ask for 3 * 3 * 569"),
             (b"x" * 16385, refusal(12), "over 16384 bytes"),
-            (changed(6, b"file=10;4"), refusal(11, 6), 'line 6: expected file=START,LENGTH; found "file=10;4"'),
+            (changed(6, b"file=10;4"), refusal(11, 6), 'line 6: expected file=START,LENGTH,AGGREGATE; found "file=10;4"'),
             (RUN.replace(b"\n", b"\r\n"), refusal(11, 1), 'found "tape=VX0041\\r": it ends in a carriage return'),
             (RUN[:-1], refusal(11, 12), 'found "want=3,1": the line feed at its end is missing'),
             (changed(3, b"turn=01"), refusal(11, 3), 'line 3: expected turn=NUMBER; found "turn=01": a number has a leading zero'),
             (changed(9, b"wants=4"), refusal(11, 13), "line 13: expected want=FILE,READS; the sheet ends before it; line 9 says wants=4"),
             (changed(9, b"wants=2"), refusal(11, 12), 'line 12: expected the end of the sheet; found "want=3,1"; line 9 says wants=2'),
-            (changed(5, b"files=2"), refusal(11, 8), 'line 8: expected wants=NUMBER; found "file=20,30"; line 5 says files=2'),
-            (changed(5, b"files=4"), refusal(11, 9), 'line 9: expected file=START,LENGTH; found "wants=3"; line 5 says files=4'),
+            (changed(5, b"files=2"), refusal(11, 8), 'line 8: expected wants=NUMBER; found "file=20,30,0"; line 5 says files=2'),
+            (changed(5, b"files=4"), refusal(11, 9), 'line 9: expected file=START,LENGTH,AGGREGATE; found "wants=3"; line 5 says files=4'),
             (changed(5, b"files=257"), refusal(11, 5), "at most 256 files"),
             (changed(9, b"wants=65"), refusal(11, 9), "at most 64 wants"),
             (RUN + b"\n", refusal(11, 13), "line 13: expected the end of the sheet; found an empty line; line 9 says wants=3"),
             (changed(11, b"want=2, 3"), refusal(11, 11), "there is a blank in it"),
             (changed(11, b"want=2"), refusal(11, 11), "two numbers must stand there"),
+            (changed(7, b"file=10,4"), refusal(11, 7), "three numbers must stand there"),
             (changed(2, b"head=-1"), refusal(11, 2), "a number has a sign"),
             (changed(2, b"head="), refusal(11, 2), "the number is missing"),
             (changed(2, b"head=18446744073709551616"), refusal(11, 2), "18446744073709551616 is not below 2^64"),
@@ -390,7 +401,7 @@ def transcripts(at):
     ltfs = [block[0] for block in readme if block[0].startswith("./violstream ltfs")]
     at.must(ltfs[0], 0, SHEET, [REPORT])
     shown = [block[0] for block in blocks("docs/OPERATOR.md") if block[0].startswith("violstream: ")]
-    at.must("./violstream plan", 3, refusal(2, 3), shown, data=changed(8, b"file=13,30"))
+    at.must("./violstream plan", 3, refusal(2, 3), shown, data=changed(8, b"file=13,30,0"))
     if len(said) != 1 or len(shown) != 1:
         raise Wrong("README or OPERATOR does not show a refusal in words")
 

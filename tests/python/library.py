@@ -24,10 +24,11 @@ def main():
     plan = ctypes.CDLL(sys.argv[1]).violstream_plan
     plan.restype = WORD
     starts, ends, times, legs, sums = row(0, 0), row(0, 0), row(0, 0, 0), row(0, 0, 0), row(0, 0, 0, 0)
-    run = lent(row(0, 10, 20), row(10, 4, 30), row(1, 2, 3), row(1, 3, 1)) + [WORD(60), WORD(1), WORD(1)]
+    tape = row(0, 10, 16, 20), row(10, 4, 4, 30), row(0, 7, 7, 0)
+    run = lent(*tape, row(1, 3, 4), row(1, 3, 1)) + [WORD(60), WORD(1), WORD(1)]
     result = plan(*run, *lent(starts, ends, times, legs, sums, row(*[7] * 54)))
     found = (result, list(sums), starts[0], ends[0], list(times), list(legs))
-    if found != (0, [367, 121, 50, 1], 2, 2, [81, 55, 121], [2, 1, 2]):
+    if found != (0, [409, 133, 50, 1], 2, 2, [93, 61, 133], [2, 1, 2]):
         sys.exit(f"library.py: violstream_plan gives {found}")
     result = plan(*run, *lent(starts, ends, times, legs, sums, row(*[7] * 53)))
     if result != 9:

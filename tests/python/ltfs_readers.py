@@ -180,7 +180,7 @@ def taken_apart(text):
 
 def sheet(name, ranges):
     head = ranges[-1][0] + ranges[-1][1] if ranges else 0
-    rows = "".join(f"file={start},{count}\n" for start, count in ranges)
+    rows = "".join(f"file={start},{count},0\n" for start, count in ranges)
     return f"tape={name.decode()}\nhead={head}\nturn=0\nrule=least\nfiles={len(ranges)}\n{rows}wants=0\n".encode()
 
 

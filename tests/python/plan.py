@@ -15,7 +15,7 @@ import sys
 import time
 
 import programs
-from runs import Refused, judge, lists, order, walk
+from runs import Refused, judge, lists, order, stops, walk
 from sheets import read
 
 
@@ -24,15 +24,15 @@ def answer(sheet):
         name, head, turn, rule, table, asked = read(sheet)
         judge(head, turn, table, asked)
         reads = sum(count for _, count in asked)
-        if len(asked) ** 2 * (reads + 1) > 5120:
+        files = [first for first, _ in stops(table, asked)]
+        if len(files) ** 2 * (reads + 1) > 5120:
             raise Refused(9)
     except Refused as refusal:
         return refusal.args[0]
-    files = [number for number, _ in asked]
     def total(detours):
         times = walk(head, turn, table, asked, detours)[0]
         return sum(count * times[number] for number, count in asked)
-    if rule == b"sweep" or len(asked) > 10:
+    if rule == b"sweep" or len(files) > 10:
         best = []
         if rule == b"least":
             return None
@@ -41,31 +41,38 @@ def answer(sheet):
     times, legs, clock, place = walk(head, turn, table, asked, best)
     lines = [b"tape=" + name, b"sum=%d" % total(best), b"reads=%d" % reads, b"finish=%d" % clock, b"end=%d" % place,
              b"detours=%d" % len(best)]
-    lines += [b"detour=%d,%d" % d for d in best] + [b"time=%d,%d,%d" % (n, times[n], legs[n]) for n in files]
+    lines += [b"detour=%d,%d" % d for d in best] + [b"time=%d,%d,%d" % (n, times[n], legs[n]) for n, _ in asked]
     return b"\n".join(lines) + b"\n"
 
 
 def sheet_of(wants, reads):
     """A sheet with so many wants of one file each and so many reads in all."""
-    files = b"".join(b"file=%d,10\n" % (i * 10) for i in range(wants))
+    files = b"".join(b"file=%d,10,0\n" % (i * 10) for i in range(wants))
     asked = b"".join(b"want=%d,%d\n" % (i + 1, reads - wants + 1 if i == 0 else 1) for i in range(wants))
     return b"tape=A\nhead=%d\nturn=3\nrule=least\nfiles=%d\n" % (wants * 10, wants) + files + b"wants=%d\n" % wants + asked
 
 
+def aggregate_example(number):
+    """Files 2 and 3 in one aggregate with a gap between them, of which file 3 is wanted; with 0 each by itself."""
+    files = b"file=0,10,0\nfile=10,4,%s\nfile=16,4,%s\nfile=20,30,0\n" % (number, number)
+    return b"tape=VX0041\nhead=60\nturn=1\nrule=least\nfiles=4\n" + files + b"wants=3\nwant=1,1\nwant=3,3\nwant=4,1\n"
+
+
 def drawn(draw, wants, reads):
-    """A sheet at random: so many wants among twice as many files with gaps, and so many reads in all."""
-    at, files = 0, []
+    """A sheet at random: so many wants among twice as many files with gaps, some in aggregates, and so many reads in all."""
+    at, files, aggregate, unused = 0, [], 0, draw.sample(range(1, 4097), 2 * wants)
     for _ in range(2 * wants):
         start = at + draw.randrange(8)
         length = draw.randrange(1, 30)
-        files.append((start, length))
+        aggregate = draw.choice((0, aggregate, unused.pop()))
+        files.append((start, length, aggregate))
         at = start + length
     numbers = sorted(draw.sample(range(1, 2 * wants + 1), wants))
     counts = [1] * wants
     for _ in range(reads - wants):
         counts[draw.randrange(wants)] += 1
     lines = [b"tape=R", b"head=%d" % (at + draw.randrange(50)), b"turn=%d" % draw.randrange(20), b"rule=least", b"files=%d" % len(files)]
-    lines += [b"file=%d,%d" % f for f in files] + [b"wants=%d" % wants] + [b"want=%d,%d" % w for w in zip(numbers, counts)]
+    lines += [b"file=%d,%d,%d" % f for f in files] + [b"wants=%d" % wants] + [b"want=%d,%d" % w for w in zip(numbers, counts)]
     return b"\n".join(lines) + b"\n"
 
 
@@ -92,11 +99,16 @@ def cases():
         for byte in (b"0", b"9", b",", b"=", b"\n", b" ", b"\x00", b"\xff", b"A"):
             yield example[:at] + byte + example[at + 1:]
     for old, new in ((b"turn=1", b"turn="), (b"rule=least", b"rule=sweep"), (b"head=60", b"head=49"), (b"head=60", b"head=1099511627777"),
-                     (b"turn=1", b"turn=4294967297"), (b"file=10,4", b"file=9,4"), (b"file=10,4", b"file=10,0"), (b"want=2,3", b"want=2,1023"),
+                     (b"turn=1", b"turn=4294967297"), (b"file=10,4,0", b"file=9,4,0"), (b"file=10,4,0", b"file=10,0,0"),
+                     (b"file=10,4,0", b"file=10,4"), (b"file=10,4,0", b"file=10,4,0,0"), (b"file=10,4,0", b"file=10,4,4096"), (b"file=10,4,0", b"file=10,4,4097"), (b"want=2,3", b"want=2,1023"),
                      (b"want=2,3", b"want=2,1022"), (b"want=2,3", b"want=1,3"), (b"want=3,1", b"want=4,1"), (b"want=3,1", b"want=3,0"),
                      (b"tape=VX0041", b"tape=ABCDEFGHIJKLMNOPQ"), (b"tape=VX0041", b"tape="), (b"files=3", b"files=257"), (b"wants=3", b"wants=65"),
                      (b"head=60", b"head=060"), (b"head=60", b"head=18446744073709551616"), (b"head=60", b"head=18446744073709551615")):
         yield example.replace(old, new)
+    for numbers in ((5, 5, 0), (5, 0, 5), (0, 4096, 4096), (4097, 4097, 0), (7, 7, 7), (2, 1, 1), (5, 3, 5)):
+        yield example.replace(b"10,0", b"10,%d" % numbers[0]).replace(b"4,0", b"4,%d" % numbers[1]).replace(b"30,0", b"30,%d" % numbers[2])
+    yield aggregate_example(b"7")
+    yield aggregate_example(b"0")
     yield example + b"\n"
     yield example + b" " * 16384
     yield b"x" * 16384
@@ -138,7 +150,7 @@ def compare(start):
 
 def full_sheet():
     """256 files, 10 wants with 50 reads: the most files of a sheet, and wants that fill the program's 5,120 words of room."""
-    files = b"".join(b"file=%d,%d\n" % (4 * 10**9 * i, 3 * 10**9 + i) for i in range(256))
+    files = b"".join(b"file=%d,%d,0\n" % (4 * 10**9 * i, 3 * 10**9 + i) for i in range(256))
     wants = b"".join(b"want=%d,5\n" % (25 * i + 7) for i in range(10))
     return b"tape=ABCDEFGHIJKLMNOP\nhead=1099511627776\nturn=1000000\nrule=least\nfiles=256\n" + files + b"wants=10\n" + wants
 

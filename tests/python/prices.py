@@ -1,5 +1,5 @@
 #!/usr/bin/env python3
-"""Works out what the program check_prices must print, from document 01's sentences, and compares it with the file that the
+"""Works out what the program check_prices must print, from document 01's sentences and those of L10, and compares it with the file that the
 gate holds the program to, crates/check_prices/stdout.
 
 usage: tests/python/prices.py            compares
@@ -19,23 +19,24 @@ FOUR = [(0, 2), (2, 2), (4, 2), (6, 2)]
 EACH = [(1, 1), (2, 1), (3, 1), (4, 1)]
 
 
-def judge_list(asked, froms, tos):
-    """10: place 0 where the rows differ in number, else the first entry that breaks a rule."""
+def judge_list(wanted, froms, tos):
+    """10, with the first file of each thing wanted: place 0 where the rows differ in number, else the first entry that breaks a rule."""
     if len(froms) != len(tos):
         raise runs.Refused(10)
-    wanted = [number for number, _ in asked]
     for i, (a, b) in enumerate(zip(froms, tos)):
         alone = a in wanted and b in wanted and a <= b and a > wanted[0]
         if not alone or any(c <= a or not (b < c or d < b) for c, d in zip(froms[:i], tos[:i])):
             raise runs.Refused(10, i + 1)
 
 
-def line(label, table, asked, head, turn, froms=(), tos=()):
+def line(label, files, asked, head, turn, froms=(), tos=()):
+    """A file is a start, a length and, where it lies in one, its aggregate's number."""
+    table = [(*file, 0)[:3] for file in files]
     try:
         if len(asked) > 64:
             raise runs.Refused(3)
         runs.judge(head, turn, table, asked)
-        judge_list(asked, froms, tos)
+        judge_list([first for first, _ in runs.stops(table, asked)], froms, tos)
     except runs.Refused as refusal:
         return label + ": " + refusal.args[0].decode().replace("\n", " ").strip()
     times, legs, clock, place = runs.walk(head, turn, table, asked, list(zip(froms, tos)))
@@ -81,11 +82,17 @@ def limits():
     yield line("65 wants", [(0, 1)], [(1, 1)] * 65, 1, 0)
 
 
+def aggregate_runs():
+    for label, number, first in (("files 2 and 3 in an aggregate", 7, 2), ("in none", 0, 3)):
+        files = [(0, 10), (10, 4, number), (16, 4, number), (20, 30)]
+        yield line(label, files, [(1, 1), (3, 3), (4, 1)], 60, 1, [first], [first])
+
+
 def main():
     reader = argparse.ArgumentParser(description="Compares what check_prices must print with what document 01 gives.")
     reader.add_argument("--print", action="store_true", help="print the text instead")
     words = reader.parse_args()
-    must = "".join(text + "\n" for group in (small_runs(), sheet_runs(), limits()) for text in group)
+    must = "".join(text + "\n" for group in (small_runs(), sheet_runs(), limits(), aggregate_runs()) for text in group)
     if words.print:
         sys.stdout.write(must)
         return

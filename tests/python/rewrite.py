@@ -55,15 +55,22 @@ def drawn(draw):
     files, wants = draw.choice((0, 1, 2, 3, 5, 12)), draw.choice((0, 1, 3, 8))
     turn = draw.choice((b"", b"", b"0", b"12000", b"%d" % number(draw)))
     lines = [b"tape=" + name, b"head=%d" % number(draw), b"turn=" + turn, draw.choice((b"rule=least", b"rule=sweep")), b"files=%d" % files]
-    lines += [b"file=%d,%d" % (number(draw), number(draw)) for _ in range(files)] + [b"wants=%d" % wants]
+    lines += [b"file=%d,%d,%d" % (number(draw), number(draw), number(draw)) for _ in range(files)] + [b"wants=%d" % wants]
     return b"\n".join(lines + [b"want=%d,%d" % (number(draw), number(draw)) for _ in range(wants)]) + b"\n"
 
 
-def longest(turn):
-    """The longest sheet that can be read, but for the price: 256 files and 64 wants of the longest numbers."""
-    most = b"%d,%d" % (2**64 - 1, 2**64 - 1)
-    return b"tape=ABCDEFGHIJKLMNOP\nhead=%d\nturn=%s\nrule=least\nfiles=256\n" % (2**64 - 1, turn) + (b"file=" + most + b"\n") * 256 \
-        + b"wants=64\n" + (b"want=" + most + b"\n") * 64
+def longest(turn, size=LIMIT):
+    """A sheet of that size: 256 files and 64 wants of the longest numbers, but for those of the last files."""
+    most = b"%d" % (2**64 - 1)
+    top = b"tape=ABCDEFGHIJKLMNOP\nhead=%s\nturn=%s\nrule=least\nfiles=256\n" % (most, turn)
+    below = b"wants=64\n" + b"want=%s,%s\n" % (most, most) * 64
+    spare = size - len(top) - len(below) - 256 * len(b"file=0,0,0\n")
+    files = []
+    for _ in range(256):
+        longer = [min(19, max(0, spare - 19 * i)) for i in range(3)]
+        spare -= sum(longer)
+        files.append(b"file=%s,%s,%s\n" % tuple(most[:more + 1] if more else b"0" for more in longer))
+    return top + b"".join(files) + below
 
 
 def damaged(draw, sheet):
@@ -87,8 +94,11 @@ def cases():
     for bad in (b"turn=00", b"turn=01", b"turn= ", b"turn=\r", b"turn=\nturn=", b"turn", b"Turn=", b"turn=-0", b"turn=%d" % 2**64, b"turn=%d" % (2**64 - 1)):
         yield old.replace(b"turn=", bad)
     for turn in (b"", b"0", b"%d" % (2**64 - 1)):
-        yield longest(turn)
-        yield longest(turn) + b"\n"
+        for size in (LIMIT - 1, LIMIT, LIMIT + 1):
+            yield longest(turn, size)
+            yield longest(turn, size) + b"\n"
+    for line in (b"file=10,4", b"file=10,4,", b"file=10,4,0,0", b"file=10,4,00", b"file=10,4,%d" % 2**64, b"file=10,,0"):
+        yield old.replace(b"file=10,4,0", line)
     for size in (LIMIT - 1, LIMIT, LIMIT + 1):
         yield old + b" " * (size - len(old))
         yield b"\n" * size

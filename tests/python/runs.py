@@ -1,4 +1,8 @@
-"""For the comparisons: document 01's judging, walk and lists, in its sentences. They share nothing with the crates."""
+"""For the comparisons: document 01's judging, walk and lists, in its sentences. They share nothing with the crates.
+
+A table has a start, a length and the number of an aggregate for each file, 0 for none. The files of one aggregate are read together: a want
+of any of them is a want of all, from the first start to the last end, and lists name them by the first.
+"""
 
 
 class Refused(Exception):
@@ -6,10 +10,32 @@ class Refused(Exception):
         super().__init__(f"refused={number}\nplace={place}\n".encode())
 
 
+def together(table, number):
+    """The numbers of the files that are read with a file, itself among them."""
+    aggregate = table[number - 1][2]
+    return [n for n, entry in enumerate(table, 1) if n == number or (aggregate != 0 and entry[2] == aggregate)]
+
+
+def extent(table, number):
+    """Where what is read with a file starts, and where it ends."""
+    files = together(table, number)
+    return table[files[0] - 1][0], sum(table[files[-1] - 1][:2])
+
+
+def stops(table, asked):
+    """The first file of each thing wanted, and how many reads of it wait."""
+    counts = {}
+    for number, count in asked:
+        first = together(table, number)[0]
+        counts[first] = counts.get(first, 0) + count
+    return sorted(counts.items())
+
+
 def judge(head, turn, table, asked):
     before = 0
-    for i, (start, length) in enumerate(table):
-        if length == 0 or start < before or start + length > 2**40:
+    for i, (start, length, aggregate) in enumerate(table):
+        again = aggregate != 0 and any(entry[2] == aggregate for entry in table[:i]) and table[i - 1][2] != aggregate
+        if length == 0 or start < before or start + length > 2**40 or aggregate > 4096 or again:
             raise Refused(2, i + 1)
         before = start + length
     last = 0
@@ -21,23 +47,23 @@ def judge(head, turn, table, asked):
         raise Refused(5)
     if turn > 2**32:
         raise Refused(6)
-    if head > 2**40 or (asked and head < sum(table[asked[-1][0] - 1])):
+    if head > 2**40 or (asked and head < extent(table, asked[-1][0])[1]):
         raise Refused(7)
 
 
 def walk(head, turn, table, asked, detours):
     """The times of the wants and the legs that read them, counted from 1, and the clock and the place at the end."""
     place, clock, times, read_by = head, 0, {}, {}
-    legs = [(table[a - 1][0], sum(table[b - 1])) for a, b in detours]
+    legs = [(extent(table, a)[0], extent(table, b)[1]) for a, b in detours]
     if asked:
-        unread = [number for number, _ in asked if not any(a <= number <= b for a, b in detours)]
-        legs.append((table[asked[0][0] - 1][0], sum(table[unread[-1] - 1])))
+        unread = [first for first, _ in stops(table, asked) if not any(a <= first <= b for a, b in detours)]
+        legs.append((extent(table, asked[0][0])[0], extent(table, unread[-1])[1]))
     for i, (left, right) in enumerate(legs):
         clock += (turn if i else 0) + (place - left) + turn
         for number, _ in asked:
-            start, length = table[number - 1]
-            if number not in times and left <= start and start + length <= right:
-                times[number] = clock + start + length - left
+            start, end = extent(table, number)
+            if number not in times and left <= start and end <= right:
+                times[number] = clock + end - left
                 read_by[number] = i + 1
         clock += right - left
         place = right
@@ -45,7 +71,7 @@ def walk(head, turn, table, asked, detours):
 
 
 def lists(files):
-    """Every well-formed list over these wanted files."""
+    """Every well-formed list over these files, the first of each thing wanted."""
     def grow(done):
         yield done
         for a in files[1:]:

@@ -18,13 +18,14 @@ def field(sheet, line, at, pattern):
     return found.groups(), end + 1
 
 
-def pairs(sheet, line, at, key, count):
-    rows = []
+def rows(sheet, line, at, key, numbers, count):
+    """So many lines of a key and `numbers` numbers each."""
+    found = []
     for _ in range(count):
-        (a, b), at = field(sheet, line, at, key + b"=" + NUMBER + b"," + NUMBER)
-        rows.append((int(a), int(b)))
+        values, at = field(sheet, line, at, key + b"=" + b",".join([NUMBER] * numbers))
+        found.append(tuple(int(value) for value in values))
         line += 1
-    return rows, line, at
+    return found, line, at
 
 
 def read(sheet, empty=12000):
@@ -38,11 +39,11 @@ def read(sheet, empty=12000):
     (files,), at = field(sheet, 5, at, rb"files=" + NUMBER)
     if int(files) > 256:
         raise Refused(11, 5)
-    table, line, at = pairs(sheet, 6, at, rb"file", int(files))
+    table, line, at = rows(sheet, 6, at, rb"file", 3, int(files))
     (wants,), at = field(sheet, line, at, rb"wants=" + NUMBER)
     if int(wants) > 64:
         raise Refused(11, line)
-    asked, line, at = pairs(sheet, line + 1, at, rb"want", int(wants))
+    asked, line, at = rows(sheet, line + 1, at, rb"want", 2, int(wants))
     if at < len(sheet):
         raise Refused(11, line)
     return name, int(head), int(turn or empty), rule, table, asked

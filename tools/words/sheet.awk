@@ -37,7 +37,7 @@ function value(line) {
     return substr(text[line], index(text[line], "=") + 1)
 }
 
-# The first and the second number of a line.
+# The first, the second and the third number of a line.
 function first(line, parts) {
     split(value(line), parts, ",")
     return parts[1]
@@ -46,6 +46,11 @@ function first(line, parts) {
 function second(line, parts) {
     split(value(line), parts, ",")
     return parts[2]
+}
+
+function third(line, parts) {
+    split(value(line), parts, ",")
+    return parts[3]
 }
 
 function stands(line) {
@@ -58,7 +63,7 @@ function expected(line) {
     if (line <= 5)
         return forms[line]
     if (line <= 5 + files)
-        return "file=START,LENGTH"
+        return "file=START,LENGTH,AGGREGATE"
     if (line == 6 + files)
         return "wants=NUMBER"
     return line <= 6 + files + wants ? "want=FILE,READS" : "the end of the sheet"
@@ -101,7 +106,9 @@ function fault(line, words) {
     words = line == 1 || line == 4 || line == 3 && value(3) == "" ? "" : number_fault(value(line))
     if (words != "")
         return words
-    if (expected(line) ~ /,/ && value(line) !~ /^[^,]*,[^,]*$/)
+    if (expected(line) ~ /,.*,/ && value(line) !~ /^[^,]*,[^,]*,[^,]*$/)
+        return "three numbers must stand there, with commas between them; the third is 0 for a file in no aggregate"
+    if (expected(line) ~ /^[^,]*,[^,]*$/ && value(line) !~ /^[^,]*,[^,]*$/)
         return "two numbers must stand there, with a comma between them"
     if (line == 5 && is_number(value(5)) && above(value(5), "256"))
         return "a sheet has at most 256 files"
@@ -132,7 +139,25 @@ function bad_file(file, words) {
         return words "has length 0"
     if (file > 1 && !above(first(file + 5), limit) && first(file + 5) + 0 < end_of(file - 1))
         return words "starts at " first(file + 5) ", before the end of file " (file - 1) ", which is " sprintf("%.0f", end_of(file - 1))
-    return words "ends above " limit " (2^40)"
+    if (above(first(file + 5), limit) || above(second(file + 5), limit) || end_of(file) > limit + 0)
+        return words "ends above " limit " (2^40)"
+    if (above(third(file + 5), "4096"))
+        return words "has an aggregate number above 4096"
+    return words "lies in aggregate " third(file + 5) " again, after a file that does not"
+}
+
+# The last file of a file's aggregate, and how many stops the wants make: those of one aggregate are one.
+function last_of(file) {
+    while (third(file + 5) != "0" && file < files && third(file + 6) == third(file + 5))
+        file++
+    return file
+}
+
+function stops(i, many) {
+    for (i = 1; i <= wants; i++)
+        if (i == 1 || last_of(first(i + 6 + files)) != last_of(first(i + 5 + files)))
+            many++
+    return many + 0
 }
 
 function bad_want(want, line, words) {
@@ -155,12 +180,14 @@ function reads(sum, i) {
     return sum + 0
 }
 
-function bad_head(rightmost) {
+function bad_head(wanted, rightmost) {
     if (above(value(2), limit))
         return "the head (" stands(2) ") stands above " limit " (2^40)"
-    rightmost = first(6 + files + wants)
+    wanted = first(6 + files + wants)
+    rightmost = last_of(wanted)
     return "the head (" stands(2) ") stands left of " sprintf("%.0f", end_of(rightmost)) ", the end of file " rightmost \
-        ", the rightmost wanted file (" stands(rightmost + 5) ")"
+        (rightmost == wanted ? ", the rightmost wanted file (" : ", the last of the aggregate of file " wanted ", which is the rightmost wanted (") \
+        stands(rightmost + 5) ")"
 }
 
 function words_for(number, place) {
@@ -179,7 +206,8 @@ function words_for(number, place) {
     if (number == 7)
         return bad_head()
     if (number == 9)
-        return wants " wants with " reads() " reads in all ask for " wants " * " wants " * " (reads() + 1) " = " wants * wants * (reads() + 1) \
+        return wants " wants" (stops() == wants ? "" : " at " stops() " stops") " with " reads() " reads in all ask for " \
+            stops() " * " stops() " * " (reads() + 1) " = " stops() * stops() * (reads() + 1) \
             " words of working room; there are 5120"
     return ""
 }

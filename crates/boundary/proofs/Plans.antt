@@ -8,42 +8,43 @@ use native.Mathlib.Omega.{arith}
 use lib.ListN.{length}
 use lib.Dec.{ltb}
 use borrow.Author.Tests.{lt-ltb, le-ltb, ne-eqb}
+use Rattle.refusals.specs.declared.Refusal.{Refusal}
 use Rattle.refusals.specs.declared.Refusal.the-variants.{ShortRow, ShortRoom, BadRule}
 use Rattle.refusals.specs.declared.Verdict.{Verdict}
 use Rattle.walk.specs.declared.Answer.{Answer}
-use Rattle.refusals.specs.Refusals.{numberOf, isRefusal, refuseIf}
-use Rattle.runs.specs.Run.{Run}
+use Rattle.refusals.specs.Refusals.{numberOf, isRefusal, refuseIf, firstOf}
+use Rattle.runs.specs.Run.{Run, stopsOf}
 use Rattle.runs.specs.Judging.{judgeOf}
 use Rattle.walk.specs.Price.{refusalAnswer, pricedAnswer}
 use Rattle.runs.proofs.Search.{true-or-false}
 use Rattle.refusals.proofs.Verdicts.{refuses, test-says}
 use Rattle.walk.proofs.Places.{placeMost, judge-near, first-near, if-near}
 use Rattle.planner.proofs.Determined.{planned-once}
-use Rattle.planner.specs.Plan.{Rows, Plans, planVerdict, shortRows}
-use Rattle.tables.specs.Listing.{roomSize}
+use Rattle.planner.specs.Plan.{Rows, Plans, planVerdict, shortRows, roomFor}
 use Rattle.boundary.proofs.Calls.{code-accepts}
 use Rattle.boundary.specs.Boundary.{codeOf, sumsWith, badRule, ruleNumbered, planCall, PlanCalled}
+use Rattle.boundary.specs.Private.{codeUnless}
 
--- The checks of the call, one by one.
+-- The checks of the call: with a bad rule or a short row of sums only the run is looked at before it, else all that the planner judges.
 module _ (r : Run) (rule : ℕ) (rows : Rows) (sums : List ℕ) where
-  rule-first : refuses (judgeOf r) ≡ false → badRule rule ≡ true → planCall r rule rows sums ≡ record { refusal = BadRule; place = 0 }
+  rule-first : badRule rule ≡ true → planCall r rule rows sums ≡ firstOf (judgeOf r ∷ record { refusal = BadRule; place = 0 } ∷ [])
   unfolding planCall
-  rule-first h g = rw (h, g)
+  rule-first g = rw g
 
-  sums-first : refuses (judgeOf r) ≡ false → badRule rule ≡ false → ltb (length sums) 4 ≡ true → planCall r rule rows sums ≡ record { refusal = ShortRow; place = 0 }
+  sums-first : badRule rule ≡ false → ltb (length sums) 4 ≡ true → planCall r rule rows sums ≡ firstOf (judgeOf r ∷ record { refusal = ShortRow; place = 0 } ∷ [])
   unfolding planCall
-  sums-first h g s = rw (h, g, s, or-true)
+  sums-first g s = rw (g, s, or-true)
 
-  call-is-plan : refuses (judgeOf r) ≡ false → badRule rule ≡ false → ltb (length sums) 4 ≡ false → planCall r rule rows sums ≡ planVerdict r rows
+  call-is-plan : badRule rule ≡ false → ltb (length sums) 4 ≡ false → planCall r rule rows sums ≡ planVerdict r rows
   unfolding planCall planVerdict
-  call-is-plan h g s = rw (h, g, s, or-false)
+  call-is-plan g s = rw (g, s, or-false)
 
 plan-near : (r : Run) (rows : Rows) → (planVerdict r rows) .place ≤ placeMost
 unfolding planVerdict
 plan-near r rows =
     first-near
-    (judgeOf r ∷ refuseIf (shortRows (length (r .numbers)) rows) ShortRow ∷ refuseIf (ltb (length (rows .room)) (roomSize r)) ShortRoom ∷ [])
-    (judge-near r, λ e. (if-near (shortRows (length (r .numbers)) rows) ShortRow, λ d. (if-near (ltb (length (rows .room)) (roomSize r)) ShortRoom, λ c. tt)))
+    (judgeOf r ∷ refuseIf (shortRows (length (r .numbers)) (length (stopsOf r)) rows) ShortRow ∷ refuseIf (ltb (length (rows .room)) (roomFor r)) ShortRoom ∷ [])
+    (judge-near r, λ e. (if-near (shortRows (length (r .numbers)) (length (stopsOf r)) rows) ShortRow, λ d. (if-near (ltb (length (rows .room)) (roomFor r)) ShortRoom, λ c. tt)))
 
 -- A refused call, whatever the reason: code and kept rows.
 pub refused-call : (r : Run) (rule : ℕ) (rows : Rows) (sums : List ℕ) (v : Verdict) (code : ℕ)
@@ -62,32 +63,36 @@ rule-good zero l = refl
 rule-good (suc zero) l = refl
 rule-good (suc (suc n)) l = absurd (omega arith)
 
-module _ (r : Run) (rule : ℕ) (rows : Rows) (sums : List ℕ) (v : Verdict) (f : Bool) (v-is : v ≡ judgeOf r) (f-is : f ≡ isRefusal (v .refusal)) where
-  run-first : refuses (judgeOf r) ≡ true → planCall r rule rows sums ≡ judgeOf r
-  unfolding planCall
-  run-first h = rw h
-
-  pub run-refused : f ≡ true → (a : Answer) → a ≡ refusalAnswer v → (code : ℕ) → code ≡ numberOf (a .refusal) + 256 * a .place → PlanCalled r rule rows sums code rows sums
-  run-refused e a a-is code code-is =
-      refused-call r rule rows sums v code (run-first (test-says v-is f-is e) ∙ sym v-is) (sym f-is ∙ e) (rw a-is at code-is)
-
+-- A run that the judging refuses: its code.
+module _ (r : Run) (number : ℕ) (v : Verdict) (f : Bool) (v-is : v ≡ judgeOf r) (f-is : f ≡ isRefusal (v .refusal)) where
   pub run-placed : (a : Answer) → a ≡ refusalAnswer v → a .place ≤ placeMost
   run-placed a a-is = rw (a-is, v-is) (judge-near r)
 
-  pub rule-refused : f ≡ false → 1 < rule → PlanCalled r rule rows sums 14 rows sums
-  rule-refused e l = refused-call r rule rows sums (record { refusal = BadRule; place = 0 }) 14 (by-rule l) refl refl
-    where
-      by-rule : 1 < rule → planCall r rule rows sums ≡ record { refusal = BadRule; place = 0 }
-      by-rule l = rule-first r rule rows sums (test-says v-is f-is e) (rule-over rule l)
+  pub run-code : f ≡ true → (a : Answer) → a ≡ refusalAnswer v → (code : ℕ) → code ≡ numberOf (a .refusal) + 256 * a .place → code ≡ codeUnless (judgeOf r) number
+  run-code e a a-is code code-is = rw (test-says v-is f-is e) (rw (a-is, v-is) at code-is)
 
-  pub sums-refused : f ≡ false → rule ≤ 1 → length sums < 4 → PlanCalled r rule rows sums 8 rows sums
-  sums-refused e l h =
-      refused-call r rule rows sums (record { refusal = ShortRow; place = 0 }) 8 (sums-first r rule rows sums (test-says v-is f-is e) (rule-good rule l) (lt-ltb (length sums) 4 h)) refl refl
+  pub own-number : f ≡ false → number ≡ codeUnless (judgeOf r) number
+  own-number e = rw (test-says v-is f-is e) refl
+
+module _ (r : Run) (rule : ℕ) (rows : Rows) (sums : List ℕ) where
+  early : (k : Refusal) → isRefusal k ≡ true → planCall r rule rows sums ≡ firstOf (judgeOf r ∷ record { refusal = k; place = 0 } ∷ [])
+      → (code : ℕ) → code ≡ codeUnless (judgeOf r) (numberOf k) → PlanCalled r rule rows sums code rows sums
+  early k some is code code-is =
+      ⊎-elim
+      (λ (h : refuses (judgeOf r) ≡ true). refused-call r rule rows sums (judgeOf r) code (is ∙ rw h refl) h (rw h at code-is))
+      (λ (h : refuses (judgeOf r) ≡ false). refused-call r rule rows sums (record { refusal = k; place = 0 }) code (is ∙ rw (h, some) refl) some (omega (arith, rw h at code-is)))
+      (true-or-false (refuses (judgeOf r)))
+
+  pub rule-refused : 1 < rule → (code : ℕ) → code ≡ codeUnless (judgeOf r) 14 → PlanCalled r rule rows sums code rows sums
+  rule-refused l = early BadRule refl (rule-first r rule rows sums (rule-over rule l))
+
+  pub sums-refused : rule ≤ 1 → length sums < 4 → (code : ℕ) → code ≡ codeUnless (judgeOf r) 8 → PlanCalled r rule rows sums code rows sums
+  sums-refused l h = early ShortRow refl (sums-first r rule rows sums (rule-good rule l) (lt-ltb (length sums) 4 h))
 
   -- Past these the call is judged as the planner judges.
-  module _ (e : f ≡ false) (l : rule ≤ 1) (long : 4 ≤ length sums) (a : Answer) (after : Rows) (plans : Plans r (ruleNumbered rule) rows a after) where
+  module _ (l : rule ≤ 1) (long : 4 ≤ length sums) (a : Answer) (after : Rows) (plans : Plans r (ruleNumbered rule) rows a after) where
     same : planCall r rule rows sums ≡ planVerdict r rows
-    same = call-is-plan r rule rows sums (test-says v-is f-is e) (rule-good rule l) (le-ltb (length sums) 4 long)
+    same = call-is-plan r rule rows sums (rule-good rule l) (le-ltb (length sums) 4 long)
 
     pub plan-placed : a .place ≤ placeMost
     unfolding pricedAnswer

@@ -12,12 +12,11 @@ use Rattle.walk.specs.declared.Answer.{Answer}
 use Rattle.runs.specs.declared.Rule.{Rule}
 use Rattle.runs.specs.declared.Rule.the-variants.{Sweep, Least}
 use Rattle.refusals.specs.Refusals.{numberOf, isRefusal, refuseIf, firstOf}
-use Rattle.runs.specs.Run.{Run}
+use Rattle.runs.specs.Run.{Run, stopsOf}
 use Rattle.runs.specs.Judging.{judgeOf}
 use Rattle.runs.specs.Lists.{listOf}
 use Rattle.walk.specs.Price.{ReadRows, readRowsWith, priceVerdict, pricedAnswer}
-use Rattle.planner.specs.Plan.{Rows, shortRows, Planned}
-use Rattle.tables.specs.Listing.{roomSize}
+use Rattle.planner.specs.Plan.{Rows, shortRows, roomFor, Planned}
 
 -- What a verdict gives back.
 abbrev pub codeOf : Verdict → ℕ
@@ -62,8 +61,8 @@ planCall r rule rows sums =
     firstOf
     (judgeOf r
     ∷ refuseIf (badRule rule) BadRule
-    ∷ refuseIf (shortRows (length (r .numbers)) rows || shortSums sums) ShortRow
-    ∷ refuseIf (ltb (length (rows .room)) (roomSize r)) ShortRoom
+    ∷ refuseIf (shortRows (length (r .numbers)) (length (stopsOf r)) rows || shortSums sums) ShortRow
+    ∷ refuseIf (ltb (length (rows .room)) (roomFor r)) ShortRoom
     ∷ [])
 
 pub record CallRefused (v : Verdict) (before : Rows) (sums : List ℕ) (code : ℕ) (after : Rows) (out : List ℕ) : Type 0 where

@@ -6,9 +6,11 @@ ghost use Prim.Native.Nat.{ℕ, _+_, _*_, _≤_, _<_};
 ghost use lib.ListN.{length};
 ghost use Rattle.refusals.specs.Refusals.{numberOf};
 ghost use Rattle.runs.specs.Run.{runAt};
+ghost use Rattle.runs.specs.Judging.{judgeOf};
 ghost use Rattle.walk.specs.Price.{ReadRows, readRowsBefore, readRowsAfter};
 ghost use Rattle.planner.specs.Plan.{rowsBefore, rowsAfter};
 ghost use Rattle.boundary.specs.Boundary.{codeOf, sumsWith, priceCall, ruleNumbered, PriceCalled, PlanCalled};
+ghost use Rattle.boundary.specs.Private.{codeUnless};
 use runs::Rule;
 use walk::Answer;
 
@@ -36,6 +38,7 @@ fn fill_sums(a: Answer, sums: &mut [u64])
 fn short_price(
     starts: &[u64],
     lengths: &[u64],
+    aggregates: &[u64],
     numbers: &[u64],
     counts: &[u64],
     head: u64,
@@ -43,13 +46,14 @@ fn short_price(
     froms: &[u64],
     tos: &[u64],
 ) -> u64
-    ensures { λ r. ⌜ ((rows : ReadRows) (sums : List ℕ) → length sums < 4 → r ≡ codeOf (priceCall (runAt starts lengths numbers counts head turn) (now (froms .entry)) (now (tos .entry)) rows sums)) ⌝ }
+    ensures { λ r. ⌜ ((rows : ReadRows) (sums : List ℕ) → length sums < 4 → r ≡ codeOf (priceCall (runAt starts lengths aggregates numbers counts head turn) (now (froms .entry)) (now (tos .entry)) rows sums)) ⌝ }
 {
     let mut no_times = [0u64; 0];
     let mut no_legs = [0u64; 0];
     let a = walk::price(
         starts,
         lengths,
+        aggregates,
         numbers,
         counts,
         head,
@@ -70,6 +74,7 @@ fn short_price(
 pub extern "C" fn violstream_price(
     starts: &[u64],
     lengths: &[u64],
+    aggregates: &[u64],
     numbers: &[u64],
     counts: &[u64],
     head: u64,
@@ -80,12 +85,13 @@ pub extern "C" fn violstream_price(
     legs: &mut [u64],
     sums: &mut [u64],
 ) -> u64
-    ensures { λ r. ⌜ PriceCalled (runAt starts lengths numbers counts head turn) (now («detour_starts» .entry)) (now («detour_ends» .entry)) (readRowsBefore times legs) (now (sums .entry)) r (readRowsAfter times legs) (now (sums .exit)) ⌝ }
+    ensures { λ r. ⌜ PriceCalled (runAt starts lengths aggregates numbers counts head turn) (now («detour_starts» .entry)) (now («detour_ends» .entry)) (readRowsBefore times legs) (now (sums .entry)) r (readRowsAfter times legs) (now (sums .exit)) ⌝ }
 {
     if sums.len() < 4 {
         return short_price(
             starts,
             lengths,
+            aggregates,
             numbers,
             counts,
             head,
@@ -97,6 +103,7 @@ pub extern "C" fn violstream_price(
     let a = walk::price(
         starts,
         lengths,
+        aggregates,
         numbers,
         counts,
         head,
@@ -121,10 +128,31 @@ fn rule_numbered(rule: u64) -> Rule
     if rule == 0 { Rule::Sweep } else { Rule::Least }
 }
 
+// The code of a call that is refused by its own number unless the run is refused first. A plan judges the run by itself.
+fn refused_code(
+    starts: &[u64],
+    lengths: &[u64],
+    aggregates: &[u64],
+    numbers: &[u64],
+    counts: &[u64],
+    head: u64,
+    turn: u64,
+    number: u64,
+) -> u64
+    ensures { λ r. ⌜ r ≡ codeUnless (judgeOf (runAt starts lengths aggregates numbers counts head turn)) number ⌝ }
+{
+    let run = runs::judge(starts, lengths, aggregates, numbers, counts, head, turn);
+    if refusals::refused(run) {
+        return code(walk::refuse(run));
+    }
+    number
+}
+
 #[no_mangle]
 pub extern "C" fn violstream_plan(
     starts: &[u64],
     lengths: &[u64],
+    aggregates: &[u64],
     numbers: &[u64],
     counts: &[u64],
     head: u64,
@@ -137,21 +165,18 @@ pub extern "C" fn violstream_plan(
     sums: &mut [u64],
     room: &mut [u64],
 ) -> u64
-    ensures { λ r. ⌜ PlanCalled (runAt starts lengths numbers counts head turn) rule (rowsBefore «detour_starts» «detour_ends» times legs room) (now (sums .entry)) r (rowsAfter «detour_starts» «detour_ends» times legs room) (now (sums .exit)) ⌝ }
+    ensures { λ r. ⌜ PlanCalled (runAt starts lengths aggregates numbers counts head turn) rule (rowsBefore «detour_starts» «detour_ends» times legs room) (now (sums .entry)) r (rowsAfter «detour_starts» «detour_ends» times legs room) (now (sums .exit)) ⌝ }
 {
-    let run = runs::judge(starts, lengths, numbers, counts, head, turn);
-    if refusals::refused(run) {
-        return code(walk::refuse(run));
-    }
     if 1 < rule {
-        return 14;
+        return refused_code(starts, lengths, aggregates, numbers, counts, head, turn, 14);
     }
     if sums.len() < 4 {
-        return 8;
+        return refused_code(starts, lengths, aggregates, numbers, counts, head, turn, 8);
     }
     let a = planner::plan(
         starts,
         lengths,
+        aggregates,
         numbers,
         counts,
         head,

@@ -1,4 +1,4 @@
-// Prices the lists of document 01's worked cases, its limits and the two longest walks, and prints a line for each.
+// Prices the lists of document 01's worked cases, its limits, the two longest walks and a run with an aggregate, and prints a line for each.
 // What it must print stands beside it in stdout; tests/python/prices.py works the same text out from the paper's sentences.
 ghost use lib.ListN.{length};
 use libc::STDOUT_FILENO;
@@ -48,6 +48,7 @@ fn show(
     label: &[u8],
     starts: &[u64],
     lengths: &[u64],
+    aggregates: &[u64],
     numbers: &[u64],
     counts: &[u64],
     head: u64,
@@ -60,6 +61,7 @@ fn show(
     let a = walk::price(
         starts,
         lengths,
+        aggregates,
         numbers,
         counts,
         head,
@@ -77,10 +79,12 @@ fn show(
 fn two_files(label: &[u8], numbers: &[u64], counts: &[u64], turn: u64, froms: &[u64], tos: &[u64]) {
     let starts = [0u64, 10];
     let lengths = [10u64, 10];
+    let aggregates = [0u64, 0];
     show(
         label,
         &starts,
         &lengths,
+        &aggregates,
         numbers,
         counts,
         20,
@@ -102,6 +106,7 @@ fn both_ways(label: &[u8], counts: &[u64], turn: u64) {
 fn small_runs() {
     let row = [5u64];
     let length = [3u64];
+    let aggregate = [0u64];
     let number = [1u64];
     let count = [3u64];
     let froms = [2u64];
@@ -110,6 +115,7 @@ fn small_runs() {
         b"no wants",
         &row,
         &length,
+        &aggregate,
         &number[..0],
         &count[..0],
         60,
@@ -121,6 +127,7 @@ fn small_runs() {
         b"no wants, one entry",
         &row,
         &length,
+        &aggregate,
         &number[..0],
         &count[..0],
         60,
@@ -132,6 +139,7 @@ fn small_runs() {
         b"one file",
         &row,
         &length,
+        &aggregate,
         &number,
         &count,
         8,
@@ -158,12 +166,14 @@ fn two_file_runs() {
 fn sheet(froms: &[u64], tos: &[u64]) {
     let starts = [0u64, 10, 20];
     let lengths = [10u64, 4, 30];
+    let aggregates = [0u64, 0, 0];
     let numbers = [1u64, 2, 3];
     let counts = [1u64, 3, 1];
     show(
         b"sheet",
         &starts,
         &lengths,
+        &aggregates,
         &numbers,
         &counts,
         60,
@@ -189,12 +199,14 @@ fn sheet_runs() {
 fn four_files(label: &[u8], head: u64, froms: &[u64], tos: &[u64]) {
     let starts = [0u64, 2, 4, 6];
     let lengths = [2u64, 2, 2, 2];
+    let aggregates = [0u64, 0, 0, 0];
     let numbers = [1u64, 2, 3, 4];
     let counts = [1u64, 1, 1, 1];
     show(
         label,
         &starts,
         &lengths,
+        &aggregates,
         &numbers,
         &counts,
         head,
@@ -254,6 +266,7 @@ fn whole_tape(label: &[u8], last: u64, head: u64, turn: u64, froms: &[u64], tos:
     rising(&mut starts, 0, 17_179_869_184);
     let mut lengths = [0u64; 64];
     same(&mut lengths, 17_179_869_184);
+    let aggregates = [0u64; 64];
     let mut numbers = [0u64; 64];
     rising(&mut numbers, 1, 1);
     let mut counts = [0u64; 64];
@@ -263,6 +276,7 @@ fn whole_tape(label: &[u8], last: u64, head: u64, turn: u64, froms: &[u64], tos:
         label,
         &starts,
         &lengths,
+        &aggregates,
         &numbers,
         &counts,
         head,
@@ -330,6 +344,7 @@ fn past_the_limits() {
 fn one_want_too_many() {
     let starts = [0u64];
     let lengths = [1u64];
+    let aggregates = [0u64];
     let numbers = [1u64; 65];
     let counts = [1u64; 65];
     let froms = [0u64];
@@ -338,6 +353,7 @@ fn one_want_too_many() {
         b"65 wants",
         &starts,
         &lengths,
+        &aggregates,
         &numbers,
         &counts,
         1,
@@ -345,6 +361,40 @@ fn one_want_too_many() {
         &froms[..0],
         &tos[..0],
     );
+}
+
+// Files 2 and 3 with a gap between them, of which file 3 is wanted three times.
+fn gap_between(label: &[u8], aggregates: &[u64], froms: &[u64], tos: &[u64]) {
+    let starts = [0u64, 10, 16, 20];
+    let lengths = [10u64, 4, 4, 30];
+    let numbers = [1u64, 3, 4];
+    let counts = [1u64, 3, 1];
+    show(
+        label,
+        &starts,
+        &lengths,
+        aggregates,
+        &numbers,
+        &counts,
+        60,
+        1,
+        froms,
+        tos,
+    );
+}
+
+fn aggregate_runs() {
+    let together = [0u64, 7, 7, 0];
+    let alone = [0u64, 0, 0, 0];
+    let froms = [2u64, 3];
+    let tos = [2u64, 3];
+    gap_between(
+        b"files 2 and 3 in an aggregate",
+        &together,
+        &froms[..1],
+        &tos[..1],
+    );
+    gap_between(b"in none", &alone, &froms[1..], &tos[1..]);
 }
 
 fn main() {
@@ -356,4 +406,5 @@ fn main() {
     deepest_list();
     past_the_limits();
     one_want_too_many();
+    aggregate_runs();
 }

@@ -10,14 +10,13 @@ use lib.Dec.{ltb}
 use Rattle.refusals.specs.declared.Refusal.the-variants.{ShortRow, ShortRoom, BadRule}
 use Rattle.walk.specs.declared.Answer.{Answer}
 use Rattle.refusals.specs.Refusals.{refuseIf}
-use Rattle.runs.specs.Run.{Run}
+use Rattle.runs.specs.Run.{Run, stopsOf}
 use Rattle.runs.specs.Judging.{judgeOf}
 use Rattle.runs.specs.Lists.{Detour, listOf}
 use Rattle.walk.specs.Price.{ReadRows, pricedAnswer, priceVerdict}
 use Rattle.refusals.proofs.Verdicts.{refuses, all-accept, accepts-if}
 use Rattle.runs.proofs.Search.{or-false-both}
-use Rattle.planner.specs.Plan.{Rows, Plans, planVerdict, shortRows}
-use Rattle.tables.specs.Listing.{roomSize}
+use Rattle.planner.specs.Plan.{Rows, roomFor, Plans, planVerdict, shortRows}
 use Rattle.boundary.specs.Boundary.{shortSums, sumsWith, badRule, ruleNumbered, priceCall, priceReads, priceSums, planCall, PlanCalled, CallPlanned}
 use Rattle.boundary.proofs.Calls.{code-accepts}
 use Rattle.demands.specs.Calls.{inSums, PlanCallWalks, Demand2PriceCall, Demand2PlanCall, Demand3PlanCall}
@@ -56,8 +55,8 @@ module _ (r : Run) (rule : ℕ) (before : Rows) (sums : List ℕ) (code : ℕ) (
   plan-passes : refuses (planVerdict r before) ≡ false
   unfolding planVerdict planCall
   plan-passes =
-      let short = shortRows (length (r .numbers)) before in
-      let room = ltb (length (before .room)) (roomSize r) in
+      let short = shortRows (length (r .numbers)) (length (stopsOf r)) before in
+      let room = ltb (length (before .room)) (roomFor r) in
       let all =
       all-accept (judgeOf r ∷ refuseIf (badRule rule) BadRule ∷ refuseIf (short || shortSums sums) ShortRow ∷ refuseIf room ShortRoom ∷ [])
       (call-accepted (refuses (planCall r rule before sums)) refl)

@@ -17,8 +17,7 @@ use Rattle.runs.specs.Lists.{listVerdict}
 use Rattle.walk.specs.Price.{ReadRows, shortReadRows, priceVerdict}
 use Rattle.refusals.proofs.Verdicts.{none-refuses, refuses}
 use Rattle.runs.proofs.Judged.{accepted-run}
-use Rattle.planner.specs.Plan.{Rows, shortRows}
-use Rattle.tables.specs.Listing.{roomSize}
+use Rattle.planner.specs.Plan.{Rows, roomFor, shortRows}
 use Rattle.boundary.specs.Boundary.{shortSums, priceCall, priceReads, priceSums, PriceCalled, badRule, planCall, PlanCalled}
 use Rattle.demands.specs.Table.{RunApplies, ListIsBad}
 use Rattle.demands.specs.Demand1.{PriceApplies, PlanApplies, priceOrder}
@@ -67,7 +66,7 @@ module _ (r : Run) (froms tos : List ℕ) (rows : ReadRows) (sums : List ℕ) wh
       (first-of-joined (judgeOf r ∷ list ∷ row ∷ []) (four ∷ []))
       (run-finds r AtPrice (λ k p h. PriceCallApplies.price (PriceApplies.run h)) price-call-run (BadEntry ∷ ShortRow ∷ []) (list ∷ row ∷ four ∷ [])
       (λ e. finds-first AtPrice (row ∷ four ∷ []) refl
-      (decides-reworded (λ p h. PriceCallApplies.price (PriceApplies.bad-list h)) price-call-list (decides-list r froms tos (sym (accepted-run r e .wants .equal))))
+      (decides-reworded (λ p h. PriceCallApplies.price (PriceApplies.bad-list h)) price-call-list (decides-list r (accepted-run r e) froms tos (sym (accepted-run r e .wants .equal))))
       (λ b. rw (one-check a (shortSums sums))
       (finds-first AtPrice [] refl
       (decides-reworded short-price-call price-call-short
@@ -117,15 +116,15 @@ module _ (r : Run) (rule : ℕ) (rows : Rows) (sums : List ℕ) where
   plan-call-short p (PlanCallApplies.plan h) = let s = row-short r rows p h in (s .0, inl (s .1))
   plan-call-short p (PlanCallApplies.short-sums h) = (refl, inr h)
 
-  plan-call-room : (p : ℕ) → AtPlan ShortRoom p → (p ≡ 0) × (length (rows .room) < roomSize r)
+  plan-call-room : (p : ℕ) → AtPlan ShortRoom p → (p ≡ 0) × (length (rows .room) < roomFor r)
   plan-call-room p (PlanCallApplies.plan h) = room-short r rows p h
 
   plan-call-finds : Finds AtPlan planCallOrder (planCall r rule rows sums)
   unfolding planCall
   plan-call-finds =
-      let rows-short = shortRows (length (r .numbers)) rows in
+      let rows-short = shortRows (length (r .numbers)) (length (stopsOf r)) rows in
       let short = refuseIf (rows-short || shortSums sums) ShortRow in
-      let room = refuseIf (ltb (length (rows .room)) (roomSize r)) ShortRoom in
+      let room = refuseIf (ltb (length (rows .room)) (roomFor r)) ShortRoom in
       run-finds r AtPlan (λ k p h. PlanCallApplies.plan (PlanApplies.run h)) plan-call-run (BadRule ∷ ShortRow ∷ ShortRoom ∷ []) (refuseIf (badRule rule) BadRule ∷ short ∷ room ∷ [])
       (λ a. finds-first AtPlan (short ∷ room ∷ []) refl
       (decides-reworded (λ p h. rw (h .0) (PlanCallApplies.bad-rule (λ e. h .1 (inl e)) (λ e. h .1 (inr e)))) plan-call-rule
@@ -135,14 +134,14 @@ module _ (r : Run) (rule : ℕ) (rows : Rows) (sums : List ℕ) where
       (decides-reworded short-plan-call plan-call-short
       (decides-if (rows-short || shortSums sums) ShortRow (tells-either rows-short (shortSums sums) (tells-short r rows) (tells-below (length sums) 4))))
       (λ c. finds-first AtPlan [] refl
-      (decides-reworded (λ p h. rw (h .0) (PlanCallApplies.plan (PlanApplies.short-room (h .1)))) plan-call-room (decides-if _ ShortRoom (tells-below (length (rows .room)) (roomSize r))))
+      (decides-reworded (λ p h. rw (h .0) (PlanCallApplies.plan (PlanApplies.short-room (h .1)))) plan-call-room (decides-if _ ShortRoom (tells-below (length (rows .room)) (roomFor r))))
       (λ d. finds-none AtPlan))))
 
   plan-call-accepted : refuses (planCall r rule rows sums) ≡ false → planCall r rule rows sums ≡ accepted
   unfolding planCall
   plan-call-accepted e =
-      let short = shortRows (length (r .numbers)) rows || shortSums sums in
-      let room = ltb (length (rows .room)) (roomSize r) in
+      let short = shortRows (length (r .numbers)) (length (stopsOf r)) rows || shortSums sums in
+      let room = ltb (length (rows .room)) (roomFor r) in
       none-refuses (judgeOf r ∷ refuseIf (badRule rule) BadRule ∷ refuseIf short ShortRow ∷ refuseIf room ShortRoom ∷ []) e
 
   module _ (code : ℕ) (after : Rows) (out : List ℕ) (called : PlanCalled r rule rows sums code after out) where

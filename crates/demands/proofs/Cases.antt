@@ -7,12 +7,12 @@ use mathlib.Core.List.{List, [], _∷_}
 use lib.Dec.{eqb}
 use borrow.Author.Tests.{eqb-true, eq-eqb, not-true}
 use Rattle.refusals.specs.Refusals.{isRefusal, firstWhere}
-use Rattle.runs.specs.Run.{Run, stopsOf, stopsFrom, rightEnd}
+use Rattle.runs.specs.Run.{Run, goesOn, firstMember, lastWithin, wantStops, wantStopsOf, joinTo, joined, stopsOf, rightEnd}
 use Rattle.runs.specs.Judging.{judgeOf}
 use Rattle.walk.specs.Walk.{headAt, walked, served, timeOf, timesOf, legFrom, legsFor, sumOf}
 use Rattle.runs.specs.Lists.{Detour, firstBadEntry, wanted, anyBelow}
 use Rattle.walk.specs.Detours.{startOf, endOf, unreadEnd, sweepEnd, lastSweep, legsOf}
-use Rattle.walk.proofs.Laws.{accepted-sound}
+use Rattle.runs.proofs.Stops.{accepted-sound}
 use Rattle.texts.proofs.Bytes.{and-true-both}
 use Rattle.least.specs.Least.{LeastForRun}
 use Rattle.least.specs.Recurrence.{planDetours, W, lowest, scan, filledTo, filled, candidate, next, value, choice, built, nextPlan, best, leastList}
@@ -69,8 +69,8 @@ passes c =
     not (isRefusal (judgeOf (c .run) .refusal))
     && eqb (firstBadEntry (stopsOf (c .run)) (c .list)) 0
     && eqb (sumOf (c .run .turn) (headAt (c .run .head)) (legsOf (stopsOf (c .run)) (c .list)) (stopsOf (c .run))) (c .sum)
-    && sameRow (timesOf (c .run .turn) (headAt (c .run .head)) (legsOf (stopsOf (c .run)) (c .list)) (stopsOf (c .run))) (c .times)
-    && sameRow (legsFor (legsOf (stopsOf (c .run)) (c .list)) (stopsOf (c .run))) (c .legs)
+    && sameRow (timesOf (c .run .turn) (headAt (c .run .head)) (legsOf (stopsOf (c .run)) (c .list)) (wantStopsOf (c .run))) (c .times)
+    && sameRow (legsFor (legsOf (stopsOf (c .run)) (c .list)) (wantStopsOf (c .run))) (c .legs)
     && eqb ((walked (c .run .turn) (headAt (c .run .head)) (legsOf (stopsOf (c .run)) (c .list))) .clock) (c .finish)
     && eqb ((walked (c .run .turn) (headAt (c .run .head)) (legsOf (stopsOf (c .run)) (c .list))) .place) (c .end)
     && alike (c .least) (sameList (c .list) (leastList (c .run .turn) (stopsOf (c .run))))
@@ -115,7 +115,7 @@ all-hold [] e = tt
 all-hold (c ∷ cs) e = let both = and-true-both _ _ e in (holds-if-passes c (both .0), all-hold cs (both .1))
 
 cases-pass : allPass cases ≡ true
-unfolding allPass passes alike sameRow sameList judgeOf firstWhere stopsFrom rightEnd firstBadEntry wanted anyBelow startOf endOf served unreadEnd sweepEnd lastSweep legsOf walked timeOf timesOf legFrom legsFor sumOf leastList planDetours W lowest scan filledTo filled candidate next value choice built nextPlan best
+unfolding allPass passes alike sameRow sameList judgeOf firstWhere goesOn firstMember lastWithin wantStops joinTo joined rightEnd firstBadEntry wanted anyBelow startOf endOf served unreadEnd sweepEnd lastSweep legsOf walked timeOf timesOf legFrom legsFor sumOf leastList planDetours W lowest scan filledTo filled candidate next value choice built nextPlan best
 cases-pass = refl
 
 pub cases-hold : CasesHold

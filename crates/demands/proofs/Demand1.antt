@@ -21,8 +21,7 @@ use Rattle.walk.specs.Price.{refusalAnswer, pricedAnswer, ReadRows, shortReadRo
 use Rattle.refusals.proofs.Verdicts.{none-refuses, refuses}
 use Rattle.runs.proofs.Judged.{accepted-run}
 use Rattle.walk.proofs.Priced.{price-accepted}
-use Rattle.planner.specs.Plan.{Rows, readsIn, Plans, shortRows, planVerdict}
-use Rattle.tables.specs.Listing.{roomSize}
+use Rattle.planner.specs.Plan.{Rows, readsIn, roomFor, Plans, shortRows, planVerdict}
 use Rattle.demands.specs.Table.{RunApplies, ListIsBad}
 use Rattle.demands.specs.Demand1.{OnlyPlace, PriceApplies, PlanApplies, priceOrder, planOrder, PriceAnswers, PlanAnswers, Demand1Price, Demand1Plan, Demand1PriceIff, Demand1PlanIff}
 use Rattle.demands.proofs.Tests.{Tells, tells-below, tells-either, tells-regrouped}
@@ -67,7 +66,7 @@ module _ (r : Run) (froms tos : List ℕ) (rows : ReadRows) where
       let short = refuseIf (shortReadRows (length (r .numbers)) rows) ShortRow in
       run-finds r (PriceApplies r froms tos rows) (λ k p. PriceApplies.run) price-of-run (BadEntry ∷ ShortRow ∷ []) (listVerdict (stopsOf r) froms tos ∷ short ∷ [])
       (λ a. finds-first (PriceApplies r froms tos rows) (short ∷ []) refl
-      (decides-reworded (λ p. PriceApplies.bad-list) price-list (decides-list r froms tos (sym (accepted-run r a .wants .equal))))
+      (decides-reworded (λ p. PriceApplies.bad-list) price-list (decides-list r (accepted-run r a) froms tos (sym (accepted-run r a .wants .equal))))
       (λ b. finds-first (PriceApplies r froms tos rows) [] refl
       (decides-reworded short-reads reads-short (decides-if _ ShortRow (tells-reads (length (r .numbers)) rows)))
       (λ c. finds-none (PriceApplies r froms tos rows))))
@@ -95,7 +94,7 @@ module _ (r : Run) (rows : Rows) where
   plan-of-run k p l (PlanApplies.short-room h) = absurd (omega arith)
 
   abbrev pub IsShort : Type 0
-  IsShort = ((length (rows .times) < length (r .numbers)) ⊎ (length (rows .legs) < length (r .numbers))) ⊎ ((length (rows .froms) < length (r .numbers) - 1) ⊎ (length (rows .tos) < length (r .numbers) - 1))
+  IsShort = ((length (rows .times) < length (r .numbers)) ⊎ (length (rows .legs) < length (r .numbers))) ⊎ ((length (rows .froms) < length (stopsOf r) - 1) ⊎ (length (rows .tos) < length (stopsOf r) - 1))
 
   pub short-row : (p : ℕ) → (p ≡ 0) × IsShort → PlanApplies r rows ShortRow p
   short-row p h = rw (h .0) (⊎-elim (⊎-elim PlanApplies.short-times PlanApplies.short-legs) (⊎-elim PlanApplies.short-starts PlanApplies.short-ends) (h .1))
@@ -107,36 +106,37 @@ module _ (r : Run) (rows : Rows) where
   row-short p (PlanApplies.short-starts h) = (refl, inr (inl h))
   row-short p (PlanApplies.short-ends h) = (refl, inr (inr h))
 
-  pub room-short : (p : ℕ) → PlanApplies r rows ShortRoom p → (p ≡ 0) × (length (rows .room) < roomSize r)
+  pub room-short : (p : ℕ) → PlanApplies r rows ShortRoom p → (p ≡ 0) × (length (rows .room) < roomFor r)
   room-short p (PlanApplies.run h) = absurd (omega (arith, run-small r h))
   room-short p (PlanApplies.short-room h) = (refl, h)
 
-  pub tells-short : Tells (shortRows (length (r .numbers)) rows) IsShort
+  pub tells-short : Tells (shortRows (length (r .numbers)) (length (stopsOf r)) rows) IsShort
   tells-short =
       let k = length (r .numbers) in
+      let stops = length (stopsOf r) in
       let reads = shortReadRows k (readsIn rows) in
-      let froms = ltb (length (rows .froms)) (k - 1) in
-      let tos = ltb (length (rows .tos)) (k - 1) in
+      let froms = ltb (length (rows .froms)) (stops - 1) in
+      let tos = ltb (length (rows .tos)) (stops - 1) in
       tells-regrouped
       (tells-either (reads || froms) tos
-      (tells-either reads froms (tells-reads k (readsIn rows)) (tells-below (length (rows .froms)) (k - 1)))
-      (tells-below (length (rows .tos)) (k - 1)))
+      (tells-either reads froms (tells-reads k (readsIn rows)) (tells-below (length (rows .froms)) (stops - 1)))
+      (tells-below (length (rows .tos)) (stops - 1)))
 
   plan-finds : Finds (PlanApplies r rows) planOrder (planVerdict r rows)
   unfolding planVerdict
   plan-finds =
-      let short = shortRows (length (r .numbers)) rows in
-      let room = refuseIf (ltb (length (rows .room)) (roomSize r)) ShortRoom in
+      let short = shortRows (length (r .numbers)) (length (stopsOf r)) rows in
+      let room = refuseIf (ltb (length (rows .room)) (roomFor r)) ShortRoom in
       run-finds r (PlanApplies r rows) (λ k p. PlanApplies.run) plan-of-run (ShortRow ∷ ShortRoom ∷ []) (refuseIf short ShortRow ∷ room ∷ [])
       (λ a. finds-first (PlanApplies r rows) (room ∷ []) refl (decides-reworded short-row row-short (decides-if short ShortRow tells-short))
       (λ b. finds-first (PlanApplies r rows) [] refl
-      (decides-reworded (λ p h. rw (h .0) (PlanApplies.short-room (h .1))) room-short (decides-if _ ShortRoom (tells-below (length (rows .room)) (roomSize r))))
+      (decides-reworded (λ p h. rw (h .0) (PlanApplies.short-room (h .1))) room-short (decides-if _ ShortRoom (tells-below (length (rows .room)) (roomFor r))))
       (λ c. finds-none (PlanApplies r rows))))
 
   plan-accepted : refuses (planVerdict r rows) ≡ false → planVerdict r rows ≡ accepted
   unfolding planVerdict
   plan-accepted e =
-      none-refuses (judgeOf r ∷ refuseIf (shortRows (length (r .numbers)) rows) ShortRow ∷ refuseIf (ltb (length (rows .room)) (roomSize r)) ShortRoom ∷ []) e
+      none-refuses (judgeOf r ∷ refuseIf (shortRows (length (r .numbers)) (length (stopsOf r)) rows) ShortRow ∷ refuseIf (ltb (length (rows .room)) (roomFor r)) ShortRoom ∷ []) e
 
   module _ (rule : Rule) (answer : Answer) (after : Rows) (plans : Plans r rule rows answer after) where
     plan-says : (b : Bool) → refuses (planVerdict r rows) ≡ b → PlanAnswers r rows answer after

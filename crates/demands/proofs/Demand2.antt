@@ -13,15 +13,18 @@ use Rattle.walk.specs.declared.Answer.{Answer}
 use Rattle.runs.specs.declared.Rule.{Rule}
 use Rattle.runs.specs.declared.Rule.the-variants.{Sweep, Least}
 use Rattle.refusals.specs.Refusals.{isRefusal, refuseIf, refuseAt, firstWhere}
-use Rattle.runs.specs.Run.{Run, Stop, stopsOf}
-use Rattle.walk.specs.Walk.{timesOf, legsFor}
+use Rattle.runs.specs.Run.{Run, Stop, stopsOf, wantStopsOf}
+use Rattle.walk.specs.Walk.{headAt, timesOf, legsFor}
+use Rattle.walk.specs.Detours.{legsOf}
 use Rattle.runs.specs.Judging.{judgeOf}
 use Rattle.runs.specs.Lists.{Detour, WellFormed, listOf, firstBadEntry, listVerdict}
 use Rattle.walk.specs.Price.{pricedAnswer, pricedTimes, pricedLegs, ReadRows, readRowsWith, shortReadRows, priceVerdict, priceAnswer, priceRows}
 use Rattle.refusals.proofs.Verdicts.{refuses, AllAccept, all-accept, accepts-if, accepts-at}
 use Rattle.runs.proofs.Judged.{accepted-run}
 use Rattle.runs.proofs.Search.{true-or-false}
-use Rattle.walk.proofs.Filling.{one-each, stops-length}
+use Rattle.walk.proofs.Filling.{one-each}
+use Rattle.walk.proofs.Joins.{run-sum-joined}
+use Rattle.runs.proofs.Stops.{wants-length}
 use Rattle.least.specs.Least.{LeastFor}
 use Rattle.planner.specs.Plan.{Rows, readsIn, rowsWith}
 use Rattle.least.specs.Least.{ByRule}
@@ -40,13 +43,14 @@ priced-walk : (r : Run) (list : List Detour) (rows before : ReadRows) (answer : 
     → WellFormed (stopsOf r) list → length (r .counts) ≡ length (r .numbers) → IsWalkOf r list rows answer
 unfolding pricedAnswer pricedTimes pricedLegs timesOf legsFor
 priced-walk r list rows before answer says fills formed same =
-    let size : (f : Stop → ℕ) → length (map f (stopsOf r)) ≡ length (r .numbers) = λ f. one-each f (stopsOf r) ∙ stops-length (r .starts) (r .lengths) (r .numbers) (r .counts) same in
+    let size : (f : Stop → ℕ) → length (map f (wantStopsOf r)) ≡ length (r .numbers) = λ f. one-each f (wantStopsOf r) ∙ wants-length (r .starts) (r .lengths) (r .aggregates) (r .numbers) (r .counts) same in
     record {
       number = rw says;
       formed = formed;
       times = rw fills (take-at (pricedTimes r list) (drop (length (r .numbers)) (before .times)) (length (r .numbers)) (size _));
       legs = rw fills (take-at (pricedLegs r list) (drop (length (r .numbers)) (before .legs)) (length (r .numbers)) (size _));
       sum = rw says;
+      summed = rw says (run-sum-joined (r .turn) (headAt (r .head)) (legsOf (stopsOf r) list) r);
       finish = rw says;
       end = rw says;
     }

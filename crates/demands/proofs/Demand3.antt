@@ -3,27 +3,31 @@ use mathlib.Core.Path.{_≡_, refl}
 use native.Mathlib.Nat.{le-refl}
 use Rattle.runs.specs.declared.Rule.the-variants.{Least}
 use Rattle.runs.specs.Run.{Run, stopsOf}
-use Rattle.walk.proofs.Laws.{accepted-sound}
+use Rattle.runs.proofs.Judged.{accepted-run}
+use Rattle.runs.proofs.Stops.{accepted-sound}
 use Rattle.least.proofs.Unbeaten.{SameTable, same-table, covers-of-reads, no-movement-beats}
+use Rattle.least.proofs.Wanted.{reads-no-more}
 use Rattle.demands.specs.Demand3.{Demand3, Demand3Same}
 use Rattle.demands.proofs.Planned.{plan-in-rows, run-accepted, reported-sum}
 
 -- Runs over one tape table have their files at the same places.
-one-table : (first second : Run) → first .starts ≡ second .starts → first .lengths ≡ second .lengths → SameTable (stopsOf first) (stopsOf second)
-one-table first second s l = rw (s, l) (same-table (second .starts) (second .lengths) (first .numbers) (first .counts) (second .numbers) (second .counts))
+one-table : (first second : Run) → first .starts ≡ second .starts → first .lengths ≡ second .lengths → first .aggregates ≡ second .aggregates → SameTable (stopsOf first) (stopsOf second)
+one-table first second s l a = rw (s, l, a) (same-table (second .starts) (second .lengths) (second .aggregates) (first .numbers) (first .counts) (second .numbers) (second .counts))
 
 pub demand3 : Demand3
 demand3 first second before answer after accepted plans accepts asks gs moves serves =
     let plan = plan-in-rows second Least before answer after plans accepts in
-    let sound = accepted-sound second (run-accepted second Least before answer after plans accepts) in
+    let passes = run-accepted second Least before answer after plans accepts in
+    let sound = accepted-sound second passes in
+    let reads = reads-no-more first second (accepted-run first accepted) (accepted-run second passes) (asks .starts) (asks .aggregates) (asks .reads) in
     rw
     (reported-sum second (plan .list) answer (plan .says))
     (no-movement-beats (first .turn) (first .head) (second .turn) (second .head) (stopsOf first) (stopsOf second) (accepted-sound first accepted) sound (asks .head) (asks .turn)
-    (covers-of-reads (second .head) (stopsOf first) (stopsOf second) sound (asks .reads) (one-table first second (asks .starts) (asks .lengths)))
+    (covers-of-reads (second .head) (stopsOf first) (stopsOf second) sound reads (one-table first second (asks .starts) (asks .lengths) (asks .aggregates)))
     gs moves serves (plan .list) (plan .by-rule))
 
 pub demand3-same : Demand3Same
 demand3-same r before answer after plans accepts gs moves serves =
     demand3 r r before answer after (run-accepted r Least before answer after plans accepts) plans accepts
-    (record { starts = refl; lengths = refl; reads = λ f. le-refl _; turn = le-refl _; head = le-refl _ })
+    (record { starts = refl; lengths = refl; aggregates = refl; reads = λ f. le-refl _; turn = le-refl _; head = le-refl _ })
     gs moves serves

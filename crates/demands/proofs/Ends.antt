@@ -9,20 +9,23 @@ use lib.Seq.{getD-take}
 use Rattle.walk.specs.declared.Answer.{Answer}
 use Rattle.walk.specs.declared.Head.{Head}
 use Rattle.walk.specs.declared.Leg.{Leg}
-use Rattle.runs.specs.Run.{Run, Stop, stopsOf, stopAt}
+use Rattle.runs.specs.Run.{Run, Stop, endAt, lastMember, stopsOf, wantStopsOf, stopAt}
 use Rattle.runs.specs.Judging.{judgeOf}
 use Rattle.runs.specs.Lists.{Detour, listOf}
 use Rattle.walk.specs.Walk.{headAt, timeOf, timesOf, sumOf}
-use Rattle.walk.specs.Detours.{legsOf}
+use Rattle.walk.specs.Detours.{legsOf, fullLegsOf}
 use Rattle.refusals.proofs.Verdicts.{refuses}
 use Rattle.runs.proofs.Judged.{accepted-run}
-use Rattle.walk.proofs.Filling.{stops-length, stop-at}
-use Rattle.walk.proofs.Laws.{accepted-sound}
-use Rattle.least.proofs.Sweeps.{times-stay, LastRead, last-read}
+use Rattle.runs.proofs.Joined.{some-joined}
+use Rattle.runs.proofs.Stops.{wants-agree, wants-length, want-at, accepted-sound}
+use Rattle.walk.proofs.Joins.{time-same}
+use Rattle.least.proofs.Sweeps.{times-stay, time-by-end, LastRead, last-read}
 use Rattle.walk.specs.Price.{ReadRows}
 use Rattle.planner.specs.Plan.{readsIn}
 use Rattle.demands.specs.Demand2.{listIn, IsWalkOf}
 use Rattle.demands.specs.Ends.{EndsWithARead, PriceEndsWithARead, PlanEndsWithARead, TimesStay}
+use Rattle.demands.proofs.Conditions.{named, last-with, within-extent}
+use Rattle.demands.proofs.Stops.{PlacedIn, joined-placed, wants-placed}
 use Rattle.demands.proofs.Planned.{run-accepted}
 use Rattle.demands.proofs.Demand2.{demand2-price, demand2-walk, price-run-accepted}
 
@@ -43,37 +46,70 @@ module _ (U : ℕ) (h : Head) (gs gs′ : List Leg) where
   same-sum [] e = refl
   same-sum (s ∷ ss) e = rw (e 0 (omega arith), same-sum ss (λ i l. e (suc i) (omega arith)))
 
-pub times-stay-put : TimesStay
-times-stay-put r ok list =
-    let each = times-stay (stopsOf r) (r .head) (accepted-sound r ok) list (r .turn) (headAt (r .head)) in
-    record { times = same-times _ _ _ _ (stopsOf r) each; sum = same-sum _ _ _ _ (stopsOf r) each }
-
 module _ (r : Run) (ok : refuses (judgeOf r) ≡ false) where
   same : length (r .counts) ≡ length (r .numbers)
   same = sym (accepted-run r ok .wants .equal)
 
-  pub size : length (stopsOf r) ≡ length (r .numbers)
-  size = stops-length (r .starts) (r .lengths) (r .numbers) (r .counts) same
+  pub size : length (wantStopsOf r) ≡ length (r .numbers)
+  size = wants-length (r .starts) (r .lengths) (r .aggregates) (r .numbers) (r .counts) same
+
+  -- A want's stop lies where a joined one does, and the other way round.
+  pub stop-of-want : (i : ℕ) → i < length (r .numbers) → PlacedIn (stopsOf r) (stopAt (wantStopsOf r) i)
+  stop-of-want i l = wants-placed (wantStopsOf r) (wants-agree (r .starts) (r .lengths) (r .aggregates) (r .numbers) (r .counts)) i (omega (arith, size))
+
+  want-of-stop : (j : ℕ) → j < length (stopsOf r) → PlacedIn (wantStopsOf r) (stopAt (stopsOf r) j)
+  want-of-stop j l = joined-placed (wantStopsOf r) j l
+
+pub times-stay-put : TimesStay
+times-stay-put r ok list =
+    let U = r .turn in
+    let h = headAt (r .head) in
+    let short = legsOf (stopsOf r) list in
+    let full = fullLegsOf (stopsOf r) list in
+    let each = times-stay (stopsOf r) (r .head) (accepted-sound r ok) list U h in
+    record {
+      times =
+          same-times U h short full (wantStopsOf r)
+          (λ i l.
+          let p = stop-of-want r ok i (omega (arith, size r ok)) in
+          time-same U short h (stopAt (wantStopsOf r) i) (stopAt (stopsOf r) (p .index)) (p .places)
+          ∙ each (p .index) (p .within)
+          ∙ sym (time-same U full h (stopAt (wantStopsOf r) i) (stopAt (stopsOf r) (p .index)) (p .places)));
+      sum = same-sum U h short full (stopsOf r) each;
+    }
 
 -- An accepted run, and an answer that is the walk of a list.
 module _ (r : Run) (ok : refuses (judgeOf r) ≡ false) (list : List Detour) (rows : ReadRows) (answer : Answer) (walk : IsWalkOf r list rows answer) where
-  pub in-row : (i : ℕ) → i < length (r .numbers) → getD (rows .times) i 0 ≡ timeOf (r .turn) (headAt (r .head)) (legsOf (stopsOf r) list) (stopAt (stopsOf r) i)
+  pub in-row : (i : ℕ) → i < length (r .numbers) → getD (rows .times) i 0 ≡ timeOf (r .turn) (headAt (r .head)) (legsOf (stopsOf r) list) (stopAt (wantStopsOf r) i)
   unfolding timesOf
   in-row i l =
       sym (getD-take (length (r .numbers)) (rows .times) i 0 l)
       ∙ ap (λ ts. getD ts i 0) (walk .times)
-      ∙ entry-at (timeOf (r .turn) (headAt (r .head)) (legsOf (stopsOf r) list)) (stopsOf r) i (omega (arith, size r ok))
+      ∙ entry-at (timeOf (r .turn) (headAt (r .head)) (legsOf (stopsOf r) list)) (wantStopsOf r) i (omega (arith, size r ok))
 
   ends-with-a-read : 0 < length (r .numbers) → EndsWithARead r (rows .times) answer
   ends-with-a-read some =
-      let last = last-read (stopsOf r) (r .head) (accepted-sound r ok) (omega (arith, size r ok)) list (walk .formed) (r .turn) in
-      let l : last .index < length (r .numbers) = omega (arith, last .within, size r ok) in
+      let U = r .turn in
+      let h = headAt (r .head) in
+      let gs = legsOf (stopsOf r) list in
+      let good = accepted-run r ok in
+      let last = last-read (stopsOf r) (r .head) (accepted-sound r ok) (some-joined (wantStopsOf r) (omega (arith, size r ok))) list (walk .formed) U in
+      let w = want-of-stop r ok (last .index) (last .within) in
+      let l : w .index < length (r .numbers) = omega (arith, w .within, size r ok) in
+      let file = named r (good .files) (good .wants) (w .index) l in
+      let with-it = last-with r (good .files) (getD (r .numbers) (w .index) 0) file in
+      let ends : answer .end ≡ endAt (r .starts) (r .lengths) (lastMember (r .aggregates) (getD (r .numbers) (w .index) 0 - 1))
+      = walk .end ∙ last .place ∙ w .places .end ∙ ap (λ s. s .end) (want-at (r .starts) (r .lengths) (r .aggregates) (r .numbers) (r .counts) (same r ok) (w .index) l) in
       record {
-        want = last .index;
+        want = w .index;
         within = l;
-        finish = walk .finish ∙ last .clock ∙ sym (in-row (last .index) l);
-        latest = λ i h. rw (walk .finish, in-row i h) (last .latest i (omega (arith, size r ok)));
-        end = walk .end ∙ last .place ∙ ap (λ s. s .end) (stop-at (r .starts) (r .lengths) (r .numbers) (r .counts) (same r ok) (last .index) l _);
+        finish = walk .finish ∙ last .clock ∙ time-same U gs h (stopAt (stopsOf r) (last .index)) (stopAt (wantStopsOf r) (w .index)) (w .places) ∙ sym (in-row (w .index) l);
+        latest = λ i b. rw (walk .finish, in-row i b) (time-by-end U h gs (stopAt (wantStopsOf r) i));
+        last = with-it .which;
+        file = with-it .file;
+        together = with-it .together;
+        end = ends ∙ sym (with-it .ends);
+        rightmost = λ f a t. rw ends (within-extent r (good .files) f (getD (r .numbers) (w .index) 0) a file t);
       }
 
 pub price-ends-with-a-read : PriceEndsWithARead

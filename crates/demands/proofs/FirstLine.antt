@@ -14,13 +14,13 @@ use Rattle.refusals.specs.Refusals.{refuseAt, firstWhere}
 use Rattle.runs.specs.Run.{mostWants}
 use Rattle.runs.proofs.Search.{first-zero}
 use Rattle.texts.specs.Text.{lineFeed, isEmpty, has, behind}
-use Rattle.sheets.specs.Lines.{lineOf, afterLines, lineAfter, tapeKey, headKey, turnKey, ruleKey, filesKey, fileKey, wantsKey, wantKey, isTapeLine, isNumberLine, isTurnLine, isRuleLine, isCountLine, isPairLine}
-use Rattle.sheets.specs.Sheet.{mostSheetFiles, sheetFiles, sheetWants, fileText, wantsText, wantText, endText, unless, shifted, firstBadPair, firstSome, firstBadTop, firstBadBelow, firstBadLine}
+use Rattle.sheets.specs.Lines.{lineOf, afterLines, lineAfter, tapeKey, headKey, turnKey, ruleKey, filesKey, fileKey, wantsKey, wantKey, isTapeLine, isNumberLine, isTurnLine, isRuleLine, isCountLine, isPairLine, isTripleLine}
+use Rattle.sheets.specs.Sheet.{mostSheetFiles, sheetFiles, sheetWants, fileText, wantsText, wantText, endText, unless, shifted, firstBadOf, firstSome, firstBadTop, firstBadBelow, firstBadLine}
 use Rattle.demands.specs.Table.{FirstBad}
-use Rattle.demands.specs.Lines.{Stands, Name, Number, NumberOrNothing, RuleName, UpTo, Pair, LineIsBad, linesDue, LinesByTheTable}
+use Rattle.demands.specs.Lines.{Stands, Name, Number, NumberOrNothing, RuleName, UpTo, Pair, Triple, LineIsBad, linesDue, LinesByTheTable}
 use Rattle.demands.proofs.Tests.{Tells}
 use Rattle.demands.proofs.Checks.{Decides, refused, passed, found-at}
-use Rattle.demands.proofs.Lines.{tells-tape, tells-turn, tells-rule, tells-number, tells-count, tells-pair-line, tells-end}
+use Rattle.demands.proofs.Lines.{tells-tape, tells-turn, tells-rule, tells-number, tells-count, tells-pair-line, tells-triple-line, tells-end}
 
 -- What a search says: the number of the first bad line, or 0; and bad lines lie in its stretch only.
 record Search (Bad : ℕ → Type 0) (x lo hi : ℕ) : Type 0 where
@@ -128,7 +128,7 @@ module _ (sheet : List ℕ) where
 
   abbrev BelowIsBad : ℕ → Type 0
   BelowIsBad i =
-      Among (Stands fileKey Pair sheet) 5 F i
+      Among (Stands fileKey Triple sheet) 5 F i
       ⊎ (Unless (Stands wantsKey (UpTo mostWants) sheet) (5 + F) i
       ⊎ (Among (Stands wantKey Pair sheet) (6 + F) W i ⊎ (Unless (λ j. afterLines j sheet ≡ []) (6 + F + W) i ⊎ ⊥)))
 
@@ -165,27 +165,27 @@ module _ (sheet : List ℕ) where
   unfolding endText
   end-behind = ap (afterLines W) want-behind ∙ after-both W (6 + F) (6 + F + W) sheet refl
 
-  pairs-search : (key text : List ℕ) (lo lines count : ℕ) → lines ≡ lo → text ≡ afterLines lo sheet → 0 < length key → has lineFeed key ≡ false
-      → Search (Among (Stands key Pair sheet) lo count) (shifted lines (firstBadPair key count text)) lo (lo + count)
-  unfolding firstBadPair bad
-  pairs-search key text lo lines count same is long plain =
+  lines-search : (Good : ℕ → Type 0) (test : List ℕ → Bool) → ((i : ℕ) → Tells (test (lineAfter i sheet)) (Good i))
+      → (text : List ℕ) (lo lines count : ℕ) → lines ≡ lo → text ≡ afterLines lo sheet
+      → Search (Among Good lo count) (shifted lines (firstBadOf test count text)) lo (lo + count)
+  unfolding firstBadOf bad
+  lines-search Good test tells text lo lines count same is =
       rw (same, is)
-      (many-lines (Stands key Pair sheet) (λ k. isPairLine key (lineAfter k (afterLines lo sheet))) lo count
-      (λ k. rw (after-both k lo (lo + k) sheet refl) (tells-pair-line sheet (lo + k) key long plain)))
+      (many-lines Good (λ k. test (lineAfter k (afterLines lo sheet))) lo count (λ k. rw (after-both k lo (lo + k) sheet refl) (tells (lo + k))))
 
   below-search : Search BelowIsBad (firstBadBelow sheet) 5 (linesDue sheet)
   unfolding firstBadBelow fileText has
   below-search =
-      let file = shifted 5 (firstBadPair fileKey F (fileText sheet)) in
+      let file = shifted 5 (firstBadOf (isTripleLine fileKey) F (fileText sheet)) in
       let count = isCountLine wantsKey mostWants (lineOf (wantsText sheet)) in
-      let want = shifted (F + 6) (firstBadPair wantKey W (wantText sheet)) in
+      let want = shifted (F + 6) (firstBadOf (isPairLine wantKey) W (wantText sheet)) in
       let done = isEmpty (endText sheet) in
       joined file (unless count (F + 6) ∷ want ∷ unless done (F + W + 7) ∷ []) (omega arith) (omega arith) (omega arith)
-      (pairs-search fileKey (fileText sheet) 5 5 F refl refl (omega arith) refl)
+      (lines-search (Stands fileKey Triple sheet) (isTripleLine fileKey) (λ i. tells-triple-line sheet i fileKey (omega arith) refl) (fileText sheet) 5 5 F refl refl)
       (joined (unless count (F + 6)) (want ∷ unless done (F + W + 7) ∷ []) (omega arith) (omega arith) (omega arith)
       (one-line (Stands wantsKey (UpTo mostWants) sheet) count (5 + F) (F + 6) (omega arith) (rw wants-behind (tells-count sheet (5 + F) wantsKey (omega arith) refl mostWants)))
       (joined want (unless done (F + W + 7) ∷ []) (omega arith) (omega arith) (omega arith)
-      (pairs-search wantKey (wantText sheet) (6 + F) (F + 6) W (omega arith) want-behind (omega arith) refl)
+      (lines-search (Stands wantKey Pair sheet) (isPairLine wantKey) (λ i. tells-pair-line sheet i wantKey (omega arith) refl) (wantText sheet) (6 + F) (F + 6) W (omega arith) want-behind)
       (joined (unless done (F + W + 7)) [] (omega arith) (omega arith) (omega arith)
       (one-line (λ j. afterLines j sheet ≡ []) done (6 + F + W) (F + W + 7) (omega arith) (rw end-behind (tells-end sheet (6 + F + W))))
       (ended (linesDue sheet)))))

@@ -11,7 +11,7 @@ use Rattle.runs.specs.Judging.{judgeOf}
 use Rattle.runs.specs.Lists.{Detour}
 use Rattle.walk.specs.Price.{refusalAnswer, pricedAnswer}
 use Rattle.refusals.proofs.Verdicts.{refuses}
-use Rattle.walk.proofs.Laws.{accepted-sound}
+use Rattle.runs.proofs.Stops.{accepted-sound}
 use Rattle.least.proofs.LeastList.{least-list}
 use Rattle.planner.specs.Plan.{Rows, rowsWith, Plans, planVerdict}
 use Rattle.least.specs.Least.{ByRule}

@@ -1,6 +1,6 @@
 -- The hypotheses of the demands can be met: the sheet of document 01 gives an accepted run, a refusal, and for demand 3 two runs with a
 -- movement that is the walk of no detour list.
-use Prim.Native.Nat.{ℕ, zero, suc, _≤_}
+use Prim.Native.Nat.{ℕ, zero, suc, _+_, _≤_}
 use mathlib.Core.Path.{_≡_, refl, sym, ap, _∙_}
 use mathlib.Core.Bool.{Bool, true, false, cond, true≢false}
 use mathlib.Core.List.{List, [], _∷_, _++_, map}
@@ -14,7 +14,7 @@ use Rattle.walk.specs.declared.Answer.{Answer}
 use Rattle.walk.specs.declared.Leg.{Leg}
 use Rattle.runs.specs.declared.Rule.the-variants.{Sweep, Least}
 use Rattle.refusals.specs.Refusals.{isRefusal, firstWhere}
-use Rattle.runs.specs.Run.{Run, runOf, stopsFrom, stopsOf, stopAt, rightEnd}
+use Rattle.runs.specs.Run.{Run, runOf, goesOn, firstMember, lastWithin, wantStops, joinTo, joined, stopsOf, stopAt, rightEnd}
 use Rattle.runs.specs.Judging.{judgeOf}
 use Rattle.walk.specs.Walk.{headAt, Moves, served, ServesAll, timeOf, sumOf}
 use Rattle.runs.specs.Lists.{Detour, wanted, anyBelow, firstBadEntry, listVerdict, listOf}
@@ -22,14 +22,14 @@ use Rattle.walk.specs.Detours.{startOf, endOf, legOf, unreadEnd, sweepEnd, last
 use Rattle.walk.specs.Price.{refusalAnswer, pricedAnswer, priceVerdict, priceAnswer, priceRows, ReadRows, readRows}
 use Rattle.refusals.proofs.Verdicts.{refuses}
 use Rattle.walk.proofs.Sweeps.{sweeps-to}
-use Rattle.least.specs.Wants.{readsOf}
+use Rattle.least.specs.Wants.{readsOfFile}
 use Rattle.least.specs.Recurrence.{planDetours, W, lowest, scan, filledTo, filled, candidate, next, value, choice, built, nextPlan, best, leastList}
 use Rattle.planner.specs.Plan.{Rows, rowsOf, Plans, planVerdict}
 use Rattle.boundary.specs.Boundary.{codeOf, sumsWith, priceCall, priceReads, priceSums, planCall, PlanCalled}
 use Rattle.texts.specs.Text.{bytes, allOf, isNumber, isName, valueFrom, startsWith, has, before, behind}
 use Rattle.sheets.specs.declared.Reading.{Reading}
-use Rattle.sheets.specs.Lines.{lineOf, afterLines, isTapeLine, isNumberLine, isCountLine, isTurnLine, isRuleLine, isPair, isPairLine}
-use Rattle.sheets.specs.Sheet.{sheetFiles, fileText, wantsText, sheetWants, wantText, endText, firstBadPair, firstBadTop, firstBadBelow, firstBadLine, sheetRun}
+use Rattle.sheets.specs.Lines.{lineOf, afterLines, isTapeLine, isNumberLine, isCountLine, isTurnLine, isRuleLine, isPair, isPairLine, isTripleLine}
+use Rattle.sheets.specs.Sheet.{sheetFiles, fileText, wantsText, sheetWants, wantText, endText, firstBadOf, firstBadTop, firstBadBelow, firstBadLine, sheetRun}
 use Rattle.sheets.specs.Reading.{sheetVerdict, readVerdict, readAnswer, readRow, RunRows, runRows, rowsVerdict}
 use Rattle.writers.specs.declared.Written.{Written}
 use Rattle.writers.specs.Writing.{sheetText, rowVerdict, writeVerdict, writtenAnswer, writtenRow}
@@ -65,15 +65,15 @@ abbrev pub sheetAfter : ℕ → Rows
 sheetAfter words = planRows exampleRun Least (sheetRows words)
 
 pub sheet-accepted : sheetAnswer 54 .refusal ≡ Accepted
-unfolding planAnswer planVerdict judgeOf firstWhere stopsFrom rightEnd pricedAnswer
+unfolding planAnswer planVerdict judgeOf firstWhere goesOn firstMember lastWithin wantStops joinTo joined rightEnd pricedAnswer
 sheet-accepted = refl
 
 sweep-accepted : planAnswer exampleRun Sweep (sheetRows 54) .refusal ≡ Accepted
-unfolding planAnswer planVerdict judgeOf firstWhere stopsFrom rightEnd pricedAnswer
+unfolding planAnswer planVerdict judgeOf firstWhere goesOn firstMember lastWithin wantStops joinTo joined rightEnd pricedAnswer
 sweep-accepted = refl
 
 pub sheet-reports : sheetAnswer 54 .sum ≡ 367
-unfolding planAnswer ruleList planVerdict judgeOf firstWhere stopsFrom rightEnd pricedAnswer startOf endOf served unreadEnd sweepEnd lastSweep legsOf timeOf sumOf leastList planDetours W lowest scan filledTo filled candidate next value choice built nextPlan best
+unfolding planAnswer ruleList planVerdict judgeOf firstWhere goesOn firstMember lastWithin wantStops joinTo joined rightEnd pricedAnswer startOf endOf served unreadEnd sweepEnd lastSweep legsOf timeOf sumOf leastList planDetours W lowest scan filledTo filled candidate next value choice built nextPlan best
 sheet-reports = refl
 
 -- Rows for the times and legs of four wants, and of three.
@@ -85,11 +85,11 @@ threes = readRows (7 ∷ 7 ∷ 7 ∷ []) (7 ∷ 7 ∷ 7 ∷ [])
 
 -- One word less, and it refuses by 9; the pricer refuses (3,4)(2,4) at entry 2.
 pub short-room-refused : sheetAnswer 53 .refusal ≡ ShortRoom
-unfolding planAnswer planVerdict judgeOf firstWhere stopsFrom rightEnd
+unfolding planAnswer planVerdict judgeOf firstWhere goesOn firstMember lastWithin wantStops joinTo joined rightEnd
 short-room-refused = refl
 
 pub crossing-list-refused : priceAnswer fourFiles (3 ∷ 2 ∷ []) (4 ∷ 4 ∷ []) zeros ≡ refusalAnswer (record { refusal = BadEntry; place = 2 })
-unfolding priceAnswer priceVerdict judgeOf firstWhere stopsFrom rightEnd listVerdict listOf firstBadEntry wanted anyBelow
+unfolding priceAnswer priceVerdict judgeOf firstWhere goesOn firstMember lastWithin wantStops joinTo joined rightEnd listVerdict listOf firstBadEntry wanted anyBelow
 crossing-list-refused = refl
 
 -- 01's rules: (3,3)(2,4) obeys them, (3,4)(2,4) with its equal ends does not.
@@ -97,40 +97,39 @@ abbrev twoDetours : ℕ → ℕ → ℕ → ℕ → List Detour
 twoDetours a b c d = record { from = a; to = b } ∷ record { from = c; to = d } ∷ []
 
 pub nested-obeys : ObeysTheRules (stopsOf fourFiles) (twoDetours 3 3 2 4)
-unfolding firstBadEntry firstWhere stopsFrom wanted anyBelow
+unfolding firstBadEntry firstWhere goesOn firstMember lastWithin wantStops joinTo joined wanted anyBelow
 nested-obeys = formed-by-the-rules (stopsOf fourFiles) (twoDetours 3 3 2 4) .0 refl
 
 pub equal-ends-break : ObeysTheRules (stopsOf fourFiles) (twoDetours 3 4 2 4) → ⊥
-unfolding firstBadEntry firstWhere stopsFrom wanted anyBelow
+unfolding firstBadEntry firstWhere goesOn firstMember lastWithin wantStops joinTo joined wanted anyBelow
 equal-ends-break rules = let formed : _≡_ {A = ℕ} 2 0 = formed-by-the-rules (stopsOf fourFiles) (twoDetours 3 4 2 4) .1 rules in omega arith
 
 -- Demand 3. The first run asks more than the sheet's: one more read of file 2, a higher price, a head further right.
 abbrev pub moreAsked : Run
-moreAsked = runOf (0 ∷ 10 ∷ 20 ∷ []) (10 ∷ 4 ∷ 30 ∷ []) (1 ∷ 2 ∷ 3 ∷ []) (1 ∷ 4 ∷ 1 ∷ []) 70 2
+moreAsked = runOf (0 ∷ 10 ∷ 20 ∷ []) (10 ∷ 4 ∷ 30 ∷ []) (0 ∷ 0 ∷ 0 ∷ []) (1 ∷ 2 ∷ 3 ∷ []) (1 ∷ 4 ∷ 1 ∷ []) 70 2
 
 -- Legs that turn in gaps, inside files and beyond the last one; only the last begins where a file does.
 abbrev pub wanderings : List Leg
 wanderings = record { left = 18; right = 55 } ∷ record { left = 5; right = 15 } ∷ record { left = 0; right = 33 } ∷ []
 
 more-accepted : refuses (judgeOf moreAsked) ≡ false
-unfolding judgeOf firstWhere stopsFrom rightEnd
+unfolding judgeOf firstWhere goesOn firstMember lastWithin wantStops joinTo joined rightEnd
 more-accepted = refl
 
-no-fewer-reads : (a b c : Bool) → cond a 1 (cond b 3 (cond c 1 0)) ≤ cond a 1 (cond b 4 (cond c 1 0))
-no-fewer-reads true b c = omega arith
-no-fewer-reads false true c = omega arith
-no-fewer-reads false false true = omega arith
-no-fewer-reads false false false = omega arith
+no-fewer-reads : (a b c : Bool) → cond a 1 0 + (cond b 3 0 + (cond c 1 0 + 0)) ≤ cond a 1 0 + (cond b 4 0 + (cond c 1 0 + 0))
+no-fewer-reads a true c = omega arith
+no-fewer-reads a false c = omega arith
 
 more-asks-no-less : AsksNoLess moreAsked exampleRun
-unfolding stopsFrom readsOf
-more-asks-no-less = record { starts = refl; lengths = refl; reads = λ f. no-fewer-reads (eqb 1 f) (eqb 2 f) (eqb 3 f); turn = omega arith; head = omega arith }
+unfolding readsOfFile
+more-asks-no-less =
+    record { starts = refl; lengths = refl; aggregates = refl; reads = λ f. no-fewer-reads (eqb 1 f) (eqb 2 f) (eqb 3 f); turn = omega arith; head = omega arith }
 
 wanderings-move : (head : ℕ) → 18 ≤ head → Moves head wanderings
 wanderings-move head far = omega arith
 
 wanderings-serve : ServesAll wanderings (stopsOf moreAsked) × ServesAll wanderings (stopsOf exampleRun)
-unfolding ServesAll served stopsFrom
+unfolding ServesAll served goesOn firstMember lastWithin wantStops joinTo joined
 wanderings-serve = ((tt, (tt, (tt, tt))), (tt, (tt, (tt, tt))))
 
 -- Their last leg stops short of the rightmost wanted end, where that of every detour list stops.
@@ -147,14 +146,14 @@ last-right-joined (a ∷ b ∷ gs) g = last-right-joined (b ∷ gs) g
 
 -- No wanted file ends where it does.
 none-ends-there : (i : ℕ) → _≡_ {A = ℕ} 33 (stopAt (stopsOf moreAsked) i .end) → ⊥
-unfolding stopsFrom
+unfolding goesOn firstMember lastWithin wantStops joinTo joined
 none-ends-there zero e = omega arith
 none-ends-there (suc zero) e = omega arith
 none-ends-there (suc (suc zero)) e = omega arith
 none-ends-there (suc (suc (suc i))) e = omega arith
 
 pub wanderings-no-list : (list : List Detour) → wanderings ≡ legsOf (stopsOf moreAsked) list → ⊥
-unfolding lastRight legsOf lastSweep stopsFrom
+unfolding lastRight legsOf lastSweep goesOn firstMember lastWithin wantStops joinTo joined
 wanderings-no-list list e =
     let detours : List Leg = map (legOf (stopsOf moreAsked)) list in
     let to = sweeps-to detours (stopsOf moreAsked) (omega arith) in
@@ -178,7 +177,7 @@ crossing-list-keeps-row =
 
 -- The pricer accepts (2,2) on the sheet's run.
 detour-accepted : priceAnswer exampleRun (2 ∷ []) (2 ∷ []) threes .refusal ≡ Accepted
-unfolding priceAnswer priceVerdict judgeOf firstWhere stopsFrom rightEnd listVerdict listOf firstBadEntry wanted anyBelow pricedAnswer
+unfolding priceAnswer priceVerdict judgeOf firstWhere goesOn firstMember lastWithin wantStops joinTo joined rightEnd listVerdict listOf firstBadEntry wanted anyBelow pricedAnswer
 detour-accepted = refl
 
 pub detour-is-priced : IsPriceOf exampleRun (2 ∷ []) (2 ∷ []) (priceRows exampleRun (2 ∷ []) (2 ∷ []) threes) (priceAnswer exampleRun (2 ∷ []) (2 ∷ []) threes)
@@ -214,7 +213,7 @@ abbrev fiveWords : List ℕ
 fiveWords = 7 ∷ 7 ∷ 7 ∷ 7 ∷ 7 ∷ []
 
 detour-called-accepted : codeOf (priceCall exampleRun (2 ∷ []) (2 ∷ []) threes fiveWords) ≡ 0
-unfolding priceCall priceVerdict judgeOf firstWhere stopsFrom rightEnd listVerdict listOf firstBadEntry wanted anyBelow
+unfolding priceCall priceVerdict judgeOf firstWhere goesOn firstMember lastWithin wantStops joinTo joined rightEnd listVerdict listOf firstBadEntry wanted anyBelow
 detour-called-accepted = refl
 
 pub detour-called : PriceCallWalks exampleRun (2 ∷ []) (2 ∷ [])
@@ -227,11 +226,11 @@ detour-called =
     detour-called-accepted
 
 call-passes : refuses (planCall exampleRun 1 (sheetRows 54) fiveWords) ≡ false
-unfolding planCall judgeOf firstWhere stopsFrom rightEnd
+unfolding planCall judgeOf firstWhere goesOn firstMember lastWithin wantStops joinTo joined rightEnd
 call-passes = refl
 
 plan-passes : refuses (planVerdict exampleRun (sheetRows 54)) ≡ false
-unfolding planVerdict judgeOf firstWhere stopsFrom rightEnd
+unfolding planVerdict judgeOf firstWhere goesOn firstMember lastWithin wantStops joinTo joined rightEnd
 plan-passes = refl
 
 sheet-called : PlanCalled exampleRun 1 (sheetRows 54) fiveWords 0 (sheetAfter 54) (sumsWith (sheetAnswer 54) fiveWords)
@@ -252,7 +251,7 @@ wanderings-beat-no-call =
 
 -- The sheet's run is written, and read back into rows that are just long enough.
 sheet-judged : refuses (judgeOf exampleRun) ≡ false
-unfolding judgeOf firstWhere stopsFrom rightEnd
+unfolding judgeOf firstWhere goesOn firstMember lastWithin wantStops joinTo joined rightEnd
 sheet-judged = refl
 
 abbrev sheetName : List ℕ
@@ -262,14 +261,14 @@ sheet-named : isName sheetName ≡ true
 unfolding isName allOf
 sheet-named = refl
 
-pub sheet-reads-back : GivesBack sheetName Least exampleRun (7 ∷ 7 ∷ 7 ∷ []) (7 ∷ 7 ∷ 7 ∷ []) (7 ∷ 7 ∷ 7 ∷ []) (7 ∷ 7 ∷ 7 ∷ [])
+pub sheet-reads-back : GivesBack sheetName Least exampleRun (7 ∷ 7 ∷ 7 ∷ []) (7 ∷ 7 ∷ 7 ∷ []) (7 ∷ 7 ∷ 7 ∷ []) (7 ∷ 7 ∷ 7 ∷ []) (7 ∷ 7 ∷ 7 ∷ [])
 sheet-reads-back =
-    demand2-round-trip sheetName Least exampleRun sheet-judged (omega arith) sheet-named (7 ∷ 7 ∷ 7 ∷ []) (7 ∷ 7 ∷ 7 ∷ []) (7 ∷ 7 ∷ 7 ∷ []) (7 ∷ 7 ∷ 7 ∷ [])
-    (omega arith) (omega arith) (omega arith) (omega arith)
+    demand2-round-trip sheetName Least exampleRun sheet-judged (omega arith) sheet-named (7 ∷ 7 ∷ 7 ∷ []) (7 ∷ 7 ∷ 7 ∷ []) (7 ∷ 7 ∷ 7 ∷ []) (7 ∷ 7 ∷ 7 ∷ []) (7 ∷ 7 ∷ 7 ∷ [])
+    (omega arith) (omega arith) (omega arith) (omega arith) (omega arith)
 
 -- Written into a row that is just long enough, and that row read.
 abbrev sevens : RunRows
-sevens = runRows (7 ∷ 7 ∷ 7 ∷ []) (7 ∷ 7 ∷ 7 ∷ []) (7 ∷ 7 ∷ 7 ∷ []) (7 ∷ 7 ∷ 7 ∷ 7 ∷ [])
+sevens = runRows (7 ∷ 7 ∷ 7 ∷ []) (7 ∷ 7 ∷ 7 ∷ []) (7 ∷ 7 ∷ 7 ∷ []) (7 ∷ 7 ∷ 7 ∷ []) (7 ∷ 7 ∷ 7 ∷ 7 ∷ [])
 
 abbrev sheetRow : List ℕ
 sheetRow = replicate (length (sheetText sheetName Least exampleRun)) 7
@@ -297,15 +296,15 @@ abbrev rowsBack : List ℕ → RunRows
 rowsBack sheet =
     let v = rowsVerdict sheet sevens in
     let run = sheetRun sheet in
-    runRows (readRow v (run .starts) (sevens .starts)) (readRow v (run .lengths) (sevens .lengths)) (readRow v (run .numbers) (sevens .numbers)) (readRow v (run .counts) (sevens .counts))
+    runRows (readRow v (run .starts) (sevens .starts)) (readRow v (run .lengths) (sevens .lengths)) (readRow v (run .aggregates) (sevens .aggregates)) (readRow v (run .numbers) (sevens .numbers)) (readRow v (run .counts) (sevens .counts))
 
 pub written-comes-back : ComesBack sheetName Least exampleRun (take (sheetWritten .bytes) sheetOut) (readBack (take (sheetWritten .bytes) sheetOut)) (rowsBack (take (sheetWritten .bytes) sheetOut))
 unfolding readAnswer sheetRun
 written-comes-back =
     let sheet = take (sheetWritten .bytes) sheetOut in
     write-then-read sheetName Least exampleRun sheetRow sheetWritten sheetOut (record { answer = refl; left = refl }) write-accepted sevens (readBack sheet) (rowsBack sheet)
-    (record { starts = omega arith; lengths = omega arith; numbers = omega arith; counts = omega arith })
-    (record { answer = refl; starts = refl; lengths = refl; numbers = refl; counts = refl })
+    (record { starts = omega arith; lengths = omega arith; aggregates = omega arith; numbers = omega arith; counts = omega arith })
+    (record { answer = refl; starts = refl; lengths = refl; aggregates = refl; numbers = refl; counts = refl })
 
 -- An empty sheet is refused at line 1, and the rows stay.
 empty-refused : readBack [] .refusal ≡ BadLine
@@ -315,7 +314,7 @@ empty-refused = refl
 pub empty-keeps-rows : rowsBack [] ≡ sevens
 unfolding readAnswer sheetRun
 empty-keeps-rows =
-    demand1-read [] sevens (readBack []) (rowsBack []) (record { answer = refl; starts = refl; lengths = refl; numbers = refl; counts = refl }) .kept
+    demand1-read [] sevens (readBack []) (rowsBack []) (record { answer = refl; starts = refl; lengths = refl; aggregates = refl; numbers = refl; counts = refl }) .kept
     (λ e. true≢false (ap isRefusal (sym empty-refused ∙ e))) .1
 
 -- The second line of this sheet is the first that is not as described.
@@ -343,7 +342,7 @@ abbrev oldOut : List ℕ
 oldOut = writtenRow (rewriteVerdict oldSheet oldRow) (rewritten oldSheet) oldRow
 
 old-passes : refuses (rewriteVerdict oldSheet oldRow) ≡ false
-unfolding rewriteVerdict rewritten priceIsEmpty bytesBefore rowVerdict sheetVerdict firstBadLine firstBadTop firstBadBelow firstBadPair firstWhere endText wantText sheetWants wantsText fileText sheetFiles isPairLine isPair isRuleLine isTurnLine isCountLine isNumberLine isTapeLine afterLines lineOf isName isNumber valueFrom allOf startsWith behind before has
+unfolding rewriteVerdict rewritten priceIsEmpty bytesBefore rowVerdict sheetVerdict firstBadLine firstBadTop firstBadBelow firstBadOf firstWhere endText wantText sheetWants wantsText fileText sheetFiles isPairLine isPair isRuleLine isTurnLine isCountLine isNumberLine isTapeLine afterLines lineOf isName isNumber valueFrom allOf startsWith behind before has
 old-passes = refl
 
 old-accepted : oldWritten .refusal ≡ Accepted

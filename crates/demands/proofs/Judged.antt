@@ -19,11 +19,11 @@ use Rattle.runs.proofs.Judged.{GoodTable, GoodWants, accepted-table, accepted-w
 use Rattle.demands.specs.Table.{FirstBad, FileIsBad, WantIsBad, WantedBeyond, RunApplies}
 use Rattle.demands.proofs.Tests.{tells-below, tells-either}
 use Rattle.demands.proofs.Checks.{Decides, decides-if, decides-at, decides-reworded, Finds, finds-first, first-of-joined, both-pass}
-use Rattle.demands.proofs.Conditions.{rows-unfit, file-is-bad, want-is-bad, head-left-of-end}
+use Rattle.demands.proofs.Conditions.{rows-unfit, table-rows-unfit, file-is-bad, want-is-bad, head-left-of-end}
 
 -- What each row of the table says, taken back from the condition.
 module _ (r : Run) where
-  file-rows-only : (p : ℕ) → RunApplies r FileRows p → (p ≡ 0) × ((mostFiles < length (r .starts)) ⊎ (length (r .starts) ≡ length (r .lengths) → ⊥))
+  file-rows-only : (p : ℕ) → RunApplies r FileRows p → (p ≡ 0) × ((mostFiles < length (r .starts)) ⊎ ((length (r .starts) ≡ length (r .lengths) → ⊥) ⊎ (length (r .starts) ≡ length (r .aggregates) → ⊥)))
   file-rows-only p (RunApplies.file-rows h) = (refl, h)
 
   bad-file-only : (p : ℕ) → RunApplies r BadFile p → FirstBad (FileIsBad r) (length (r .starts)) p
@@ -61,15 +61,15 @@ module _ (r : Run) (applies : Refusal → ℕ → Type 0) (there : (k : Refusal)
       → Decides k A v → Decides k (applies k) v
   of-run k l on off d = decides-reworded (λ p h. there k p (on p h)) (λ p h. off p (back k p l h)) d
 
-  table-finds : (rest : List Refusal) (vs : List Verdict) → (refuses (firstOf (tableChecks (r .starts) (r .lengths))) ≡ false → Finds applies rest (firstOf vs))
-      → Finds applies (FileRows ∷ BadFile ∷ rest) (firstOf (firstOf (tableChecks (r .starts) (r .lengths)) ∷ vs))
+  table-finds : (rest : List Refusal) (vs : List Verdict) → (refuses (firstOf (tableChecks (r .starts) (r .lengths) (r .aggregates))) ≡ false → Finds applies rest (firstOf vs))
+      → Finds applies (FileRows ∷ BadFile ∷ rest) (firstOf (firstOf (tableChecks (r .starts) (r .lengths) (r .aggregates)) ∷ vs))
   table-finds rest vs others =
-      let first = refuseIf (ltb mostFiles (length (r .starts)) || not (eqb (length (r .starts)) (length (r .lengths)))) FileRows in
-      let second = refuseAt (firstWhere (badFile (r .starts) (r .lengths)) (length (r .starts))) BadFile in
+      let first = refuseIf (ltb mostFiles (length (r .starts)) || not (eqb (length (r .starts)) (length (r .lengths))) || not (eqb (length (r .starts)) (length (r .aggregates)))) FileRows in
+      let second = refuseAt (firstWhere (badFile (r .starts) (r .lengths) (r .aggregates)) (length (r .starts))) BadFile in
       rw
-      (first-of-joined (tableChecks (r .starts) (r .lengths)) vs)
-      (finds-first applies (second ∷ vs) refl (of-run FileRows (omega arith) (λ p h. rw (h .0) (RunApplies.file-rows (h .1))) (file-rows-only r) (decides-if _ FileRows (rows-unfit mostFiles (length (r .starts)) (length (r .lengths)))))
-      (λ a. finds-first applies vs refl (of-run BadFile (omega arith) (λ p h. RunApplies.bad-file h) (bad-file-only r) (decides-at (badFile (r .starts) (r .lengths)) (FileIsBad r) (length (r .starts)) (file-is-bad r) BadFile))
+      (first-of-joined (tableChecks (r .starts) (r .lengths) (r .aggregates)) vs)
+      (finds-first applies (second ∷ vs) refl (of-run FileRows (omega arith) (λ p h. rw (h .0) (RunApplies.file-rows (h .1))) (file-rows-only r) (decides-if _ FileRows (table-rows-unfit (length (r .starts)) (length (r .lengths)) (length (r .aggregates)))))
+      (λ a. finds-first applies vs refl (of-run BadFile (omega arith) (λ p h. RunApplies.bad-file h) (bad-file-only r) (decides-at (badFile (r .starts) (r .lengths) (r .aggregates)) (FileIsBad r) (length (r .starts)) (file-is-bad r) BadFile))
       (λ b. others (both-pass first (second ∷ []) a (both-pass second [] b refl)))))
 
   wants-find : (rest : List Refusal) (vs : List Verdict) → (refuses (firstOf (wantsChecks (length (r .starts)) (r .numbers) (r .counts))) ≡ false → Finds applies rest (firstOf vs))
@@ -86,7 +86,7 @@ module _ (r : Run) (applies : Refusal → ℕ → Type 0) (there : (k : Refusal)
       (λ b. finds-first applies vs refl (of-run TooManyReads (omega arith) (λ p h. rw (h .0) (RunApplies.many-reads (h .1))) (many-reads-only r) (decides-if _ TooManyReads (tells-below mostReads (total (r .counts)))))
       (λ c. others (both-pass first (second ∷ third ∷ []) a (both-pass second (third ∷ []) b (both-pass third [] c refl)))))))
 
-  head-finds : (rest : List Refusal) (vs : List Verdict) → GoodTable (r .starts) (r .lengths) → GoodWants (length (r .starts)) (r .numbers) (r .counts)
+  head-finds : (rest : List Refusal) (vs : List Verdict) → GoodTable (r .starts) (r .lengths) (r .aggregates) → GoodWants (length (r .starts)) (r .numbers) (r .counts)
       → (refuses (firstOf (headChecks (r .turn) (r .head) (rightEnd (stopsOf r)))) ≡ false → Finds applies rest (firstOf vs))
       → Finds applies (TurnPrice ∷ HeadPlace ∷ rest) (firstOf (firstOf (headChecks (r .turn) (r .head) (rightEnd (stopsOf r))) ∷ vs))
   head-finds rest vs files wants others =
@@ -104,12 +104,12 @@ module _ (r : Run) (applies : Refusal → ℕ → Type 0) (there : (k : Refusal)
       → Finds applies (FileRows ∷ BadFile ∷ WantRows ∷ BadWant ∷ TooManyReads ∷ TurnPrice ∷ HeadPlace ∷ rest) (firstOf (judgeOf r ∷ vs))
   unfolding judgeOf
   run-finds rest vs others =
-      let table = firstOf (tableChecks (r .starts) (r .lengths)) in
+      let table = firstOf (tableChecks (r .starts) (r .lengths) (r .aggregates)) in
       let wants = firstOf (wantsChecks (length (r .starts)) (r .numbers) (r .counts)) in
       let head = firstOf (headChecks (r .turn) (r .head) (rightEnd (stopsOf r))) in
       rw
       (first-of-joined (table ∷ wants ∷ head ∷ []) vs)
       (table-finds (WantRows ∷ BadWant ∷ TooManyReads ∷ TurnPrice ∷ HeadPlace ∷ rest) (wants ∷ head ∷ vs)
       (λ a. wants-find (TurnPrice ∷ HeadPlace ∷ rest) (head ∷ vs)
-      (λ b. head-finds rest vs (accepted-table (r .starts) (r .lengths) a) (accepted-wants (length (r .starts)) (r .numbers) (r .counts) b)
+      (λ b. head-finds rest vs (accepted-table (r .starts) (r .lengths) (r .aggregates) a) (accepted-wants (length (r .starts)) (r .numbers) (r .counts) b)
       (λ c. others (both-pass table (wants ∷ head ∷ []) a (both-pass wants (head ∷ []) b (both-pass head [] c refl)))))))

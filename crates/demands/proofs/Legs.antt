@@ -10,7 +10,7 @@ use lib.Seq.{getD-take}
 use Rattle.walk.specs.declared.Answer.{Answer}
 use Rattle.walk.specs.declared.Head.{Head}
 use Rattle.walk.specs.declared.Leg.{Leg}
-use Rattle.runs.specs.Run.{Run, Stop, stopsOf, stopAt}
+use Rattle.runs.specs.Run.{Run, Stop, stopsOf, wantStopsOf, stopAt}
 use Rattle.runs.specs.Judging.{judgeOf}
 use Rattle.runs.specs.Lists.{Detour, WellFormed, listOf}
 use Rattle.walk.specs.Walk.{headAt, afterLeg, walked, reads, served, timeOf, legFrom, legFor, legsFor}
@@ -18,15 +18,18 @@ use Rattle.walk.specs.Detours.{legsOf}
 use Rattle.walk.specs.Price.{ReadRows}
 use Rattle.refusals.proofs.Verdicts.{refuses}
 use Rattle.runs.proofs.Search.{true-or-false}
-use Rattle.walk.proofs.Sound.{Sound}
-use Rattle.walk.proofs.Laws.{accepted-sound}
+use Rattle.runs.proofs.Sound.{Sound}
+use Rattle.runs.proofs.Joined.{some-joined}
+use Rattle.runs.proofs.Stops.{accepted-sound}
+use Rattle.walk.proofs.Joins.{served-same, leg-same}
 use Rattle.least.proofs.Sweeps.{each-served, leftmost-last, legs-count, earlier-leg}
 use Rattle.planner.specs.Plan.{readsIn}
 use Rattle.demands.specs.Demand2.{listIn, IsWalkOf}
 use Rattle.demands.specs.Legs.{legNumbered, ReadsIn, LegsTold, PriceTellsLegs, PlanTellsLegs}
 use Rattle.demands.proofs.Planned.{run-accepted}
 use Rattle.demands.proofs.Demand2.{demand2-price, demand2-walk, price-run-accepted}
-use Rattle.demands.proofs.Ends.{in-row, size, entry-at}
+use Rattle.demands.proofs.Ends.{in-row, size, stop-of-want, entry-at}
+use Rattle.demands.proofs.Stops.{first-placed}
 
 -- Counted from one more, a leg's number is one more.
 leg-shift : (n : ℕ) (gs : List Leg) (s : Stop) → served gs s ≡ true → legFrom (suc n) gs s ≡ suc (legFrom n gs s)
@@ -75,39 +78,52 @@ many-legs (s ∷ ss) list some = legs-count s ss list
 
 -- An accepted run, and rows that are the walk of a list.
 module _ (r : Run) (ok : refuses (judgeOf r) ≡ false) (list : List Detour) (rows : ReadRows) (answer : Answer) (walk : IsWalkOf r list rows answer) where
-  long : length (stopsOf r) ≡ length (r .numbers)
+  long : length (wantStopsOf r) ≡ length (r .numbers)
   long = size r ok
 
-  leg-in-row : (i : ℕ) → i < length (r .numbers) → getD (rows .legs) i 0 ≡ legFor (legsOf (stopsOf r) list) (stopAt (stopsOf r) i)
+  some-stops : 0 < length (r .numbers) → 0 < length (stopsOf r)
+  some-stops some = some-joined (wantStopsOf r) (omega (arith, long))
+
+  leg-in-row : (i : ℕ) → i < length (r .numbers) → getD (rows .legs) i 0 ≡ legFor (legsOf (stopsOf r) list) (stopAt (wantStopsOf r) i)
   unfolding legsFor
   leg-in-row i l =
       sym (getD-take (length (r .numbers)) (rows .legs) i 0 l)
       ∙ ap (λ ns. getD ns i 0) (walk .legs)
-      ∙ entry-at (legFor (legsOf (stopsOf r) list)) (stopsOf r) i (omega (arith, long))
+      ∙ entry-at (legFor (legsOf (stopsOf r) list)) (wantStopsOf r) i (omega (arith, long))
 
-  is-served : (i : ℕ) → i < length (r .numbers) → served (legsOf (stopsOf r) list) (stopAt (stopsOf r) i) ≡ true
-  is-served i l = each-served (stopsOf r) (r .head) (accepted-sound r ok) list i (omega (arith, long))
+  is-served : (i : ℕ) → i < length (r .numbers) → served (legsOf (stopsOf r) list) (stopAt (wantStopsOf r) i) ≡ true
+  is-served i l =
+      let p = stop-of-want r ok i l in
+      served-same (legsOf (stopsOf r) list) (stopAt (wantStopsOf r) i) (stopAt (stopsOf r) (p .index)) (p .places)
+      ∙ each-served (stopsOf r) (r .head) (accepted-sound r ok) list (p .index) (p .within)
+
+  -- A want's stop has a length, as the joined one has.
+  long-enough : (i : ℕ) → i < length (r .numbers) → stopAt (wantStopsOf r) i .start < stopAt (wantStopsOf r) i .end
+  long-enough i l = let p = stop-of-want r ok i l in omega (arith, p .places .start, p .places .end, accepted-sound r ok .extends (p .index) (p .within))
 
   told-each : (i : ℕ) → i < length (r .numbers)
-      → ReadsIn (r .turn) (headAt (r .head)) (legsOf (stopsOf r) list) (stopAt (stopsOf r) i) (getD (rows .times) i 0) (getD (rows .legs) i 0)
+      → ReadsIn (r .turn) (headAt (r .head)) (legsOf (stopsOf r) list) (stopAt (wantStopsOf r) i) (getD (rows .times) i 0) (getD (rows .legs) i 0)
   told-each i l =
-      rw (in-row r ok list rows answer walk i l, leg-in-row i l) (reads-in (r .turn) (headAt (r .head)) (legsOf (stopsOf r) list) (stopAt (stopsOf r) i) (is-served i l))
+      rw (in-row r ok list rows answer walk i l, leg-in-row i l) (reads-in (r .turn) (headAt (r .head)) (legsOf (stopsOf r) list) (stopAt (wantStopsOf r) i) (is-served i l))
 
   only-one : list ≡ [] → (i : ℕ) → i < length (r .numbers) → getD (rows .legs) i 0 ≡ 1
   only-one e i l =
-      let many = many-legs (stopsOf r) list (omega (arith, long)) in
+      let many = many-legs (stopsOf r) list (some-stops (omega arith)) in
       omega (arith, ap length e, many, told-each i l .counted .0, told-each i l .counted .1)
 
   told : LegsTold r list rows
   told =
       record {
-        many = λ some. many-legs (stopsOf r) list (omega (arith, long));
+        many = λ some. many-legs (stopsOf r) list (some-stops (omega arith));
         each = told-each;
-        leftmost = λ some. leg-in-row 0 some ∙ leftmost-leg (stopsOf r) (r .head) (accepted-sound r ok) list (walk .formed) (omega (arith, long));
+        leftmost = λ some.
+            leg-in-row 0 some
+            ∙ leg-same 1 (legsOf (stopsOf r) list) (stopAt (wantStopsOf r) 0) (stopAt (stopsOf r) 0) (first-placed (wantStopsOf r) (omega (arith, long)))
+            ∙ leftmost-leg (stopsOf r) (r .head) (accepted-sound r ok) list (walk .formed) (some-stops some);
         one = only-one;
         apart = λ i j a b l.
             rw (in-row r ok list rows answer walk i a, in-row r ok list rows answer walk j b)
-            (earlier-leg (r .turn) (stopAt (stopsOf r) i) (stopAt (stopsOf r) j) (accepted-sound r ok .extends j (omega (arith, long))) (headAt (r .head)) 1 (legsOf (stopsOf r) list)
+            (earlier-leg (r .turn) (stopAt (wantStopsOf r) i) (stopAt (wantStopsOf r) j) (long-enough j b) (headAt (r .head)) 1 (legsOf (stopsOf r) list)
             (is-served i a) (is-served j b) (rw (leg-in-row i a, leg-in-row j b) at l));
       }
 

@@ -10,10 +10,12 @@ pub mod Calls
 pub mod Planned
 pub mod Demand2
 pub mod Demand3
+pub mod Stops
 pub mod Ends
 pub mod Legs
 pub mod Called
 pub mod Cases
+pub mod Alone
 pub mod Lines
 pub mod FirstLine
 pub mod Sheets

@@ -13,10 +13,10 @@ use Rattle.texts.specs.Text.{lineFeed, comma, isEmpty, has, before, behind, sta
 use Rattle.texts.proofs.Bytes.{and-true-both, short-text}
 use Rattle.texts.proofs.Decimals.{has-append, has-none}
 use Rattle.texts.proofs.Split.{before-here, behind-here, split-at, key-split, whole-key}
-use Rattle.sheets.specs.Lines.{lineOf, afterLines, lineAfter, valueText, isTapeLine, isNumberLine, isCountLine, isTurnLine, isRuleLine, isPair, isPairLine, tapeKey, turnKey, ruleKey, sweepText, leastText}
+use Rattle.sheets.specs.Lines.{lineOf, afterLines, lineAfter, valueText, isTapeLine, isNumberLine, isCountLine, isTurnLine, isRuleLine, isPair, isPairLine, isTriple, isTripleLine, tapeKey, turnKey, ruleKey, sweepText, leastText}
 use Rattle.writers.proofs.Reread.{line-first, key-begins, key-value}
-use Rattle.demands.specs.Lines.{Stands, Name, Number, NumberOrNothing, RuleName, UpTo, Pair}
-use Rattle.demands.proofs.Tests.{Tells, tells-true, tells-at-most, tells-either, tells-both}
+use Rattle.demands.specs.Lines.{Stands, Name, Number, NumberOrNothing, RuleName, UpTo, NumberAnd, Pair, Triple}
+use Rattle.demands.proofs.Tests.{Tells, tells-true, tells-holds, tells-at-most, tells-either, tells-both}
 
 -- A byte that a text has not has nothing behind it.
 module _ (c : ℕ) where
@@ -69,23 +69,41 @@ unfolding has
 rule-flat text (inl e) = rw e
 rule-flat text (inr e) = rw e
 
-pair-flat : (text : List ℕ) → Pair text → has lineFeed text ≡ false
-unfolding has
-pair-flat text p =
-    rw (p .is, has-append lineFeed (p .first) (comma ∷ p .second), number-flat lineFeed refl (p .first) (p .left), number-flat lineFeed refl (p .second) (p .right))
+-- A number, a comma and a value of a kind that is never empty: before the comma, and behind it.
+module _ (Kind : List ℕ → Type 0) (test : List ℕ → Bool) (tells : (v : List ℕ) → Tells (test v) (Kind v)) (flat : (v : List ℕ) → Kind v → has lineFeed v ≡ false) (some : test [] ≡ false) where
+  number-and-flat : (text : List ℕ) → NumberAnd Kind text → has lineFeed text ≡ false
+  unfolding has
+  number-and-flat text p =
+      rw (p .is, has-append lineFeed (p .first) (comma ∷ p .others), number-flat lineFeed refl (p .first) (p .left), flat (p .others) (p .right))
+
+  tells-number-and : (text : List ℕ) → Tells (isNumber (before comma text) && test (behind comma text)) (NumberAnd Kind text)
+  tells-number-and text = record { when-true = λ e. go (has comma text) refl (and-true-both _ _ e); when-false = λ e p. true≢false (sym (both p) ∙ e) }
+    where
+      go : (b : Bool) → has comma text ≡ b → (isNumber (before comma text) ≡ true) × (test (behind comma text) ≡ true) → NumberAnd Kind text
+      go true h n = record { first = before comma text; others = behind comma text; is = split-at comma text h; left = n .0; right = tells (behind comma text) .when-true (n .1) }
+      go false h n = absurd (true≢false (sym (rw (behind-none comma text h) at (n .1)) ∙ some))
+
+      both : NumberAnd Kind text → (isNumber (before comma text) && test (behind comma text)) ≡ true
+      both p =
+          let none = number-flat comma refl (p .first) (p .left) in
+          rw (p .is, before-here comma (p .first) (p .others) none, behind-here comma (p .first) (p .others) none, p .left)
+          (tells-holds (test (p .others)) (tells (p .others)) (p .right))
 
 tells-pair : (text : List ℕ) → Tells (isPair text) (Pair text)
-unfolding isPair
-tells-pair text = record { when-true = λ e. go (has comma text) refl (and-true-both _ _ e); when-false = λ e p. true≢false (sym (both p) ∙ e) }
-  where
-    go : (b : Bool) → has comma text ≡ b → (isNumber (before comma text) ≡ true) × (isNumber (behind comma text) ≡ true) → Pair text
-    go true h n = record { first = before comma text; second = behind comma text; is = split-at comma text h; left = n .0; right = n .1 }
-    go false h n = absurd (nothing-no-number (rw (behind-none comma text h) at (n .1)))
+unfolding isPair isNumber
+tells-pair = tells-number-and Number isNumber (λ v. tells-true (isNumber v)) (number-flat lineFeed refl) refl
 
-    both : Pair text → (isNumber (before comma text) && isNumber (behind comma text)) ≡ true
-    both p =
-        let flat = number-flat comma refl (p .first) (p .left) in
-        rw (p .is, before-here comma (p .first) (p .second) flat, behind-here comma (p .first) (p .second) flat, p .left) (p .right)
+pair-flat : (text : List ℕ) → Pair text → has lineFeed text ≡ false
+unfolding isNumber
+pair-flat = number-and-flat Number isNumber (λ v. tells-true (isNumber v)) (number-flat lineFeed refl) refl
+
+tells-triple : (text : List ℕ) → Tells (isTriple text) (Triple text)
+unfolding isTriple isPair isNumber before
+tells-triple = tells-number-and Pair isPair tells-pair pair-flat refl
+
+triple-flat : (text : List ℕ) → Triple text → has lineFeed text ≡ false
+unfolding isPair isNumber before
+triple-flat = number-and-flat Pair isPair tells-pair pair-flat refl
 
 -- A text that begins with a key, a value and an LF: its first line.
 pub line-read : (key value rest text : List ℕ) → has lineFeed key ≡ false → has lineFeed value ≡ false → text ≡ key ++ value ++ (lineFeed ∷ rest) → lineOf text ≡ key ++ value
@@ -116,14 +134,10 @@ module _ (key : List ℕ) (long : 0 < length key) (plain : has lineFeed key ≡ 
           record { value = valueText key (lineOf text); rest = behind lineFeed text; is = line-is h (both .0); kind = tells (valueText key (lineOf text)) .when-true (both .1) }
       go false h both = absurd (true≢false (sym (both .0) ∙ no-line h))
 
-      passes : (b : Bool) (v : List ℕ) → test v ≡ b → Kind v → test v ≡ true
-      passes true v e k = e
-      passes false v e k = absurd (tells v .when-false e k)
-
       reads : Stands key Kind sheet i → (startsWith key (lineOf text) && test (valueText key (lineOf text))) ≡ true
       reads s =
           rw (line-read key (s .value) (s .rest) text plain (flat (s .value) (s .kind)) (s .is), key-begins key (s .value), key-value key (s .value))
-          (passes (test (s .value)) (s .value) refl (s .kind))
+          (tells-holds (test (s .value)) (tells (s .value)) (s .kind))
 
 -- Two tests and a third, as one and two.
 and-regrouped : (a b c : Bool) → ((a && b) && c) ≡ (a && (b && c))
@@ -165,6 +179,10 @@ module _ (sheet : List ℕ) (i : ℕ) where
     pub tells-pair-line : Tells (isPairLine key (lineAfter i sheet)) (Stands key Pair sheet i)
     unfolding isPairLine
     tells-pair-line = tells-stands key long plain Pair isPair tells-pair pair-flat sheet i
+
+    pub tells-triple-line : Tells (isTripleLine key (lineAfter i sheet)) (Stands key Triple sheet i)
+    unfolding isTripleLine
+    tells-triple-line = tells-stands key long plain Triple isTriple tells-triple triple-flat sheet i
 
   pub tells-end : Tells (isEmpty (afterLines i sheet)) (afterLines i sheet ≡ [])
   tells-end = tells-empty (afterLines i sheet)

@@ -15,8 +15,7 @@ use Rattle.runs.specs.Lists.{Detour, listOf}
 use Rattle.walk.specs.Price.{pricedAnswer}
 use Rattle.refusals.proofs.Verdicts.{refuses, all-accept}
 use Rattle.least.specs.Least.{listSum}
-use Rattle.planner.specs.Plan.{Rows, Plans, Planned, planVerdict, shortRows, rowsWith}
-use Rattle.tables.specs.Listing.{roomSize}
+use Rattle.planner.specs.Plan.{Rows, roomFor, Plans, Planned, planVerdict, shortRows, rowsWith}
 use Rattle.demands.specs.Demand2.{listIn}
 
 -- The list in two rows that hold its starts and its ends.
@@ -44,7 +43,7 @@ reported-sum r list answer says = rw says
 pub verdict-accepts-run : (r : Run) (rows : Rows) → refuses (planVerdict r rows) ≡ false → refuses (judgeOf r) ≡ false
 unfolding planVerdict
 verdict-accepts-run r rows e =
-    all-accept (judgeOf r ∷ refuseIf (shortRows (length (r .numbers)) rows) ShortRow ∷ refuseIf (ltb (length (rows .room)) (roomSize r)) ShortRoom ∷ []) e .0
+    all-accept (judgeOf r ∷ refuseIf (shortRows (length (r .numbers)) (length (stopsOf r)) rows) ShortRow ∷ refuseIf (ltb (length (rows .room)) (roomFor r)) ShortRoom ∷ []) e .0
 
 module _ (r : Run) (rule : Rule) (before : Rows) (answer : Answer) (after : Rows) (plans : Plans r rule before answer after) (accepts : answer .refusal ≡ Accepted) where
   pub not-refused : refuses (planVerdict r before) ≡ false

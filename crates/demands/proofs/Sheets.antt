@@ -19,7 +19,7 @@ use Rattle.refusals.proofs.Verdicts.{none-refuses, refuses}
 use Rattle.runs.proofs.Judged.{accepted-run}
 use Rattle.texts.specs.Text.{isName}
 use Rattle.sheets.specs.Sheet.{longestSheet, mostSheetFiles, firstBadLine, sheetFiles, sheetWants}
-use Rattle.sheets.specs.Reading.{sheetVerdict, shortPairRows, readVerdict, refusedReading, readAnswer, readRow, RunRows, runRows, rowsVerdict, SheetRead}
+use Rattle.sheets.specs.Reading.{sheetVerdict, shortPairRows, shortTripleRows, readVerdict, refusedReading, readAnswer, readRow, RunRows, runRows, rowsVerdict, SheetRead}
 use Rattle.sheets.specs.declared.Reading.{Reading}
 use Rattle.writers.specs.declared.Written.{Written}
 use Rattle.writers.specs.Writing.{refusedWriting, sheetText, rowVerdict, writeVerdict, writtenAnswer, writtenRow, Handed}
@@ -34,8 +34,11 @@ use Rattle.demands.proofs.Judged.{run-finds, run-small}
 use Rattle.demands.proofs.Listed.{decides-list}
 
 -- Rows with the same entries.
-pub same-rows : (a b : RunRows) → a .starts ≡ b .starts → a .lengths ≡ b .lengths → a .numbers ≡ b .numbers → a .counts ≡ b .counts → a ≡ b
-same-rows a b s l n c = ap₂ (λ x y. runRows x y (a .numbers) (a .counts)) s l ∙ ap₂ (λ x y. runRows (b .starts) (b .lengths) x y) n c
+pub same-rows : (a b : RunRows) → a .starts ≡ b .starts → a .lengths ≡ b .lengths → a .aggregates ≡ b .aggregates → a .numbers ≡ b .numbers → a .counts ≡ b .counts → a ≡ b
+same-rows a b s l g n c =
+    ap₂ (λ x y. runRows x y (a .aggregates) (a .numbers) (a .counts)) s l
+    ∙ ap₂ (λ x y. runRows (b .starts) (b .lengths) x y (a .counts)) g n
+    ∙ ap (λ x. runRows (b .starts) (b .lengths) (b .aggregates) (b .numbers) x) c
 
 -- The reader.
 module _ (sheet : List ℕ) (rows : RunRows) where
@@ -50,15 +53,16 @@ module _ (sheet : List ℕ) (rows : RunRows) where
 
   abbrev IsShort : Type 0
   IsShort =
-      ((length (rows .starts) < sheetFiles sheet) ⊎ (length (rows .lengths) < sheetFiles sheet))
+      (((length (rows .starts) < sheetFiles sheet) ⊎ (length (rows .lengths) < sheetFiles sheet)) ⊎ (length (rows .aggregates) < sheetFiles sheet))
       ⊎ ((length (rows .numbers) < sheetWants sheet) ⊎ (length (rows .counts) < sheetWants sheet))
 
   short-row : (p : ℕ) → (p ≡ 0) × IsShort → Applies ShortRow p
-  short-row p h = rw (h .0) (⊎-elim (⊎-elim ReadApplies.short-starts ReadApplies.short-lengths) (⊎-elim ReadApplies.short-numbers ReadApplies.short-counts) (h .1))
+  short-row p h = rw (h .0) (⊎-elim (⊎-elim (⊎-elim ReadApplies.short-starts ReadApplies.short-lengths) ReadApplies.short-aggregates) (⊎-elim ReadApplies.short-numbers ReadApplies.short-counts) (h .1))
 
   row-short : (p : ℕ) → Applies ShortRow p → (p ≡ 0) × IsShort
-  row-short p (ReadApplies.short-starts h) = (refl, inl (inl h))
-  row-short p (ReadApplies.short-lengths h) = (refl, inl (inr h))
+  row-short p (ReadApplies.short-starts h) = (refl, inl (inl (inl h)))
+  row-short p (ReadApplies.short-lengths h) = (refl, inl (inl (inr h)))
+  row-short p (ReadApplies.short-aggregates h) = (refl, inl (inr h))
   row-short p (ReadApplies.short-numbers h) = (refl, inr (inl h))
   row-short p (ReadApplies.short-counts h) = (refl, inr (inr h))
 
@@ -67,7 +71,7 @@ module _ (sheet : List ℕ) (rows : RunRows) where
       tells-either (ltb (length firsts) n) (ltb (length seconds) n) (tells-below (length firsts) n) (tells-below (length seconds) n)
 
   short : Bool
-  short = shortPairRows (sheetFiles sheet) (rows .starts) (rows .lengths) || shortPairRows (sheetWants sheet) (rows .numbers) (rows .counts)
+  short = shortTripleRows (sheetFiles sheet) (rows .starts) (rows .lengths) (rows .aggregates) || shortPairRows (sheetWants sheet) (rows .numbers) (rows .counts)
 
   read-finds : Finds Applies readOrder (rowsVerdict sheet rows)
   unfolding readVerdict sheetVerdict short
@@ -83,8 +87,9 @@ module _ (sheet : List ℕ) (rows : RunRows) where
       (λ b. finds-first Applies [] refl
       (decides-reworded short-row row-short
       (decides-if short ShortRow
-      (tells-either (shortPairRows (sheetFiles sheet) (rows .starts) (rows .lengths)) (shortPairRows (sheetWants sheet) (rows .numbers) (rows .counts))
-      (tells-short (sheetFiles sheet) (rows .starts) (rows .lengths))
+      (tells-either (shortTripleRows (sheetFiles sheet) (rows .starts) (rows .lengths) (rows .aggregates)) (shortPairRows (sheetWants sheet) (rows .numbers) (rows .counts))
+      (tells-either (shortPairRows (sheetFiles sheet) (rows .starts) (rows .lengths)) (ltb (length (rows .aggregates)) (sheetFiles sheet))
+      (tells-short (sheetFiles sheet) (rows .starts) (rows .lengths)) (tells-below (length (rows .aggregates)) (sheetFiles sheet)))
       (tells-short (sheetWants sheet) (rows .numbers) (rows .counts)))))
       (λ c. finds-none Applies))))
 
@@ -95,7 +100,7 @@ module _ (sheet : List ℕ) (rows : RunRows) where
   module _ (answer : Reading) (after : RunRows) (read : SheetRead sheet rows answer after) where
     read-kept : refuses (rowsVerdict sheet rows) ≡ true → after ≡ rows
     unfolding readRow
-    read-kept e = same-rows after rows (rw e at (read .starts)) (rw e at (read .lengths)) (rw e at (read .numbers)) (rw e at (read .counts))
+    read-kept e = same-rows after rows (rw e at (read .starts)) (rw e at (read .lengths)) (rw e at (read .aggregates)) (rw e at (read .numbers)) (rw e at (read .counts))
 
     read-says : (b : Bool) → refuses (rowsVerdict sheet rows) ≡ b → ReadAnswers sheet rows answer after
     unfolding readAnswer
@@ -215,7 +220,7 @@ module _ (name : List ℕ) (r : Run) (froms tos row : List ℕ) where
       (λ a. finds-first PlanSheet (list ∷ short ∷ []) refl
       (decides-reworded (λ p h. rw (h .0) (PlanSheetApplies.bad-name (h .1))) sheet-name (decides-if _ BadName (tells-false (isName name))))
       (λ b. finds-first PlanSheet (short ∷ []) refl
-      (decides-reworded (λ p. PlanSheetApplies.bad-list) sheet-list (decides-list r froms tos (sym (accepted-run r a .wants .equal))))
+      (decides-reworded (λ p. PlanSheetApplies.bad-list) sheet-list (decides-list r (accepted-run r a) froms tos (sym (accepted-run r a .wants .equal))))
       (λ c. finds-first PlanSheet [] refl
       (decides-reworded (λ p h. rw (h .0) (PlanSheetApplies.short-row (h .1))) sheet-row (decides-if _ ShortRow (tells-below (length row) (length (planText name r froms tos)))))
       (λ d. finds-none PlanSheet))))

@@ -27,6 +27,11 @@ pub tells-not : (a : Bool) {P : Type 0} → Tells a P → Tells (not a) (P → �
 tells-not true t = record { when-true = λ e. absurd (true≢false (sym e)); when-false = λ e n. n (t .when-true refl) }
 tells-not false t = record { when-true = λ e. t .when-false refl; when-false = λ e. absurd (true≢false e) }
 
+-- A test of a condition that holds.
+pub tells-holds : (a : Bool) {P : Type 0} → Tells a P → P → a ≡ true
+tells-holds true t p = refl
+tells-holds false t p = absurd (t .when-false refl p)
+
 -- A test by its own value.
 pub tells-true : (b : Bool) → Tells b (b ≡ true)
 tells-true true = record { when-true = λ e. refl; when-false = λ e h. true≢false e }

@@ -162,6 +162,7 @@ rewritten-means sheet row written out says accepts e rows old new oldRows newRow
       rows = same-rows newRows oldRows
           (read .starts ∙ rw (verdict, ap (λ r. r .starts) run) (sym (old-read .starts)))
           (read .lengths ∙ rw (verdict, ap (λ r. r .lengths) run) (sym (old-read .lengths)))
+          (read .aggregates ∙ rw (verdict, ap (λ r. r .aggregates) run) (sym (old-read .aggregates)))
           (read .numbers ∙ rw (verdict, ap (λ r. r .numbers) run) (sym (old-read .numbers)))
           (read .counts ∙ rw (verdict, ap (λ r. r .counts) run) (sym (old-read .counts)));
       named = ap readName text ∙ name-kept sheet row written out says accepts;

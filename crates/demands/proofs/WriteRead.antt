@@ -30,7 +30,7 @@ use Rattle.demands.specs.Sheets.{Demand2Written, GivesBack, Demand2Round
 judged-accepted : (r : Run) → refuses (judgeOf r) ≡ false → judgeOf r ≡ accepted
 unfolding judgeOf
 judged-accepted r e =
-    none-refuses (firstOf (tableChecks (r .starts) (r .lengths)) ∷ firstOf (wantsChecks (length (r .starts)) (r .numbers) (r .counts)) ∷ firstOf (headChecks (r .turn) (r .head) (rightEnd (stopsOf r))) ∷ []) e
+    none-refuses (firstOf (tableChecks (r .starts) (r .lengths) (r .aggregates)) ∷ firstOf (wantsChecks (length (r .starts)) (r .numbers) (r .counts)) ∷ firstOf (headChecks (r .turn) (r .head) (rightEnd (stopsOf r))) ∷ []) e
 
 -- The counts of a sheet are the lengths of its rows.
 files-in : (sheet : List ℕ) → sheetFiles sheet ≡ length (sheetRun sheet .starts)
@@ -49,13 +49,13 @@ turn-in : (sheet : List ℕ) → sheetTurn sheet ≡ sheetRun sheet .turn
 unfolding sheetRun
 turn-in sheet = refl
 
--- A sheet that is as described is read wherever the four rows are long enough.
-reads-sheet : (sheet starts lengths numbers counts : List ℕ) → sheetVerdict sheet ≡ accepted
-    → sheetFiles sheet ≤ length starts → sheetFiles sheet ≤ length lengths → sheetWants sheet ≤ length numbers → sheetWants sheet ≤ length counts
-    → readVerdict sheet starts lengths numbers counts ≡ accepted
+-- A sheet that is as described is read wherever the five rows are long enough.
+reads-sheet : (sheet starts lengths aggregates numbers counts : List ℕ) → sheetVerdict sheet ≡ accepted
+    → sheetFiles sheet ≤ length starts → sheetFiles sheet ≤ length lengths → sheetFiles sheet ≤ length aggregates → sheetWants sheet ≤ length numbers → sheetWants sheet ≤ length counts
+    → readVerdict sheet starts lengths aggregates numbers counts ≡ accepted
 unfolding readVerdict
-reads-sheet sheet starts lengths numbers counts e a b c d =
-    rw (e, le-ltb (length starts) (sheetFiles sheet) a, le-ltb (length lengths) (sheetFiles sheet) b, le-ltb (length numbers) (sheetWants sheet) c, le-ltb (length counts) (sheetWants sheet) d)
+reads-sheet sheet starts lengths aggregates numbers counts e a b g c d =
+    rw (e, le-ltb (length starts) (sheetFiles sheet) a, le-ltb (length lengths) (sheetFiles sheet) b, le-ltb (length aggregates) (sheetFiles sheet) g, le-ltb (length numbers) (sheetWants sheet) c, le-ltb (length counts) (sheetWants sheet) d)
 
 -- An accepted writing has an accepted verdict.
 pub written-passes : (v : Verdict) (text : List ℕ) (answer : Written) → answer ≡ writtenAnswer v text → answer .refusal ≡ Accepted → refuses v ≡ false
@@ -77,21 +77,23 @@ demand2-written name rule r row answer out a o e =
 
 pub demand2-round-trip : Demand2RoundTrip
 unfolding readAnswer readRow
-demand2-round-trip name rule r e few named starts lengths numbers counts a b c d =
+demand2-round-trip name rule r e few named starts lengths aggregates numbers counts a b g c d =
     let sheet = sheetText name rule r in
     let back = round-trip name rule r (judged-accepted r e) few named in
     let good = accepted-run r e in
     let files : sheetFiles sheet ≡ length (r .starts) = files-in sheet ∙ ap (λ run. length (run .starts)) (back .same-run) in
     let wants : sheetWants sheet ≡ length (r .numbers) = wants-in sheet ∙ ap (λ run. length (run .numbers)) (back .same-run) in
     let even : length (r .starts) ≡ length (r .lengths) = good .files .table .equal in
+    let numbered : length (r .starts) ≡ length (r .aggregates) = good .files .rows in
     let pairs : length (r .numbers) ≡ length (r .counts) = good .wants .equal in
-    let reads = reads-sheet sheet starts lengths numbers counts (back .accepts) (rw files a) (rw (files, even) b) (rw wants c) (rw (wants, pairs) d) in
+    let reads = reads-sheet sheet starts lengths aggregates numbers counts (back .accepts) (rw files a) (rw (files, even) b) (rw (files, numbered) g) (rw wants c) (rw (wants, pairs) d) in
     let head : sheetHead sheet ≡ r .head = head-in sheet ∙ ap (λ run. run .head) (back .same-run) in
     let turn : sheetTurn sheet ≡ r .turn = turn-in sheet ∙ ap (λ run. run .turn) (back .same-run) in
     record {
       answer = rw (reads, head, turn, back .same-rule, files, wants);
       startsAre = rw (reads, back .same-run);
       lengthsAre = rw (reads, back .same-run);
+      aggregatesAre = rw (reads, back .same-run);
       numbersAre = rw (reads, back .same-run);
       countsAre = rw (reads, back .same-run);
       nameIs = back .same-name;
@@ -108,8 +110,8 @@ write-needs name rule r row e =
     (all .0, ltb-false mostSheetFiles (length (r .starts)) (both .0), not-false (isName name) (both .1))
 
 -- The sheet, read into rows that are long enough.
-module _ (name : List ℕ) (rule : Rule) (r : Run) (before : RunRows) (answer : Reading) (after : RunRows) (files : length (r .lengths) ≡ length (r .starts)) (wants : length (r .counts) ≡ length (r .numbers))
-    (read : SheetRead (sheetText name rule r) before answer after) (back : GivesBack name rule r (before .starts) (before .lengths) (before .numbers) (before .counts)) where
+module _ (name : List ℕ) (rule : Rule) (r : Run) (before : RunRows) (answer : Reading) (after : RunRows) (files : length (r .lengths) ≡ length (r .starts)) (members : length (r .aggregates) ≡ length (r .starts)) (wants : length (r .counts) ≡ length (r .numbers))
+    (read : SheetRead (sheetText name rule r) before answer after) (back : GivesBack name rule r (before .starts) (before .lengths) (before .aggregates) (before .numbers) (before .counts)) where
   is-back : answer ≡ record { refusal = Accepted; place = 0; head = r .head; turn = r .turn; rule = rule; files = length (r .starts); wants = length (r .numbers) }
   unfolding readAnswer
   is-back = read .answer ∙ back .answer
@@ -118,10 +120,11 @@ module _ (name : List ℕ) (rule : Rule) (r : Run) (before : RunRows) (answer : 
   unfolding sheetRun
   run-back =
       rw
-      (is-back, read .starts, back .startsAre, read .lengths, back .lengthsAre, read .numbers, back .numbersAre, read .counts, back .countsAre)
+      (is-back, read .starts, back .startsAre, read .lengths, back .lengthsAre, read .aggregates, back .aggregatesAre, read .numbers, back .numbersAre, read .counts, back .countsAre)
       (rw (
         take-at (r .starts) (drop (length (r .starts)) (before .starts)) (length (r .starts)) refl,
         take-at (r .lengths) (drop (length (r .lengths)) (before .lengths)) (length (r .starts)) files,
+        take-at (r .aggregates) (drop (length (r .aggregates)) (before .aggregates)) (length (r .starts)) members,
         take-at (r .numbers) (drop (length (r .numbers)) (before .numbers)) (length (r .numbers)) refl,
         take-at (r .counts) (drop (length (r .counts)) (before .counts)) (length (r .numbers)) wants,
       ))
@@ -134,5 +137,5 @@ write-then-read name rule r row written out writes accepts before answer after l
     let text = demand2-written name rule r row written out (writes .answer) (writes .left) accepts in
     let needs = write-needs name rule r row (written-passes (writeVerdict name rule r row) (sheetText name rule r) written (writes .answer) accepts) in
     let good = accepted-run r (needs .0) in
-    let back = demand2-round-trip name rule r (needs .0) (needs .1) (needs .2) (before .starts) (before .lengths) (before .numbers) (before .counts) (long .starts) (long .lengths) (long .numbers) (long .counts) in
-    rw text (comes-back name rule r before answer after (sym (good .files .table .equal)) (sym (good .wants .equal)) (rw text at read) back)
+    let back = demand2-round-trip name rule r (needs .0) (needs .1) (needs .2) (before .starts) (before .lengths) (before .aggregates) (before .numbers) (before .counts) (long .starts) (long .lengths) (long .aggregates) (long .numbers) (long .counts) in
+    rw text (comes-back name rule r before answer after (sym (good .files .table .equal)) (sym (good .files .rows)) (sym (good .wants .equal)) (rw text at read) back)

@@ -5,7 +5,7 @@ use mathlib.Core.Bool.{Bool, true, false}
 use mathlib.Core.Logic.{_↔_}
 use mathlib.Core.List.{List, [], _∷_}
 use Rattle.refusals.specs.Refusals.{isRefusal}
-use Rattle.runs.specs.Run.{Run, runOf, stopsOf}
+use Rattle.runs.specs.Run.{Run, runOf, stopsOf, wantStopsOf}
 use Rattle.runs.specs.Judging.{judgeOf}
 use Rattle.walk.specs.Walk.{headAt, walked, timesOf, legsFor, sumOf}
 use Rattle.runs.specs.Lists.{Detour, WellFormed}
@@ -28,8 +28,8 @@ pub record Holds (c : Case) : Type 0 where
   pub accepted : isRefusal (judgeOf (c .run) .refusal) ≡ false
   pub formed : WellFormed (stopsOf (c .run)) (c .list)
   pub sum : sumOf (c .run .turn) (headAt (c .run .head)) (legsOf (stopsOf (c .run)) (c .list)) (stopsOf (c .run)) ≡ c .sum
-  pub times : timesOf (c .run .turn) (headAt (c .run .head)) (legsOf (stopsOf (c .run)) (c .list)) (stopsOf (c .run)) ≡ c .times
-  pub legs : legsFor (legsOf (stopsOf (c .run)) (c .list)) (stopsOf (c .run)) ≡ c .legs
+  pub times : timesOf (c .run .turn) (headAt (c .run .head)) (legsOf (stopsOf (c .run)) (c .list)) (wantStopsOf (c .run)) ≡ c .times
+  pub legs : legsFor (legsOf (stopsOf (c .run)) (c .list)) (wantStopsOf (c .run)) ≡ c .legs
   pub finish : (walked (c .run .turn) (headAt (c .run .head)) (legsOf (stopsOf (c .run)) (c .list))) .clock ≡ c .finish
   pub end : (walked (c .run .turn) (headAt (c .run .head)) (legsOf (stopsOf (c .run)) (c .list))) .place ≡ c .end
   pub least : (c .least ≡ true) ↔ LeastForRun (c .run) (c .list)
@@ -46,21 +46,25 @@ detour from to = record { from = from; to = to }
 
 -- The tapes: two files of length 10 from 0, the sheet's, and four files of length 2 from 0.
 abbrev pub twoFiles : List ℕ → List ℕ → ℕ → Run
-twoFiles numbers counts turn = runOf (0 ∷ 10 ∷ []) (10 ∷ 10 ∷ []) numbers counts 20 turn
+twoFiles numbers counts turn = runOf (0 ∷ 10 ∷ []) (10 ∷ 10 ∷ []) (0 ∷ 0 ∷ []) numbers counts 20 turn
 
 abbrev pub sheet : List ℕ → List ℕ → Run
-sheet numbers counts = runOf (0 ∷ 10 ∷ 20 ∷ []) (10 ∷ 4 ∷ 30 ∷ []) numbers counts 60 1
+sheet numbers counts = runOf (0 ∷ 10 ∷ 20 ∷ []) (10 ∷ 4 ∷ 30 ∷ []) (0 ∷ 0 ∷ 0 ∷ []) numbers counts 60 1
 
 abbrev pub exampleRun : Run
 exampleRun = sheet (1 ∷ 2 ∷ 3 ∷ []) (1 ∷ 3 ∷ 1 ∷ [])
 
 abbrev pub fourFiles : Run
-fourFiles = runOf (0 ∷ 2 ∷ 4 ∷ 6 ∷ []) (2 ∷ 2 ∷ 2 ∷ 2 ∷ []) (1 ∷ 2 ∷ 3 ∷ 4 ∷ []) (1 ∷ 1 ∷ 1 ∷ 1 ∷ []) 8 1
+fourFiles = runOf (0 ∷ 2 ∷ 4 ∷ 6 ∷ []) (2 ∷ 2 ∷ 2 ∷ 2 ∷ []) (0 ∷ 0 ∷ 0 ∷ 0 ∷ []) (1 ∷ 2 ∷ 3 ∷ 4 ∷ []) (1 ∷ 1 ∷ 1 ∷ 1 ∷ []) 8 1
+
+-- Four files, the two in the middle with a gap between them: in one aggregate, or in none. Of these two only the second is wanted.
+abbrev pub gapped : List ℕ → Run
+gapped aggregates = runOf (0 ∷ 10 ∷ 16 ∷ 20 ∷ []) (10 ∷ 4 ∷ 4 ∷ 30 ∷ []) aggregates (1 ∷ 3 ∷ 4 ∷ []) (1 ∷ 3 ∷ 1 ∷ []) 60 1
 
 abbrev pub cases : List Case
 cases =
     case (sheet [] []) [] 0 [] [] 0 60 true
-    ∷ case (runOf (5 ∷ []) (3 ∷ []) (1 ∷ []) (3 ∷ []) 8 2) [] 24 (8 ∷ []) (1 ∷ []) 8 8 true
+    ∷ case (runOf (5 ∷ []) (3 ∷ []) (0 ∷ []) (1 ∷ []) (3 ∷ []) 8 2) [] 24 (8 ∷ []) (1 ∷ []) 8 8 true
     ∷ case (twoFiles (1 ∷ 2 ∷ []) (1 ∷ 1 ∷ []) 0) [] 70 (30 ∷ 40 ∷ []) (1 ∷ 1 ∷ []) 40 20 true
     ∷ case (twoFiles (1 ∷ 2 ∷ []) (1 ∷ 1 ∷ []) 0) (detour 2 2 ∷ []) 70 (50 ∷ 20 ∷ []) (2 ∷ 1 ∷ []) 50 10 false
     ∷ case (twoFiles (1 ∷ 2 ∷ []) (1 ∷ 2 ∷ []) 0) [] 110 (30 ∷ 40 ∷ []) (1 ∷ 1 ∷ []) 40 20 false
@@ -75,6 +79,8 @@ cases =
     ∷ case exampleRun (detour 3 3 ∷ detour 2 2 ∷ []) 565 (143 ∷ 117 ∷ 71 ∷ []) (3 ∷ 2 ∷ 1 ∷ []) 143 10 false
     ∷ case fourFiles (detour 3 3 ∷ detour 2 4 ∷ []) 72 (31 ∷ 15 ∷ 7 ∷ 19 ∷ []) (3 ∷ 2 ∷ 1 ∷ 2 ∷ []) 31 2 false
     ∷ case fourFiles [] 56 (11 ∷ 13 ∷ 15 ∷ 17 ∷ []) (1 ∷ 1 ∷ 1 ∷ 1 ∷ []) 17 8 true
+    ∷ case (gapped (0 ∷ 7 ∷ 7 ∷ 0 ∷ [])) (detour 2 2 ∷ []) 409 (93 ∷ 61 ∷ 133 ∷ []) (2 ∷ 1 ∷ 2 ∷ []) 133 50 true
+    ∷ case (gapped (0 ∷ 0 ∷ 0 ∷ 0 ∷ [])) (detour 3 3 ∷ []) 349 (81 ∷ 49 ∷ 121 ∷ []) (2 ∷ 1 ∷ 2 ∷ []) 121 50 true
     ∷ []
 
 abbrev pub CasesHold : Type 0

@@ -8,10 +8,9 @@ use Rattle.refusals.specs.declared.Refusal.{Refusal}
 use Rattle.refusals.specs.declared.Refusal.the-variants.{Accepted, FileRows, BadFile, WantRows, BadWant, TooManyReads, TurnPrice, HeadPlace, ShortRow, ShortRoom, BadEntry}
 use Rattle.walk.specs.declared.Answer.{Answer}
 use Rattle.runs.specs.declared.Rule.{Rule}
-use Rattle.runs.specs.Run.{Run}
+use Rattle.runs.specs.Run.{Run, stopsOf}
 use Rattle.walk.specs.Price.{ReadRows, priceAnswer, priceRows}
-use Rattle.planner.specs.Plan.{Rows, Plans}
-use Rattle.tables.specs.Listing.{roomSize}
+use Rattle.planner.specs.Plan.{Rows, roomFor, Plans}
 use Rattle.demands.specs.Table.{RunApplies, ListIsBad, FirstThatApplies, SomeApplies}
 
 -- A refusal's answer: every number but the place is 0.
@@ -58,9 +57,9 @@ pub data PlanApplies (r : Run) (rows : Rows) : Refusal → ℕ → Type 0 where
   run : {kind : Refusal} {place : ℕ} → RunApplies r kind place → PlanApplies r rows kind place
   short-times : length (rows .times) < length (r .numbers) → PlanApplies r rows ShortRow 0
   short-legs : length (rows .legs) < length (r .numbers) → PlanApplies r rows ShortRow 0
-  short-starts : length (rows .froms) < length (r .numbers) - 1 → PlanApplies r rows ShortRow 0
-  short-ends : length (rows .tos) < length (r .numbers) - 1 → PlanApplies r rows ShortRow 0
-  short-room : length (rows .room) < roomSize r → PlanApplies r rows ShortRoom 0
+  short-starts : length (rows .froms) < length (stopsOf r) - 1 → PlanApplies r rows ShortRow 0
+  short-ends : length (rows .tos) < length (stopsOf r) - 1 → PlanApplies r rows ShortRow 0
+  short-room : length (rows .room) < roomFor r → PlanApplies r rows ShortRoom 0
 
 pub record PlanAnswers (r : Run) (before : Rows) (answer : Answer) (after : Rows) : Type 0 where
   pub first : FirstThatApplies (PlanApplies r before) planOrder (answer .refusal) (answer .place)

@@ -10,7 +10,7 @@ use Rattle.refusals.specs.declared.Refusal.the-variants.{Accepted}
 use Rattle.walk.specs.declared.Answer.{Answer}
 use Rattle.runs.specs.declared.Rule.{Rule}
 use Rattle.runs.specs.declared.Rule.the-variants.{Sweep, Least}
-use Rattle.runs.specs.Run.{Run, stopsOf}
+use Rattle.runs.specs.Run.{Run, stopsOf, wantStopsOf}
 use Rattle.walk.specs.Walk.{headAt, walked, timesOf, legsFor, sumOf}
 use Rattle.runs.specs.Lists.{Detour, WellFormed, listOf}
 use Rattle.walk.specs.Detours.{legsOf}
@@ -22,13 +22,15 @@ use Rattle.planner.specs.Plan.{Rows, readsIn, Plans}
 abbrev pub listIn : Answer → Rows → List Detour
 listIn answer after = listOf (take (answer .detours) (after .froms)) (take (answer .detours) (after .tos))
 
--- The first entries of two rows and an answer's numbers are those of the walk of a list, from the run's head at its price.
+-- The first entries of two rows and an answer's numbers are those of the walk of a list, from the run's head at its price. Lists and legs are
+-- of stops; times and legs are told of each want handed in, and the sum is the same over stops and over wants.
 pub record IsWalkOf (r : Run) (list : List Detour) (rows : ReadRows) (answer : Answer) : Type 0 where
   pub number : length list ≡ answer .detours
   pub formed : WellFormed (stopsOf r) list
-  pub times : take (length (r .numbers)) (rows .times) ≡ timesOf (r .turn) (headAt (r .head)) (legsOf (stopsOf r) list) (stopsOf r)
-  pub legs : take (length (r .numbers)) (rows .legs) ≡ legsFor (legsOf (stopsOf r) list) (stopsOf r)
+  pub times : take (length (r .numbers)) (rows .times) ≡ timesOf (r .turn) (headAt (r .head)) (legsOf (stopsOf r) list) (wantStopsOf r)
+  pub legs : take (length (r .numbers)) (rows .legs) ≡ legsFor (legsOf (stopsOf r) list) (wantStopsOf r)
   pub sum : answer .sum ≡ sumOf (r .turn) (headAt (r .head)) (legsOf (stopsOf r) list) (stopsOf r)
+  pub summed : answer .sum ≡ sumOf (r .turn) (headAt (r .head)) (legsOf (stopsOf r) list) (wantStopsOf r)
   pub finish : answer .finish ≡ (walked (r .turn) (headAt (r .head)) (legsOf (stopsOf r) list)) .clock
   pub end : answer .end ≡ (walked (r .turn) (headAt (r .head)) (legsOf (stopsOf r) list)) .place
 

@@ -12,15 +12,16 @@ use Rattle.refusals.specs.Refusals.{isRefusal}
 use Rattle.runs.specs.Run.{Run, stopsOf}
 use Rattle.runs.specs.Judging.{judgeOf}
 use Rattle.walk.specs.Walk.{headAt, Moves, ServesAll, sumOf}
-use Rattle.least.specs.Wants.{readsOf}
+use Rattle.least.specs.Wants.{readsOfFile}
 use Rattle.planner.specs.Plan.{Rows, Plans}
 
--- The first run asks for no less than the second: the same tape table, at least as many reads of every file, a turn price no lower, a
--- head no further left.
+-- The first run asks for no less than the second: the same tape table with the same aggregates, at least as many reads of every file as handed
+-- in, a turn price no lower, a head no further left.
 pub record AsksNoLess (first second : Run) : Type 0 where
   pub starts : first .starts ≡ second .starts
   pub lengths : first .lengths ≡ second .lengths
-  pub reads : (f : ℕ) → readsOf (stopsOf second) f ≤ readsOf (stopsOf first) f
+  pub aggregates : first .aggregates ≡ second .aggregates
+  pub reads : (f : ℕ) → readsOfFile (second .numbers) (second .counts) f ≤ readsOfFile (first .numbers) (first .counts) f
   pub turn : second .turn ≤ first .turn
   pub head : second .head ≤ first .head
 

@@ -8,22 +8,26 @@ use Rattle.refusals.specs.declared.Refusal.the-variants.{Accepted}
 use Rattle.refusals.specs.Refusals.{isRefusal}
 use Rattle.walk.specs.declared.Answer.{Answer}
 use Rattle.runs.specs.declared.Rule.{Rule}
-use Rattle.runs.specs.Run.{Run, stopsOf}
+use Rattle.runs.specs.Run.{Run, stopsOf, wantStopsOf}
 use Rattle.runs.specs.Judging.{judgeOf}
 use Rattle.runs.specs.Lists.{Detour}
 use Rattle.walk.specs.Walk.{headAt, timesOf, sumOf}
 use Rattle.walk.specs.Detours.{legsOf, fullLegsOf}
 use Rattle.walk.specs.Price.{ReadRows, priceAnswer, priceRows}
 use Rattle.planner.specs.Plan.{Rows, Plans}
-use Rattle.demands.specs.Table.{endOfFile}
+use Rattle.demands.specs.Table.{IsFile, Together, endOfFile}
 
--- The finish is the time of one of the wants and no want has a later one; the end is the end of that want's file.
+-- The finish is the time of one of the wants and no want has a later one; the end is the end of the last file that lies together with it.
 pub record EndsWithARead (r : Run) (times : List ℕ) (answer : Answer) : Type 0 where
   pub want : ℕ
   pub within : want < length (r .numbers)
   pub finish : answer .finish ≡ getD times want 0
   pub latest : (i : ℕ) → i < length (r .numbers) → getD times i 0 ≤ answer .finish
-  pub end : answer .end ≡ endOfFile r (getD (r .numbers) want 0)
+  pub last : ℕ
+  pub file : IsFile r last
+  pub together : Together r last (getD (r .numbers) want 0)
+  pub end : answer .end ≡ endOfFile r last
+  pub rightmost : (f : ℕ) → IsFile r f → Together r f (getD (r .numbers) want 0) → endOfFile r f ≤ answer .end
 
 -- So it is for every list that is priced, and for every plan, where anything is wanted.
 abbrev pub PriceEndsWithARead : Type 0
@@ -45,7 +49,7 @@ PlanEndsWithARead =
 
 -- Times and sums are what they were with a sweep that runs on to the rightmost wanted file, read or not; so lists and ties are too.
 pub record Stay (r : Run) (list : List Detour) : Type 0 where
-  pub times : timesOf (r .turn) (headAt (r .head)) (legsOf (stopsOf r) list) (stopsOf r) ≡ timesOf (r .turn) (headAt (r .head)) (fullLegsOf (stopsOf r) list) (stopsOf r)
+  pub times : timesOf (r .turn) (headAt (r .head)) (legsOf (stopsOf r) list) (wantStopsOf r) ≡ timesOf (r .turn) (headAt (r .head)) (fullLegsOf (stopsOf r) list) (wantStopsOf r)
   pub sum : sumOf (r .turn) (headAt (r .head)) (legsOf (stopsOf r) list) (stopsOf r) ≡ sumOf (r .turn) (headAt (r .head)) (fullLegsOf (stopsOf r) list) (stopsOf r)
 
 abbrev pub TimesStay : Type 0

@@ -9,7 +9,7 @@ use Rattle.walk.specs.declared.Answer.{Answer}
 use Rattle.walk.specs.declared.Head.{Head}
 use Rattle.walk.specs.declared.Leg.{Leg}
 use Rattle.runs.specs.declared.Rule.{Rule}
-use Rattle.runs.specs.Run.{Run, Stop, stopsOf, stopAt}
+use Rattle.runs.specs.Run.{Run, Stop, stopsOf, wantStopsOf, stopAt}
 use Rattle.runs.specs.Lists.{Detour, listOf}
 use Rattle.walk.specs.Walk.{headAt, setOff, runRight, walked, reads}
 use Rattle.walk.specs.Detours.{legsOf}
@@ -34,7 +34,7 @@ pub record ReadsIn (price : ℕ) (h : Head) (gs : List Leg) (s : Stop) (time n :
 pub record LegsTold (r : Run) (list : List Detour) (rows : ReadRows) : Type 0 where
   pub many : 0 < length (r .numbers) → length (legsOf (stopsOf r) list) ≡ length list + 1
   pub each : (i : ℕ) → i < length (r .numbers)
-      → ReadsIn (r .turn) (headAt (r .head)) (legsOf (stopsOf r) list) (stopAt (stopsOf r) i) (getD (rows .times) i 0) (getD (rows .legs) i 0)
+      → ReadsIn (r .turn) (headAt (r .head)) (legsOf (stopsOf r) list) (stopAt (wantStopsOf r) i) (getD (rows .times) i 0) (getD (rows .legs) i 0)
   pub leftmost : 0 < length (r .numbers) → getD (rows .legs) 0 0 ≡ length list + 1
   pub one : list ≡ [] → (i : ℕ) → i < length (r .numbers) → getD (rows .legs) i 0 ≡ 1
   pub apart : (i j : ℕ) → i < length (r .numbers) → j < length (r .numbers)

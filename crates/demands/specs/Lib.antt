@@ -8,6 +8,7 @@ pub mod Ends
 pub mod Legs
 pub mod Calls
 pub mod Cases
+pub mod Alone
 pub mod Lines
 pub mod Sheets
 pub mod Tapes

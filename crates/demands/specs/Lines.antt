@@ -18,7 +18,7 @@ pub record Stands (key : List ℕ) (Kind : List ℕ → Type 0) (sheet : List �
   pub is : afterLines i sheet ≡ key ++ value ++ (lineFeed ∷ rest)
   pub kind : Kind value
 
--- The kinds of values: a tape name; a number; a number, or nothing; a rule; a number up to a limit; two numbers with a comma between them.
+-- The kinds of values: a tape name; a number; a number, or nothing; a rule; a number up to a limit.
 abbrev pub Name : List ℕ → Type 0
 Name text = isName text ≡ true
 
@@ -34,12 +34,19 @@ RuleName text = (text ≡ sweepText) ⊎ (text ≡ leastText)
 abbrev pub UpTo : ℕ → List ℕ → Type 0
 UpTo most text = Number text × (valueOf text ≤ most)
 
-pub record Pair (text : List ℕ) : Type 0 where
+-- A number, a comma and a value of another kind; so two numbers with a comma between them, and three with two commas.
+pub record NumberAnd (Kind : List ℕ → Type 0) (text : List ℕ) : Type 0 where
   pub first : List ℕ
-  pub second : List ℕ
-  pub is : text ≡ first ++ (comma ∷ second)
+  pub others : List ℕ
+  pub is : text ≡ first ++ (comma ∷ others)
   pub left : Number first
-  pub right : Number second
+  pub right : Kind others
+
+abbrev pub Pair : List ℕ → Type 0
+Pair text = NumberAnd Number text
+
+abbrev pub Triple : List ℕ → Type 0
+Triple text = NumberAnd Pair text
 
 -- Line i is bad: tape, head, turn, rule and files; as many file lines as it says; wants; as many want lines; then nothing.
 pub data LineIsBad (sheet : List ℕ) (i : ℕ) : Type 0 where
@@ -48,7 +55,7 @@ pub data LineIsBad (sheet : List ℕ) (i : ℕ) : Type 0 where
   turn : i ≡ 2 → (Stands turnKey NumberOrNothing sheet i → ⊥) → LineIsBad sheet i
   rule : i ≡ 3 → (Stands ruleKey RuleName sheet i → ⊥) → LineIsBad sheet i
   files : i ≡ 4 → (Stands filesKey (UpTo mostSheetFiles) sheet i → ⊥) → LineIsBad sheet i
-  file : 5 ≤ i → i < 5 + sheetFiles sheet → (Stands fileKey Pair sheet i → ⊥) → LineIsBad sheet i
+  file : 5 ≤ i → i < 5 + sheetFiles sheet → (Stands fileKey Triple sheet i → ⊥) → LineIsBad sheet i
   wants : i ≡ 5 + sheetFiles sheet → (Stands wantsKey (UpTo mostWants) sheet i → ⊥) → LineIsBad sheet i
   want : 6 + sheetFiles sheet ≤ i → i < 6 + sheetFiles sheet + sheetWants sheet → (Stands wantKey Pair sheet i → ⊥) → LineIsBad sheet i
   beyond : i ≡ 6 + sheetFiles sheet + sheetWants sheet → (afterLines i sheet ≡ [] → ⊥) → LineIsBad sheet i

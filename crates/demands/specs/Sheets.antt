@@ -31,6 +31,7 @@ pub data ReadApplies (sheet : List ℕ) (rows : RunRows) : Refusal → ℕ → T
   bad-line : {place : ℕ} → FirstBad (LineIsBad sheet) (linesDue sheet) place → ReadApplies sheet rows BadLine place
   short-starts : length (rows .starts) < sheetFiles sheet → ReadApplies sheet rows ShortRow 0
   short-lengths : length (rows .lengths) < sheetFiles sheet → ReadApplies sheet rows ShortRow 0
+  short-aggregates : length (rows .aggregates) < sheetFiles sheet → ReadApplies sheet rows ShortRow 0
   short-numbers : length (rows .numbers) < sheetWants sheet → ReadApplies sheet rows ShortRow 0
   short-counts : length (rows .counts) < sheetWants sheet → ReadApplies sheet rows ShortRow 0
 
@@ -97,13 +98,14 @@ Demand2Written =
     → take (answer .bytes) out ≡ sheetText name rule r
 
 -- What the reader gives for the sheet that the writer writes, in rows that are long enough: that run, that rule and that name.
-pub record GivesBack (name : List ℕ) (rule : Rule) (r : Run) (starts lengths numbers counts : List ℕ) : Type 0 where
-  pub answer : readAnswer (readVerdict (sheetText name rule r) starts lengths numbers counts) (sheetText name rule r)
+pub record GivesBack (name : List ℕ) (rule : Rule) (r : Run) (starts lengths aggregates numbers counts : List ℕ) : Type 0 where
+  pub answer : readAnswer (readVerdict (sheetText name rule r) starts lengths aggregates numbers counts) (sheetText name rule r)
       ≡ record { refusal = Accepted; place = 0; head = r .head; turn = r .turn; rule = rule; files = length (r .starts); wants = length (r .numbers) }
-  pub startsAre : readRow (readVerdict (sheetText name rule r) starts lengths numbers counts) (sheetRun (sheetText name rule r) .starts) starts ≡ r .starts ++ drop (length (r .starts)) starts
-  pub lengthsAre : readRow (readVerdict (sheetText name rule r) starts lengths numbers counts) (sheetRun (sheetText name rule r) .lengths) lengths ≡ r .lengths ++ drop (length (r .lengths)) lengths
-  pub numbersAre : readRow (readVerdict (sheetText name rule r) starts lengths numbers counts) (sheetRun (sheetText name rule r) .numbers) numbers ≡ r .numbers ++ drop (length (r .numbers)) numbers
-  pub countsAre : readRow (readVerdict (sheetText name rule r) starts lengths numbers counts) (sheetRun (sheetText name rule r) .counts) counts ≡ r .counts ++ drop (length (r .counts)) counts
+  pub startsAre : readRow (readVerdict (sheetText name rule r) starts lengths aggregates numbers counts) (sheetRun (sheetText name rule r) .starts) starts ≡ r .starts ++ drop (length (r .starts)) starts
+  pub lengthsAre : readRow (readVerdict (sheetText name rule r) starts lengths aggregates numbers counts) (sheetRun (sheetText name rule r) .lengths) lengths ≡ r .lengths ++ drop (length (r .lengths)) lengths
+  pub aggregatesAre : readRow (readVerdict (sheetText name rule r) starts lengths aggregates numbers counts) (sheetRun (sheetText name rule r) .aggregates) aggregates ≡ r .aggregates ++ drop (length (r .aggregates)) aggregates
+  pub numbersAre : readRow (readVerdict (sheetText name rule r) starts lengths aggregates numbers counts) (sheetRun (sheetText name rule r) .numbers) numbers ≡ r .numbers ++ drop (length (r .numbers)) numbers
+  pub countsAre : readRow (readVerdict (sheetText name rule r) starts lengths aggregates numbers counts) (sheetRun (sheetText name rule r) .counts) counts ≡ r .counts ++ drop (length (r .counts)) counts
   pub nameIs : readName (sheetText name rule r) ≡ name
 
 abbrev pub Demand2RoundTrip : Type 0
@@ -112,21 +114,24 @@ Demand2RoundTrip =
     → isRefusal (judgeOf r .refusal) ≡ false
     → length (r .starts) ≤ mostSheetFiles
     → isName name ≡ true
-    → (starts lengths numbers counts : List ℕ)
+    → (starts lengths aggregates numbers counts : List ℕ)
     → length (r .starts) ≤ length starts
     → length (r .lengths) ≤ length lengths
+    → length (r .aggregates) ≤ length aggregates
     → length (r .numbers) ≤ length numbers
     → length (r .counts) ≤ length counts
-    → GivesBack name rule r starts lengths numbers counts
+    → GivesBack name rule r starts lengths aggregates numbers counts
 
 -- Write, then read. The run that a reading answers and leaves in the rows: as many entries of each as it says.
 abbrev pub runRead : Reading → RunRows → Run
 runRead answer rows =
-    runOf (take (answer .files) (rows .starts)) (take (answer .files) (rows .lengths)) (take (answer .wants) (rows .numbers)) (take (answer .wants) (rows .counts)) (answer .head) (answer .turn)
+    runOf (take (answer .files) (rows .starts)) (take (answer .files) (rows .lengths)) (take (answer .files) (rows .aggregates))
+    (take (answer .wants) (rows .numbers)) (take (answer .wants) (rows .counts)) (answer .head) (answer .turn)
 
 pub record LongEnough (r : Run) (rows : RunRows) : Type 0 where
   pub starts : length (r .starts) ≤ length (rows .starts)
   pub lengths : length (r .lengths) ≤ length (rows .lengths)
+  pub aggregates : length (r .aggregates) ≤ length (rows .aggregates)
   pub numbers : length (r .numbers) ≤ length (rows .numbers)
   pub counts : length (r .counts) ≤ length (rows .counts)
 

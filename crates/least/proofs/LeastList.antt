@@ -12,7 +12,7 @@ use Rattle.runs.specs.Run.{Stop}
 use Rattle.walk.specs.Walk.{sumOf}
 use Rattle.runs.specs.Lists.{Detour, wanted, firstBadEntry, WellFormed}
 use Rattle.runs.proofs.Search.{true-or-false}
-use Rattle.walk.proofs.Sound.{Sound}
+use Rattle.runs.proofs.Sound.{Sound}
 use Rattle.least.specs.Least.{startFor, Sooner, ComesFirst, listSum, LeastFor}
 use Rattle.least.proofs.Plan.{Over, startIn}
 use Rattle.least.proofs.Rising.{Rises, index-order}

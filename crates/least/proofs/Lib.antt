@@ -20,3 +20,4 @@ pub mod Rules
 pub mod Lists
 pub mod LeastList
 pub mod Unbeaten
+pub mod Wanted

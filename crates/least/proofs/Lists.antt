@@ -13,7 +13,7 @@ use borrow.Author.Tests.{ltb-false, leb-false, not-false, le-ltb, le-leb, lt-leb
 use Rattle.runs.specs.Run.{Stop}
 use Rattle.runs.specs.Lists.{Detour, wanted, leftmost, WellFormed}
 use Rattle.runs.proofs.Search.{or-false-both}
-use Rattle.walk.proofs.Sound.{Sound}
+use Rattle.runs.proofs.Sound.{Sound}
 use Rattle.least.specs.Least.{startFor}
 use Rattle.least.proofs.Plan.{Over, startIn}
 use Rattle.least.proofs.Rising.{Rises, rises-not-strictly, index-order, index-same}

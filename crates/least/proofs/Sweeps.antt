@@ -16,7 +16,7 @@ use Rattle.runs.specs.Lists.{Detour, wanted, badAlone, badEntry, entryOf, WellF
 use Rattle.walk.specs.Walk.{headAt, setOff, afterLeg, runRight, walked, reads, served, ServesAll, timeOf, legFrom, legFor}
 use Rattle.walk.specs.Detours.{startOf, legOf, unreadEnd, sweepEnd, lastSweep, legsOf, fullSweep, fullLegsOf}
 use Rattle.runs.proofs.Search.{true-or-false, or-false-both, first-zero}
-use Rattle.walk.proofs.Sound.{Sound}
+use Rattle.runs.proofs.Sound.{Sound}
 use Rattle.walk.proofs.Steps.{read-inside}
 use Rattle.walk.proofs.Sweeps.{Unread, unread-or-none, passed, kept}
 use Rattle.least.proofs.Movements.{faced-later, after-clock, time-when-read, time-when-not}

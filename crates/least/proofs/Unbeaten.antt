@@ -2,20 +2,22 @@
 use Prim.Native.Nat.{ℕ, zero, suc, _-_, _*_, _≤_, _<_}
 use native.Mathlib.Omega.{arith}
 use native.Mathlib.Nat.{mul-le-mul}
-use mathlib.Core.Path.{_≡_, refl, sym, ap, _∙_}
+use mathlib.Core.Path.{_≡_, refl, sym, _∙_}
 use mathlib.Core.Bool.{false, cond}
 use mathlib.Core.Logic.{by-cases}
 use mathlib.Core.List.{List, [], _∷_}
 use native.Mathlib.Decide.{ℕ-discrete}
 use lib.Dec.{eqb}
-use lib.ListN.{length, getD}
+use lib.ListN.{length}
 use borrow.Author.Tests.{eq-eqb, ne-eqb}
-use Rattle.runs.specs.Run.{Stop, endAt, stopsFrom, stopAt}
+use Rattle.runs.specs.Run.{Stop, stopOf, merged, joinTo, joined, wantStops, stopAt}
 use Rattle.walk.specs.declared.Leg.{Leg}
 use Rattle.walk.specs.Walk.{headAt, Moves, ServesAll, timeOf, sumOf}
 use Rattle.runs.specs.Lists.{Detour, WellFormed}
 use Rattle.walk.specs.Detours.{legsOf}
-use Rattle.walk.proofs.Sound.{Sound}
+use Rattle.runs.proofs.Sound.{Sound}
+use Rattle.runs.proofs.Joined.{Places, Alike, by-name, join-none, join-same, join-other}
+use Rattle.runs.proofs.Stops.{stops-agree}
 use Rattle.least.specs.Least.{listSum, LeastFor}
 use Rattle.least.specs.Wants.{readsOf}
 use Rattle.least.specs.Recurrence.{planDetours, fileAt, leftAt, rightAt, countAt}
@@ -155,22 +157,55 @@ module _ (m′ : ℕ) (stops stops′ : List Stop) (ok′ : Sound stops′ m′)
         counts = λ i h. omega (arith, found i h .count, by-file stops′ (ok′ .ascends) i h .reads, reads (fileAt stops′ i));
       }
 
--- The stops of a table lie where it says.
-module _ (starts lengths : List ℕ) where
-  record OnTable (s : Stop) : Type 0 where
-    start : s .start ≡ getD starts (s .file - 1) 0
-    end : s .end ≡ endAt starts lengths (s .file - 1)
+-- The stops of a table, joined or not, lie where it says: each is of some file's aggregate.
+module _ (starts lengths aggregates : List ℕ) where
+  record OfTable (s : Stop) : Type 0 where
+    file : ℕ
+    alike : Alike s (stopOf starts lengths aggregates file 0)
 
-  on-table : (ns cs : List ℕ) (i : ℕ) → i < length (stopsFrom starts lengths ns cs) → OnTable (stopAt (stopsFrom starts lengths ns cs) i)
-  unfolding stopsFrom
-  on-table [] cs i h = absurd (omega arith)
-  on-table (f ∷ ns) [] i h = absurd (omega arith)
-  on-table (f ∷ ns) (c ∷ cs) zero h = record { start = refl; end = refl }
-  on-table (f ∷ ns) (c ∷ cs) (suc i) h = on-table ns cs i (omega arith)
+  abbrev AllOfTable : List Stop → Type 0
+  AllOfTable [] = Unit {0}
+  AllOfTable (s ∷ ss) = OfTable s × AllOfTable ss
 
-  pub same-table : (ns cs ns′ cs′ : List ℕ) → SameTable (stopsFrom starts lengths ns cs) (stopsFrom starts lengths ns′ cs′)
-  same-table ns cs ns′ cs′ =
+  wants-of-table : (ns cs : List ℕ) → AllOfTable (wantStops starts lengths aggregates ns cs)
+  unfolding wantStops
+  wants-of-table [] cs = tt
+  wants-of-table (f ∷ ns) [] = tt
+  wants-of-table (f ∷ ns) (c ∷ cs) = (record { file = f; alike = record { name = refl; places = record { start = refl; end = refl } } }, wants-of-table ns cs)
+
+  merged-of-table : (s t : Stop) → OfTable s → OfTable (merged s t)
+  merged-of-table s t o = record { file = o .file; alike = record { name = o .alike .name; places = record { start = o .alike .places .start; end = o .alike .places .end } } }
+
+  join-of-table : (s : Stop) (ts : List Stop) → OfTable s → AllOfTable ts → AllOfTable (joinTo s ts)
+  join-of-table s [] o os = rw (join-none s) (o, tt)
+  join-of-table s (t ∷ ts) o os = by-name s t (λ e. rw (join-same s t ts e) (merged-of-table s t o, os .1)) (λ n. rw (join-other s t ts n) (o, os))
+
+  joined-of-table : (ss : List Stop) → AllOfTable ss → AllOfTable (joined ss)
+  unfolding joined
+  joined-of-table [] os = tt
+  joined-of-table (s ∷ ss) os = join-of-table s (joined ss) (os .0) (joined-of-table ss (os .1))
+
+  of-table-at : (ss : List Stop) → AllOfTable ss → (i : ℕ) → i < length ss → OfTable (stopAt ss i)
+  of-table-at [] os i h = absurd (omega arith)
+  of-table-at (s ∷ ss) os zero h = os .0
+  of-table-at (s ∷ ss) os (suc i) h = of-table-at ss (os .1) i (omega arith)
+
+  -- Two of one name are of one aggregate.
+  same-places : (s t : Stop) → OfTable s → OfTable t → s .file ≡ t .file → Places s t
+  same-places s t o p e =
+      let same = stops-agree starts lengths aggregates (o .file) 0 (p .file) 0 (sym (o .alike .name) ∙ e ∙ p .alike .name) in
       record {
-        starts = λ i i′ h h′ e. on-table ns cs i h .start ∙ ap (λ f. getD starts (f - 1) 0) e ∙ sym (on-table ns′ cs′ i′ h′ .start);
-        ends = λ i i′ h h′ e. on-table ns cs i h .end ∙ ap (λ f. endAt starts lengths (f - 1)) e ∙ sym (on-table ns′ cs′ i′ h′ .end);
+        start = o .alike .places .start ∙ same .start ∙ sym (p .alike .places .start);
+        end = o .alike .places .end ∙ same .end ∙ sym (p .alike .places .end);
       }
+
+  pub same-table : (ns cs ns′ cs′ : List ℕ) → SameTable (joined (wantStops starts lengths aggregates ns cs)) (joined (wantStops starts lengths aggregates ns′ cs′))
+  same-table ns cs ns′ cs′ = record { starts = λ i i′ h h′ e. places i i′ h h′ e .start; ends = λ i i′ h h′ e. places i i′ h h′ e .end }
+    where
+      of : (ms ds : List ℕ) (i : ℕ) → i < length (joined (wantStops starts lengths aggregates ms ds)) → OfTable (stopAt (joined (wantStops starts lengths aggregates ms ds)) i)
+      of ms ds = of-table-at (joined (wantStops starts lengths aggregates ms ds)) (joined-of-table (wantStops starts lengths aggregates ms ds) (wants-of-table ms ds))
+
+      places : (i i′ : ℕ) → i < length (joined (wantStops starts lengths aggregates ns cs)) → i′ < length (joined (wantStops starts lengths aggregates ns′ cs′))
+          → fileAt (joined (wantStops starts lengths aggregates ns cs)) i ≡ fileAt (joined (wantStops starts lengths aggregates ns′ cs′)) i′
+          → Places (stopAt (joined (wantStops starts lengths aggregates ns cs)) i) (stopAt (joined (wantStops starts lengths aggregates ns′ cs′)) i′)
+      places i i′ h h′ e = same-places _ _ (of ns cs i h) (of ns′ cs′ i′ h′) e

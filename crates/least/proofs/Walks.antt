@@ -18,7 +18,7 @@ use Rattle.walk.specs.Walk.{headAt, afterLeg, Moves, reads, served, ServesAll, 
 use Rattle.runs.specs.Lists.{Detour}
 use Rattle.walk.specs.Detours.{startOf, endOf, legOf, legsOf, fullSweep, fullLegsOf}
 use Rattle.runs.proofs.Search.{true-or-false}
-use Rattle.walk.proofs.Sound.{Sound}
+use Rattle.runs.proofs.Sound.{Sound}
 use Rattle.least.specs.Wants.{readsOf}
 use Rattle.least.proofs.Plan.{Over, lagAfter, timeIn}
 use Rattle.least.proofs.Identity.{runSum}

@@ -1,10 +1,11 @@
 -- What is answered for the files of an index and for a label and an index, check by check.
-use Prim.Native.Nat.{ℕ, _≤_}
-use mathlib.Core.Path.{_≡_, refl, ap, sym, _∙_}
+use Prim.Native.Nat.{ℕ, zero, suc, _≤_}
+use mathlib.Core.Path.{_≡_, refl, ap, sym, _∙_, subst}
 use mathlib.Core.Bool.{Bool, true, false, not, _&&_, and-assoc, true≢false}
 use mathlib.Core.List.{List, [], _∷_}
 use native.Mathlib.Omega.{arith}
 use lib.ListN.{length, take, length-map}
+use lib.Seq.{take-nil}
 use lib.Dec.{ltb}
 use borrow.Author.Tests.{ltb-false, le-ltb, ne-eqb, not-false}
 use Rattle.refusals.specs.declared.Refusal.the-variants.{BadName, BadText, ManyExtents, Overlap, FarFile, ShortRow}
@@ -13,13 +14,13 @@ use Rattle.runs.specs.declared.Rule.the-variants.{Least}
 use Rattle.refusals.specs.declared.Verdict.{Verdict}
 use Rattle.refusals.specs.Refusals.{accepted, refuseIf, firstOf}
 use Rattle.refusals.proofs.Verdicts.{refuses, all-accept, accepts-if}
-use Rattle.runs.specs.Run.{Run, runOf}
+use Rattle.runs.specs.Run.{Run, runOf, aloneOf, zeros}
 use Rattle.runs.specs.Judging.{judgeOf}
 use Rattle.runs.proofs.Search.{or-false-both}
 use Rattle.writers.specs.declared.Written.{Written}
 use Rattle.texts.specs.Text.{isName, isNumber, valueOf}
 use Rattle.texts.proofs.Bytes.{and-true-both}
-use Rattle.writers.specs.Writing.{topText, sheetText, rowVerdict, writeVerdict, writtenAnswer, writtenRow}
+use Rattle.writers.specs.Writing.{topText, sheetText, rowVerdict, writeVerdict, writtenAnswer, writtenRow, SheetWritten}
 use Rattle.writers.proofs.Sheets.{first-row}
 use Rattle.ltfs.specs.declared.Report.{Report}
 use Rattle.ranges.specs.declared.Tally.{Tally}
@@ -44,6 +45,17 @@ write-checks : (name : List ℕ) (rule : Rule) (run : Run) (row : List ℕ) → 
     → writeVerdict name rule run row ≡ refuseIf (ltb (length row) (length (sheetText name rule run))) ShortRow
 unfolding writeVerdict rowVerdict
 write-checks name rule run row n j l = rw (j, le-ltb 256 (length (run .starts)) l, n) (first-row (ltb (length row) (length (sheetText name rule run))))
+
+-- What the sheet writer wrote with a row of zeros is the sheet of files that lie in no aggregate.
+pub table-written : (name starts lengths aggregates : List ℕ) (head : ℕ) (row : List ℕ) (w : Written) (row' : List ℕ) → aggregates ≡ zeros (length starts)
+    → SheetWritten name Least (runOf starts lengths aggregates [] [] head 0) row w row' → SheetWritten name Least (aloneOf starts lengths [] [] head 0) row w row'
+table-written name starts lengths aggregates head row w row' e written = subst (λ zs. SheetWritten name Least (runOf starts lengths zs [] [] head 0) row w row') e written
+
+pub kept-few : (kept most : ℕ) (row : List ℕ) → kept ≤ most → length (take kept row) ≤ most
+kept-few kept most [] l = rw (take-nil kept) (omega arith)
+kept-few zero most (x ∷ row) l = omega arith
+kept-few (suc kept) zero (x ∷ row) l = absurd (omega arith)
+kept-few (suc kept) (suc most) (x ∷ row) l = omega (arith, kept-few kept most row (omega arith))
 
 -- The table of an index within the limits, without two files that overlap.
 module _ (size partition : ℕ) (files : List (List Forest)) where
@@ -122,7 +134,7 @@ module _ (name : List ℕ) (size partition : ℕ) (files : List (List Forest)) (
         same-overlaps o = rw (sym (h .good) ∙ g, sym (h .several) ∙ s, sym far-is ∙ f, overlap-seen true (sym o), g, s, f, o)
 
         laid-run : (head : ℕ) → head ≡ lastEnd (rangesFrom (take (tally .kept) starts) (take (tally .kept) lengths))
-            → runOf (take (tally .kept) starts) (take (tally .kept) lengths) [] [] head 0 ≡ runOfTable (tableFor size partition files)
+            → aloneOf (take (tally .kept) starts) (take (tally .kept) lengths) [] [] head 0 ≡ runOfTable (tableFor size partition files)
         unfolding runOfTable
         laid-run head e =
             let last : head ≡ lastEnd (tableFor size partition files) = e ∙ ap lastEnd (held-ranges (tableFor size partition files) (tally .kept) starts lengths held) in
@@ -138,20 +150,19 @@ module _ (name : List ℕ) (size partition : ℕ) (files : List (List Forest)) (
         -- The sheet is written, or the row is too short.
         pub laid-out : isName name ≡ true → false ≡ neighbourOverlap (rangesFrom (take (tally .kept) starts) (take (tally .kept) lengths))
             → (head : ℕ) → head ≡ lastEnd (rangesFrom (take (tally .kept) starts) (take (tally .kept) lengths)) → (w : Written) (row' : List ℕ)
-            → w ≡ writtenAnswer (writeVerdict name Least (runOf (take (tally .kept) starts) (take (tally .kept) lengths) [] [] head 0) row) (sheetText name Least (runOf (take (tally .kept) starts) (take (tally .kept) lengths) [] [] head 0))
-            → row' ≡ writtenRow (writeVerdict name Least (runOf (take (tally .kept) starts) (take (tally .kept) lengths) [] [] head 0) row) (sheetText name Least (runOf (take (tally .kept) starts) (take (tally .kept) lengths) [] [] head 0)) row
+            → SheetWritten name Least (aloneOf (take (tally .kept) starts) (take (tally .kept) lengths) [] [] head 0) row w row'
             → (reportOf w tally ≡ tableReport name size partition files row) × (row' ≡ tableRow name size partition files row)
         unfolding tableRow tableSheet
-        laid-out n e head l w row' we re =
+        laid-out n e head l w row' written =
             let run = laid-run head l in
             let far : areFar (rangesOf size partition files) ≡ false = sym far-is ∙ f in
             let apart = overlap-seen false e in
             let wv = write-checks name Least (runOfTable (tableFor size partition files)) row n (table-passes size partition files far apart) (table-few size partition files far) in
             let tv = row-table (sym (h .good) ∙ g) (sym (h .several) ∙ s) far apart in
             let we' : w ≡ writtenAnswer (refuseIf (ltb (length row) (length (sheetText name Least (runOfTable (tableFor size partition files))))) ShortRow) (sheetText name Least (runOfTable (tableFor size partition files))) =
-            we ∙ ap (λ (r : Run). writtenAnswer (writeVerdict name Least r row) (sheetText name Least r)) run ∙ ap (λ (v : Verdict). writtenAnswer v (sheetText name Least (runOfTable (tableFor size partition files)))) wv in (
+            written .answer ∙ ap (λ (r : Run). writtenAnswer (writeVerdict name Least r row) (sheetText name Least r)) run ∙ ap (λ (v : Verdict). writtenAnswer v (sheetText name Least (runOfTable (tableFor size partition files)))) wv in (
               ap (λ (x : Written). reportOf x tally) we' ∙ report-is (ltb (length row) (length (sheetText name Least (runOfTable (tableFor size partition files))))) tv,
-              re ∙ ap (λ (r : Run). writtenRow (writeVerdict name Least r row) (sheetText name Least r) row) run
+              written .left ∙ ap (λ (r : Run). writtenRow (writeVerdict name Least r row) (sheetText name Least r) row) run
                   ∙ ap (λ (v : Verdict). writtenRow v (sheetText name Least (runOfTable (tableFor size partition files))) row) (wv ∙ sym tv),
             )
 

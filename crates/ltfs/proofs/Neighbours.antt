@@ -4,15 +4,16 @@ use mathlib.Core.Path.{_≡_, refl, ap, sym, _∙_}
 use mathlib.Core.Bool.{Bool, true, false, cond, not, _&&_, _||_, and-false}
 use mathlib.Core.List.{List, [], _∷_, map}
 use native.Mathlib.Omega.{arith}
-use lib.ListN.{length, getD, take, length-map, List·getD-map}
+use lib.ListN.{length, getD, take, length-map, length-replicate, getD-replicate, List·getD-map}
 use lib.Seq.{length-take-le, getD-take}
 use lib.Dec.{eqb, ltb, leb}
 use borrow.Author.Tests.{ltb-false, leb-true, eqb-false, lt-ltb, le-ltb, eq-eqb, not-true}
 use Rattle.refusals.specs.Refusals.{accepted}
-use Rattle.runs.specs.Run.{lastPlace, mostFiles, stopsFrom, rightEnd}
-use Rattle.runs.specs.Judging.{badFile, endBefore, judgeOf}
+use Rattle.runs.specs.Run.{lastPlace, mostFiles, zeros, plainStops, rightEnd}
+use Rattle.runs.specs.Judging.{badPlace, endBefore, judgeOf, judgeAlone}
 use Rattle.refusals.specs.Refusals.{firstWhere}
 use Rattle.runs.proofs.Search.{or-false-both, first-all}
+use Rattle.runs.proofs.Alone.{all-zero, alone-judged}
 use Rattle.texts.proofs.Bytes.{and-true-both}
 use Rattle.markup.specs.Tree.{Forest}
 use Rattle.ltfs.specs.Index.{every, some, isNone, byteCountOf, partitionOf}
@@ -119,6 +120,12 @@ last-within [] e = omega arith
 last-within (range ∷ []) e = ltb-false lastPlace (endOfRange range) (or-false-both (isBeyond range) false e .0)
 last-within (range ∷ next ∷ table) e = last-within (next ∷ table) (or-false-both (isBeyond range) (isBeyond next || some isBeyond table) e .1)
 
+-- The first entries of a row of zeros are a row of zeros.
+pub zero-row : (n most : ℕ) → n ≤ most → take n (zeros most) ≡ zeros n
+zero-row n most l =
+    let size : length (take n (zeros most)) ≡ n = length-take-le n (zeros most) (omega (arith, length-replicate {A = ℕ} most 0)) in
+    all-zero (take n (zeros most)) (λ i h. getD-take n (zeros most) i 0 (omega (arith, size)) ∙ getD-replicate {A = ℕ} most i 0 0 (omega (arith, size))) ∙ ap zeros size
+
 module _ (table : List Range) where
   abbrev startsIn : List ℕ
   startsIn = map (λ range. range .start) table
@@ -142,12 +149,13 @@ module _ (table : List Range) where
 
   -- The run of a table within the limits, without overlap, passes 1 to 7.
   pub passes : length table ≤ 256 → some isVoid table ≡ false → some isBeyond table ≡ false → neighbourOverlap table ≡ false → judgeOf (runOfTable table) ≡ accepted
-  unfolding judgeOf runOfTable firstWhere stopsFrom rightEnd
+  unfolding judgeAlone runOfTable firstWhere plainStops rightEnd
   passes few full near apart =
-      rw (
+      alone-judged startsIn bytesIn [] [] (lastEnd table) 0
+      ∙ rw (
         sizes .0,
         sizes .1,
-        first-all (badFile startsIn bytesIn) (length startsIn) sound,
+        first-all (badPlace startsIn bytesIn) (length startsIn) sound,
         le-ltb lastPlace (lastEnd table) (last-within table near),
         le-ltb (lastEnd table) 0 (omega arith),
       )
@@ -162,7 +170,7 @@ module _ (table : List Range) where
       after zero l = omega arith
       after (suc i) l = omega (arith, start-in i, bytes-in i, neighbours-at table apart i l)
 
-      sound : (i : ℕ) → i < length startsIn → badFile startsIn bytesIn i ≡ false
+      sound : (i : ℕ) → i < length startsIn → badPlace startsIn bytesIn i ≡ false
       sound i l =
           let s = length-map table (λ range. range .start) in
           let f : eqb (getD bytesIn i 0) 0 ≡ false = rw (bytes-in i) (none-at isVoid table full i (omega arith)) in

@@ -10,7 +10,7 @@ use borrow.Author.Tests.{not-false}
 use Rattle.refusals.specs.declared.Refusal.the-variants.{BadName, BadText, ManyExtents, Overlap, FarFile}
 use Rattle.runs.specs.declared.Rule.the-variants.{Least}
 use Rattle.refusals.specs.Refusals.{refuseIf}
-use Rattle.runs.specs.Run.{Run}
+use Rattle.runs.specs.Run.{Run, zeros}
 use Rattle.runs.specs.Judging.{judgeOf}
 use Rattle.refusals.proofs.Verdicts.{all-accept, accepts-if}
 use Rattle.texts.specs.Text.{isName}
@@ -89,6 +89,7 @@ sheet-reads-back name label index row e =
       rule = back .same-rule;
       starts = ap (λ (r : Run). r .starts) (back .same-run);
       lengths = ap (λ (r : Run). r .lengths) (back .same-run);
+      aggregates = ap (λ (r : Run). r .aggregates) (back .same-run) ∙ ap zeros (length-map (tableIn label index) (λ range. range .start));
       numbers = ap (λ (r : Run). r .numbers) (back .same-run);
       counts = ap (λ (r : Run). r .counts) (back .same-run);
       head = ap (λ (r : Run). r .head) (back .same-run);

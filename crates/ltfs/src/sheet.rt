@@ -3,12 +3,12 @@ ghost use mathlib.Core.Path.{_≡_};
 ghost use mathlib.Core.Bool.{true};
 ghost use mathlib.Core.List.{[]};
 ghost use Prim.Native.Nat.{_≤_};
-ghost use lib.ListN.{take};
+ghost use lib.ListN.{length, take};
 ghost use Rattle.refusals.specs.Refusals.{firstOf};
 ghost use Rattle.runs.specs.declared.Rule.the-variants.{Least};
-ghost use Rattle.runs.specs.Run.{runOf};
+ghost use Rattle.runs.specs.Run.{aloneOf};
 ghost use Rattle.texts.specs.Text.{isName};
-ghost use Rattle.writers.specs.Writing.{sheetText, writeVerdict, writtenAnswer, writtenRow};
+ghost use Rattle.writers.specs.Writing.{SheetWritten};
 ghost use Rattle.markup.specs.Tree.{treeOf};
 ghost use Rattle.ltfs.specs.Index.{indexFiles};
 ghost use Rattle.ltfs.specs.Table.{lastEnd, refusedReport, ltfsVerdict, ltfsReport, ltfsRow};
@@ -59,11 +59,13 @@ fn last_end(starts: &[u64], lengths: &[u64], kept: usize) -> u64
     starts[kept - 1] + lengths[kept - 1]
 }
 
-// The sheet of a table: no wants, turn price 0, the rule least.
+// The sheet of a table: no aggregates, no wants, turn price 0, the rule least.
 fn write_table(name: &[u8], starts: &[u64], lengths: &[u64], head: u64, out: &mut [u8]) -> Written
-    ensures { λ r. ⌜ r ≡ writtenAnswer (writeVerdict (now (name .entry)) Least (runOf (now (starts .entry)) (now (lengths .entry)) [] [] head 0) (now (out .entry))) (sheetText (now (name .entry)) Least (runOf (now (starts .entry)) (now (lengths .entry)) [] [] head 0)) ⌝ }
-    ensures { λ _. ⌜ now (out .exit) ≡ writtenRow (writeVerdict (now (name .entry)) Least (runOf (now (starts .entry)) (now (lengths .entry)) [] [] head 0) (now (out .entry))) (sheetText (now (name .entry)) Least (runOf (now (starts .entry)) (now (lengths .entry)) [] [] head 0)) (now (out .entry)) ⌝ }
+    requires { ⌜ length (now starts) ≤ 256 ⌝ }
+    ensures { λ r. ⌜ SheetWritten (now (name .entry)) Least (aloneOf (now (starts .entry)) (now (lengths .entry)) [] [] head 0) (now (out .entry)) r (now (out .exit)) ⌝ }
 {
+    let zeros = [0u64; 256];
+    let files = starts.len();
     let none = [0u64; 1];
     let wants = &none[..0];
     writers::write_sheet(
@@ -71,6 +73,7 @@ fn write_table(name: &[u8], starts: &[u64], lengths: &[u64], head: u64, out: &mu
         Rule::Least,
         starts,
         lengths,
+        &zeros[..files],
         wants,
         wants,
         head,

@@ -11,13 +11,15 @@ use Rattle.refusals.specs.declared.Verdict.{Verdict}
 use Rattle.refusals.specs.Refusals.{isRefusal, refuseIf, firstOf}
 use Rattle.refusals.proofs.Verdicts.{refuses, first-refuses, first-passes, test-says}
 use Rattle.runs.specs.declared.Rule.{Rule}
-use Rattle.runs.specs.Run.{Run}
+use Rattle.runs.specs.Run.{Run, stopsOf}
 use Rattle.runs.specs.Judging.{judgeOf}
 use Rattle.walk.specs.declared.Answer.{Answer}
 use Rattle.walk.specs.Price.{refusalAnswer, shortReadRows}
 use Rattle.tables.specs.declared.Listed.{Listed}
-use Rattle.tables.specs.Listing.{ListRows, listRows, Lists, IsListed, listingVerdict, shortListRows, roomSize}
-use Rattle.planner.specs.Plan.{Rows, rowsOf, readsIn, Plans, Planned, planVerdict, shortRows}
+use Rattle.tables.specs.Listing.{ListRows, listRows}
+use Rattle.planner.specs.Plan.{Rows, rowsOf, readsIn, Plans, Planned, planVerdict, shortRows, roomFor}
+use Rattle.planner.specs.Private.{stopsVerdict, ListsNamed, IsNamed}
+use Rattle.planner.proofs.Naming.{told}
 
 -- The rows that the engine is lent.
 abbrev pub engineRows : Rows → ListRows
@@ -32,7 +34,7 @@ module _ (r : Run) (rule : Rule) (rows : Rows) where
       }
 
   later : List Verdict
-  later = refuseIf (shortRows (length (r .numbers)) rows) ShortRow ∷ refuseIf (ltb (length (rows .room)) (roomSize r)) ShortRoom ∷ []
+  later = refuseIf (shortRows (length (r .numbers)) (length (stopsOf r)) rows) ShortRow ∷ refuseIf (ltb (length (rows .room)) (roomFor r)) ShortRoom ∷ []
 
   module _ (v : Verdict) (f : Bool) (v-is : v ≡ judgeOf r) (f-is : f ≡ isRefusal (v .refusal)) where
     pub run-refused : f ≡ true → (a : Answer) → a ≡ refusalAnswer v → Plans r rule rows a rows
@@ -57,42 +59,22 @@ module _ (r : Run) (rule : Rule) (rows : Rows) where
     legs-refused e short a s = reads-refused e (rw (lt-ltb (length (rows .legs)) (length (r .numbers)) short, or-true)) a s
 
     module _ (passed : f ≡ false) (long : length (r .numbers) ≤ length (rows .times)) (long-legs : length (r .numbers) ≤ length (rows .legs)) where
-      engine-later : List Verdict
-      engine-later = refuseIf (shortListRows (length (r .numbers)) (engineRows rows)) ShortRow ∷ refuseIf (ltb (length (rows .room)) (roomSize r)) ShortRoom ∷ []
-
-      same-later : firstOf engine-later ≡ firstOf later
-      unfolding later engine-later
-      same-later = rw (le-ltb (length (rows .times)) (length (r .numbers)) long, le-ltb (length (rows .legs)) (length (r .numbers)) long-legs)
-
       -- What the engine judges is what is left to judge.
-      engine-decides : listingVerdict r (engineRows rows) ≡ planVerdict r rows
-      unfolding listingVerdict engine-later
-      engine-decides = first-passes (judgeOf r) engine-later (test-says v-is f-is passed) ∙ same-later ∙ sym (passes-run passed)
+      engine-decides : stopsVerdict r (engineRows rows) ≡ planVerdict r rows
+      unfolding later
+      engine-decides = rw (le-ltb (length (rows .times)) (length (r .numbers)) long, le-ltb (length (rows .legs)) (length (r .numbers)) long-legs) at (sym (passes-run passed))
 
-      module _ (l : Listed) (after : ListRows) (lists : Lists r rule (engineRows rows) l after) (g : Bool) (g-is : g ≡ isRefusal (l .verdict .refusal)) where
+      module _ (l : Listed) (after : ListRows) (lists : ListsNamed r rule (engineRows rows) l after) (g : Bool) (g-is : g ≡ isRefusal (l .verdict .refusal)) where
         -- The engine's answer refuses just where its verdict does.
-        says-verdict : (b : Bool) → isRefusal (listingVerdict r (engineRows rows) .refusal) ≡ b → g ≡ b
-        says-verdict true e = g-is ∙ ap (λ x. isRefusal (x .verdict .refusal)) (lists .refused e .says) ∙ e
-        says-verdict false e = g-is ∙ ap (λ x. isRefusal (x .verdict .refusal)) (lists .listed e .says)
-
-        engine-refuses : g ≡ true → isRefusal (listingVerdict r (engineRows rows) .refusal) ≡ true
-        engine-refuses e = go (isRefusal (listingVerdict r (engineRows rows) .refusal)) refl
-          where
-            go : (b : Bool) → isRefusal (listingVerdict r (engineRows rows) .refusal) ≡ b → isRefusal (listingVerdict r (engineRows rows) .refusal) ≡ true
-            go true is = is
-            go false is = absurd (true≢false (sym e ∙ says-verdict false is))
-
-        engine-passes : g ≡ false → isRefusal (listingVerdict r (engineRows rows) .refusal) ≡ false
-        engine-passes e = go (isRefusal (listingVerdict r (engineRows rows) .refusal)) refl
-          where
-            go : (b : Bool) → isRefusal (listingVerdict r (engineRows rows) .refusal) ≡ b → isRefusal (listingVerdict r (engineRows rows) .refusal) ≡ false
-            go true is = absurd (true≢false (sym (says-verdict true is) ∙ e))
-            go false is = is
+        answers : g ≡ refuses (stopsVerdict r (engineRows rows))
+        answers =
+            g-is
+            ∙ told (stopsVerdict r (engineRows rows)) (l .verdict) (λ e. ap (λ x. x .verdict) (lists .refused e .says)) (λ e. ap (λ x. x .verdict) (lists .listed e .says))
 
         pub engine-refused : g ≡ true → (a : Answer) → a ≡ refusalAnswer (l .verdict) → (froms tos room : List ℕ) → after ≡ listRows froms tos room
             → Plans r rule rows a (rowsOf froms tos (rows .times) (rows .legs) room)
         engine-refused e a s froms tos room is =
-            let no = lists .refused (engine-refuses e) in
+            let no = lists .refused (sym answers ∙ e) in
             let v-says = ap (λ x. x .verdict) (no .says) ∙ engine-decides in
             let same = sym is ∙ no .kept in
             refused-so (l .verdict) v-says (sym g-is ∙ e) a s _
@@ -101,10 +83,10 @@ module _ (r : Run) (rule : Rule) (rows : Rows) where
             rows-are : {x y z : List ℕ} → x ≡ rows .froms → y ≡ rows .tos → z ≡ rows .room → rowsOf x y (rows .times) (rows .legs) z ≡ rows
             rows-are e f g = rw (e, f, g)
 
-        pub engine-listed : g ≡ false → IsListed r rule (engineRows rows) l after
-        engine-listed e = lists .listed (engine-passes e)
+        pub engine-listed : g ≡ false → IsNamed r rule (engineRows rows) l after
+        engine-listed e = lists .listed (sym answers ∙ e)
 
         pub run-planned : g ≡ false → (a : Answer) (end : Rows) → Planned r rule rows a end → Plans r rule rows a end
         run-planned e a end p =
-            let accepts : refuses (planVerdict r rows) ≡ false = rw (← engine-decides) (engine-passes e) in
+            let accepts : refuses (planVerdict r rows) ≡ false = ap refuses (sym engine-decides) ∙ sym answers ∙ e in
             record { refused = λ q. absurd (true≢false (sym q ∙ accepts)); planned = λ q. p }

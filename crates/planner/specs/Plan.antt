@@ -1,5 +1,5 @@
 -- What the planner answers, for every input: the first refusal that applies and nothing changed, or the list of the rule with its walk's numbers, and every row afterwards.
-use Prim.Native.Nat.{ℕ, _-_}
+use Prim.Native.Nat.{ℕ, _+_, _-_, _*_}
 use mathlib.Core.Path.{_≡_}
 use mathlib.Core.Bool.{Bool, true, false, _||_}
 use mathlib.Core.List.{List, [], _∷_, _++_, map}
@@ -10,12 +10,11 @@ use Rattle.refusals.specs.declared.Refusal.the-variants.{ShortRow, ShortRoom}
 use Rattle.refusals.specs.declared.Verdict.{Verdict}
 use Rattle.walk.specs.declared.Answer.{Answer}
 use Rattle.refusals.specs.Refusals.{isRefusal, refuseIf, firstOf}
-use Rattle.runs.specs.Run.{Run, Row}
+use Rattle.runs.specs.Run.{Run, Row, total, stopsOf}
 use Rattle.runs.specs.Judging.{judgeOf}
 use Rattle.runs.specs.Lists.{Detour}
 use Rattle.walk.specs.Price.{refusalAnswer, pricedAnswer, pricedTimes, pricedLegs, ReadRows, readRows, shortReadRows}
 use Rattle.least.specs.Least.{ByRule}
-use Rattle.tables.specs.Listing.{roomSize}
 use Rattle.runs.specs.declared.Rule.{Rule}
 
 -- The lent rows: for starts, ends, times and legs, and the working room.
@@ -40,17 +39,21 @@ rowsAfter froms tos times legs room = rowsOf (froms .exit .now) (tos .exit .now)
 abbrev pub readsIn : Rows → ReadRows
 readsIn rows = readRows (rows .times) (rows .legs)
 
--- 8: a row for times or legs shorter than k, or one for starts or ends shorter than k - 1 (0 when k is 0).
-abbrev pub shortRows : ℕ → Rows → Bool
-shortRows k rows = shortReadRows k (readsIn rows) || ltb (length (rows .froms)) (k - 1) || ltb (length (rows .tos)) (k - 1)
+-- The words of working room that a run with k stops and R reads asks for, k·k·(R + 1).
+abbrev pub roomFor : Run → ℕ
+roomFor r = length (stopsOf r) * length (stopsOf r) * (total (r .counts) + 1)
+
+-- 8: a row for times or legs shorter than the wants, or one for starts or ends shorter than the stops less one (0 where there is none).
+abbrev pub shortRows : ℕ → ℕ → Rows → Bool
+shortRows wants stops rows = shortReadRows wants (readsIn rows) || ltb (length (rows .froms)) (stops - 1) || ltb (length (rows .tos)) (stops - 1)
 
 -- The planner's refusals, under either rule: 1 to 7, then 8, then 9.
 unfoldable pub planVerdict : Run → Rows → Verdict
 planVerdict r rows =
     firstOf
     (judgeOf r
-    ∷ refuseIf (shortRows (length (r .numbers)) rows) ShortRow
-    ∷ refuseIf (ltb (length (rows .room)) (roomSize r)) ShortRoom
+    ∷ refuseIf (shortRows (length (r .numbers)) (length (stopsOf r)) rows) ShortRow
+    ∷ refuseIf (ltb (length (rows .room)) (roomFor r)) ShortRoom
     ∷ [])
 
 -- The rows afterwards: the list, the times and the legs in the first entries, zero in the words of the working room; later entries as they were.
@@ -61,7 +64,7 @@ rowsWith r list rows =
       tos = map (λ d. d .to) list ++ drop (length list) (rows .tos);
       times = pricedTimes r list ++ drop (length (r .numbers)) (rows .times);
       legs = pricedLegs r list ++ drop (length (r .numbers)) (rows .legs);
-      room = replicate (roomSize r) 0 ++ drop (roomSize r) (rows .room);
+      room = replicate (roomFor r) 0 ++ drop (roomFor r) (rows .room);
     }
 
 -- A refusal changes nothing at all.

@@ -1,17 +1,92 @@
-// planner: the plan of a run. It stands on the promises of the judging, of the table engine and of the pricer: the list of the rule, then that
-// list's own price. All is judged before the first write.
-ghost use Rattle.runs.specs.Run.{runAt};
+// planner: the plan of a run. It stands on the promises of the joining, of the table engine and of the pricer: the list of the rule over the
+// run's stops, then that list's own price. All is judged before the first write.
+ghost use mathlib.Core.Path.{_≡_};
+ghost use mathlib.Core.List.{map, _++_};
+ghost use Prim.Native.Nat.{ℕ, _≤_, _<_};
+ghost use lib.ListN.{length, getD, take, drop};
+ghost use Rattle.runs.specs.Run.{Run, runAt};
+ghost use Rattle.joins.specs.Table.{countUp};
+ghost use Rattle.tables.specs.Listing.{listRowsBefore, listRowsAfter};
 ghost use Rattle.planner.specs.Plan.{Plans, rowsBefore, rowsAfter};
+ghost use Rattle.planner.specs.Private.{Holds, HoldsSome, nameIn, ListsNamed};
 use refusals::Refusal;
 use refusals::Verdict;
 use refusals::refused;
 use runs::Rule;
+use tables::Listed;
 use walk::Answer;
+
+// The numbers from 1 on.
+fn count_up(row: &mut [u64])
+    ensures { λ _. ⌜ now (row .exit) ≡ countUp 1 (length (now (row .entry))) ⌝ }
+{
+    let mut i: usize = 0;
+    while i < row.len() {
+        row[i] = (i + 1) as u64;
+        i += 1;
+    }
+}
+
+// The first entries of a row, files of the joined table, by their first files.
+fn name_files(firsts: &[u64], row: &mut [u64], entries: usize)
+    requires { ⌜ entries ≤ length (now row) ⌝ }
+    requires { ⌜ ((i : ℕ) → i < entries → (0 < getD (now row) i 0) × (getD (now row) i 0 ≤ length (now firsts))) ⌝ }
+    ensures { λ _. ⌜ now (row .exit) ≡ map (nameIn (now (firsts .entry))) (take entries (now (row .entry))) ++ drop entries (now (row .entry)) ⌝ }
+{
+    let mut i: usize = 0;
+    while i < entries {
+        let file = row[i];
+        row[i] = firsts[(file - 1) as usize];
+        i += 1;
+    }
+}
+
+// The list of a run whose stops four rows hold: that of the joined table, by first files.
+fn list_named(
+    firsts: &[u64],
+    lefts: &[u64],
+    spans: &[u64],
+    reads: &[u64],
+    head: u64,
+    turn: u64,
+    rule: Rule,
+    froms: &mut [u64],
+    tos: &mut [u64],
+    room: &mut [u64],
+) -> Listed
+    requires { ⌜ HoldsSome (now firsts) (now lefts) (now spans) (now reads) head turn ⌝ }
+    ensures { λ l. ⌜ ((r : Run) → Holds r (now (firsts .entry)) (now (lefts .entry)) (now (spans .entry)) (now (reads .entry)) head turn → ListsNamed r rule (listRowsBefore froms tos room) l (listRowsAfter froms tos room)) ⌝ }
+{
+    let mut numbers = [0u64; 64];
+    count_up(&mut numbers);
+    let k = firsts.len();
+    let list = tables::list(
+        lefts,
+        spans,
+        &numbers[..k],
+        reads,
+        head,
+        turn,
+        rule,
+        froms,
+        tos,
+        room,
+    );
+    let verdict = list.verdict;
+    if refused(verdict) {
+        return list;
+    }
+    let n = list.detours as usize;
+    name_files(firsts, froms, n);
+    name_files(firsts, tos, n);
+    list
+}
 
 // The plan of a run: its answer, and in the lent rows the list, the times and the legs.
 pub fn plan(
     starts: &[u64],
     lengths: &[u64],
+    aggregates: &[u64],
     numbers: &[u64],
     counts: &[u64],
     head: u64,
@@ -23,9 +98,26 @@ pub fn plan(
     legs: &mut [u64],
     room: &mut [u64],
 ) -> Answer
-    ensures { λ r. ⌜ Plans (runAt starts lengths numbers counts head turn) rule (rowsBefore froms tos times legs room) r (rowsAfter froms tos times legs room) ⌝ }
+    ensures { λ r. ⌜ Plans (runAt starts lengths aggregates numbers counts head turn) rule (rowsBefore froms tos times legs room) r (rowsAfter froms tos times legs room) ⌝ }
 {
-    let run = runs::judge(starts, lengths, numbers, counts, head, turn);
+    let mut firsts = [0u64; 64];
+    let mut lefts = [0u64; 64];
+    let mut spans = [0u64; 64];
+    let mut reads = [0u64; 64];
+    let joined = joins::join(
+        starts,
+        lengths,
+        aggregates,
+        numbers,
+        counts,
+        head,
+        turn,
+        &mut firsts,
+        &mut lefts,
+        &mut spans,
+        &mut reads,
+    );
+    let run = joined.verdict;
     if refused(run) {
         return walk::refuse(run);
     }
@@ -41,11 +133,12 @@ pub fn plan(
             place: 0,
         });
     }
-    let list = tables::list(
-        starts,
-        lengths,
-        numbers,
-        counts,
+    let k = joined.stops;
+    let list = list_named(
+        &firsts[..k],
+        &lefts[..k],
+        &spans[..k],
+        &reads[..k],
         head,
         turn,
         rule,
@@ -61,6 +154,7 @@ pub fn plan(
     walk::price(
         starts,
         lengths,
+        aggregates,
         numbers,
         counts,
         head,

@@ -4,7 +4,7 @@ use mathlib.Core.Path.{_≡_, refl, sym, ap, _∙_, subst}
 use mathlib.Core.Bool.{Bool, true, false, not, true≢false}
 use mathlib.Core.List.{List, [], _∷_, _++_, map}
 use native.Mathlib.Omega.{arith}
-use lib.ListN.{length, take, drop, length-append}
+use lib.ListN.{length, take, drop}
 use lib.Dec.{ltb}
 use borrow.Author.Tests.{le-ltb}
 use Rattle.refusals.specs.declared.Refusal.the-variants.{ShortRow, ShortRoom, BadName}
@@ -16,11 +16,11 @@ use Rattle.runs.specs.Run.{Run, stopsOf}
 use Rattle.runs.specs.Judging.{judgeOf}
 use Rattle.runs.specs.Lists.{Detour, listOf, listVerdict}
 use Rattle.runs.proofs.Judged.{accepted-run}
+use Rattle.runs.proofs.Stops.{stops-few}
 use Rattle.walk.specs.declared.Answer.{Answer}
 use Rattle.walk.specs.Price.{refusalAnswer, pricedAnswer}
-use Rattle.tables.specs.Listing.{roomSize}
 use Rattle.planner.specs.Plan.{Rows, rowsOf, Plans, Planned, planVerdict}
-use Rattle.planner.proofs.Priced.{rule-formed, list-accepted, list-of-halves, halves-even, half-long, front}
+use Rattle.planner.proofs.Halves.{rule-formed, list-accepted, list-of-halves, halves-even, front, holds-front}
 use Rattle.texts.specs.Text.{isName}
 use Rattle.writers.specs.declared.Written.{Written}
 use Rattle.writers.specs.Writing.{Handed, rowVerdict, writtenAnswer, writtenRow}
@@ -75,7 +75,8 @@ module _ (run : Run) (rule : Rule) (rows : Rows) (lent : Lent rows) where
       go true e = rw e
       go false e =
           let few = accepted-run run e .wants .few in
-          rw (e, le-ltb (length (rows .times)) (length (run .numbers)) (omega (arith, few, lent .times)), le-ltb (length (rows .legs)) (length (run .numbers)) (omega (arith, few, lent .legs)), le-ltb (length (rows .froms)) (length (run .numbers) - 1) (omega (arith, few, lent .froms)), le-ltb (length (rows .tos)) (length (run .numbers) - 1) (omega (arith, few, lent .tos)), lent .room)
+          let stops = stops-few run (accepted-run run e) in
+          rw (e, le-ltb (length (rows .times)) (length (run .numbers)) (omega (arith, few, lent .times)), le-ltb (length (rows .legs)) (length (run .numbers)) (omega (arith, few, lent .legs)), le-ltb (length (rows .froms)) (length (stopsOf run) - 1) (omega (arith, few, stops, lent .froms)), le-ltb (length (rows .tos)) (length (stopsOf run) - 1) (omega (arith, few, stops, lent .tos)), lent .room)
 
   module _ (a : Answer) (after : Rows) (plans : Plans run rule rows a after) (f : Bool) (f-is : f ≡ isRefusal (a .refusal)) where
     -- The planner's answer refuses just where its verdict does.
@@ -113,10 +114,10 @@ module _ (run : Run) (rule : Rule) (rows : Rows) (lent : Lent rows) where
 
       -- So many entries are in both rows.
       pub in-froms : a .detours ≤ length (after .froms)
-      in-froms = omega (arith, n-is, ap length froms-are, length-append (map (λ d. d .from) (planned .list)) (drop (length (planned .list)) (rows .froms)), half-long (λ d. d .from) (planned .list))
+      in-froms = holds-front (λ d. d .from) (planned .list) (a .detours) (rows .froms) (after .froms) n-is froms-are
 
       pub in-tos : a .detours ≤ length (after .tos)
-      in-tos = omega (arith, n-is, ap length tos-are, length-append (map (λ d. d .to) (planned .list)) (drop (length (planned .list)) (rows .tos)), half-long (λ d. d .to) (planned .list))
+      in-tos = holds-front (λ d. d .to) (planned .list) (a .detours) (rows .tos) (after .tos) n-is tos-are
 
       listed-froms : take (a .detours) (after .froms) ≡ map (λ d. d .from) (planned .list)
       listed-froms = front (λ d. d .from) (planned .list) (a .detours) (rows .froms) (after .froms) n-is froms-are

@@ -28,6 +28,7 @@ use Rattle.recalls.proofs.Planned.{refused-out}
 pub record Wide (rows : RunRows) : Type 0 where
   pub starts : length (rows .starts) ≡ 256
   pub lengths : length (rows .lengths) ≡ 256
+  pub aggregates : length (rows .aggregates) ≡ 256
   pub numbers : length (rows .numbers) ≡ 64
   pub counts : length (rows .counts) ≡ 64
 
@@ -50,7 +51,7 @@ module _ (sheet : List ℕ) (rows : RunRows) (wide : Wide rows) where
       go false e =
           let files = few-files sheet e in
           let wants = few-wants sheet e in
-          rw (e, le-ltb (length (rows .starts)) (sheetFiles sheet) (omega (arith, files, wide .starts)), le-ltb (length (rows .lengths)) (sheetFiles sheet) (omega (arith, files, wide .lengths)), le-ltb (length (rows .numbers)) (sheetWants sheet) (omega (arith, wants, wide .numbers)), le-ltb (length (rows .counts)) (sheetWants sheet) (omega (arith, wants, wide .counts)))
+          rw (e, le-ltb (length (rows .starts)) (sheetFiles sheet) (omega (arith, files, wide .starts)), le-ltb (length (rows .lengths)) (sheetFiles sheet) (omega (arith, files, wide .lengths)), le-ltb (length (rows .aggregates)) (sheetFiles sheet) (omega (arith, files, wide .aggregates)), le-ltb (length (rows .numbers)) (sheetWants sheet) (omega (arith, wants, wide .numbers)), le-ltb (length (rows .counts)) (sheetWants sheet) (omega (arith, wants, wide .counts)))
           (sym (accepted-sheet sheet e))
 
   module _ (r : Reading) (rows′ : RunRows) (read : SheetRead sheet rows r rows′) (f : Bool) (f-is : f ≡ isRefusal (r .refusal)) where
@@ -103,6 +104,10 @@ module _ (sheet : List ℕ) (rows : RunRows) (wide : Wide rows) where
       unfolding sheetRun
       lengths-long = files-are _
 
+      aggregates-long : r .files ≡ length (sheetRun sheet .aggregates)
+      unfolding sheetRun
+      aggregates-long = files-are _
+
       numbers-long : r .wants ≡ length (sheetRun sheet .numbers)
       unfolding sheetRun
       numbers-long = wants-are _
@@ -120,6 +125,10 @@ module _ (sheet : List ℕ) (rows : RunRows) (wide : Wide rows) where
       unfolding sheetRun
       in-lengths = filled-long (sheetRun sheet .lengths) (rows .lengths) (rows′ .lengths) (r .files) lengths-long (row-is _ _ _ (read .lengths))
 
+      pub in-aggregates : r .files ≤ length (rows′ .aggregates)
+      unfolding sheetRun
+      in-aggregates = filled-long (sheetRun sheet .aggregates) (rows .aggregates) (rows′ .aggregates) (r .files) aggregates-long (row-is _ _ _ (read .aggregates))
+
       pub in-numbers : r .wants ≤ length (rows′ .numbers)
       unfolding sheetRun
       in-numbers = filled-long (sheetRun sheet .numbers) (rows .numbers) (rows′ .numbers) (r .wants) numbers-long (row-is _ _ _ (read .numbers))
@@ -129,15 +138,15 @@ module _ (sheet : List ℕ) (rows : RunRows) (wide : Wide rows) where
       in-counts = filled-long (sheetRun sheet .counts) (rows .counts) (rows′ .counts) (r .wants) counts-long (row-is _ _ _ (read .counts))
 
       run-read : Run
-      run-read = runOf (take (r .files) (rows′ .starts)) (take (r .files) (rows′ .lengths)) (take (r .wants) (rows′ .numbers)) (take (r .wants) (rows′ .counts)) (r .head) (r .turn)
+      run-read = runOf (take (r .files) (rows′ .starts)) (take (r .files) (rows′ .lengths)) (take (r .files) (rows′ .aggregates)) (take (r .wants) (rows′ .numbers)) (take (r .wants) (rows′ .counts)) (r .head) (r .turn)
 
       run-is : run-read ≡ sheetRun sheet
       unfolding run-read sheetRun
       run-is =
-          rw (filled-front (sheetRun sheet .starts) (rows .starts) (rows′ .starts) (r .files) starts-long (row-is _ _ _ (read .starts)), filled-front (sheetRun sheet .lengths) (rows .lengths) (rows′ .lengths) (r .files) lengths-long (row-is _ _ _ (read .lengths)), filled-front (sheetRun sheet .numbers) (rows .numbers) (rows′ .numbers) (r .wants) numbers-long (row-is _ _ _ (read .numbers)), filled-front (sheetRun sheet .counts) (rows .counts) (rows′ .counts) (r .wants) counts-long (row-is _ _ _ (read .counts)), ap (λ x. x .head) numbers-are, ap (λ x. x .turn) numbers-are)
+          rw (filled-front (sheetRun sheet .starts) (rows .starts) (rows′ .starts) (r .files) starts-long (row-is _ _ _ (read .starts)), filled-front (sheetRun sheet .lengths) (rows .lengths) (rows′ .lengths) (r .files) lengths-long (row-is _ _ _ (read .lengths)), filled-front (sheetRun sheet .aggregates) (rows .aggregates) (rows′ .aggregates) (r .files) aggregates-long (row-is _ _ _ (read .aggregates)), filled-front (sheetRun sheet .numbers) (rows .numbers) (rows′ .numbers) (r .wants) numbers-long (row-is _ _ _ (read .numbers)), filled-front (sheetRun sheet .counts) (rows .counts) (rows′ .counts) (r .wants) counts-long (row-is _ _ _ (read .counts)), ap (λ x. x .head) numbers-are, ap (λ x. x .turn) numbers-are)
           whole-run
         where
-          whole-run : runOf (sheetRun sheet .starts) (sheetRun sheet .lengths) (sheetRun sheet .numbers) (sheetRun sheet .counts) (sheetHead sheet) (sheetTurn sheet) ≡ sheetRun sheet
+          whole-run : runOf (sheetRun sheet .starts) (sheetRun sheet .lengths) (sheetRun sheet .aggregates) (sheetRun sheet .numbers) (sheetRun sheet .counts) (sheetHead sheet) (sheetTurn sheet) ≡ sheetRun sheet
           whole-run = refl
 
       name-is : readName sheet ≡ sheetName sheet
@@ -149,7 +158,7 @@ module _ (sheet : List ℕ) (rows : RunRows) (wide : Wide rows) where
 
       -- The answer to the run that was read is the answer to the sheet.
       pub sheet-recalled : (name : List ℕ) → name ≡ readName sheet → (row : List ℕ) (n : ℕ) (row′ : List ℕ)
-          → RunRecalled name (runOf (take (r .files) (rows′ .starts)) (take (r .files) (rows′ .lengths)) (take (r .wants) (rows′ .numbers)) (take (r .wants) (rows′ .counts)) (r .head) (r .turn)) (r .rule) row n row′
+          → RunRecalled name (runOf (take (r .files) (rows′ .starts)) (take (r .files) (rows′ .lengths)) (take (r .files) (rows′ .aggregates)) (take (r .wants) (rows′ .numbers)) (take (r .wants) (rows′ .counts)) (r .head) (r .turn)) (r .rule) row n row′
           → SheetRecalled sheet row n row′
       unfolding recallVerdict run-read
       sheet-recalled name e row n row′ h =

@@ -14,7 +14,7 @@ use Rattle.runs.specs.Run.{Run}
 use Rattle.runs.specs.Judging.{judgeOf}
 use Rattle.runs.specs.Lists.{Detour}
 use Rattle.least.specs.Least.{ByRule}
-use Rattle.tables.specs.Listing.{roomSize}
+use Rattle.planner.specs.Plan.{roomFor}
 use Rattle.sheets.specs.Sheet.{sheetRun, sheetRule, sheetName}
 use Rattle.sheets.specs.Reading.{sheetVerdict}
 use Rattle.writers.specs.PlanSheet.{planText}
@@ -26,7 +26,7 @@ roomWords = 5120
 
 -- 1 to 7, then 9.
 abbrev pub runChecks : Run → List Verdict
-runChecks run = judgeOf run ∷ refuseIf (ltb roomWords (roomSize run)) ShortRoom ∷ []
+runChecks run = judgeOf run ∷ refuseIf (ltb roomWords (roomFor run)) ShortRoom ∷ []
 
 -- 12, then 11 with its line, then 1 to 7, then 9. The rows suffice for every sheet that can be read, so 8 never applies.
 unfoldable pub recallVerdict : List ℕ → Verdict

@@ -14,6 +14,7 @@ fn recall_run(
     name: &[u8],
     starts: &[u64],
     lengths: &[u64],
+    aggregates: &[u64],
     numbers: &[u64],
     counts: &[u64],
     head: u64,
@@ -22,7 +23,7 @@ fn recall_run(
     out: &mut [u8],
 ) -> u64
     requires { ⌜ isName (now name) ≡ true ⌝ }
-    ensures { λ r. ⌜ RunRecalled (now (name .entry)) (runAt starts lengths numbers counts head turn) rule (now (out .entry)) r (now (out .exit)) ⌝ }
+    ensures { λ r. ⌜ RunRecalled (now (name .entry)) (runAt starts lengths aggregates numbers counts head turn) rule (now (out .entry)) r (now (out .exit)) ⌝ }
 {
     let mut froms = [0u64; 63];
     let mut tos = [0u64; 63];
@@ -32,6 +33,7 @@ fn recall_run(
     let plan = planner::plan(
         starts,
         lengths,
+        aggregates,
         numbers,
         counts,
         head,
@@ -57,6 +59,7 @@ fn recall_run(
         name,
         starts,
         lengths,
+        aggregates,
         numbers,
         counts,
         head,
@@ -74,9 +77,17 @@ pub fn recall(sheet: &[u8], out: &mut [u8]) -> u64
 {
     let mut starts = [0u64; 256];
     let mut lengths = [0u64; 256];
+    let mut aggregates = [0u64; 256];
     let mut numbers = [0u64; 64];
     let mut counts = [0u64; 64];
-    let read = sheets::read_sheet(sheet, &mut starts, &mut lengths, &mut numbers, &mut counts);
+    let read = sheets::read_sheet(
+        sheet,
+        &mut starts,
+        &mut lengths,
+        &mut aggregates,
+        &mut numbers,
+        &mut counts,
+    );
     let refusal = read.refusal;
     let verdict = Verdict {
         refusal,
@@ -95,6 +106,7 @@ pub fn recall(sheet: &[u8], out: &mut [u8]) -> u64
         sheets::tape_name(sheet),
         &starts[..files],
         &lengths[..files],
+        &aggregates[..files],
         &numbers[..wants],
         &counts[..wants],
         head,

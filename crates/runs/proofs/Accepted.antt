@@ -8,10 +8,10 @@ use native.Mathlib.Numerals.{add-one}
 use lib.ListN.{length, getD, drop, drop-of-length-le}
 use lib.Seq.{drop-cons}
 use lib.Dec.{ltb, leb, eqb}
-use borrow.Author.Tests.{eqb-false, ltb-false, leb-false, lt-ltb, le-ltb}
+use borrow.Author.Tests.{eqb-false, ltb-false, leb-false, lt-ltb, le-ltb, lt-leb, ne-eqb}
 use Rattle.refusals.specs.Refusals.{firstWhere}
 use Rattle.runs.specs.Run.{endAt, lastPlace, mostReads, total, countedReads}
-use Rattle.runs.specs.Judging.{badFile, badWant, endBefore, numberBefore}
+use Rattle.runs.specs.Judging.{badPlace, badWant, endBefore, numberBefore}
 use Rattle.runs.proofs.Search.{first-more, first-here, or-false-both}
 
 -- A test of `==` that fails against 0.
@@ -24,7 +24,7 @@ pub record GoodFile (starts lengths : List ℕ) (i : ℕ) : Type 0 where
   pub after : endBefore starts lengths i ≤ getD starts i 0
   pub ends : endAt starts lengths i ≤ lastPlace
 
-pub good-file : (starts lengths : List ℕ) (i : ℕ) → badFile starts lengths i ≡ false → GoodFile starts lengths i
+pub good-file : (starts lengths : List ℕ) (i : ℕ) → badPlace starts lengths i ≡ false → GoodFile starts lengths i
 good-file starts lengths i e =
     let both = or-false-both _ _ e in
     let two = or-false-both _ _ (both .0) in
@@ -38,22 +38,22 @@ good-file starts lengths i e =
 pub record FilesPassed (starts lengths : List ℕ) (before i : ℕ) : Type 0 where
   pub within : i ≤ length starts
   pub last : before ≡ endBefore starts lengths i
-  pub none : firstWhere (badFile starts lengths) i ≡ 0
+  pub none : firstWhere (badPlace starts lengths) i ≡ 0
 
 module _ (starts lengths : List ℕ) (before i : ℕ) (p : FilesPassed starts lengths before i) (l : i < length starts) (t : Bool)
     (test : t ≡ (eqb (getD lengths i 0) 0 || ltb (getD starts i 0) before || ltb lastPlace (getD starts i 0 + getD lengths i 0))) where
-  tested : badFile starts lengths i ≡ t
+  tested : badPlace starts lengths i ≡ t
   tested = rw (test, p .last)
 
-  pub bad-file-found : t ≡ true → i + 1 ≡ firstWhere (badFile starts lengths) (length starts)
-  bad-file-found e = sym (first-here (badFile starts lengths) i (length starts) (p .none) (tested ∙ e) l)
+  pub bad-place-found : t ≡ true → i + 1 ≡ firstWhere (badPlace starts lengths) (length starts)
+  bad-place-found e = sym (first-here (badPlace starts lengths) i (length starts) (p .none) (tested ∙ e) l)
 
   pub file-passed : t ≡ false → FilesPassed starts lengths (getD starts i 0 + getD lengths i 0) (i + 1)
   file-passed e =
       record {
         within = omega arith;
         last = rw add-one;
-        none = first-more (badFile starts lengths) i (p .none) (tested ∙ e);
+        none = first-more (badPlace starts lengths) i (p .none) (tested ∙ e);
       }
 
   pub end-fits : t ≡ false → getD starts i 0 + getD lengths i 0 ≤ lastPlace
@@ -77,6 +77,24 @@ good-want files numbers counts i e =
       above = leb-false (getD numbers i 0) (numberBefore numbers i) (three .1);
       counted = not-zero (getD counts i 0) (all .1);
     }
+
+-- And the other way round, for a file and for a want.
+pub file-good : (starts lengths : List ℕ) (i : ℕ) → GoodFile starts lengths i → badPlace starts lengths i ≡ false
+file-good starts lengths i g =
+    rw (
+      ne-eqb (getD lengths i 0) 0 (omega (arith, g .long)),
+      le-ltb (getD starts i 0) (endBefore starts lengths i) (g .after),
+      le-ltb lastPlace (endAt starts lengths i) (g .ends),
+    )
+
+pub want-good : (files : ℕ) (numbers counts : List ℕ) (i : ℕ) → GoodWant files numbers counts i → badWant files numbers counts i ≡ false
+want-good files numbers counts i g =
+    rw (
+      ne-eqb (getD numbers i 0) 0 (omega (arith, g .named)),
+      le-ltb files (getD numbers i 0) (g .inTable),
+      lt-leb (getD numbers i 0) (numberBefore numbers i) (g .above),
+      ne-eqb (getD counts i 0) 0 (omega (arith, g .counted)),
+    )
 
 -- Before the want at index i: none before it is bad, and the last number is at hand.
 pub record WantsPassed (files : ℕ) (numbers counts : List ℕ) (before i : ℕ) : Type 0 where

@@ -11,6 +11,7 @@ use lib.Dec.{ltb, leb}
 use borrow.Author.Tests.{lt-ltb, le-ltb, lt-leb, le-leb}
 use Rattle.refusals.specs.Refusals.{firstWhere, oneMore}
 use Rattle.runs.specs.Lists.{anyBelow}
+use Rattle.runs.specs.Private.{earlierOf}
 
 -- Two tests of order agree where each order gives the other.
 pub ltb-same : (a b c d : ℕ) → (a < b → c < d) → (c < d → a < b) → ltb a b ≡ ltb c d
@@ -33,7 +34,7 @@ or-false-both true b e = absurd (mathlib.Core.Bool.true≢false e)
 or-false-both false b e = (refl, e)
 
 -- Of the entries before i and i itself.
-below-or-here : (i j : ℕ) → j < suc i → (j ≡ i) ⊎ (j < i)
+pub below-or-here : (i j : ℕ) → j < suc i → (j ≡ i) ⊎ (j < i)
 below-or-here i j l = eq-or-lt-of-le (le-of-suc-le-suc l)
 
 module _ (bad : ℕ → Bool) where
@@ -140,3 +141,37 @@ pub any-same : (f g : ℕ → Bool) (n : ℕ) → ((i : ℕ) → i < n → f i �
 unfolding anyBelow
 any-same f g zero h = refl
 any-same f g (suc n) h = rw (any-same f g n (λ i l. h i (omega arith)), h n (omega arith))
+
+-- The first at which either of two tests holds is the earlier of their firsts.
+either-more : (p q n : ℕ) (a b : Bool) → p ≤ n → q ≤ n → oneMore (earlierOf p q) (a || b) n ≡ earlierOf (oneMore p a n) (oneMore q b n)
+either-more zero zero n true true l h = rw (le-ltb n n (omega arith))
+either-more zero zero n true false l h = refl
+either-more zero zero n false b l h = refl
+either-more zero (suc q) n true b l h = rw (lt-ltb q n (omega arith))
+either-more zero (suc q) n false b l h = refl
+either-more (suc p) zero n a true l h = rw (le-ltb n p (omega arith))
+either-more (suc p) zero n a false l h = refl
+either-more (suc p) (suc q) n a b l h =
+    ⊎-elim (λ (e : ltb q p ≡ true). rw e) (λ (e : ltb q p ≡ false). rw e) (true-or-false (ltb q p))
+
+pub first-either : (f g : ℕ → Bool) (n : ℕ) → firstWhere (λ i. f i || g i) n ≡ earlierOf (firstWhere f n) (firstWhere g n)
+unfolding firstWhere
+first-either f g zero = refl
+first-either f g (suc n) =
+    rw (first-either f g n) (either-more (firstWhere f n) (firstWhere g n) n (f n) (g n) (first-within f n) (first-within g n))
+
+-- The earlier of two places, as the code takes it.
+pub earlier-none : (p q : ℕ) → q ≡ 0 → p ≡ earlierOf p q
+earlier-none zero q e = sym e
+earlier-none (suc p) zero e = refl
+earlier-none (suc p) (suc q) e = absurd (omega arith)
+
+pub earlier-second : (p q : ℕ) → (q ≡ 0 → ⊥) → q < p → q ≡ earlierOf p q
+earlier-second zero q some l = refl
+earlier-second (suc p) zero some l = absurd (some refl)
+earlier-second (suc p) (suc q) some l = rw (lt-ltb q p (omega arith))
+
+pub earlier-first : (p q : ℕ) → (q ≡ 0 → ⊥) → (p ≡ 0 → ⊥) → p ≤ q → p ≡ earlierOf p q
+earlier-first zero q some found l = absurd (found refl)
+earlier-first (suc p) zero some found l = absurd (some refl)
+earlier-first (suc p) (suc q) some found l = rw (le-ltb q p (omega arith))

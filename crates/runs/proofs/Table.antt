@@ -6,40 +6,40 @@ use mathlib.Core.Logic.{⊎-elim}
 use native.Mathlib.Omega.{arith}
 use native.Mathlib.Nat.{eq-or-lt-of-le}
 use lib.ListN.{length, getD}
-use Rattle.runs.specs.Run.{stopsFrom, endAt, rightEnd}
-use Rattle.runs.specs.Judging.{badFile}
+use Rattle.runs.specs.Run.{plainStops, endAt, rightEnd}
+use Rattle.runs.specs.Judging.{badPlace}
 use Rattle.runs.specs.Private.{SoundTable, InTable}
 use Rattle.runs.proofs.Search.{first-zero}
 use Rattle.runs.proofs.Accepted.{GoodFile, good-file}
 
 -- Each file of a sound table is good.
 pub table-file : (starts lengths : List ℕ) → SoundTable starts lengths → (i : ℕ) → i < length starts → GoodFile starts lengths i
-table-file starts lengths t i l = good-file starts lengths i (first-zero (badFile starts lengths) (length starts) (t .sound) i l)
+table-file starts lengths t i l = good-file starts lengths i (first-zero (badPlace starts lengths) (length starts) (t .sound) i l)
 
 pub named-file : (starts lengths : List ℕ) → SoundTable starts lengths → (f : ℕ) → InTable starts f → GoodFile starts lengths (f - 1)
 named-file starts lengths t f n = table-file starts lengths t (f - 1) (omega arith)
 
 -- The rightmost stop is the last one wanted.
 pub right-end-last : (starts lengths : List ℕ) (n : ℕ) (ns cs : List ℕ) → length cs ≡ length (n ∷ ns)
-    → rightEnd (stopsFrom starts lengths (n ∷ ns) cs) ≡ endAt starts lengths (getD (n ∷ ns) (length ns) 0 - 1)
-unfolding rightEnd stopsFrom
+    → rightEnd (plainStops starts lengths (n ∷ ns) cs) ≡ endAt starts lengths (getD (n ∷ ns) (length ns) 0 - 1)
+unfolding rightEnd plainStops
 right-end-last starts lengths n ns [] e = absurd (omega arith)
 right-end-last starts lengths n [] (c ∷ []) e = refl
 right-end-last starts lengths n [] (c ∷ d ∷ cs) e = absurd (omega arith)
 right-end-last starts lengths n (m ∷ ns) (c ∷ []) e = absurd (omega arith)
 right-end-last starts lengths n (m ∷ ns) (c ∷ d ∷ cs) e = right-end-last starts lengths m ns (d ∷ cs) (omega arith)
 
-pub right-end-none : (starts lengths cs : List ℕ) → rightEnd (stopsFrom starts lengths [] cs) ≡ 0
-unfolding rightEnd stopsFrom
+pub right-end-none : (starts lengths cs : List ℕ) → rightEnd (plainStops starts lengths [] cs) ≡ 0
+unfolding rightEnd plainStops
 right-end-none starts lengths cs = refl
 
 -- The same by the length of the row.
-pub right-end-empty : (starts lengths ns cs : List ℕ) → length ns ≡ 0 → 0 ≡ rightEnd (stopsFrom starts lengths ns cs)
+pub right-end-empty : (starts lengths ns cs : List ℕ) → length ns ≡ 0 → 0 ≡ rightEnd (plainStops starts lengths ns cs)
 right-end-empty starts lengths [] cs e = sym (right-end-none starts lengths cs)
 right-end-empty starts lengths (n ∷ ns) cs e = absurd (omega arith)
 
 pub right-end-row : (starts lengths ns cs : List ℕ) → (length ns ≡ 0 → ⊥) → length cs ≡ length ns
-    → endAt starts lengths (getD ns (length ns - 1) 0 - 1) ≡ rightEnd (stopsFrom starts lengths ns cs)
+    → endAt starts lengths (getD ns (length ns - 1) 0 - 1) ≡ rightEnd (plainStops starts lengths ns cs)
 right-end-row starts lengths [] cs some e = absurd (some refl)
 right-end-row starts lengths (n ∷ ns) cs some e =
     let k : suc (length ns) - 1 ≡ length ns = omega arith in

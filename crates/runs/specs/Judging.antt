@@ -1,23 +1,36 @@
 -- Judging a run: refusals 1 to 7 in the order of the table, each by its own condition. Sums here are whole numbers and never wrap.
 use Prim.Native.Nat.{ℕ, suc, zero}
-use mathlib.Core.Bool.{Bool, not, _||_}
+use mathlib.Core.Bool.{Bool, not, _||_, _&&_}
 use mathlib.Core.List.{List, [], _∷_}
 use lib.ListN.{length, getD}
 use lib.Dec.{leb, ltb, eqb}
 use Rattle.refusals.specs.declared.Refusal.the-variants.{FileRows, BadFile, WantRows, BadWant, TooManyReads, TurnPrice, HeadPlace}
 use Rattle.refusals.specs.declared.Verdict.{Verdict}
 use Rattle.refusals.specs.Refusals.{refuseIf, refuseAt, firstOf, firstWhere}
-use Rattle.runs.specs.Run.{Run, mostFiles, mostWants, mostReads, lastPlace, highestTurn, total, endAt, stopsOf, rightEnd}
+use Rattle.runs.specs.Run.{Run, mostFiles, mostAggregates, mostWants, mostReads, lastPlace, highestTurn, total, endAt, goesOn, plainStops, stopsOf, rightEnd}
+use Rattle.runs.specs.Lists.{anyBelow}
 
 -- The end of the file before the one at an index; the first file has none before it.
 abbrev pub endBefore : List ℕ → List ℕ → ℕ → ℕ
 endBefore starts lengths zero = 0
 endBefore starts lengths (suc i) = endAt starts lengths i
 
--- 2: length 0, start before the previous end, or end above the limit.
-abbrev pub badFile : List ℕ → List ℕ → ℕ → Bool
-badFile starts lengths i =
+-- 2, by its place: length 0, start before the previous end, or end above the limit.
+abbrev pub badPlace : List ℕ → List ℕ → ℕ → Bool
+badPlace starts lengths i =
     eqb (getD lengths i 0) 0 || ltb (getD starts i 0) (endBefore starts lengths i) || ltb lastPlace (endAt starts lengths i)
+
+-- A number, other than 0, that returns after another entry: the entry does not go on with the one before it, and an earlier one has the number.
+abbrev pub returns : List ℕ → ℕ → Bool
+returns aggregates i =
+    not (eqb (getD aggregates i 0) 0) && not (goesOn aggregates i) && anyBelow (λ j. eqb (getD aggregates j 0) (getD aggregates i 0)) i
+
+-- 2, by its aggregate number: over the limit, or it returns.
+abbrev pub badNumber : List ℕ → ℕ → Bool
+badNumber aggregates i = ltb mostAggregates (getD aggregates i 0) || returns aggregates i
+
+abbrev pub badFile : List ℕ → List ℕ → List ℕ → ℕ → Bool
+badFile starts lengths aggregates i = badPlace starts lengths i || badNumber aggregates i
 
 -- The number before the one at an index; before the first stands 0.
 abbrev pub numberBefore : List ℕ → ℕ → ℕ
@@ -30,10 +43,10 @@ badWant files numbers counts i =
     eqb (getD numbers i 0) 0 || ltb files (getD numbers i 0) || leb (getD numbers i 0) (numberBefore numbers i) || eqb (getD counts i 0) 0
 
 -- 1 and 2: the table of files.
-abbrev pub tableChecks : List ℕ → List ℕ → List Verdict
-tableChecks starts lengths =
-    refuseIf (ltb mostFiles (length starts) || not (eqb (length starts) (length lengths))) FileRows
-    ∷ refuseAt (firstWhere (badFile starts lengths) (length starts)) BadFile
+abbrev pub tableChecks : List ℕ → List ℕ → List ℕ → List Verdict
+tableChecks starts lengths aggregates =
+    refuseIf (ltb mostFiles (length starts) || not (eqb (length starts) (length lengths)) || not (eqb (length starts) (length aggregates))) FileRows
+    ∷ refuseAt (firstWhere (badFile starts lengths aggregates) (length starts)) BadFile
     ∷ []
 
 -- 3, 4 and 5: the wants, for a table of so many files.
@@ -51,11 +64,26 @@ headChecks turn head rightmost =
     ∷ refuseIf (ltb lastPlace head || ltb head rightmost) HeadPlace
     ∷ []
 
--- The first refusal of 1 to 7 that applies to a run.
+-- The first refusal of 1 to 7 that applies to a run. The head is judged after joining.
 unfoldable pub judgeOf : Run → Verdict
 judgeOf r =
     firstOf
-    (firstOf (tableChecks (r .starts) (r .lengths))
+    (firstOf (tableChecks (r .starts) (r .lengths) (r .aggregates))
     ∷ firstOf (wantsChecks (length (r .starts)) (r .numbers) (r .counts))
     ∷ firstOf (headChecks (r .turn) (r .head) (rightEnd (stopsOf r)))
+    ∷ [])
+
+-- The same for files that lie in no aggregate, by their own places: document 01's rule, as it was before there were aggregates.
+abbrev pub placeChecks : List ℕ → List ℕ → List Verdict
+placeChecks starts lengths =
+    refuseIf (ltb mostFiles (length starts) || not (eqb (length starts) (length lengths))) FileRows
+    ∷ refuseAt (firstWhere (badPlace starts lengths) (length starts)) BadFile
+    ∷ []
+
+unfoldable pub judgeAlone : List ℕ → List ℕ → List ℕ → List ℕ → ℕ → ℕ → Verdict
+judgeAlone starts lengths numbers counts head turn =
+    firstOf
+    (firstOf (placeChecks starts lengths)
+    ∷ firstOf (wantsChecks (length starts) numbers counts)
+    ∷ firstOf (headChecks turn head (rightEnd (plainStops starts lengths numbers counts)))
     ∷ [])

@@ -1,4 +1,4 @@
--- Detour lists: pairs of file numbers, and the rules that make one well formed.
+-- Detour lists: pairs of stops, each by its name, and the rules that make one well formed. A stop's name is the number of its first file.
 use Prim.Native.Nat.{ℕ, suc, zero}
 use mathlib.Core.Path.{_≡_}
 use mathlib.Core.Bool.{Bool, false, not, _||_}
@@ -10,7 +10,7 @@ use Rattle.refusals.specs.declared.Verdict.{Verdict}
 use Rattle.refusals.specs.Refusals.{refuseIf, refuseAt, firstOf, firstWhere}
 use Rattle.runs.specs.Run.{Stop}
 
--- A detour (from, to): on first reaching the start of file `from` the head goes right to the end of file `to` and comes back.
+-- A detour (from, to): on first reaching the start of stop `from` the head goes right to the end of stop `to` and comes back.
 pub record Detour : Type 0 where
   pub from : ℕ
   pub to : ℕ
@@ -21,7 +21,7 @@ listOf [] tos = []
 listOf (a ∷ froms) [] = []
 listOf (a ∷ froms) (b ∷ tos) = record { from = a; to = b } ∷ listOf froms tos
 
--- Whether a file is wanted.
+-- Whether a number names a stop.
 unfoldable pub wanted : List Stop → ℕ → Bool
 wanted [] f = false
 wanted (s ∷ ss) f = eqb (s .file) f || wanted ss f
@@ -30,7 +30,7 @@ abbrev pub leftmost : List Stop → ℕ
 leftmost [] = 0
 leftmost (s ∷ ss) = s .file
 
--- An entry by itself: it names two wanted files, from ≤ to, and starts strictly right of the leftmost wanted file.
+-- An entry by itself: it names two stops, from ≤ to, and starts strictly right of the leftmost.
 abbrev pub badAlone : List Stop → Detour → Bool
 badAlone stops d =
     not (wanted stops (d .from)) || not (wanted stops (d .to)) || ltb (d .to) (d .from) || leb (d .from) (leftmost stops)

@@ -1,41 +1,57 @@
--- The tape and the run, and the stops: the wanted files with their places and counts, left to right.
-use Prim.Native.Nat.{ℕ, _+_, _-_}
+-- The tape and the run, aggregates, and the stops: what is wanted, with its places and counts, left to right.
+use Prim.Native.Nat.{ℕ, zero, suc, _+_, _-_}
 use mathlib.Core.List.{List, [], _∷_}
-use mathlib.Core.Bool.{cond}
-use lib.ListN.{getD}
-use lib.Dec.{ltb}
+use mathlib.Core.Bool.{Bool, false, not, cond, _&&_}
+use lib.ListN.{length, getD, replicate}
+use lib.Dec.{ltb, eqb}
 use denote.Ref.{RefT, now}
 use denote.Triple.Both.{Both}
 
--- What is handed in. File f (from 1) starts at entry f - 1 of `starts` and is that long in `lengths`; want i names a file and how often.
+-- What is handed in. File f (from 1) starts at entry f - 1 of `starts`, is that long in `lengths` and lies in the aggregate of that number in
+-- `aggregates`, 0 for none; want i names a file and how often.
 pub record Run : Type 0 where
   pub starts : List ℕ
   pub lengths : List ℕ
+  pub aggregates : List ℕ
   pub numbers : List ℕ
   pub counts : List ℕ
   pub head : ℕ
   pub turn : ℕ
 
-abbrev pub runOf : List ℕ → List ℕ → List ℕ → List ℕ → ℕ → ℕ → Run
-runOf starts lengths numbers counts head turn =
-    record { starts = starts; lengths = lengths; numbers = numbers; counts = counts; head = head; turn = turn }
+abbrev pub runOf : List ℕ → List ℕ → List ℕ → List ℕ → List ℕ → ℕ → ℕ → Run
+runOf starts lengths aggregates numbers counts head turn =
+    record { starts = starts; lengths = lengths; aggregates = aggregates; numbers = numbers; counts = counts; head = head; turn = turn }
+
+-- The run of files that lie in no aggregate: a row of zeros.
+abbrev pub zeros : ℕ → List ℕ
+zeros n = replicate n 0
+
+abbrev pub aloneOf : List ℕ → List ℕ → List ℕ → List ℕ → ℕ → ℕ → Run
+aloneOf starts lengths numbers counts head turn = runOf starts lengths (zeros (length starts)) numbers counts head turn
 
 -- The run that a function's parameters hold: in a `requires`, and in an `ensures`, which speaks of them as they were handed in.
 abbrev pub Row : Type 0
 Row = RefT (List ℕ)
 
-abbrev pub runIn : Row → Row → Row → Row → ℕ → ℕ → Run
-runIn starts lengths numbers counts head turn = runOf (now starts) (now lengths) (now numbers) (now counts) head turn
+abbrev pub runIn : Row → Row → Row → Row → Row → ℕ → ℕ → Run
+runIn starts lengths aggregates numbers counts head turn = runOf (now starts) (now lengths) (now aggregates) (now numbers) (now counts) head turn
 
 abbrev pub Lent : Type 0 → Type 0
 Lent X = Both Row X
 
-abbrev pub runAt : {S L N C : Type 0} → Lent S → Lent L → Lent N → Lent C → ℕ → ℕ → Run
-runAt starts lengths numbers counts head turn = runIn (starts .entry) (lengths .entry) (numbers .entry) (counts .entry) head turn
+abbrev pub runAt : {S L A N C : Type 0} → Lent S → Lent L → Lent A → Lent N → Lent C → ℕ → ℕ → Run
+runAt starts lengths aggregates numbers counts head turn =
+    runIn (starts .entry) (lengths .entry) (aggregates .entry) (numbers .entry) (counts .entry) head turn
 
--- The limits of 01, "The tape and the run". All of them are inclusive.
+abbrev pub aloneAt : {S L N C : Type 0} → Lent S → Lent L → Lent N → Lent C → ℕ → ℕ → Run
+aloneAt starts lengths numbers counts head turn = aloneOf (starts .entry .now) (lengths .entry .now) (numbers .entry .now) (counts .entry .now) head turn
+
+-- The limits of 01, "The tape and the run", and of aggregate numbers. All of them are inclusive.
 abbrev pub mostFiles : ℕ
 mostFiles = 4096
+
+abbrev pub mostAggregates : ℕ
+mostAggregates = 4096
 
 abbrev pub mostWants : ℕ
 mostWants = 64
@@ -62,28 +78,87 @@ countedReads counts = cond (ltb mostReads (total counts)) (mostReads + 1) (total
 abbrev pub endAt : List ℕ → List ℕ → ℕ → ℕ
 endAt starts lengths i = getD starts i 0 + getD lengths i 0
 
--- A wanted file: its number, its start, its end and how often it is wanted.
+-- Whether the entry at an index goes on with the one before it: both have the same number, other than 0.
+unfoldable pub goesOn : List ℕ → ℕ → Bool
+goesOn aggregates zero = false
+goesOn aggregates (suc i) = not (eqb (getD aggregates (suc i) 0) 0) && eqb (getD aggregates i 0) (getD aggregates (suc i) 0)
+
+-- The first entry of the aggregate of the entry at an index: as far left as entries go on. An entry in no aggregate is its own.
+unfoldable pub firstMember : List ℕ → ℕ → ℕ
+firstMember aggregates zero = 0
+firstMember aggregates (suc i) = cond (goesOn aggregates (suc i)) (firstMember aggregates i) (suc i)
+
+-- The last: as far right as entries go on, in at most so many steps. Past the row no entry does.
+unfoldable pub lastWithin : List ℕ → ℕ → ℕ → ℕ
+lastWithin aggregates zero i = i
+lastWithin aggregates (suc n) i = cond (goesOn aggregates (suc i)) (lastWithin aggregates n (suc i)) i
+
+abbrev pub lastMember : List ℕ → ℕ → ℕ
+lastMember aggregates i = lastWithin aggregates (length aggregates) i
+
+-- The number of the first file of a file's aggregate. Lists and ties speak of an aggregate by it.
+abbrev pub firstFile : List ℕ → ℕ → ℕ
+firstFile aggregates zero = 0
+firstFile aggregates (suc i) = suc (firstMember aggregates i)
+
+-- A stop: an aggregate, or a file in none, that is wanted. Its first file, its start, its end and how often it is wanted.
 pub record Stop : Type 0 where
   pub file : ℕ
   pub start : ℕ
   pub end : ℕ
   pub count : ℕ
 
-abbrev pub stopOf : List ℕ → List ℕ → ℕ → ℕ → Stop
-stopOf starts lengths f c =
+-- A want of a file is a want of its aggregate, from the first start to the last end.
+abbrev pub stopOf : List ℕ → List ℕ → List ℕ → ℕ → ℕ → Stop
+stopOf starts lengths aggregates f c =
+    record {
+      file = firstFile aggregates f;
+      start = getD starts (firstMember aggregates (f - 1)) 0;
+      end = endAt starts lengths (lastMember aggregates (f - 1));
+      count = c;
+    }
+
+-- One for each want handed in.
+unfoldable pub wantStops : List ℕ → List ℕ → List ℕ → List ℕ → List ℕ → List Stop
+wantStops starts lengths aggregates [] cs = []
+wantStops starts lengths aggregates (f ∷ fs) [] = []
+wantStops starts lengths aggregates (f ∷ fs) (c ∷ cs) = stopOf starts lengths aggregates f c ∷ wantStops starts lengths aggregates fs cs
+
+-- Two wants of one aggregate are one stop, and their counts add up.
+abbrev pub merged : Stop → Stop → Stop
+merged s t = record { file = s .file; start = s .start; end = s .end; count = s .count + t .count }
+
+unfoldable pub joinTo : Stop → List Stop → List Stop
+joinTo s [] = s ∷ []
+joinTo s (t ∷ ts) = cond (eqb (s .file) (t .file)) (merged s t ∷ ts) (s ∷ t ∷ ts)
+
+unfoldable pub joined : List Stop → List Stop
+joined [] = []
+joined (s ∷ ss) = joinTo s (joined ss)
+
+-- The stops of a run. Unwanted files, gaps and the members of an aggregate disappear here and nowhere else.
+abbrev pub wantStopsOf : Run → List Stop
+wantStopsOf r = wantStops (r .starts) (r .lengths) (r .aggregates) (r .numbers) (r .counts)
+
+abbrev pub stopsOf : Run → List Stop
+stopsOf r = joined (wantStopsOf r)
+
+abbrev pub wantStopsAt : {S L A N C : Type 0} → Lent S → Lent L → Lent A → Lent N → Lent C → List Stop
+wantStopsAt starts lengths aggregates numbers counts =
+    wantStops (starts .entry .now) (lengths .entry .now) (aggregates .entry .now) (numbers .entry .now) (counts .entry .now)
+
+-- The stops of files that lie in no aggregate: one for each want, with that file's own number, start and end.
+abbrev pub plainStop : List ℕ → List ℕ → ℕ → ℕ → Stop
+plainStop starts lengths f c =
     record { file = f; start = getD starts (f - 1) 0; end = endAt starts lengths (f - 1); count = c }
 
-unfoldable pub stopsFrom : List ℕ → List ℕ → List ℕ → List ℕ → List Stop
-stopsFrom starts lengths [] cs = []
-stopsFrom starts lengths (f ∷ fs) [] = []
-stopsFrom starts lengths (f ∷ fs) (c ∷ cs) = stopOf starts lengths f c ∷ stopsFrom starts lengths fs cs
+unfoldable pub plainStops : List ℕ → List ℕ → List ℕ → List ℕ → List Stop
+plainStops starts lengths [] cs = []
+plainStops starts lengths (f ∷ fs) [] = []
+plainStops starts lengths (f ∷ fs) (c ∷ cs) = plainStop starts lengths f c ∷ plainStops starts lengths fs cs
 
--- The stops of a run. Unwanted files and gaps disappear here and nowhere else.
-abbrev pub stopsOf : Run → List Stop
-stopsOf r = stopsFrom (r .starts) (r .lengths) (r .numbers) (r .counts)
-
-abbrev pub stopsAt : {S L N C : Type 0} → Lent S → Lent L → Lent N → Lent C → List Stop
-stopsAt starts lengths numbers counts = stopsFrom (starts .entry .now) (lengths .entry .now) (numbers .entry .now) (counts .entry .now)
+abbrev pub plainStopsAt : {S L N C : Type 0} → Lent S → Lent L → Lent N → Lent C → List Stop
+plainStopsAt starts lengths numbers counts = plainStops (starts .entry .now) (lengths .entry .now) (numbers .entry .now) (counts .entry .now)
 
 -- A stop by its index, from 0.
 abbrev pub stopAt : List Stop → ℕ → Stop

@@ -6,14 +6,16 @@ ghost use mathlib.Core.List.{List};
 ghost use lib.ListN.{length, getD};
 ghost use lib.Dec.{eqb, ltb, leb};
 ghost use Rattle.refusals.specs.Refusals.{firstWhere, firstOf};
-ghost use Rattle.runs.specs.Run.{runAt, countedReads, lastPlace, rightEnd, stopsFrom};
-ghost use Rattle.runs.specs.Private.{SoundTable, InTable};
-ghost use Rattle.runs.specs.Judging.{badFile, badWant, tableChecks, wantsChecks, headChecks, judgeOf};
+ghost use Rattle.runs.specs.Run.{runAt, aloneAt, countedReads, lastPlace, mostFiles, rightEnd, joined, wantStops, plainStops};
+ghost use Rattle.runs.specs.Private.{SoundTable, InTable, earlierOf};
+ghost use Rattle.runs.specs.Judging.{badPlace, badWant, placeChecks, tableChecks, wantsChecks, headChecks, judgeOf};
 use crate::HIGHEST_TURN;
 use crate::LAST_PLACE;
 use crate::MOST_FILES;
 use crate::MOST_READS;
 use crate::MOST_WANTS;
+use crate::aggregates::first_bad_number;
+use crate::aggregates::last_member;
 use refusals::Refusal;
 use refusals::Verdict;
 use refusals::refuse_at;
@@ -28,8 +30,8 @@ fn tape_right_of(place: u64) -> u64
     LAST_PLACE - place
 }
 
-// A file against the end of the one before it. The end is compared by a difference, so that it cannot wrap.
-fn bad_file(start: u64, size: u64, before: u64) -> bool
+// A file's place against the end of the one before it. The end is compared by a difference, so that it cannot wrap.
+fn bad_place(start: u64, size: u64, before: u64) -> bool
     ensures { λ r. ⌜ r ≡ (eqb size 0 || ltb start before || ltb lastPlace (start + size)) ⌝ }
 {
     if size == 0 {
@@ -44,17 +46,17 @@ fn bad_file(start: u64, size: u64, before: u64) -> bool
     tape_right_of(start) < size
 }
 
-// The first bad file, counted from 1; 0 where there is none.
-fn first_bad_file(starts: &[u64], lengths: &[u64]) -> u64
+// The first file whose place is bad, counted from 1; 0 where there is none.
+fn first_bad_place(starts: &[u64], lengths: &[u64]) -> u64
     requires { ⌜ length (now starts) ≡ length (now lengths) ⌝ }
-    ensures { λ r. ⌜ r ≡ firstWhere (badFile (now (starts .entry)) (now (lengths .entry))) (length (now (starts .entry))) ⌝ }
+    ensures { λ r. ⌜ r ≡ firstWhere (badPlace (now (starts .entry)) (now (lengths .entry))) (length (now (starts .entry))) ⌝ }
 {
     let mut before: u64 = 0;
     let mut i: usize = 0;
     while i < starts.len() {
         let start = starts[i];
         let length = lengths[i];
-        if bad_file(start, length, before) {
+        if bad_place(start, length, before) {
             return (i + 1) as u64;
         }
         before = start + length;
@@ -121,13 +123,28 @@ pub fn count_reads(counts: &[u64]) -> u64
 fn right_end(starts: &[u64], lengths: &[u64], numbers: &[u64]) -> u64
     requires { ⌜ SoundTable (now starts) (now lengths) ⌝ }
     requires { ⌜ ((i : ℕ) → i < length (now numbers) → InTable (now starts) (getD (now numbers) i 0)) ⌝ }
-    ensures { λ r. ⌜ ((cs : List ℕ) → length cs ≡ length (now (numbers .entry)) → r ≡ rightEnd (stopsFrom (now (starts .entry)) (now (lengths .entry)) (now (numbers .entry)) cs)) ⌝ }
+    ensures { λ r. ⌜ ((cs : List ℕ) → length cs ≡ length (now (numbers .entry)) → r ≡ rightEnd (plainStops (now (starts .entry)) (now (lengths .entry)) (now (numbers .entry)) cs)) ⌝ }
 {
     if numbers.len() == 0 {
         return 0;
     }
     let last = numbers.len() - 1;
     let at = (numbers[last] - 1) as usize;
+    starts[at] + lengths[at]
+}
+
+// The end of the rightmost wanted aggregate; 0 where nothing is wanted.
+fn right_end_joined(starts: &[u64], lengths: &[u64], aggregates: &[u64], numbers: &[u64]) -> u64
+    requires { ⌜ SoundTable (now starts) (now lengths) ⌝ }
+    requires { ⌜ length (now starts) ≡ length (now aggregates) ⌝ }
+    requires { ⌜ ((i : ℕ) → i < length (now numbers) → InTable (now starts) (getD (now numbers) i 0)) ⌝ }
+    ensures { λ r. ⌜ ((cs : List ℕ) → length cs ≡ length (now (numbers .entry)) → r ≡ rightEnd (joined (wantStops (now (starts .entry)) (now (lengths .entry)) (now (aggregates .entry)) (now (numbers .entry)) cs))) ⌝ }
+{
+    if numbers.len() == 0 {
+        return 0;
+    }
+    let last = numbers.len() - 1;
+    let at = last_member(aggregates, (numbers[last] - 1) as usize);
     starts[at] + lengths[at]
 }
 
@@ -141,9 +158,35 @@ fn uneven(first: usize, second: usize, most: usize) -> bool
     first != second
 }
 
-// 1 and 2.
-fn judge_table(starts: &[u64], lengths: &[u64]) -> Verdict
-    ensures { λ r. ⌜ r ≡ firstOf (tableChecks (now (starts .entry)) (now (lengths .entry))) ⌝ }
+// The same of the table's three rows.
+fn table_uneven(starts: usize, lengths: usize, aggregates: usize) -> bool
+    ensures { λ r. ⌜ r ≡ (ltb mostFiles starts || not (eqb starts lengths) || not (eqb starts aggregates)) ⌝ }
+{
+    if uneven(starts, lengths, MOST_FILES) {
+        return true;
+    }
+    starts != aggregates
+}
+
+// Of two places found, the earlier; 0 is none.
+fn earlier(first: u64, second: u64) -> u64
+    ensures { λ r. ⌜ r ≡ earlierOf first second ⌝ }
+{
+    if first == 0 {
+        return second;
+    }
+    if second == 0 {
+        return first;
+    }
+    if second < first {
+        return second;
+    }
+    first
+}
+
+// 1 and 2, for files that lie in no aggregate.
+fn judge_places(starts: &[u64], lengths: &[u64]) -> Verdict
+    ensures { λ r. ⌜ r ≡ firstOf (placeChecks (now (starts .entry)) (now (lengths .entry))) ⌝ }
 {
     let rows = refuse_if(
         uneven(starts.len(), lengths.len(), MOST_FILES),
@@ -152,7 +195,23 @@ fn judge_table(starts: &[u64], lengths: &[u64]) -> Verdict
     if refused(rows) {
         return rows;
     }
-    refuse_at(first_bad_file(starts, lengths), Refusal::BadFile)
+    refuse_at(first_bad_place(starts, lengths), Refusal::BadFile)
+}
+
+// 1 and 2.
+fn judge_table(starts: &[u64], lengths: &[u64], aggregates: &[u64]) -> Verdict
+    ensures { λ r. ⌜ r ≡ firstOf (tableChecks (now (starts .entry)) (now (lengths .entry)) (now (aggregates .entry))) ⌝ }
+{
+    let rows = refuse_if(
+        table_uneven(starts.len(), lengths.len(), aggregates.len()),
+        Refusal::FileRows,
+    );
+    if refused(rows) {
+        return rows;
+    }
+    let place = first_bad_place(starts, lengths);
+    let number = first_bad_number(aggregates);
+    refuse_at(earlier(place, number), Refusal::BadFile)
 }
 
 // 3, 4 and 5.
@@ -198,14 +257,41 @@ fn judge_head(turn: u64, head: u64, rightmost: u64) -> Verdict
 pub fn judge(
     starts: &[u64],
     lengths: &[u64],
+    aggregates: &[u64],
     numbers: &[u64],
     counts: &[u64],
     head: u64,
     turn: u64,
 ) -> Verdict
-    ensures { λ r. ⌜ r ≡ judgeOf (runAt starts lengths numbers counts head turn) ⌝ }
+    ensures { λ r. ⌜ r ≡ judgeOf (runAt starts lengths aggregates numbers counts head turn) ⌝ }
 {
-    let table = judge_table(starts, lengths);
+    let table = judge_table(starts, lengths, aggregates);
+    if refused(table) {
+        return table;
+    }
+    let wants = judge_wants(starts.len() as u64, numbers, counts);
+    if refused(wants) {
+        return wants;
+    }
+    judge_head(
+        turn,
+        head,
+        right_end_joined(starts, lengths, aggregates, numbers),
+    )
+}
+
+// The same for files that lie in no aggregate.
+pub fn judge_alone(
+    starts: &[u64],
+    lengths: &[u64],
+    numbers: &[u64],
+    counts: &[u64],
+    head: u64,
+    turn: u64,
+) -> Verdict
+    ensures { λ r. ⌜ r ≡ judgeOf (aloneAt starts lengths numbers counts head turn) ⌝ }
+{
+    let table = judge_places(starts, lengths);
     if refused(table) {
         return table;
     }

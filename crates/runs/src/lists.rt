@@ -1,25 +1,40 @@
 // Judging a detour list: refusal 10.
 ghost use mathlib.Core.Path.{_≡_};
+ghost use mathlib.Core.Bool.{_&&_};
 ghost use mathlib.Core.List.{List};
-ghost use Prim.Native.Nat.{ℕ, _<_};
+ghost use Prim.Native.Nat.{ℕ, _-_, _<_};
 ghost use lib.ListN.{length};
+ghost use lib.Dec.{leb};
 ghost use Rattle.refusals.specs.Refusals.{firstWhere};
-ghost use Rattle.runs.specs.Run.{stopsFrom};
+ghost use Rattle.runs.specs.Run.{goesOn, joined, wantStops};
 ghost use Rattle.runs.specs.Lists.{badAfter, listVerdict};
-ghost use Rattle.runs.specs.Private.{listed, rowAlone, rowClash, rowBad};
+ghost use Rattle.runs.specs.Private.{lastFile, between, rowNamed, rowAlone, rowClash, rowBad};
+use crate::aggregates::goes_on;
+use crate::aggregates::last_member;
 use refusals::Refusal;
 use refusals::Verdict;
 use refusals::refuse_at;
 use refusals::refuse_if;
 use refusals::refused;
 
-// Whether a file number stands in the row of wanted numbers.
-fn is_listed(numbers: &[u64], file: u64) -> bool
-    ensures { λ r. ⌜ r ≡ listed (now (numbers .entry)) file ⌝ }
+// Whether a number lies between two.
+fn lies_between(number: u64, low: u64, high: u64) -> bool
+    ensures { λ r. ⌜ r ≡ (leb low number && leb number high) ⌝ }
+{
+    if low <= number {
+        return number <= high;
+    }
+    false
+}
+
+// Whether a number of a row does.
+fn any_between(numbers: &[u64], low: u64, high: u64) -> bool
+    ensures { λ r. ⌜ r ≡ between (now (numbers .entry)) low high ⌝ }
 {
     let mut i: usize = 0;
     while i < numbers.len() {
-        if numbers[i] == file {
+        let number = numbers[i];
+        if lies_between(number, low, high) {
             return true;
         }
         i += 1;
@@ -27,14 +42,44 @@ fn is_listed(numbers: &[u64], file: u64) -> bool
     false
 }
 
-// An entry by itself.
-fn bad_alone(numbers: &[u64], from: u64, to: u64) -> bool
-    ensures { λ r. ⌜ r ≡ rowAlone (now (numbers .entry)) from to ⌝ }
+// Whether a file goes on with the one before it.
+fn is_later_member(aggregates: &[u64], file: u64) -> bool
+    ensures { λ r. ⌜ r ≡ goesOn (now (aggregates .entry)) (file - 1) ⌝ }
 {
-    if !is_listed(numbers, from) {
+    if file == 0 {
+        return false;
+    }
+    goes_on(aggregates, (file - 1) as usize)
+}
+
+// The last file of a file's aggregate.
+fn last_file(aggregates: &[u64], file: u64) -> u64
+    ensures { λ r. ⌜ r ≡ lastFile (now (aggregates .entry)) file ⌝ }
+{
+    if file == 0 {
+        return 0;
+    }
+    last_member(aggregates, (file - 1) as usize) as u64 + 1
+}
+
+// Whether a number names a stop: the first file of an aggregate of which a file is wanted.
+fn names_stop(aggregates: &[u64], numbers: &[u64], file: u64) -> bool
+    ensures { λ r. ⌜ r ≡ rowNamed (now (aggregates .entry)) (now (numbers .entry)) file ⌝ }
+{
+    if is_later_member(aggregates, file) {
+        return false;
+    }
+    any_between(numbers, file, last_file(aggregates, file))
+}
+
+// An entry by itself. A first file is right of the leftmost stop's where it is right of the leftmost want.
+fn bad_alone(aggregates: &[u64], numbers: &[u64], from: u64, to: u64) -> bool
+    ensures { λ r. ⌜ r ≡ rowAlone (now (aggregates .entry)) (now (numbers .entry)) from to ⌝ }
+{
+    if !names_stop(aggregates, numbers, from) {
         return true;
     }
-    if !is_listed(numbers, to) {
+    if !names_stop(aggregates, numbers, to) {
         return true;
     }
     if to < from {
@@ -75,13 +120,13 @@ fn clashes(froms: &[u64], tos: &[u64], i: usize) -> bool
 }
 
 // The first entry that breaks a rule by itself or against an earlier one, counted from 1; 0 where none does.
-fn first_bad_entry(numbers: &[u64], froms: &[u64], tos: &[u64]) -> u64
+fn first_bad_entry(aggregates: &[u64], numbers: &[u64], froms: &[u64], tos: &[u64]) -> u64
     requires { ⌜ length (now froms) ≡ length (now tos) ⌝ }
-    ensures { λ r. ⌜ r ≡ firstWhere (rowBad (now (numbers .entry)) (now (froms .entry)) (now (tos .entry))) (length (now (froms .entry))) ⌝ }
+    ensures { λ r. ⌜ r ≡ firstWhere (rowBad (now (aggregates .entry)) (now (numbers .entry)) (now (froms .entry)) (now (tos .entry))) (length (now (froms .entry))) ⌝ }
 {
     let mut i: usize = 0;
     while i < froms.len() {
-        if bad_alone(numbers, froms[i], tos[i]) {
+        if bad_alone(aggregates, numbers, froms[i], tos[i]) {
             return (i + 1) as u64;
         }
         if clashes(froms, tos, i) {
@@ -92,13 +137,16 @@ fn first_bad_entry(numbers: &[u64], froms: &[u64], tos: &[u64]) -> u64
     0
 }
 
-// 10, whatever the table and the counts: place 0 where starts and ends differ in number.
-pub fn judge_list(numbers: &[u64], froms: &[u64], tos: &[u64]) -> Verdict
-    ensures { λ r. ⌜ ((s l cs : List ℕ) → length cs ≡ length (now (numbers .entry)) → r ≡ listVerdict (stopsFrom s l (now (numbers .entry)) cs) (now (froms .entry)) (now (tos .entry))) ⌝ }
+// 10, whatever the places of the files and the counts: place 0 where starts and ends differ in number.
+pub fn judge_list(aggregates: &[u64], numbers: &[u64], froms: &[u64], tos: &[u64]) -> Verdict
+    ensures { λ r. ⌜ ((s l cs : List ℕ) → length cs ≡ length (now (numbers .entry)) → r ≡ listVerdict (joined (wantStops s l (now (aggregates .entry)) (now (numbers .entry)) cs)) (now (froms .entry)) (now (tos .entry))) ⌝ }
 {
     let halves = refuse_if(froms.len() != tos.len(), Refusal::BadEntry);
     if refused(halves) {
         return halves;
     }
-    refuse_at(first_bad_entry(numbers, froms, tos), Refusal::BadEntry)
+    refuse_at(
+        first_bad_entry(aggregates, numbers, froms, tos),
+        Refusal::BadEntry,
+    )
 }

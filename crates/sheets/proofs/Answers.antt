@@ -15,10 +15,10 @@ use Rattle.refusals.proofs.Verdicts.{first-refuses, all-accept, accepts-if}
 use Rattle.runs.proofs.Search.{or-false-both}
 use Rattle.sheets.specs.declared.Reading.{Reading}
 use Rattle.sheets.specs.declared.reader.Judged.{Judged}
-use Rattle.sheets.specs.Lines.{fileKey, wantKey, lineAfter, firstIn, secondIn, afterLines}
-use Rattle.sheets.specs.Sheet.{firstBadPair, eachOf, sheetRun, sheetName}
-use Rattle.sheets.specs.Reading.{sheetVerdict, readVerdict, readAnswer, readRow, RunRows, runRows, SheetRead, readName, readFrom, placeOn, shortPairRows}
-use Rattle.sheets.specs.Private.{JudgedGood, JudgedFound, PairsReady, leftRow, rightRow, linesFilled, readingOf, NamePart}
+use Rattle.sheets.specs.Lines.{fileKey, wantKey, firstIn, secondIn, middleIn, thirdIn, isPairLine, isTripleLine, afterLines}
+use Rattle.sheets.specs.Sheet.{firstBadOf, eachOf, sheetName}
+use Rattle.sheets.specs.Reading.{sheetVerdict, readVerdict, readAnswer, readRow, RunRows, runRows, SheetRead, readName, readFrom, placeOn, shortPairRows, shortTripleRows}
+use Rattle.sheets.specs.Private.{JudgedGood, JudgedFound, PairsReady, TriplesReady, filledRow, linesFilled, readingOf, NamePart}
 use Rattle.sheets.proofs.Rows.{length-each}
 
 -- Two pairs of rows judged one after the other are judged together.
@@ -30,27 +30,22 @@ both-judged w a b = go (isRefusal (w .refusal)) refl a
     go false e true = rw e
     go false e false = rw e
 
--- Lines that are filled: all are as described and the rows have room, or there are none.
-pairs-ready : (key sheet : List ℕ) (at count : ℕ) (firsts seconds : List ℕ) (v : Verdict) (n : ℕ) → n ≡ linesFilled v count → 1 ≤ length key → at ≤ length sheet
-    → (isRefusal (v .refusal) ≡ false → (firstBadPair key count (drop at sheet) ≡ 0) × (shortPairRows count firsts seconds ≡ false))
-    → PairsReady key sheet at n firsts seconds
-unfolding firstBadPair firstWhere
-pairs-ready key sheet at count firsts seconds v n n-is keyed within good = go (isRefusal (v .refusal)) refl
-  where
-    go : (f : Bool) → isRefusal (v .refusal) ≡ f → PairsReady key sheet at n firsts seconds
-    go true e =
-        let none : n ≡ 0 = n-is ∙ rw e in
-        record { keyed = omega arith; within = within; none = rw none; room = omega arith; space = omega arith }
-    go false e =
-        let all : n ≡ count = n-is ∙ rw e in
-        let both = or-false-both (ltb (length firsts) count) (ltb (length seconds) count) (good e .1) in
-        record {
-          keyed = omega arith;
-          within = within;
-          none = rw all (good e .0);
-          room = rw all (ltb-false (length firsts) count (both .0));
-          space = rw all (ltb-false (length seconds) count (both .1));
-        }
+-- Lines that are filled: all are as described and a row has room, or there are none.
+module _ (v : Verdict) (count n : ℕ) (n-is : n ≡ linesFilled v count) where
+  lines-ready : (test : List ℕ → Bool) (text : List ℕ) → (isRefusal (v .refusal) ≡ false → firstBadOf test count text ≡ 0) → firstBadOf test n text ≡ 0
+  unfolding firstBadOf firstWhere
+  lines-ready test text good = go (isRefusal (v .refusal)) refl
+    where
+      go : (f : Bool) → isRefusal (v .refusal) ≡ f → firstBadOf test n text ≡ 0
+      go true e = let none : n ≡ 0 = n-is ∙ rw e in rw none
+      go false e = let all : n ≡ count = n-is ∙ rw e in rw all (good e)
+
+  row-ready : (row : List ℕ) → (isRefusal (v .refusal) ≡ false → ltb (length row) count ≡ false) → n ≤ length row
+  row-ready row good = go (isRefusal (v .refusal)) refl
+    where
+      go : (f : Bool) → isRefusal (v .refusal) ≡ f → n ≤ length row
+      go true e = let none : n ≡ 0 = n-is ∙ rw e in omega arith
+      go false e = let all : n ≡ count = n-is ∙ rw e in rw all (ltb-false (length row) count (good e))
 
 -- The row that filling leaves.
 row-read : (v : Verdict) (count n : ℕ) → n ≡ linesFilled v count → (value : ℕ → ℕ) (values row : List ℕ) → (isRefusal (v .refusal) ≡ false → values ≡ eachOf value count)
@@ -62,47 +57,80 @@ row-read v count n n-is value values row said = go (isRefusal (v .refusal)) refl
     go true e = let none : n ≡ 0 = n-is ∙ rw e in rw (e, none)
     go false e = let all : n ≡ count = n-is ∙ rw e in rw (e, all, said e, length-each value count)
 
--- t is the verdict after the files' rows, v after all; m and n are how many lines are filled.
-module _ (sheet : List ℕ) (judged : Judged) (found : JudgedFound sheet judged) (starts lengths numbers counts : List ℕ) (t v : Verdict)
-    (t-is : t ≡ firstOf (judged .verdict ∷ refuseIf (shortPairRows (judged .top .files) starts lengths) ShortRow ∷ []))
+-- u is the verdict after the files' rows of starts and lengths, t after that of aggregates, v after all; m and n are how many lines are filled.
+module _ (sheet : List ℕ) (judged : Judged) (found : JudgedFound sheet judged) (starts lengths aggregates numbers counts : List ℕ) (u t v : Verdict)
+    (u-is : u ≡ firstOf (judged .verdict ∷ refuseIf (shortPairRows (judged .top .files) starts lengths) ShortRow ∷ []))
+    (t-is : t ≡ firstOf (u ∷ refuseIf (ltb (length aggregates) (judged .top .files)) ShortRow ∷ []))
     (v-is : v ≡ firstOf (t ∷ refuseIf (shortPairRows (judged .wants) numbers counts) ShortRow ∷ [])) where
-  read-verdict : v ≡ readVerdict sheet starts lengths numbers counts
+  abbrev short-files : Bool
+  short-files = shortTripleRows (judged .top .files) starts lengths aggregates
+
+  abbrev short-wants : Bool
+  short-wants = shortPairRows (judged .wants) numbers counts
+
+  files-judged : t ≡ firstOf (judged .verdict ∷ refuseIf short-files ShortRow ∷ [])
+  files-judged =
+      t-is ∙ ap (λ x. firstOf (x ∷ refuseIf (ltb (length aggregates) (judged .top .files)) ShortRow ∷ [])) u-is
+      ∙ both-judged (judged .verdict) (shortPairRows (judged .top .files) starts lengths) (ltb (length aggregates) (judged .top .files))
+
+  read-verdict : v ≡ readVerdict sheet starts lengths aggregates numbers counts
   unfolding readVerdict
   read-verdict =
-      v-is ∙ ap (λ x. firstOf (x ∷ refuseIf (shortPairRows (judged .wants) numbers counts) ShortRow ∷ [])) t-is
-      ∙ both-judged (judged .verdict) (shortPairRows (judged .top .files) starts lengths) (shortPairRows (judged .wants) numbers counts)
+      v-is ∙ ap (λ x. firstOf (x ∷ refuseIf short-wants ShortRow ∷ [])) files-judged
+      ∙ both-judged (judged .verdict) short-files short-wants
       ∙ go (isRefusal (judged .verdict .refusal)) refl
     where
       go : (f : Bool) → isRefusal (judged .verdict .refusal) ≡ f
-          → firstOf (judged .verdict ∷ refuseIf (shortPairRows (judged .top .files) starts lengths || shortPairRows (judged .wants) numbers counts) ShortRow ∷ []) ≡ readVerdict sheet starts lengths numbers counts
+          → firstOf (judged .verdict ∷ refuseIf (short-files || short-wants) ShortRow ∷ []) ≡ readVerdict sheet starts lengths aggregates numbers counts
       go true e = rw (← found .verdict, e)
       go false e = let p = found .out e in rw (← found .verdict, ← p .upper .files, ← p .below .count)
 
   module _ (e : isRefusal (v .refusal) ≡ false) where
-    wants-pass : (isRefusal (t .refusal) ≡ false) × (shortPairRows (judged .wants) numbers counts ≡ false)
+    wants-pass : (isRefusal (t .refusal) ≡ false) × (short-wants ≡ false)
     wants-pass =
-        let all = all-accept (t ∷ refuseIf (shortPairRows (judged .wants) numbers counts) ShortRow ∷ []) (rw (← v-is) e) in
-        (all .0, accepts-if (shortPairRows (judged .wants) numbers counts) ShortRow refl (all .1 .0))
+        let all = all-accept (t ∷ refuseIf short-wants ShortRow ∷ []) (rw (← v-is) e) in
+        (all .0, accepts-if short-wants ShortRow refl (all .1 .0))
 
-    files-pass : (isRefusal (judged .verdict .refusal) ≡ false) × (shortPairRows (judged .top .files) starts lengths ≡ false)
+    files-pass : (isRefusal (judged .verdict .refusal) ≡ false) × (short-files ≡ false)
     files-pass =
-        let all = all-accept (judged .verdict ∷ refuseIf (shortPairRows (judged .top .files) starts lengths) ShortRow ∷ []) (rw (← t-is) (wants-pass .0)) in
-        (all .0, accepts-if (shortPairRows (judged .top .files) starts lengths) ShortRow refl (all .1 .0))
+        let all = all-accept (judged .verdict ∷ refuseIf short-files ShortRow ∷ []) (rw (← files-judged) (wants-pass .0)) in
+        (all .0, accepts-if short-files ShortRow refl (all .1 .0))
 
     parts : JudgedGood sheet judged
     parts = found .out (files-pass .0)
 
+    -- Each row has room for its lines.
+    wants-room : (ltb (length numbers) (judged .wants) ≡ false) × (ltb (length counts) (judged .wants) ≡ false)
+    wants-room = or-false-both (ltb (length numbers) (judged .wants)) (ltb (length counts) (judged .wants)) (wants-pass .1)
+
+    files-room : (shortPairRows (judged .top .files) starts lengths ≡ false) × (ltb (length aggregates) (judged .top .files) ≡ false)
+    files-room = or-false-both (shortPairRows (judged .top .files) starts lengths) (ltb (length aggregates) (judged .top .files)) (files-pass .1)
+
+    pair-room : (ltb (length starts) (judged .top .files) ≡ false) × (ltb (length lengths) (judged .top .files) ≡ false)
+    pair-room = or-false-both (ltb (length starts) (judged .top .files)) (ltb (length lengths) (judged .top .files)) (files-room .0)
+
   module _ (m : ℕ) (m-is : m ≡ linesFilled v (judged .top .files)) where
-    pub files-ready : PairsReady fileKey sheet (judged .top .next) m starts lengths
+    pub files-ready : TriplesReady fileKey sheet (judged .top .next) m starts lengths aggregates
     files-ready =
-        pairs-ready fileKey sheet (judged .top .next) (judged .top .files) starts lengths v m m-is (omega arith) (found .file-at)
-        (λ e. (rw (parts e .upper .files, parts e .upper .rest) (parts e .below .filed), files-pass e .1))
+        record {
+          keyed = omega arith;
+          within = found .file-at;
+          none = lines-ready v (judged .top .files) m m-is (isTripleLine fileKey) (drop (judged .top .next) sheet) (λ e. rw (parts e .upper .files, parts e .upper .rest) (parts e .below .filed));
+          room = row-ready v (judged .top .files) m m-is starts (λ e. pair-room e .0);
+          space = row-ready v (judged .top .files) m m-is lengths (λ e. pair-room e .1);
+          more = row-ready v (judged .top .files) m m-is aggregates (λ e. files-room e .1);
+        }
 
     module _ (n : ℕ) (n-is : n ≡ linesFilled v (judged .wants)) where
       pub wants-ready : PairsReady wantKey sheet (judged .at) n numbers counts
       wants-ready =
-          pairs-ready wantKey sheet (judged .at) (judged .wants) numbers counts v n n-is (omega arith) (found .want-at)
-          (λ e. (rw (parts e .below .count, parts e .below .rest) (parts e .below .wanted), wants-pass e .1))
+          record {
+            keyed = omega arith;
+            within = found .want-at;
+            none = lines-ready v (judged .wants) n n-is (isPairLine wantKey) (drop (judged .at) sheet) (λ e. rw (parts e .below .count, parts e .below .rest) (parts e .below .wanted));
+            room = row-ready v (judged .wants) n n-is numbers (λ e. wants-room e .0);
+            space = row-ready v (judged .wants) n n-is counts (λ e. wants-room e .1);
+          }
 
       answer-read : readingOf v (judged .top) (judged .wants) ≡ readAnswer v sheet
       unfolding readAnswer
@@ -112,16 +140,23 @@ module _ (sheet : List ℕ) (judged : Judged) (found : JudgedFound sheet judged)
           go true e = rw e
           go false e = let p = parts e in rw (e, ← p .upper .head, ← p .upper .turn, ← p .upper .rule, ← p .upper .files, ← p .below .count)
 
-      pub sheet-read : (r : Reading) (starts′ lengths′ numbers′ counts′ : List ℕ) → r ≡ readingOf v (judged .top) (judged .wants)
-          → (starts′ ≡ leftRow fileKey (drop (judged .top .next) sheet) m starts) × (lengths′ ≡ rightRow fileKey (drop (judged .top .next) sheet) m lengths)
-          → (numbers′ ≡ leftRow wantKey (drop (judged .at) sheet) n numbers) × (counts′ ≡ rightRow wantKey (drop (judged .at) sheet) n counts)
-          → SheetRead sheet (runRows starts lengths numbers counts) r (runRows starts′ lengths′ numbers′ counts′)
+      abbrev file-lines : List ℕ
+      file-lines = drop (judged .top .next) sheet
+
+      abbrev want-lines : List ℕ
+      want-lines = drop (judged .at) sheet
+
+      pub sheet-read : (r : Reading) (starts′ lengths′ aggregates′ numbers′ counts′ : List ℕ) → r ≡ readingOf v (judged .top) (judged .wants)
+          → (starts′ ≡ filledRow (firstIn fileKey) file-lines m starts) × ((lengths′ ≡ filledRow (middleIn fileKey) file-lines m lengths) × (aggregates′ ≡ filledRow (thirdIn fileKey) file-lines m aggregates))
+          → (numbers′ ≡ filledRow (firstIn wantKey) want-lines n numbers) × (counts′ ≡ filledRow (secondIn wantKey) want-lines n counts)
+          → SheetRead sheet (runRows starts lengths aggregates numbers counts) r (runRows starts′ lengths′ aggregates′ numbers′ counts′)
       unfolding readAnswer
-      sheet-read r starts′ lengths′ numbers′ counts′ r-is files wants =
+      sheet-read r starts′ lengths′ aggregates′ numbers′ counts′ r-is files wants =
           record {
             answer = rw (← read-verdict) (r-is ∙ answer-read);
             starts = rw (← read-verdict) (files .0 ∙ row-read v (judged .top .files) m m-is _ _ starts (λ e. rw (parts e .upper .files, parts e .upper .rest)));
-            lengths = rw (← read-verdict) (files .1 ∙ row-read v (judged .top .files) m m-is _ _ lengths (λ e. rw (parts e .upper .files, parts e .upper .rest)));
+            lengths = rw (← read-verdict) (files .1 .0 ∙ row-read v (judged .top .files) m m-is _ _ lengths (λ e. rw (parts e .upper .files, parts e .upper .rest)));
+            aggregates = rw (← read-verdict) (files .1 .1 ∙ row-read v (judged .top .files) m m-is _ _ aggregates (λ e. rw (parts e .upper .files, parts e .upper .rest)));
             numbers = rw (← read-verdict) (wants .0 ∙ row-read v (judged .wants) n n-is _ _ numbers (λ e. rw (parts e .below .count, parts e .below .rest)));
             counts = rw (← read-verdict) (wants .1 ∙ row-read v (judged .wants) n n-is _ _ counts (λ e. rw (parts e .below .count, parts e .below .rest)));
           }
@@ -152,7 +187,7 @@ module _ (sheet : List ℕ) (judged : Judged) (found : JudgedFound sheet judged)
 -- The contract determines the answer and every row.
 pub read-determined : (sheet : List ℕ) (rows : RunRows) (r s : Reading) (rows′ rows″ : RunRows) → SheetRead sheet rows r rows′ → SheetRead sheet rows s rows″ → (r ≡ s) × (rows′ ≡ rows″)
 read-determined sheet rows r s rows′ rows″ p q =
-    (p .answer ∙ sym (q .answer), same (p .starts ∙ sym (q .starts)) (p .lengths ∙ sym (q .lengths)) (p .numbers ∙ sym (q .numbers)) (p .counts ∙ sym (q .counts)))
+    (p .answer ∙ sym (q .answer), same (p .starts ∙ sym (q .starts)) (p .lengths ∙ sym (q .lengths)) (p .aggregates ∙ sym (q .aggregates)) (p .numbers ∙ sym (q .numbers)) (p .counts ∙ sym (q .counts)))
   where
-    same : {a a′ b b′ c c′ d d′ : List ℕ} → a ≡ a′ → b ≡ b′ → c ≡ c′ → d ≡ d′ → runRows a b c d ≡ runRows a′ b′ c′ d′
-    same e f g h = rw (e, f, g, h)
+    same : {a a′ b b′ c c′ d d′ x x′ : List ℕ} → a ≡ a′ → b ≡ b′ → c ≡ c′ → d ≡ d′ → x ≡ x′ → runRows a b c d x ≡ runRows a′ b′ c′ d′ x′
+    same e f g h i = rw (e, f, g, h, i)

@@ -14,8 +14,8 @@ use Rattle.runs.specs.Run.{mostWants}
 use Rattle.texts.specs.Text.{lineFeed, has, before, behind, isEmpty, isName, isNumber, startsWith}
 use Rattle.texts.proofs.Bytes.{and-true-both}
 use Rattle.texts.proofs.Split.{split-at, none-before}
-use Rattle.sheets.specs.Lines.{lineOf, lineAfter, tapeKey, headKey, filesKey, fileKey, wantsKey, wantKey, turnKey, valueText, isTapeLine, isNumberLine, numberBehind, isCountLine, isTurnLine, isRuleLine}
-use Rattle.sheets.specs.Sheet.{longestSheet, mostSheetFiles, sheetFiles, sheetWants, fileText, wantsText, wantText, endText, unless, shifted, firstBadPair, firstSome, firstBadTop, firstBadBelow, firstBadLine, sheetName}
+use Rattle.sheets.specs.Lines.{lineOf, lineAfter, tapeKey, headKey, filesKey, fileKey, wantsKey, wantKey, turnKey, valueText, isTapeLine, isNumberLine, numberBehind, isCountLine, isTurnLine, isRuleLine, isPairLine, isTripleLine}
+use Rattle.sheets.specs.Sheet.{longestSheet, mostSheetFiles, sheetFiles, sheetWants, fileText, wantsText, wantText, endText, unless, shifted, firstBadOf, firstSome, firstBadTop, firstBadBelow, firstBadLine, sheetName}
 use Rattle.sheets.specs.Reading.{sheetVerdict}
 
 -- Where no line is bad, each is as described.
@@ -71,7 +71,7 @@ module _ (sheet : List ℕ) (good : refuses (sheetVerdict sheet) ≡ false) wher
 
   abbrev want-on : List ℕ
   want-on =
-      shifted (sheetFiles sheet + 6) (firstBadPair wantKey (sheetWants sheet) (wantText sheet))
+      shifted (sheetFiles sheet + 6) (firstBadOf (isPairLine wantKey) (sheetWants sheet) (wantText sheet))
       ∷ unless (isEmpty (endText sheet)) (sheetFiles sheet + sheetWants sheet + 7)
       ∷ []
 
@@ -85,7 +85,7 @@ module _ (sheet : List ℕ) (good : refuses (sheetVerdict sheet) ≡ false) wher
       let after₄ = none-some (unless (isRuleLine (lineAfter 3 sheet)) 4) files-on (after₃ .1) in
       let after₅ = none-some (unless (isCountLine filesKey mostSheetFiles (lineAfter 4 sheet)) 5) [] (after₄ .1) in
       let below = none-some (firstBadBelow sheet) [] (parts .1) .0 in
-      let after₆ = none-some (shifted 5 (firstBadPair fileKey (sheetFiles sheet) (fileText sheet))) (wants-line ∷ want-on) below in
+      let after₆ = none-some (shifted 5 (firstBadOf (isTripleLine fileKey) (sheetFiles sheet) (fileText sheet))) (wants-line ∷ want-on) below in
       let after₇ = none-some wants-line want-on (after₆ .1) in
       record {
         tape = line-good (isTapeLine (lineAfter 0 sheet)) 1 (λ e. omega (arith, e)) (after₁ .0);

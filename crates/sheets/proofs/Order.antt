@@ -22,10 +22,10 @@ use Rattle.sheets.specs.declared.reader.TopRead.{TopRead}
 use Rattle.sheets.specs.declared.reader.BelowRead.{BelowRead}
 use Rattle.sheets.specs.declared.reader.Judged.{Judged}
 use Rattle.texts.specs.Text.{lineFeed, behind, isEmpty}
-use Rattle.sheets.specs.Lines.{lineOf, afterLines, lineAfter, headKey, filesKey, fileKey, wantsKey, wantKey, isTapeLine, isNumberLine, numberBehind, isCountLine, isTurnLine, turnIn, isRuleLine, ruleIn}
-use Rattle.sheets.specs.Sheet.{longestSheet, mostSheetFiles, sheetHead, sheetTurnWith, sheetRule, sheetFiles, fileText, wantsText, sheetWants, wantText, endText, shifted, firstSome, firstBadPair, firstBadTop, firstBadBelow, firstBadLine}
+use Rattle.sheets.specs.Lines.{lineOf, afterLines, lineAfter, headKey, filesKey, fileKey, wantsKey, wantKey, isTapeLine, isNumberLine, numberBehind, isCountLine, isTurnLine, turnIn, isRuleLine, ruleIn, isPairLine, isTripleLine}
+use Rattle.sheets.specs.Sheet.{longestSheet, mostSheetFiles, sheetHead, sheetTurnWith, sheetRule, sheetFiles, fileText, wantsText, sheetWants, wantText, endText, shifted, firstSome, firstBadOf, firstBadTop, firstBadBelow, firstBadLine}
 use Rattle.sheets.specs.Reading.{sheetVerdict}
-use Rattle.sheets.specs.Private.{Passed, NamePart, NameLineFound, NumberLineFound, RuleLineFound, PairsPassed, PairBad, TopIs, TopBad, TopFound, FilesAt, WantsAt, BelowIs, BelowBad, BelowFound, Unread, JudgedFound}
+use Rattle.sheets.specs.Private.{Passed, NamePart, NameLineFound, NumberLineFound, RuleLineFound, LinesPassed, LineBad, TopIs, TopBad, TopFound, FilesAt, WantsAt, BelowIs, BelowBad, BelowFound, Unread, JudgedFound}
 use Rattle.texts.proofs.Bytes.{and-true-both}
 
 -- So many lines passed, and what is left stands at a position.
@@ -156,15 +156,15 @@ shifted-some : (lines n : ℕ) → 0 < n → shifted lines n ≡ lines + n
 shifted-some lines zero l = absurd (omega arith)
 shifted-some lines (suc n) l = refl
 
-pub files-bad-below : (sheet : List ℕ) (at files line : ℕ) → FilesAt sheet at files → PairBad fileKey sheet at files line → BelowBad sheet (5 + line)
+pub files-bad-below : (sheet : List ℕ) (at files line : ℕ) → FilesAt sheet at files → LineBad (isTripleLine fileKey) sheet at files line → BelowBad sheet (5 + line)
 unfolding firstBadBelow
 files-bad-below sheet at files line p b =
-    let bad : firstBadPair fileKey (sheetFiles sheet) (fileText sheet) ≡ line = rw (← p .count, ← p .rest) (b .first) in
+    let bad : firstBadOf (isTripleLine fileKey) (sheetFiles sheet) (fileText sheet) ≡ line = rw (← p .count, ← p .rest) (b .first) in
     let some = b .some in
     let l : 0 < 5 + line = omega arith in
     record { first = rw (bad, shifted-some 5 line some, first-some (5 + line)); some = l }
 
-pub files-good-below : (sheet : List ℕ) (at files next : ℕ) → FilesAt sheet at files → PairsPassed fileKey sheet at files next → WantsAt sheet next files
+pub files-good-below : (sheet : List ℕ) (at files next : ℕ) → FilesAt sheet at files → LinesPassed (isTripleLine fileKey) sheet at files next → WantsAt sheet next files
 unfolding wantsText
 files-good-below sheet at files next p b =
     record {
@@ -206,16 +206,16 @@ module _ (sheet : List ℕ) (at files : ℕ) (p : WantsAt sheet at files) (r : N
     unfolding wantText afterLines
     wants-rest = wants-read .0 .rest ∙ ap (behind lineFeed) (p .rest)
 
-    pub want-bad : (line : ℕ) → PairBad wantKey sheet next wants line → BelowBad sheet (files + 6 + line)
+    pub want-bad : (line : ℕ) → LineBad (isPairLine wantKey) sheet next wants line → BelowBad sheet (files + 6 + line)
     unfolding firstBadBelow
     want-bad line b =
-        let bad : firstBadPair wantKey (sheetWants sheet) (wantText sheet) ≡ line = rw (← wants-count, ← wants-rest) (b .first) in
+        let bad : firstBadOf (isPairLine wantKey) (sheetWants sheet) (wantText sheet) ≡ line = rw (← wants-count, ← wants-rest) (b .first) in
         let some = b .some in
         let l : 0 < files + 6 + line = omega arith in
         record { first = rw (p .none, wants-test, bad, ← p .count, shifted-some (files + 6) line some, first-skip, first-skip, first-some (files + 6 + line)); some = l }
 
-    module _ (last : ℕ) (b : PairsPassed wantKey sheet next wants last) where
-      wants-none : firstBadPair wantKey (sheetWants sheet) (wantText sheet) ≡ 0
+    module _ (last : ℕ) (b : LinesPassed (isPairLine wantKey) sheet next wants last) where
+      wants-none : firstBadOf (isPairLine wantKey) (sheetWants sheet) (wantText sheet) ≡ 0
       wants-none = rw (← wants-count, ← wants-rest) (b .none)
 
       end-is : endText sheet ≡ drop last sheet

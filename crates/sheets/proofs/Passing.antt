@@ -1,14 +1,14 @@
 -- From line to line: where a line ends, what stands behind its key, and what its reader has found.
 use Prim.Native.Nat.{ℕ, zero, suc, _+_, _-_, _≤_, _<_}
 use mathlib.Core.Path.{_≡_, refl, ap, sym, _∙_, subst}
-use mathlib.Core.Bool.{Bool, true, false, not, and-false}
+use mathlib.Core.Bool.{Bool, true, false, not, and-false, true≢false}
 use mathlib.Core.List.{List, [], _∷_}
 use native.Mathlib.Omega.{arith}
 use native.Mathlib.Numerals.{add-one}
 use lib.Dec.{eqb}
 use lib.ListN.{length, take, drop, length-drop}
 use lib.Seq.{take-all, drop-drop, length-take-le, drop-nil, take-nil}
-use borrow.Author.Tests.{le-leb, lt-leb}
+use borrow.Author.Tests.{le-leb, lt-leb, not-false}
 use Rattle.runs.specs.declared.Rule.{Rule}
 use Rattle.texts.specs.declared.Found.{Found}
 use Rattle.texts.specs.declared.Number.{Number}
@@ -16,14 +16,16 @@ use Rattle.sheets.specs.declared.lines.Keyed.{Keyed}
 use Rattle.sheets.specs.declared.lines.NumberLine.{NumberLine}
 use Rattle.sheets.specs.declared.lines.Pair.{Pair}
 use Rattle.sheets.specs.declared.lines.PairLine.{PairLine}
-use Rattle.sheets.specs.declared.lines.PairLines.{PairLines}
+use Rattle.sheets.specs.declared.lines.Triple.{Triple}
+use Rattle.sheets.specs.declared.lines.TripleLine.{TripleLine}
+use Rattle.sheets.specs.declared.lines.Lines.{Lines}
 use Rattle.refusals.specs.Refusals.{firstWhere}
-use Rattle.runs.proofs.Search.{first-more, first-here, or-false-both}
-use Rattle.texts.specs.Text.{lineFeed, comma, isEmpty, has, behind, startsWith, isText, isNumber, isName}
-use Rattle.sheets.specs.Lines.{lineOf, afterLines, lineAfter, tapeKey, turnKey, ruleKey, leastText, sweepText, valueText, isTapeLine, isNumberLine, numberBehind, isCountLine, isTurnLine, turnWith, emptyTurn, turnIn, isRuleLine, ruleIn, isPair, isPairLine}
-use Rattle.sheets.specs.Sheet.{firstBadPair}
+use Rattle.runs.proofs.Search.{first-more, first-here, first-zero, or-false-both}
+use Rattle.texts.specs.Text.{lineFeed, comma, isEmpty, has, before, behind, startsWith, isText, isNumber, isName}
+use Rattle.sheets.specs.Lines.{lineOf, afterLines, lineAfter, tapeKey, turnKey, ruleKey, leastText, sweepText, valueText, isTapeLine, isNumberLine, numberBehind, isCountLine, isTurnLine, turnWith, emptyTurn, turnIn, isRuleLine, ruleIn, isPair, isPairLine, isTriple, isTripleLine}
+use Rattle.sheets.specs.Sheet.{firstBadOf}
 use Rattle.texts.specs.Found.{FirstAt, FoundIn, NumberIs, NumberFound}
-use Rattle.sheets.specs.Private.{ValueAt, ValueFound, Passed, NamePart, NumberLineFound, PairIs, PairFound, PairAt, PairLineFound, PairsPassed, PairBad, PairLinesFound}
+use Rattle.sheets.specs.Private.{ValueAt, ValueFound, Passed, NamePart, NumberLineFound, PairIs, PairFound, PairAt, PairLineFound, TripleIs, TripleFound, TripleAt, TripleLineFound, LinesPassed, LineBad, LinesFound}
 use Rattle.texts.proofs.Bytes.{not-empty, short-text, begun-long}
 
 -- The end of a part is a part of the end.
@@ -138,6 +140,20 @@ module _ (key sheet : List ℕ) (at : ℕ) (r : Keyed) (found : ValueFound key s
           let p : PairIs (valueText key (lineOf (drop at sheet))) a b = subst (λ t. PairIs t a b) (value-at .text) (subst (λ k. PairFound (take (end - from) (drop from sheet)) k) f reads) in
           record { passed = line-passed (isPairLine key) (rw (value-at .begun) (p .good)); left = p .left; right = p .right }
 
+    -- Three.
+    module _ (q : Triple) (reads : TripleFound (take (end - from) (drop from sheet)) q) where
+      pub triple-line-bad : q ≡ Triple.Bad → isTripleLine key (lineOf (drop at sheet)) ≡ false
+      unfolding isTripleLine
+      triple-line-bad f =
+          let e : isTriple (valueText key (lineOf (drop at sheet))) ≡ false = rw (value-at .text) at (subst (λ k. TripleFound (take (end - from) (drop from sheet)) k) f reads) in
+          rw (e, and-false)
+
+      pub triple-line-good : (a b c : ℕ) → q ≡ Triple.All a b c → TripleAt key sheet at a b c (end + 1)
+      unfolding isTripleLine
+      triple-line-good a b c f =
+          let p : TripleIs (valueText key (lineOf (drop at sheet))) a b c = subst (λ t. TripleIs t a b c) (value-at .text) (subst (λ k. TripleFound (take (end - from) (drop from sheet)) k) f reads) in
+          record { passed = line-passed (isTripleLine key) (rw (value-at .begun) (p .good)); left = p .left; middle = p .middle; right = p .right }
+
 -- `turn=` with a number, or with nothing.
 module _ (sheet : List ℕ) (at : ℕ) (r : Keyed) (found : ValueFound turnKey sheet at r) (from end : ℕ) (e : r ≡ Keyed.Text from end) where
   pub turn-line-empty : from ≡ end → Passed isTurnLine sheet at (end + 1) × (emptyTurn ≡ turnIn (lineOf (drop at sheet)))
@@ -205,6 +221,10 @@ pub unkeyed-pair : (key line : List ℕ) → startsWith key line ≡ false → i
 unfolding isPairLine
 unkeyed-pair key line e = rw e
 
+pub unkeyed-triple : (key line : List ℕ) → startsWith key line ≡ false → isTripleLine key line ≡ false
+unfolding isTripleLine
+unkeyed-triple key line e = rw e
+
 -- A number of lines to follow.
 module _ (key : List ℕ) (most : ℕ) (sheet : List ℕ) (at : ℕ) (r : NumberLine) (found : NumberLineFound (isNumberLine key) (numberBehind key) sheet at r) where
   pub count-line-bad : r ≡ NumberLine.Bad → isCountLine key most (lineOf (drop at sheet)) ≡ false
@@ -266,75 +286,124 @@ module _ (text : List ℕ) (r : Found) (found : FoundIn comma text r) where
     pub comma-at : FirstAt comma text i
     comma-at = subst (λ f. FoundIn comma text f) e found
 
+    pub behind-all : take (length text - (i + 1)) (drop (i + 1) text) ≡ behind comma text
+    behind-all = take-all (length text - (i + 1)) (drop (i + 1) text) (rw (length-drop (i + 1) text) (omega arith)) ∙ sym (comma-at .back)
+
     module _ (q : Number) (reads : NumberFound (take i text) q) where
       pub left-bad : q ≡ Number.Bad → isPair text ≡ false
       unfolding isPair
       left-bad f = rw (comma-at .front, subst (λ k. NumberFound (take i text) k) f reads)
 
       module _ (p : Number) (reads′ : NumberFound (take (length text - (i + 1)) (drop (i + 1) text)) p) where
-        right-all : take (length text - (i + 1)) (drop (i + 1) text) ≡ behind comma text
-        right-all = take-all (length text - (i + 1)) (drop (i + 1) text) (rw (length-drop (i + 1) text) (omega arith)) ∙ sym (comma-at .back)
-
         pub right-bad : p ≡ Number.Bad → isPair text ≡ false
         unfolding isPair
-        right-bad f = rw (← right-all, subst (λ k. NumberFound (take (length text - (i + 1)) (drop (i + 1) text)) k) f reads′, and-false)
+        right-bad f = rw (← behind-all, subst (λ k. NumberFound (take (length text - (i + 1)) (drop (i + 1) text)) k) f reads′, and-false)
 
         pub pair-is : (a b : ℕ) → q ≡ Number.Value a → p ≡ Number.Value b → PairIs text a b
         unfolding isPair
         pair-is a b f g =
             let left : NumberIs (take i text) a = subst (λ k. NumberFound (take i text) k) f reads in
-            let right : NumberIs (behind comma text) b = subst (λ t. NumberIs t b) right-all (subst (λ k. NumberFound (take (length text - (i + 1)) (drop (i + 1) text)) k) g reads′) in
+            let right : NumberIs (behind comma text) b = subst (λ t. NumberIs t b) behind-all (subst (λ k. NumberFound (take (length text - (i + 1)) (drop (i + 1) text)) k) g reads′) in
             record {
               good = rw (comma-at .front, left .good, right .good);
               left = rw (comma-at .front) (left .value);
               right = right .value;
             }
 
--- Going through lines of pairs: none before the one at an index is bad, and what is left stands at a position.
-pub record PairsSeen (key sheet : List ℕ) (at count next i : ℕ) : Type 0 where
+-- Three numbers in a text: a number before its first comma, and a pair behind it.
+module _ (text : List ℕ) (r : Found) (found : FoundIn comma text r) where
+  pub no-comma-three : r ≡ Found.Nowhere → isTriple text ≡ false
+  unfolding isTriple isPair isNumber before
+  no-comma-three e = rw (behind-nowhere comma text (subst (λ f. FoundIn comma text f) e found), and-false)
+
+  module _ (i : ℕ) (e : r ≡ Found.At i) (q : Number) (reads : NumberFound (take i text) q) where
+    pub first-bad : q ≡ Number.Bad → isTriple text ≡ false
+    unfolding isTriple
+    first-bad f = rw (comma-at text r found i e .front, subst (λ k. NumberFound (take i text) k) f reads)
+
+    module _ (p : Pair) (reads′ : PairFound (take (length text - (i + 1)) (drop (i + 1) text)) p) where
+      pub rest-bad : p ≡ Pair.Bad → isTriple text ≡ false
+      unfolding isTriple
+      rest-bad f = rw (← behind-all text r found i e, subst (λ k. PairFound (take (length text - (i + 1)) (drop (i + 1) text)) k) f reads′, and-false)
+
+      pub triple-is : (a b c : ℕ) → q ≡ Number.Value a → p ≡ Pair.Both b c → TripleIs text a b c
+      unfolding isTriple
+      triple-is a b c f g =
+          let left : NumberIs (take i text) a = subst (λ k. NumberFound (take i text) k) f reads in
+          let pair : PairIs (behind comma text) b c = subst (λ t. PairIs t b c) (behind-all text r found i e) (subst (λ k. PairFound (take (length text - (i + 1)) (drop (i + 1) text)) k) g reads′) in
+          record {
+            good = rw (comma-at text r found i e .front, left .good, pair .good);
+            left = rw (comma-at text r found i e .front) (left .value);
+            middle = pair .left;
+            right = pair .right;
+          }
+
+-- What the readers of a line answered.
+module _ (key sheet : List ℕ) (at : ℕ) (r : PairLine) (found : PairLineFound key sheet at r) where
+  pub pair-unread : r ≡ PairLine.Bad → isPairLine key (lineOf (drop at sheet)) ≡ false
+  pair-unread e = subst (λ k. PairLineFound key sheet at k) e found
+
+  pub pair-read : (a b next : ℕ) → r ≡ PairLine.Both a b next → PairAt key sheet at a b next
+  pair-read a b next e = subst (λ k. PairLineFound key sheet at k) e found
+
+module _ (key sheet : List ℕ) (at : ℕ) (r : TripleLine) (found : TripleLineFound key sheet at r) where
+  pub triple-unread : r ≡ TripleLine.Bad → isTripleLine key (lineOf (drop at sheet)) ≡ false
+  triple-unread e = subst (λ k. TripleLineFound key sheet at k) e found
+
+  pub triple-read : (a b c next : ℕ) → r ≡ TripleLine.All a b c next → TripleAt key sheet at a b c next
+  triple-read a b c next e = subst (λ k. TripleLineFound key sheet at k) e found
+
+-- Going through lines of one kind: none before the one at an index is bad, and what is left stands at a position.
+pub record LinesSeen (test : List ℕ → Bool) (sheet : List ℕ) (at count next i : ℕ) : Type 0 where
   pub few : i ≤ count
   pub within : next ≤ length sheet
-  pub none : firstBadPair key i (drop at sheet) ≡ 0
+  pub none : firstBadOf test i (drop at sheet) ≡ 0
   pub rest : drop next sheet ≡ afterLines i (drop at sheet)
 
-pub pairs-none : (key sheet : List ℕ) (at count : ℕ) → at ≤ length sheet → PairsSeen key sheet at count at 0
-unfolding firstBadPair afterLines firstWhere
-pairs-none key sheet at count l = record { few = omega arith; within = l; none = refl; rest = refl }
+pub lines-none : (test : List ℕ → Bool) (sheet : List ℕ) (at count : ℕ) → at ≤ length sheet → LinesSeen test sheet at count at 0
+unfolding firstBadOf afterLines firstWhere
+lines-none test sheet at count l = record { few = omega arith; within = l; none = refl; rest = refl }
 
-module _ (key sheet : List ℕ) (at count next i : ℕ) (p : PairsSeen key sheet at count next i) (l : i < count) (r : PairLine) (found : PairLineFound key sheet next r) where
+module _ (test : List ℕ → Bool) (sheet : List ℕ) (at count next i : ℕ) (p : LinesSeen test sheet at count next i) (l : i < count) where
   line-same : lineOf (drop next sheet) ≡ lineAfter i (drop at sheet)
   line-same = ap lineOf (p .rest)
 
-  pub pair-bad-here : r ≡ PairLine.Bad → PairBad key sheet at count (i + 1)
-  unfolding firstBadPair
-  pair-bad-here e =
-      let bad : isPairLine key (lineAfter i (drop at sheet)) ≡ false = rw (← line-same) (subst (λ k. PairLineFound key sheet next k) e found) in
+  pub line-bad-here : test (lineOf (drop next sheet)) ≡ false → LineBad test sheet at count (i + 1)
+  unfolding firstBadOf
+  line-bad-here e =
+      let bad : test (lineAfter i (drop at sheet)) ≡ false = rw (← line-same) e in
       record {
-        first = first-here (λ j. not (isPairLine key (lineAfter j (drop at sheet)))) i count (p .none) (rw bad) l;
+        first = first-here (λ j. not (test (lineAfter j (drop at sheet)))) i count (p .none) (rw bad) l;
         some = omega arith;
         most = omega arith;
       }
 
-  pub pair-seen : (a b after : ℕ) → r ≡ PairLine.Both a b after → PairsSeen key sheet at count after (i + 1)
-  unfolding firstBadPair afterLines
-  pair-seen a b after e =
-      let q : PairAt key sheet next a b after = subst (λ k. PairLineFound key sheet next k) e found in
-      let good : isPairLine key (lineAfter i (drop at sheet)) ≡ true = rw (← line-same) (q .passed .good) in
+  pub line-seen : (after : ℕ) → Passed test sheet next after → LinesSeen test sheet at count after (i + 1)
+  unfolding firstBadOf afterLines
+  line-seen after q =
+      let good : test (lineAfter i (drop at sheet)) ≡ true = rw (← line-same) (q .good) in
       record {
         few = omega arith;
-        within = q .passed .within;
-        none = first-more (λ j. not (isPairLine key (lineAfter j (drop at sheet)))) i (p .none) (rw good);
-        rest = q .passed .rest ∙ rw (p .rest, add-one);
+        within = q .within;
+        none = first-more (λ j. not (test (lineAfter j (drop at sheet)))) i (p .none) (rw good);
+        rest = q .rest ∙ rw (p .rest, add-one);
       }
 
-pub pairs-passed : (key sheet : List ℕ) (at count next i : ℕ) → PairsSeen key sheet at count next i → count ≤ i → PairsPassed key sheet at count next
-pairs-passed key sheet at count next i p l =
+  -- Where no line is bad, this one is not.
+  pub never-bad : firstBadOf test count (drop at sheet) ≡ 0 → test (lineOf (drop next sheet)) ≡ false → ⊥
+  unfolding firstBadOf
+  never-bad none e =
+      let good : test (lineAfter i (drop at sheet)) ≡ true = not-false (test (lineAfter i (drop at sheet))) (first-zero (λ j. not (test (lineAfter j (drop at sheet)))) count none i l) in
+      true≢false (sym good ∙ rw (← line-same) e)
+
+pub lines-passed : (test : List ℕ → Bool) (sheet : List ℕ) (at count next i : ℕ) → LinesSeen test sheet at count next i → count ≤ i → LinesPassed test sheet at count next
+lines-passed test sheet at count next i p l =
     let e : i ≡ count = omega arith in
     record { none = rw e at (p .none); within = p .within; rest = rw e at (p .rest) }
 
-module _ (key sheet : List ℕ) (at count : ℕ) (r : PairLines) (found : PairLinesFound key sheet at count r) where
-  pub pairs-ended : (next : ℕ) → r ≡ PairLines.End next → PairsPassed key sheet at count next
-  pairs-ended next e = subst (λ k. PairLinesFound key sheet at count k) e found
+module _ (test : List ℕ → Bool) (sheet : List ℕ) (at count : ℕ) (r : Lines) (found : LinesFound test sheet at count r) where
+  pub lines-ended : (next : ℕ) → r ≡ Lines.End next → LinesPassed test sheet at count next
+  lines-ended next e = subst (λ k. LinesFound test sheet at count k) e found
 
-  pub pairs-failed : (line : ℕ) → r ≡ PairLines.Bad line → PairBad key sheet at count line
-  pairs-failed line e = subst (λ k. PairLinesFound key sheet at count k) e found
+  pub lines-failed : (line : ℕ) → r ≡ Lines.Bad line → LineBad test sheet at count line
+  lines-failed line e = subst (λ k. LinesFound test sheet at count k) e found

@@ -110,3 +110,17 @@ firstIn key line = valueOf (before comma (valueText key line))
 
 abbrev pub secondIn : List ℕ → List ℕ → ℕ
 secondIn key line = valueOf (behind comma (valueText key line))
+
+-- Three numbers with two commas between them: a number, a comma and a pair.
+unfoldable pub isTriple : List ℕ → Bool
+isTriple text = isNumber (before comma text) && isPair (behind comma text)
+
+-- A key and three numbers: the first as above, the one between the commas, and the last.
+unfoldable pub isTripleLine : List ℕ → List ℕ → Bool
+isTripleLine key line = startsWith key line && isTriple (valueText key line)
+
+abbrev pub middleIn : List ℕ → List ℕ → ℕ
+middleIn key line = valueOf (before comma (behind comma (valueText key line)))
+
+abbrev pub thirdIn : List ℕ → List ℕ → ℕ
+thirdIn key line = valueOf (behind comma (behind comma (valueText key line)))

@@ -14,14 +14,16 @@ use Rattle.sheets.specs.declared.lines.NumberLine.{NumberLine}
 use Rattle.sheets.specs.declared.lines.RuleLine.{RuleLine}
 use Rattle.sheets.specs.declared.lines.Pair.{Pair}
 use Rattle.sheets.specs.declared.lines.PairLine.{PairLine}
-use Rattle.sheets.specs.declared.lines.PairLines.{PairLines}
+use Rattle.sheets.specs.declared.lines.Triple.{Triple}
+use Rattle.sheets.specs.declared.lines.TripleLine.{TripleLine}
+use Rattle.sheets.specs.declared.lines.Lines.{Lines}
 use Rattle.sheets.specs.declared.reader.Top.{Top}
 use Rattle.sheets.specs.declared.reader.TopRead.{TopRead}
 use Rattle.sheets.specs.declared.reader.BelowRead.{BelowRead}
 use Rattle.sheets.specs.declared.reader.Judged.{Judged}
 use Rattle.texts.specs.Text.{lineFeed, comma, before, behind, startsWith, valueOf}
-use Rattle.sheets.specs.Lines.{lineOf, afterLines, lineAfter, tapeKey, fileKey, wantKey, valueText, isTapeLine, isRuleLine, ruleIn, isPair, isPairLine, firstIn, secondIn}
-use Rattle.sheets.specs.Sheet.{mostSheetFiles, sheetHead, sheetTurn, sheetRule, sheetFiles, fileText, wantsText, sheetWants, wantText, firstBadPair, firstBadTop, firstBadBelow, eachOf}
+use Rattle.sheets.specs.Lines.{lineOf, afterLines, lineAfter, tapeKey, fileKey, wantKey, valueText, isTapeLine, isRuleLine, ruleIn, isPair, isPairLine, firstIn, secondIn, isTriple, isTripleLine, middleIn, thirdIn}
+use Rattle.sheets.specs.Sheet.{mostSheetFiles, sheetHead, sheetTurn, sheetRule, sheetFiles, fileText, wantsText, sheetWants, wantText, firstBadOf, firstBadTop, firstBadBelow, eachOf}
 use Rattle.sheets.specs.Reading.{sheetVerdict, refusedReading}
 
 -- A line that begins with a key: where its value starts and its LF stands.
@@ -80,20 +82,41 @@ abbrev pub PairLineFound : List ℕ → List ℕ → ℕ → PairLine → Type 0
 PairLineFound key sheet at (PairLine.Both first second next) = PairAt key sheet at first second next
 PairLineFound key sheet at PairLine.Bad = isPairLine key (lineOf (drop at sheet)) ≡ false
 
--- So many lines of pairs: none is bad, and what follows them; or which is the first bad one.
-pub record PairsPassed (key sheet : List ℕ) (at count next : ℕ) : Type 0 where
-  pub none : firstBadPair key count (drop at sheet) ≡ 0
+-- A text that is three numbers, and which.
+pub record TripleIs (text : List ℕ) (first second third : ℕ) : Type 0 where
+  pub good : isTriple text ≡ true
+  pub left : first ≡ valueOf (before comma text)
+  pub middle : second ≡ valueOf (before comma (behind comma text))
+  pub right : third ≡ valueOf (behind comma (behind comma text))
+
+abbrev pub TripleFound : List ℕ → Triple → Type 0
+TripleFound text (Triple.All first second third) = TripleIs text first second third
+TripleFound text Triple.Bad = isTriple text ≡ false
+
+pub record TripleAt (key sheet : List ℕ) (at first second third next : ℕ) : Type 0 where
+  pub passed : Passed (isTripleLine key) sheet at next
+  pub left : first ≡ firstIn key (lineOf (drop at sheet))
+  pub middle : second ≡ middleIn key (lineOf (drop at sheet))
+  pub right : third ≡ thirdIn key (lineOf (drop at sheet))
+
+abbrev pub TripleLineFound : List ℕ → List ℕ → ℕ → TripleLine → Type 0
+TripleLineFound key sheet at (TripleLine.All first second third next) = TripleAt key sheet at first second third next
+TripleLineFound key sheet at TripleLine.Bad = isTripleLine key (lineOf (drop at sheet)) ≡ false
+
+-- So many lines of one kind: none is bad, and what follows them; or which is the first bad one.
+pub record LinesPassed (test : List ℕ → Bool) (sheet : List ℕ) (at count next : ℕ) : Type 0 where
+  pub none : firstBadOf test count (drop at sheet) ≡ 0
   pub within : next ≤ length sheet
   pub rest : drop next sheet ≡ afterLines count (drop at sheet)
 
-pub record PairBad (key sheet : List ℕ) (at count line : ℕ) : Type 0 where
-  pub first : firstBadPair key count (drop at sheet) ≡ line
+pub record LineBad (test : List ℕ → Bool) (sheet : List ℕ) (at count line : ℕ) : Type 0 where
+  pub first : firstBadOf test count (drop at sheet) ≡ line
   pub some : 0 < line
   pub most : line ≤ count
 
-abbrev pub PairLinesFound : List ℕ → List ℕ → ℕ → ℕ → PairLines → Type 0
-PairLinesFound key sheet at count (PairLines.End next) = PairsPassed key sheet at count next
-PairLinesFound key sheet at count (PairLines.Bad line) = PairBad key sheet at count line
+abbrev pub LinesFound : (List ℕ → Bool) → List ℕ → ℕ → ℕ → Lines → Type 0
+LinesFound test sheet at count (Lines.End next) = LinesPassed test sheet at count next
+LinesFound test sheet at count (Lines.Bad line) = LineBad test sheet at count line
 
 -- The first five lines: their values, and what follows them.
 pub record TopIs (sheet : List ℕ) (top : Top) : Type 0 where
@@ -127,13 +150,13 @@ pub record WantsAt (sheet : List ℕ) (at files : ℕ) : Type 0 where
   pub few : files ≤ mostSheetFiles
   pub within : at ≤ length sheet
   pub rest : drop at sheet ≡ wantsText sheet
-  pub none : firstBadPair fileKey (sheetFiles sheet) (fileText sheet) ≡ 0
+  pub none : firstBadOf (isTripleLine fileKey) (sheetFiles sheet) (fileText sheet) ≡ 0
 
 -- The lines below the first five: the number of wants, and where the want lines start.
 pub record BelowIs (sheet : List ℕ) (wants at : ℕ) : Type 0 where
   pub none : firstBadBelow sheet ≡ 0
-  pub filed : firstBadPair fileKey (sheetFiles sheet) (fileText sheet) ≡ 0
-  pub wanted : firstBadPair wantKey (sheetWants sheet) (wantText sheet) ≡ 0
+  pub filed : firstBadOf (isTripleLine fileKey) (sheetFiles sheet) (fileText sheet) ≡ 0
+  pub wanted : firstBadOf (isPairLine wantKey) (sheetWants sheet) (wantText sheet) ≡ 0
   pub count : wants ≡ sheetWants sheet
   pub within : at ≤ length sheet
   pub rest : drop at sheet ≡ wantText sheet
@@ -164,20 +187,25 @@ pub record JudgedFound (sheet : List ℕ) (judged : Judged) : Type 0 where
   pub want-at : judged .at ≤ length sheet
   pub out : isRefusal (judged .verdict .refusal) ≡ false → JudgedGood sheet judged
 
--- Lines of pairs that are all as described, and rows with room for them.
+-- Lines of pairs, or of three numbers, that are all as described, and rows with room for them.
 pub record PairsReady (key sheet : List ℕ) (at count : ℕ) (firsts seconds : List ℕ) : Type 0 where
   pub keyed : 0 < length key
   pub within : at ≤ length sheet
-  pub none : firstBadPair key count (drop at sheet) ≡ 0
+  pub none : firstBadOf (isPairLine key) count (drop at sheet) ≡ 0
   pub room : count ≤ length firsts
   pub space : count ≤ length seconds
 
--- The rows with the pairs in their first entries.
-abbrev pub leftRow : List ℕ → List ℕ → ℕ → List ℕ → List ℕ
-leftRow key text count row = eachOf (λ i. firstIn key (lineAfter i text)) count ++ drop count row
+pub record TriplesReady (key sheet : List ℕ) (at count : ℕ) (firsts seconds thirds : List ℕ) : Type 0 where
+  pub keyed : 0 < length key
+  pub within : at ≤ length sheet
+  pub none : firstBadOf (isTripleLine key) count (drop at sheet) ≡ 0
+  pub room : count ≤ length firsts
+  pub space : count ≤ length seconds
+  pub more : count ≤ length thirds
 
-abbrev pub rightRow : List ℕ → List ℕ → ℕ → List ℕ → List ℕ
-rightRow key text count row = eachOf (λ i. secondIn key (lineAfter i text)) count ++ drop count row
+-- A row with a value of each line in its first entries.
+abbrev pub filledRow : (List ℕ → ℕ) → List ℕ → ℕ → List ℕ → List ℕ
+filledRow value text count row = eachOf (λ i. value (lineAfter i text)) count ++ drop count row
 
 -- How many lines are filled, and what is answered, for a verdict.
 abbrev pub linesFilled : Verdict → ℕ → ℕ

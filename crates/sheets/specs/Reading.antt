@@ -22,12 +22,16 @@ sheetVerdict sheet =
 abbrev pub shortPairRows : ℕ → List ℕ → List ℕ → Bool
 shortPairRows count firsts seconds = ltb (length firsts) count || ltb (length seconds) count
 
+-- Or one of three.
+abbrev pub shortTripleRows : ℕ → List ℕ → List ℕ → List ℕ → Bool
+shortTripleRows count firsts seconds thirds = shortPairRows count firsts seconds || ltb (length thirds) count
+
 -- Then 8: a row shorter than the files or wants read.
-unfoldable pub readVerdict : List ℕ → List ℕ → List ℕ → List ℕ → List ℕ → Verdict
-readVerdict sheet starts lengths numbers counts =
+unfoldable pub readVerdict : List ℕ → List ℕ → List ℕ → List ℕ → List ℕ → List ℕ → Verdict
+readVerdict sheet starts lengths aggregates numbers counts =
     firstOf
     (sheetVerdict sheet
-    ∷ refuseIf (shortPairRows (sheetFiles sheet) starts lengths || shortPairRows (sheetWants sheet) numbers counts) ShortRow
+    ∷ refuseIf (shortTripleRows (sheetFiles sheet) starts lengths aggregates || shortPairRows (sheetWants sheet) numbers counts) ShortRow
     ∷ [])
 
 -- A refusal's answer: kind and place, every other number 0 and the rule least.
@@ -56,25 +60,27 @@ readAnswer v sheet = readAnswerWith emptyTurn v sheet
 unfoldable pub readRow : Verdict → List ℕ → List ℕ → List ℕ
 readRow v values row = cond (isRefusal (v .refusal)) row (values ++ drop (length values) row)
 
--- The rows that the reader is lent: starts and lengths of the files, numbers and counts of the wants.
+-- The rows that the reader is lent: starts, lengths and aggregates of the files, numbers and counts of the wants.
 pub record RunRows : Type 0 where
   pub starts : List ℕ
   pub lengths : List ℕ
+  pub aggregates : List ℕ
   pub numbers : List ℕ
   pub counts : List ℕ
 
-abbrev pub runRows : List ℕ → List ℕ → List ℕ → List ℕ → RunRows
-runRows starts lengths numbers counts =
-    record { starts = starts; lengths = lengths; numbers = numbers; counts = counts }
+abbrev pub runRows : List ℕ → List ℕ → List ℕ → List ℕ → List ℕ → RunRows
+runRows starts lengths aggregates numbers counts =
+    record { starts = starts; lengths = lengths; aggregates = aggregates; numbers = numbers; counts = counts }
 
 abbrev pub rowsVerdict : List ℕ → RunRows → Verdict
-rowsVerdict sheet rows = readVerdict sheet (rows .starts) (rows .lengths) (rows .numbers) (rows .counts)
+rowsVerdict sheet rows = readVerdict sheet (rows .starts) (rows .lengths) (rows .aggregates) (rows .numbers) (rows .counts)
 
 -- What a reader to whom an empty price means e answers, and the rows that it leaves.
 pub record ReadWith (e : ℕ) (sheet : List ℕ) (rows : RunRows) (r : Reading) (rows′ : RunRows) : Type 0 where
   pub answer : r ≡ readAnswerWith e (rowsVerdict sheet rows) sheet
   pub starts : rows′ .starts ≡ readRow (rowsVerdict sheet rows) (sheetRunWith e sheet .starts) (rows .starts)
   pub lengths : rows′ .lengths ≡ readRow (rowsVerdict sheet rows) (sheetRunWith e sheet .lengths) (rows .lengths)
+  pub aggregates : rows′ .aggregates ≡ readRow (rowsVerdict sheet rows) (sheetRunWith e sheet .aggregates) (rows .aggregates)
   pub numbers : rows′ .numbers ≡ readRow (rowsVerdict sheet rows) (sheetRunWith e sheet .numbers) (rows .numbers)
   pub counts : rows′ .counts ≡ readRow (rowsVerdict sheet rows) (sheetRunWith e sheet .counts) (rows .counts)
 

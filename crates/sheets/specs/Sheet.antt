@@ -6,7 +6,7 @@ use Rattle.refusals.specs.Refusals.{firstWhere}
 use Rattle.runs.specs.Run.{Run, mostWants}
 use Rattle.runs.specs.declared.Rule.{Rule}
 use Rattle.texts.specs.Text.{isEmpty}
-use Rattle.sheets.specs.Lines.{lineOf, afterLines, lineAfter, tapeKey, headKey, filesKey, fileKey, wantsKey, wantKey, valueText, isTapeLine, isNumberLine, numberBehind, isCountLine, isTurnLine, turnWith, emptyTurn, isRuleLine, ruleIn, isPairLine, firstIn, secondIn}
+use Rattle.sheets.specs.Lines.{lineOf, afterLines, lineAfter, tapeKey, headKey, filesKey, fileKey, wantsKey, wantKey, valueText, isTapeLine, isNumberLine, numberBehind, isCountLine, isTurnLine, turnWith, emptyTurn, isRuleLine, ruleIn, isPairLine, isTripleLine, firstIn, secondIn, middleIn, thirdIn}
 
 -- The limits of a sheet. `wants` is limited as the run is.
 abbrev pub longestSheet : ℕ
@@ -57,8 +57,8 @@ abbrev pub shifted : ℕ → ℕ → ℕ
 shifted lines zero = 0
 shifted lines (suc i) = lines + suc i
 
-unfoldable pub firstBadPair : List ℕ → ℕ → List ℕ → ℕ
-firstBadPair key count text = firstWhere (λ i. not (isPairLine key (lineAfter i text))) count
+unfoldable pub firstBadOf : (List ℕ → Bool) → ℕ → List ℕ → ℕ
+firstBadOf test count text = firstWhere (λ i. not (test (lineAfter i text))) count
 
 -- The first number of a row that is not 0.
 abbrev pub firstSome : List ℕ → ℕ
@@ -80,9 +80,9 @@ firstBadTop sheet =
 unfoldable pub firstBadBelow : List ℕ → ℕ
 firstBadBelow sheet =
     firstSome
-    (shifted 5 (firstBadPair fileKey (sheetFiles sheet) (fileText sheet))
+    (shifted 5 (firstBadOf (isTripleLine fileKey) (sheetFiles sheet) (fileText sheet))
     ∷ unless (isCountLine wantsKey mostWants (lineOf (wantsText sheet))) (sheetFiles sheet + 6)
-    ∷ shifted (sheetFiles sheet + 6) (firstBadPair wantKey (sheetWants sheet) (wantText sheet))
+    ∷ shifted (sheetFiles sheet + 6) (firstBadOf (isPairLine wantKey) (sheetWants sheet) (wantText sheet))
     ∷ unless (isEmpty (endText sheet)) (sheetFiles sheet + sheetWants sheet + 7)
     ∷ [])
 
@@ -95,12 +95,14 @@ unfoldable pub eachOf : (ℕ → ℕ) → ℕ → List ℕ
 eachOf value zero = []
 eachOf value (suc n) = eachOf value n ++ (value n ∷ [])
 
--- The run that a sheet holds, where an empty price means e: `file` is start and length, `want` is file number and count.
+-- The run that a sheet holds, where an empty price means e: `file` is start, length and
+-- aggregate, `want` is file number and count.
 abbrev pub sheetRunWith : ℕ → List ℕ → Run
 sheetRunWith e sheet =
     record {
       starts = eachOf (λ i. firstIn fileKey (lineAfter i (fileText sheet))) (sheetFiles sheet);
-      lengths = eachOf (λ i. secondIn fileKey (lineAfter i (fileText sheet))) (sheetFiles sheet);
+      lengths = eachOf (λ i. middleIn fileKey (lineAfter i (fileText sheet))) (sheetFiles sheet);
+      aggregates = eachOf (λ i. thirdIn fileKey (lineAfter i (fileText sheet))) (sheetFiles sheet);
       numbers = eachOf (λ i. firstIn wantKey (lineAfter i (wantText sheet))) (sheetWants sheet);
       counts = eachOf (λ i. secondIn wantKey (lineAfter i (wantText sheet))) (sheetWants sheet);
       head = sheetHead sheet;

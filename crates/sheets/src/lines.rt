@@ -1,8 +1,8 @@
 // Readers of single lines. Each takes the position at which the line starts, and answers its value and where the next line starts.
 ghost use Prim.Native.Nat.{_≤_, _<_};
 ghost use lib.ListN.{length};
-ghost use Rattle.sheets.specs.Lines.{isNumberLine, numberBehind, isCountLine, isTurnLine, turnIn};
-ghost use Rattle.sheets.specs.Private.{ValueFound, NameLineFound, NumberLineFound, RuleLineFound, PairFound, PairLineFound, PairLinesFound};
+ghost use Rattle.sheets.specs.Lines.{isNumberLine, numberBehind, isCountLine, isTurnLine, turnIn, isPairLine, isTripleLine};
+ghost use Rattle.sheets.specs.Private.{ValueFound, NameLineFound, NumberLineFound, RuleLineFound, PairFound, PairLineFound, TripleFound, TripleLineFound, LinesFound};
 use crate::EMPTY_TURN;
 use runs::Rule;
 use texts::Found;
@@ -48,8 +48,23 @@ pub(crate) enum PairLine {
     Bad,
 }
 
-// Where the lines after so many pairs start, or the first of them that is not as described, counted from 1.
-pub(crate) enum PairLines {
+pub(crate) enum Triple {
+    All { first: u64, second: u64, third: u64 },
+    Bad,
+}
+
+pub(crate) enum TripleLine {
+    All {
+        first: u64,
+        second: u64,
+        third: u64,
+        next: usize,
+    },
+    Bad,
+}
+
+// Where the text after so many lines of one kind starts, or the first of them that is not as described, counted from 1.
+pub(crate) enum Lines {
     End(usize),
     Bad(u64),
 }
@@ -198,10 +213,10 @@ pub(crate) fn pair_line(sheet: &[u8], at: usize, key: &[u8]) -> PairLine
     }
 }
 
-pub(crate) fn pair_lines(sheet: &[u8], at: usize, key: &[u8], count: u64) -> PairLines
+pub(crate) fn pair_lines(sheet: &[u8], at: usize, key: &[u8], count: u64) -> Lines
     requires { ⌜ at ≤ length (now sheet) ⌝ }
     requires { ⌜ 0 < length (now key) ⌝ }
-    ensures { λ r. ⌜ PairLinesFound (now (key .entry)) (now (sheet .entry)) at count r ⌝ }
+    ensures { λ r. ⌜ LinesFound (isPairLine (now (key .entry))) (now (sheet .entry)) at count r ⌝ }
 {
     let mut next = at;
     let mut i: u64 = 0;
@@ -212,10 +227,82 @@ pub(crate) fn pair_lines(sheet: &[u8], at: usize, key: &[u8], count: u64) -> Pai
             next: after,
         } = pair_line(sheet, next, key)
         else {
-            return PairLines::Bad(i + 1);
+            return Lines::Bad(i + 1);
         };
         next = after;
         i += 1;
     }
-    PairLines::End(next)
+    Lines::End(next)
+}
+
+// Three numbers with two commas between them.
+fn read_triple(text: &[u8]) -> Triple
+    ensures { λ r. ⌜ TripleFound (now (text .entry)) r ⌝ }
+{
+    let Found::At(length) = find(text, b',') else {
+        return Triple::Bad;
+    };
+    let Number::Value(first) = read_number(&text[..length]) else {
+        return Triple::Bad;
+    };
+    let rest = length + 1;
+    let Pair::Both {
+        first: second,
+        second: third,
+    } = read_pair(&text[rest..])
+    else {
+        return Triple::Bad;
+    };
+    Triple::All {
+        first,
+        second,
+        third,
+    }
+}
+
+pub(crate) fn triple_line(sheet: &[u8], at: usize, key: &[u8]) -> TripleLine
+    requires { ⌜ at ≤ length (now sheet) ⌝ }
+    requires { ⌜ 0 < length (now key) ⌝ }
+    ensures { λ r. ⌜ TripleLineFound (now (key .entry)) (now (sheet .entry)) at r ⌝ }
+{
+    let Keyed::Text { from, end } = find_value(sheet, at, key) else {
+        return TripleLine::Bad;
+    };
+    let Triple::All {
+        first,
+        second,
+        third,
+    } = read_triple(&sheet[from..end])
+    else {
+        return TripleLine::Bad;
+    };
+    TripleLine::All {
+        first,
+        second,
+        third,
+        next: end + 1,
+    }
+}
+
+pub(crate) fn triple_lines(sheet: &[u8], at: usize, key: &[u8], count: u64) -> Lines
+    requires { ⌜ at ≤ length (now sheet) ⌝ }
+    requires { ⌜ 0 < length (now key) ⌝ }
+    ensures { λ r. ⌜ LinesFound (isTripleLine (now (key .entry))) (now (sheet .entry)) at count r ⌝ }
+{
+    let mut next = at;
+    let mut i: u64 = 0;
+    while i < count {
+        let TripleLine::All {
+            first: _,
+            second: _,
+            third: _,
+            next: after,
+        } = triple_line(sheet, next, key)
+        else {
+            return Lines::Bad(i + 1);
+        };
+        next = after;
+        i += 1;
+    }
+    Lines::End(next)
 }

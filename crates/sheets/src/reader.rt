@@ -7,21 +7,25 @@ ghost use lib.Dec.{ltb};
 ghost use Rattle.refusals.specs.declared.Refusal.the-variants.{ShortRow};
 ghost use Rattle.refusals.specs.Refusals.{refuseIf, firstOf};
 ghost use Rattle.sheets.specs.Reading.{sheetVerdict, runRows, SheetRead, readName, readFrom, placeOn};
-ghost use Rattle.sheets.specs.Private.{TopFound, FilesAt, WantsAt, BelowFound, Unread, JudgedFound, PairsReady, leftRow, rightRow, linesFilled, readingOf};
+ghost use Rattle.sheets.specs.Lines.{firstIn, secondIn, middleIn, thirdIn};
+ghost use Rattle.sheets.specs.Private.{TopFound, FilesAt, WantsAt, BelowFound, Unread, JudgedFound, PairsReady, TriplesReady, filledRow, linesFilled, readingOf};
 use crate::LONGEST_SHEET;
 use crate::MOST_SHEET_FILES;
 use crate::Reading;
+use crate::lines::Lines;
 use crate::lines::NameLine;
 use crate::lines::NumberLine;
 use crate::lines::PairLine;
-use crate::lines::PairLines;
 use crate::lines::RuleLine;
+use crate::lines::TripleLine;
 use crate::lines::count_line;
 use crate::lines::number_line;
 use crate::lines::pair_line;
 use crate::lines::pair_lines;
 use crate::lines::rule_line;
 use crate::lines::tape_line;
+use crate::lines::triple_line;
+use crate::lines::triple_lines;
 use crate::lines::turn_line;
 use refusals::Refusal;
 use refusals::Verdict;
@@ -104,8 +108,8 @@ fn read_wants(sheet: &[u8], at: usize, files: u64) -> BelowRead
         return BelowRead::Bad(files + 6);
     };
     match pair_lines(sheet, want_at, b"want=", wants) {
-        PairLines::Bad(line) => BelowRead::Bad(files + 6 + line),
-        PairLines::End(end) => {
+        Lines::Bad(line) => BelowRead::Bad(files + 6 + line),
+        Lines::End(end) => {
             if end < sheet.len() {
                 BelowRead::Bad(files + wants + 7)
             } else {
@@ -119,9 +123,9 @@ fn read_below(sheet: &[u8], at: usize, files: u64) -> BelowRead
     requires { ⌜ FilesAt (now sheet) at files ⌝ }
     ensures { λ r. ⌜ BelowFound (now (sheet .entry)) r ⌝ }
 {
-    match pair_lines(sheet, at, b"file=", files) {
-        PairLines::Bad(line) => BelowRead::Bad(5 + line),
-        PairLines::End(next) => read_wants(sheet, next, files),
+    match triple_lines(sheet, at, b"file=", files) {
+        Lines::Bad(line) => BelowRead::Bad(5 + line),
+        Lines::End(next) => read_wants(sheet, next, files),
     }
 }
 
@@ -174,8 +178,8 @@ fn fill_pair(
     seconds: &mut [u64],
 )
     requires { ⌜ PairsReady (now key) (now sheet) at count (now firsts) (now seconds) ⌝ }
-    ensures { λ _. ⌜ now (firsts .exit) ≡ leftRow (now (key .entry)) (drop at (now (sheet .entry))) count (now (firsts .entry)) ⌝ }
-    ensures { λ _. ⌜ now (seconds .exit) ≡ rightRow (now (key .entry)) (drop at (now (sheet .entry))) count (now (seconds .entry)) ⌝ }
+    ensures { λ _. ⌜ now (firsts .exit) ≡ filledRow (firstIn (now (key .entry))) (drop at (now (sheet .entry))) count (now (firsts .entry)) ⌝ }
+    ensures { λ _. ⌜ now (seconds .exit) ≡ filledRow (secondIn (now (key .entry))) (drop at (now (sheet .entry))) count (now (seconds .entry)) ⌝ }
 {
     let mut next = at;
     let mut i: usize = 0;
@@ -194,6 +198,52 @@ fn fill_pair(
         next = after;
         i += 1;
     }
+}
+
+// The same with three numbers and three rows.
+fn fill_triple(
+    sheet: &[u8],
+    at: usize,
+    key: &[u8],
+    count: u64,
+    firsts: &mut [u64],
+    seconds: &mut [u64],
+    thirds: &mut [u64],
+)
+    requires { ⌜ TriplesReady (now key) (now sheet) at count (now firsts) (now seconds) (now thirds) ⌝ }
+    ensures { λ _. ⌜ now (firsts .exit) ≡ filledRow (firstIn (now (key .entry))) (drop at (now (sheet .entry))) count (now (firsts .entry)) ⌝ }
+    ensures { λ _. ⌜ now (seconds .exit) ≡ filledRow (middleIn (now (key .entry))) (drop at (now (sheet .entry))) count (now (seconds .entry)) ⌝ }
+    ensures { λ _. ⌜ now (thirds .exit) ≡ filledRow (thirdIn (now (key .entry))) (drop at (now (sheet .entry))) count (now (thirds .entry)) ⌝ }
+{
+    let mut next = at;
+    let mut i: usize = 0;
+    let most = count as usize;
+    while i < most {
+        let TripleLine::All {
+            first,
+            second,
+            third,
+            next: after,
+        } = triple_line(sheet, next, key)
+        else {
+            return;
+        };
+        firsts[i] = first;
+        seconds[i] = second;
+        thirds[i] = third;
+        next = after;
+        i += 1;
+    }
+}
+
+// 8 for one row of this length, unless what was judged before refuses.
+fn judge_row(before: Verdict, count: u64, row: usize) -> Verdict
+    ensures { λ r. ⌜ r ≡ firstOf (before ∷ refuseIf (ltb row count) ShortRow ∷ []) ⌝ }
+{
+    if refused(before) {
+        return before;
+    }
+    refuse_if((row as u64) < count, Refusal::ShortRow)
 }
 
 // 8 for two rows of these lengths, unless what was judged before refuses.
@@ -250,18 +300,28 @@ pub fn read_sheet(
     sheet: &[u8],
     starts: &mut [u64],
     lengths: &mut [u64],
+    aggregates: &mut [u64],
     numbers: &mut [u64],
     counts: &mut [u64],
 ) -> Reading
-    ensures { λ r. ⌜ SheetRead (now (sheet .entry)) (runRows (now (starts .entry)) (now (lengths .entry)) (now (numbers .entry)) (now (counts .entry))) r (runRows (now (starts .exit)) (now (lengths .exit)) (now (numbers .exit)) (now (counts .exit))) ⌝ }
+    ensures { λ r. ⌜ SheetRead (now (sheet .entry)) (runRows (now (starts .entry)) (now (lengths .entry)) (now (aggregates .entry)) (now (numbers .entry)) (now (counts .entry))) r (runRows (now (starts .exit)) (now (lengths .exit)) (now (aggregates .exit)) (now (numbers .exit)) (now (counts .exit))) ⌝ }
 {
     let judged = judge_sheet(sheet);
     let top = judged.top;
-    let so_far = judge_pair(judged.verdict, top.files, starts.len(), lengths.len());
+    let paired = judge_pair(judged.verdict, top.files, starts.len(), lengths.len());
+    let so_far = judge_row(paired, top.files, aggregates.len());
     let verdict = judge_pair(so_far, judged.wants, numbers.len(), counts.len());
     let file_lines = to_fill(verdict, top.files);
     let want_lines = to_fill(verdict, judged.wants);
-    fill_pair(sheet, top.next, b"file=", file_lines, starts, lengths);
+    fill_triple(
+        sheet,
+        top.next,
+        b"file=",
+        file_lines,
+        starts,
+        lengths,
+        aggregates,
+    );
     fill_pair(sheet, judged.at, b"want=", want_lines, numbers, counts);
     reading_of(verdict, top, judged.wants)
 }

@@ -8,7 +8,7 @@ use native.Mathlib.Decide.{decLe, decLt}
 use native.Mathlib.Numerals.{add-one}
 use native.Mathlib.Nat.{mul-le-mul-right}
 use lib.ListN.{length, getD}
-use Rattle.runs.specs.Run.{Stop, stopsFrom}
+use Rattle.runs.specs.Run.{Stop, plainStops}
 use Rattle.least.proofs.Value.{value-none}
 use Rattle.least.specs.Recurrence.{leftAt, rightAt, countAt}
 use Rattle.tables.specs.Private.{Judged, Written, RowTask, ColumnTask, DoneUpTo, Filled, Holds, Columns, Done, Beyond, rowAt, tableSize, readsIn, readsFirst, worth}
@@ -21,7 +21,7 @@ module _ (starts lengths numbers counts : List ℕ) (turn reads : ℕ) (j : Judg
   k = length numbers
 
   abbrev stops : List Stop
-  stops = stopsFrom starts lengths numbers counts
+  stops = plainStops starts lengths numbers counts
 
   empty-worth : (a b s : ℕ) → b ≤ a → worth stops turn a b s ≡ 0
   empty-worth a b s h = value-none (leftAt stops) (rightAt stops) (countAt stops) turn a b s h
@@ -62,9 +62,9 @@ module _ (starts lengths numbers counts : List ℕ) (turn reads b n : ℕ) where
     pub inside : b + 1 < length numbers
     pub big : tableSize (length numbers) reads ≤ length ys
     pub span : n + readsIn counts (b + 2) ≡ reads + 1
-    pub columns : Columns (stopsFrom starts lengths numbers counts) turn (length numbers) reads ys b
-    pub edge : Holds (stopsFrom starts lengths numbers counts) turn (length numbers) reads ys (b + 1) (b + 1)
-    pub rows : (a′ : ℕ) → a′ < a → Holds (stopsFrom starts lengths numbers counts) turn (length numbers) reads ys a′ (b + 1)
+    pub columns : Columns (plainStops starts lengths numbers counts) turn (length numbers) reads ys b
+    pub edge : Holds (plainStops starts lengths numbers counts) turn (length numbers) reads ys (b + 1) (b + 1)
+    pub rows : (a′ : ℕ) → a′ < a → Holds (plainStops starts lengths numbers counts) turn (length numbers) reads ys a′ (b + 1)
     pub beyond : Beyond (tableSize (length numbers) reads) xs ys
     pub within : a ≤ b + 1
 
@@ -86,12 +86,12 @@ module _ (starts lengths numbers counts : List ℕ) (turn reads b n : ℕ) where
     pub row-task : a ≤ b → RowTask starts lengths numbers counts turn reads ys a b n
     row-task h = record { judged = l .judged; window = h; inside = l .inside; big = l .big; columns = l .columns; span = omega (arith, l .span) }
 
-    span-reads : (s : ℕ) → s + readsFirst (stopsFrom starts lengths numbers counts) (suc (b + 1)) ≤ reads → s < n
+    span-reads : (s : ℕ) → s + readsFirst (plainStops starts lengths numbers counts) (suc (b + 1)) ≤ reads → s < n
     span-reads s h =
         let e : suc (b + 1) ≡ b + 2 = omega arith in
-        omega (arith, l .span, h, ap (readsFirst (stopsFrom starts lengths numbers counts)) e, reads-at starts lengths numbers counts turn reads (l .judged) (b + 2) (omega (arith, l .inside)))
+        omega (arith, l .span, h, ap (readsFirst (plainStops starts lengths numbers counts)) e, reads-at starts lengths numbers counts turn reads (l .judged) (b + 2) (omega (arith, l .inside)))
 
-    pub column-turn : (zs : List ℕ) → a ≤ b → Written (rowAt (length numbers) reads a (b + 1)) n (worth (stopsFrom starts lengths numbers counts) turn a (suc b)) ys zs → ColumnLoop xs zs (a + 1)
+    pub column-turn : (zs : List ℕ) → a ≤ b → Written (rowAt (length numbers) reads a (b + 1)) n (worth (plainStops starts lengths numbers counts) turn a (suc b)) ys zs → ColumnLoop xs zs (a + 1)
     column-turn zs h w =
         record {
           judged = l .judged;
@@ -116,11 +116,11 @@ module _ (starts lengths numbers counts : List ℕ) (turn reads b n : ℕ) where
         fits : rowAt (length numbers) reads a (b + 1) + n ≤ tableSize (length numbers) reads
         fits = omega (arith, row-inside (length numbers) reads a (b + 1) 0 n (omega (arith, l .inside)) (l .inside) (omega (arith, small)))
 
-        keeps : (a′ b′ : ℕ) → b′ < length numbers → (a′ ≡ a → b′ ≡ b + 1 → ⊥) → Holds (stopsFrom starts lengths numbers counts) turn (length numbers) reads ys a′ b′ → Holds (stopsFrom starts lengths numbers counts) turn (length numbers) reads zs a′ b′
-        keeps a′ b′ m d v = holds-kept (stopsFrom starts lengths numbers counts) turn (length numbers) reads ys zs a (b + 1) n a′ b′ (w .kept) small (l .inside) m d v
+        keeps : (a′ b′ : ℕ) → b′ < length numbers → (a′ ≡ a → b′ ≡ b + 1 → ⊥) → Holds (plainStops starts lengths numbers counts) turn (length numbers) reads ys a′ b′ → Holds (plainStops starts lengths numbers counts) turn (length numbers) reads zs a′ b′
+        keeps a′ b′ m d v = holds-kept (plainStops starts lengths numbers counts) turn (length numbers) reads ys zs a (b + 1) n a′ b′ (w .kept) small (l .inside) m d v
 
-        here : Holds (stopsFrom starts lengths numbers counts) turn (length numbers) reads zs a (b + 1)
-        here s m = w .words s (span-reads s m) ∙ ap (λ x. worth (stopsFrom starts lengths numbers counts) turn a x s) (sym (add-one b))
+        here : Holds (plainStops starts lengths numbers counts) turn (length numbers) reads zs a (b + 1)
+        here s m = w .words s (span-reads s m) ∙ ap (λ x. worth (plainStops starts lengths numbers counts) turn a x s) (sym (add-one b))
 
     column-ends : b < a → DoneUpTo starts lengths numbers counts turn reads xs ys (b + 1)
     column-ends h =
@@ -170,10 +170,10 @@ module _ (starts lengths numbers counts : List ℕ) (turn reads : ℕ) where
         reads-left = omega (arith, reads-more counts 0, reads-none counts);
       }
     where
-      first : Holds (stopsFrom starts lengths numbers counts) turn (length numbers) reads xs 0 0
+      first : Holds (plainStops starts lengths numbers counts) turn (length numbers) reads xs 0 0
       first s l =
           let at : rowAt (length numbers) reads 0 0 + s ≡ 0 + s = omega arith in
-          rw at (w .words s (omega arith) ∙ sym (value-none (leftAt (stopsFrom starts lengths numbers counts)) (rightAt (stopsFrom starts lengths numbers counts)) (countAt (stopsFrom starts lengths numbers counts)) turn 0 0 s (omega arith)))
+          rw at (w .words s (omega arith) ∙ sym (value-none (leftAt (plainStops starts lengths numbers counts)) (rightAt (plainStops starts lengths numbers counts)) (countAt (plainStops starts lengths numbers counts)) turn 0 0 s (omega arith)))
 
   module _ (xs ys : List ℕ) (b left : ℕ) (l : TableLoop xs ys b left) where
     more-left : b + 1 < length numbers → left + getD counts (b + 1) 0 ≡ readsIn counts (b + 2)

@@ -7,20 +7,19 @@ use native.Mathlib.Omega.{arith}
 use native.Mathlib.Decide.{decLt}
 use native.Mathlib.Numerals.{add-one}
 use lib.ListN.{length, getD}
-use Rattle.runs.specs.Run.{runOf, stopOf, stopsFrom, lastPlace, highestTurn, mostReads, stopAt}
+use Rattle.runs.specs.Run.{aloneOf, plainStop, plainStops, lastPlace, highestTurn, mostReads, stopAt}
 use Rattle.runs.proofs.Accepted.{GoodFile, GoodWant}
-use Rattle.runs.proofs.Judged.{GoodRun, accepted-run}
+use Rattle.runs.proofs.Judged.{GoodRun, accepted-run, numbers-rise}
 use Rattle.runs.proofs.Table.{table-file, end-before-start}
-use Rattle.walk.proofs.Walks.{numbers-rise}
-use Rattle.walk.proofs.Filling as filling
+use Rattle.runs.proofs.Alone.{plain-at, plain-length}
 use Rattle.least.proofs.Sums.{W-zero, W-suc}
 use Rattle.least.specs.Recurrence.{fileAt, leftAt, rightAt, countAt}
 use Rattle.tables.specs.Private.{Judged, IsStop, TripFits, EarlyFits, RowFits, rowAt, startAt, stopEnd, readsIn, readsFirst}
 use Rattle.tables.proofs.Sizes.{row-small, reads-none, reads-more, reads-within}
 
 module _ (starts lengths numbers counts : List ℕ) (turn reads : ℕ) (j : Judged starts lengths numbers counts turn reads) where
-  good : GoodRun (runOf starts lengths numbers counts (j .head) turn)
-  good = accepted-run (runOf starts lengths numbers counts (j .head) turn) (j .accepts)
+  good : GoodRun (aloneOf starts lengths numbers counts (j .head) turn)
+  good = accepted-run (aloneOf starts lengths numbers counts (j .head) turn) (j .accepts)
 
   want : (i : ℕ) → i < length numbers → GoodWant (length starts) numbers counts i
   want i l = good .wants .each i l
@@ -85,29 +84,29 @@ module _ (starts lengths numbers counts : List ℕ) (turn reads : ℕ) (j : Judg
       }
 
   -- The stops' places and counts are those of the rows.
-  pub stop-at : (i : ℕ) → i < length numbers → stopAt (stopsFrom starts lengths numbers counts) i ≡ stopOf starts lengths (getD numbers i 0) (getD counts i 0)
-  stop-at i l = filling.stop-at starts lengths numbers counts (sym even-counts) i l (record { file = 0; start = 0; end = 0; count = 0 })
+  pub stop-at : (i : ℕ) → i < length numbers → stopAt (plainStops starts lengths numbers counts) i ≡ plainStop starts lengths (getD numbers i 0) (getD counts i 0)
+  stop-at i l = plain-at starts lengths numbers counts (sym even-counts) i l
 
-  pub stops-length : length (stopsFrom starts lengths numbers counts) ≡ length numbers
-  stops-length = filling.stops-length starts lengths numbers counts (sym even-counts)
+  pub stops-length : length (plainStops starts lengths numbers counts) ≡ length numbers
+  stops-length = plain-length starts lengths numbers counts (sym even-counts)
 
-  pub left-at : (i : ℕ) → i < length numbers → leftAt (stopsFrom starts lengths numbers counts) i ≡ startAt starts numbers i
+  pub left-at : (i : ℕ) → i < length numbers → leftAt (plainStops starts lengths numbers counts) i ≡ startAt starts numbers i
   left-at i l = ap (λ s. s .start) (stop-at i l)
 
-  pub right-at : (i : ℕ) → i < length numbers → rightAt (stopsFrom starts lengths numbers counts) i ≡ stopEnd starts lengths numbers i
+  pub right-at : (i : ℕ) → i < length numbers → rightAt (plainStops starts lengths numbers counts) i ≡ stopEnd starts lengths numbers i
   right-at i l = ap (λ s. s .end) (stop-at i l)
 
-  pub count-at : (i : ℕ) → i < length numbers → countAt (stopsFrom starts lengths numbers counts) i ≡ getD counts i 0
+  pub count-at : (i : ℕ) → i < length numbers → countAt (plainStops starts lengths numbers counts) i ≡ getD counts i 0
   count-at i l = ap (λ s. s .count) (stop-at i l)
 
-  pub file-at : (i : ℕ) → i < length numbers → fileAt (stopsFrom starts lengths numbers counts) i ≡ getD numbers i 0
+  pub file-at : (i : ℕ) → i < length numbers → fileAt (plainStops starts lengths numbers counts) i ≡ getD numbers i 0
   file-at i l = ap (λ s. s .file) (stop-at i l)
 
-  pub reads-at : (n : ℕ) → n ≤ length numbers → readsFirst (stopsFrom starts lengths numbers counts) n ≡ readsIn counts n
-  reads-at zero l = W-zero (countAt (stopsFrom starts lengths numbers counts)) ∙ sym (reads-none counts)
+  pub reads-at : (n : ℕ) → n ≤ length numbers → readsFirst (plainStops starts lengths numbers counts) n ≡ readsIn counts n
+  reads-at zero l = W-zero (countAt (plainStops starts lengths numbers counts)) ∙ sym (reads-none counts)
   reads-at (suc n) l =
       let more : readsIn counts (suc n) ≡ readsIn counts n + getD counts n 0 = rw (add-one n) at (reads-more counts n) in
-      omega (arith, W-suc (countAt (stopsFrom starts lengths numbers counts)) n, count-at n l, reads-at n (omega arith), more)
+      omega (arith, W-suc (countAt (plainStops starts lengths numbers counts)) n, count-at n l, reads-at n (omega arith), more)
 
   pub row-fits : (a b : ℕ) → a < length numbers → b < length numbers → RowFits (length numbers) reads a b
   row-fits a b h l = record { left = h; right = l; few = few-stops; most = few-reads }

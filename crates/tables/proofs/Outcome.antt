@@ -10,12 +10,12 @@ use lib.ListN.{length, getD, take, drop, replicate, length-append, length-replic
 use lib.Seq.{ext-getD, getD-append-add, getD-drop, length-take-le}
 use Rattle.refusals.specs.declared.Verdict.{Verdict}
 use Rattle.refusals.specs.Refusals.{isRefusal, accepted}
-use Rattle.runs.specs.Run.{Run, Stop, stopsFrom, stopsOf, total, mostReads}
+use Rattle.runs.specs.Run.{Run, Stop, plainStops, stopsOf, total, mostReads}
 use Rattle.runs.specs.Judging.{judgeOf}
 use Rattle.runs.specs.Lists.{Detour, listOf}
 use Rattle.runs.proofs.Entries.{length-list}
 use Rattle.runs.proofs.Judged.{accepted-run}
-use Rattle.walk.proofs.Laws.{accepted-sound}
+use Rattle.runs.proofs.Stops.{accepted-sound}
 use Rattle.least.proofs.LeastList.{least-list-none, least-list-some, least-list}
 use Rattle.runs.specs.declared.Rule.{Rule}
 use Rattle.runs.specs.declared.Rule.the-variants.{Sweep, Least}
@@ -40,12 +40,12 @@ no-stops turn [] e = least-list-none turn
 no-stops turn (s ∷ stops) e = absurd (omega arith)
 
 module _ (starts lengths numbers counts : List ℕ) (turn reads : ℕ) (j : Judged starts lengths numbers counts turn reads) where
-  pub least-of-none : length numbers ≡ 0 → leastList turn (stopsFrom starts lengths numbers counts) ≡ []
-  least-of-none e = no-stops turn (stopsFrom starts lengths numbers counts) (stops-length starts lengths numbers counts turn reads j ∙ e)
+  pub least-of-none : length numbers ≡ 0 → leastList turn (plainStops starts lengths numbers counts) ≡ []
+  least-of-none e = no-stops turn (plainStops starts lengths numbers counts) (stops-length starts lengths numbers counts turn reads j ∙ e)
 
-  pub least-of-some : (length numbers ≡ 0 → ⊥) → listAt (stopsFrom starts lengths numbers counts) turn 0 (length numbers - 1) 0 ≡ leastList turn (stopsFrom starts lengths numbers counts)
+  pub least-of-some : (length numbers ≡ 0 → ⊥) → listAt (plainStops starts lengths numbers counts) turn 0 (length numbers - 1) 0 ≡ leastList turn (plainStops starts lengths numbers counts)
   least-of-some n =
-      sym (least-list-some turn (length numbers - 1) (stopsFrom starts lengths numbers counts) (omega (arith, stops-length starts lengths numbers counts turn reads j)))
+      sym (least-list-some turn (length numbers - 1) (plainStops starts lengths numbers counts) (omega (arith, stops-length starts lengths numbers counts turn reads j)))
 
 -- The list of a rule is what the rule asks for, and well formed.
 module _ (r : Run) (accepts : isRefusal (judgeOf r .refusal) ≡ false) where

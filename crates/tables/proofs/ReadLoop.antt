@@ -6,7 +6,7 @@ use native.Mathlib.Omega.{arith}
 use native.Mathlib.Numerals.{add-one}
 use lib.ListN.{length, getD, set, take, drop, length-append, length-set}
 use lib.Seq.{getD-set-same, drop-set-lt, drop-drop, length-take-le}
-use Rattle.runs.specs.Run.{Stop, stopsFrom}
+use Rattle.runs.specs.Run.{Stop, plainStops}
 use Rattle.runs.specs.Lists.{Detour, listOf}
 use Rattle.runs.proofs.Entries.{length-list}
 use Rattle.least.proofs.Value.{choice-first}
@@ -32,7 +32,7 @@ later-set xs ys n x e = drop-set-lt (n + 1) xs n x (omega arith) ∙ sym (drop-d
 
 module _ (starts lengths numbers counts : List ℕ) (turn reads : ℕ) where
   abbrev stops : List Stop
-  stops = stopsFrom starts lengths numbers counts
+  stops = plainStops starts lengths numbers counts
 
   abbrev k : ℕ
   k = length numbers
@@ -43,7 +43,7 @@ module _ (starts lengths numbers counts : List ℕ) (turn reads : ℕ) where
     pub inside : b < length numbers
     pub span : s + readsIn counts (b + 1) ≤ reads
     pub stacked : Stacked counts (length numbers) reads edges ends skips depth a
-    pub entries : listOf (take n froms) (take n tos) ++ (listAt (stopsFrom starts lengths numbers counts) turn a b s ++ owed (stopsFrom starts lengths numbers counts) turn edges ends skips depth a) ≡ listAt (stopsFrom starts lengths numbers counts) turn 0 (length numbers - 1) 0
+    pub entries : listOf (take n froms) (take n tos) ++ (listAt (plainStops starts lengths numbers counts) turn a b s ++ owed (plainStops starts lengths numbers counts) turn edges ends skips depth a) ≡ listAt (plainStops starts lengths numbers counts) turn 0 (length numbers - 1) 0
     pub same-froms : length froms ≡ length froms₀
     pub same-tos : length tos ≡ length tos₀
     pub many-froms : length numbers ≤ length froms + 1
@@ -105,7 +105,7 @@ module _ (starts lengths numbers counts : List ℕ) (turn reads : ℕ) where
         let q : suc (b - 1) ≡ b = omega arith in
         rw (q, count-here) at (list-skip stops turn a (b - 1) s (omega arith) e)
 
-    pub read-skip : a < b → (c : ℕ) → c ≡ chosen (stopsFrom starts lengths numbers counts) turn a (b - 1) s → c ≡ 0 → ReadLoop froms₀ tos₀ froms tos edges ends skips depth n a (b - 1) (s + getD counts b 0)
+    pub read-skip : a < b → (c : ℕ) → c ≡ chosen (plainStops starts lengths numbers counts) turn a (b - 1) s → c ≡ 0 → ReadLoop froms₀ tos₀ froms tos edges ends skips depth n a (b - 1) (s + getD counts b 0)
     read-skip h c e z =
         record {
           left = omega arith;
@@ -156,7 +156,7 @@ module _ (starts lengths numbers counts : List ℕ) (turn reads : ℕ) where
         waiting : s + readsIn counts c ≤ reads
         waiting = omega (arith, r .span, reads-rise counts c (b + 1) (omega arith))
 
-    pub read-push : a < b → (c : ℕ) → c ≡ chosen (stopsFrom starts lengths numbers counts) turn a (b - 1) s → (c ≡ 0 → ⊥)
+    pub read-push : a < b → (c : ℕ) → c ≡ chosen (plainStops starts lengths numbers counts) turn a (b - 1) s → (c ≡ 0 → ⊥)
         → ReadLoop froms₀ tos₀ froms tos (set edges depth a) (set ends depth b) (set skips depth s) (depth + 1) n c (b - 1) (s + getD counts b 0)
     read-push h c e z =
         let w = chosen-in h c e z in
@@ -245,7 +245,7 @@ module _ (starts lengths numbers counts : List ℕ) (turn reads : ℕ) where
           }
 
     -- No window waits.
-    pub read-ends : b ≤ a → depth ≡ 0 → ListWritten (listAt (stopsFrom starts lengths numbers counts) turn 0 (length numbers - 1) 0) n froms₀ tos₀ froms tos
+    pub read-ends : b ≤ a → depth ≡ 0 → ListWritten (listAt (plainStops starts lengths numbers counts) turn 0 (length numbers - 1) 0) n froms₀ tos₀ froms tos
     read-ends h e =
         record {
           fits-from = r .fits-froms;

@@ -6,7 +6,7 @@ use native.Mathlib.Omega.{arith}
 use native.Mathlib.Numerals.{add-one}
 use native.Mathlib.Nat.{le-refl}
 use lib.ListN.{length, getD}
-use Rattle.runs.specs.Run.{Stop, stopsFrom}
+use Rattle.runs.specs.Run.{Stop, plainStops}
 use Rattle.least.proofs.Scan.{lowest-end}
 use Rattle.least.proofs.Value.{value-step}
 use Rattle.least.specs.Recurrence.{lower, lowest, leftAt, rightAt, countAt}
@@ -23,7 +23,7 @@ module _ (starts lengths numbers counts : List ℕ) (turn reads : ℕ) (a b n : 
   k = length numbers
 
   abbrev stops : List Stop
-  stops = stopsFrom starts lengths numbers counts
+  stops = plainStops starts lengths numbers counts
 
   abbrev cell : ℕ
   cell = rowAt k reads a (b + 1)
@@ -50,7 +50,7 @@ module _ (starts lengths numbers counts : List ℕ) (turn reads : ℕ) (a b n : 
     pub from : a ≤ c
     pub up-to : c ≤ b + 1
     pub left : w ≡ readsIn counts c
-    pub words : (s : ℕ) → s < n → lowest (choiceWorth (stopsFrom starts lengths numbers counts) turn a b s) a c (getD ys (rowAt (length numbers) reads a (b + 1) + s) 0) ≡ worth (stopsFrom starts lengths numbers counts) turn a (suc b) s
+    pub words : (s : ℕ) → s < n → lowest (choiceWorth (plainStops starts lengths numbers counts) turn a b s) a c (getD ys (rowAt (length numbers) reads a (b + 1) + s) 0) ≡ worth (plainStops starts lengths numbers counts) turn a (suc b) s
 
   module _ (xs ys : List ℕ) (c w : ℕ) (r : RowLoop xs ys c w) where
     pub detour-next : a < c → DetourFrom counts a b c w
@@ -63,7 +63,7 @@ module _ (starts lengths numbers counts : List ℕ) (turn reads : ℕ) (a b n : 
     count-left h = omega (arith, r .left, counts-back (omega arith))
 
     pub row-turn : (zs : List ℕ) → a < c
-        → Written (rowAt (length numbers) reads a (b + 1)) n (λ s. lower (getD ys (rowAt (length numbers) reads a (b + 1) + s) 0) (choiceWorth (stopsFrom starts lengths numbers counts) turn a b s c)) ys zs
+        → Written (rowAt (length numbers) reads a (b + 1)) n (λ s. lower (getD ys (rowAt (length numbers) reads a (b + 1) + s) 0) (choiceWorth (plainStops starts lengths numbers counts) turn a b s c)) ys zs
         → RowLoop xs zs (c - 1) (w - getD counts (c - 1) 0)
     row-turn zs h z =
         record {
@@ -76,7 +76,7 @@ module _ (starts lengths numbers counts : List ℕ) (turn reads : ℕ) (a b n : 
         }
 
     -- No choice is left.
-    pub row-words : c ≤ a → (s : ℕ) → s < n → getD ys (rowAt (length numbers) reads a (b + 1) + s) 0 ≡ worth (stopsFrom starts lengths numbers counts) turn a (suc b) s
+    pub row-words : c ≤ a → (s : ℕ) → s < n → getD ys (rowAt (length numbers) reads a (b + 1) + s) 0 ≡ worth (plainStops starts lengths numbers counts) turn a (suc b) s
     row-words h s l = sym (lowest-end (choiceWorth stops turn a b s) a c (getD ys (cell + s) 0) h) ∙ r .words s l
 
   module _ (room : List ℕ) (t : RowTask starts lengths numbers counts turn reads room a b n) (more : ℕ)
@@ -115,7 +115,7 @@ module _ (starts lengths numbers counts : List ℕ) (turn reads : ℕ) (a b n : 
         }
 
   pub row-filled : (room xs ys : List ℕ) (row : ℕ) (f : ℕ → ℕ) (c w : ℕ) → row ≡ rowAt (length numbers) reads a (b + 1) → Written row n f room xs → RowLoop xs ys c w → c ≤ a
-      → Written (rowAt (length numbers) reads a (b + 1)) n (λ s. worth (stopsFrom starts lengths numbers counts) turn a (suc b) s) room ys
+      → Written (rowAt (length numbers) reads a (b + 1)) n (λ s. worth (plainStops starts lengths numbers counts) turn a (suc b) s) room ys
   row-filled room xs ys row f c w e z r h =
       let first = rw e at (z .kept) in
       record { kept = kept-on cell n room xs ys first (r .kept); words = row-words xs ys c w r h }

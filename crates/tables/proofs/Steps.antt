@@ -6,7 +6,7 @@ use native.Mathlib.Omega.{arith}
 use native.Mathlib.Numerals.{add-one}
 use native.Mathlib.Nat.{mul-le-mul, le-refl, add-zero}
 use lib.ListN.{length, getD}
-use Rattle.runs.specs.Run.{Stop, stopsFrom, lastPlace, highestTurn, mostReads}
+use Rattle.runs.specs.Run.{Stop, plainStops, lastPlace, highestTurn, mostReads}
 use Rattle.least.specs.Recurrence.{trip, early, W, lower, leftAt, rightAt, countAt}
 use Rattle.least.proofs.Sums.{W-suc, W-rises}
 use Rattle.least.proofs.Bounds.{candidate-bound}
@@ -26,28 +26,28 @@ candidate-sum : (slope w e s x y v : ℕ) → v ≡ slope * (w + s) + e + x + y 
 candidate-sum slope w e s x y v h = omega arith
 
 module _ (starts lengths numbers counts : List ℕ) (turn reads : ℕ) (j : Judged starts lengths numbers counts turn reads) (b : ℕ) (inside : b + 1 < length numbers) where
-  pub count-next : countAt (stopsFrom starts lengths numbers counts) (suc b) ≡ getD counts (b + 1) 0
+  pub count-next : countAt (plainStops starts lengths numbers counts) (suc b) ≡ getD counts (b + 1) 0
   count-next = rw (← add-one b) (count-at starts lengths numbers counts turn reads j (b + 1) inside)
 
-  pub reads-next : readsFirst (stopsFrom starts lengths numbers counts) (suc (suc b)) ≡ readsIn counts (b + 2)
+  pub reads-next : readsFirst (plainStops starts lengths numbers counts) (suc (suc b)) ≡ readsIn counts (b + 2)
   reads-next =
       let e : suc (suc b) ≡ b + 2 = omega arith in
       rw e (reads-at starts lengths numbers counts turn reads j (b + 2) (omega arith))
 
-  pub trip-is : (c : ℕ) → c ≤ b + 1 → trip (leftAt (stopsFrom starts lengths numbers counts)) (rightAt (stopsFrom starts lengths numbers counts)) turn c (suc b) ≡ 2 * (turn + (stopEnd starts lengths numbers (b + 1) - startAt starts numbers c))
+  pub trip-is : (c : ℕ) → c ≤ b + 1 → trip (leftAt (plainStops starts lengths numbers counts)) (rightAt (plainStops starts lengths numbers counts)) turn c (suc b) ≡ 2 * (turn + (stopEnd starts lengths numbers (b + 1) - startAt starts numbers c))
   trip-is c h =
       rw
       (← add-one b, right-at starts lengths numbers counts turn reads j (b + 1) inside, left-at starts lengths numbers counts turn reads j c (omega arith))
 
-  pub early-is : (c : ℕ) → c ≤ b + 1 → early (leftAt (stopsFrom starts lengths numbers counts)) (countAt (stopsFrom starts lengths numbers counts)) c (suc b) ≡ 2 * (startAt starts numbers (b + 1) - startAt starts numbers c) * getD counts (b + 1) 0
+  pub early-is : (c : ℕ) → c ≤ b + 1 → early (leftAt (plainStops starts lengths numbers counts)) (countAt (plainStops starts lengths numbers counts)) c (suc b) ≡ 2 * (startAt starts numbers (b + 1) - startAt starts numbers c) * getD counts (b + 1) 0
   early-is c h =
       rw
       (← add-one b, left-at starts lengths numbers counts turn reads j (b + 1) inside, left-at starts lengths numbers counts turn reads j c (omega arith), count-at starts lengths numbers counts turn reads j (b + 1) inside)
 
   -- What a choice comes to is far below a word's limit.
-  pub choice-small : (a s c : ℕ) → c ≤ b + 1 → s + readsIn counts (b + 2) ≤ reads → choiceWorth (stopsFrom starts lengths numbers counts) turn a b s c ≤ 2 * (turn + 2 * lastPlace) * mostReads
+  pub choice-small : (a s c : ℕ) → c ≤ b + 1 → s + readsIn counts (b + 2) ≤ reads → choiceWorth (plainStops starts lengths numbers counts) turn a b s c ≤ 2 * (turn + 2 * lastPlace) * mostReads
   choice-small a s c h l =
-      candidate-bound (leftAt (stopsFrom starts lengths numbers counts)) (rightAt (stopsFrom starts lengths numbers counts)) (countAt (stopsFrom starts lengths numbers counts)) turn lastPlace mostReads a b s c
+      candidate-bound (leftAt (plainStops starts lengths numbers counts)) (rightAt (plainStops starts lengths numbers counts)) (countAt (plainStops starts lengths numbers counts)) turn lastPlace mostReads a b s c
       (λ i m. omega (arith, left-at starts lengths numbers counts turn reads j i (omega arith), ends-near starts lengths numbers counts turn reads j i (omega arith)))
       (rw (← add-one b, right-at starts lengths numbers counts turn reads j (b + 1) inside) (ends-near starts lengths numbers counts turn reads j (b + 1) inside))
       (omega (arith, reads-next, few-reads starts lengths numbers counts turn reads j))
@@ -58,7 +58,7 @@ module _ (starts lengths numbers counts : List ℕ) (turn reads : ℕ) (room : L
   k = length numbers
 
   abbrev stops : List Stop
-  stops = stopsFrom starts lengths numbers counts
+  stops = plainStops starts lengths numbers counts
 
   pub skipped : (s : ℕ) → s < n → s + readsIn counts (b + 2) ≤ reads
   skipped s l = omega (arith, t .span)

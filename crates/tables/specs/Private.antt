@@ -9,7 +9,7 @@ use lib.Dec.{ltb}
 use Rattle.refusals.specs.declared.Refusal.the-variants.{ShortRow, ShortRoom}
 use Rattle.refusals.specs.declared.Verdict.{Verdict}
 use Rattle.refusals.specs.Refusals.{isRefusal, refuseIf, firstOf}
-use Rattle.runs.specs.Run.{Stop, runOf, stopsFrom, total, endAt, lastPlace, highestTurn, mostReads}
+use Rattle.runs.specs.Run.{Stop, aloneOf, plainStops, total, endAt, lastPlace, highestTurn, mostReads}
 use Rattle.runs.specs.Judging.{judgeOf}
 use Rattle.runs.specs.Private.{InTable}
 use Rattle.runs.specs.Lists.{Detour, listOf}
@@ -20,7 +20,7 @@ use Rattle.runs.specs.declared.Rule.the-variants.{Sweep, Least}
 -- Rows that the judging accepts with some head, and the number of their reads.
 pub record Judged (starts lengths numbers counts : List ℕ) (turn reads : ℕ) : Type 0 where
   pub head : ℕ
-  pub accepts : isRefusal (judgeOf (runOf starts lengths numbers counts head turn) .refusal) ≡ false
+  pub accepts : isRefusal (judgeOf (aloneOf starts lengths numbers counts head turn) .refusal) ≡ false
   pub whole : reads ≡ total counts
 
 -- Where a stop starts and ends, read off the rows.
@@ -137,7 +137,7 @@ pub record RowTask (starts lengths numbers counts : List ℕ) (turn reads : ℕ)
   pub window : a ≤ b
   pub inside : b + 1 < length numbers
   pub big : tableSize (length numbers) reads ≤ length room
-  pub columns : Columns (stopsFrom starts lengths numbers counts) turn (length numbers) reads room b
+  pub columns : Columns (plainStops starts lengths numbers counts) turn (length numbers) reads room b
   pub span : n + readsIn counts (b + 2) ≤ reads + 1
 
 -- A detour from c to stop b + 1, w reads standing left of c.
@@ -151,19 +151,19 @@ pub record ColumnTask (starts lengths numbers counts : List ℕ) (turn reads : �
   pub judged : Judged starts lengths numbers counts turn reads
   pub inside : b + 1 < length numbers
   pub big : tableSize (length numbers) reads ≤ length room
-  pub done : Done (stopsFrom starts lengths numbers counts) turn (length numbers) reads room b
+  pub done : Done (plainStops starts lengths numbers counts) turn (length numbers) reads room b
   pub span : n + readsIn counts (b + 2) ≡ reads + 1
 
 -- The columns up to b are done, and words past the table are as they were.
 pub record DoneUpTo (starts lengths numbers counts : List ℕ) (turn reads : ℕ) (before after : List ℕ) (b : ℕ) : Type 0 where
-  pub done : Done (stopsFrom starts lengths numbers counts) turn (length numbers) reads after b
+  pub done : Done (plainStops starts lengths numbers counts) turn (length numbers) reads after b
   pub beyond : Beyond (tableSize (length numbers) reads) before after
 
 -- Every word of the table that reading off can ask for is right.
 pub record Filled (starts lengths numbers counts : List ℕ) (turn reads : ℕ) (room : List ℕ) : Type 0 where
   pub judged : Judged starts lengths numbers counts turn reads
   pub big : tableSize (length numbers) reads ≤ length room
-  pub holds : (a b : ℕ) → a < length numbers → b < length numbers → a ≤ suc b → Holds (stopsFrom starts lengths numbers counts) turn (length numbers) reads room a b
+  pub holds : (a b : ℕ) → a < length numbers → b < length numbers → a ≤ suc b → Holds (plainStops starts lengths numbers counts) turn (length numbers) reads room a b
 
 -- A window that reading off asks for: (a, b + 1], with s reads skipped right of it.
 pub record Asked (starts lengths numbers counts : List ℕ) (turn reads : ℕ) (room : List ℕ) (a b s : ℕ) : Type 0 where

@@ -2,7 +2,7 @@
 ghost use mathlib.Core.Path.{_≡_};
 ghost use Prim.Native.Nat.{suc, _+_, _-_, _*_, _≤_, _<_};
 ghost use lib.ListN.{length, getD};
-ghost use Rattle.runs.specs.Run.{stopsAt};
+ghost use Rattle.runs.specs.Run.{plainStopsAt};
 ghost use Rattle.least.specs.Recurrence.{lower};
 ghost use Rattle.tables.specs.Private.{Written, SkipFits, LowerFits, lowered, RowTask, DetourFrom, ColumnTask, DoneUpTo, Judged, Filled, Beyond, tableSize, rowAt, readsIn, worth, choiceWorth};
 use crate::stops::early_of;
@@ -79,7 +79,7 @@ fn detour_row(
 )
     requires { ⌜ RowTask (now starts) (now lengths) (now numbers) (now counts) turn reads (now room) a b n ⌝ }
     requires { ⌜ DetourFrom (now counts) a b c w ⌝ }
-    ensures { λ _. ⌜ Written (rowAt (length (now (numbers .entry))) reads a (b + 1)) n (λ s. lower (getD (now (room .entry)) (rowAt (length (now (numbers .entry))) reads a (b + 1) + s) 0) (choiceWorth (stopsAt starts lengths numbers counts) turn a b s c)) (now (room .entry)) (now (room .exit)) ⌝ }
+    ensures { λ _. ⌜ Written (rowAt (length (now (numbers .entry))) reads a (b + 1)) n (λ s. lower (getD (now (room .entry)) (rowAt (length (now (numbers .entry))) reads a (b + 1) + s) 0) (choiceWorth (plainStopsAt starts lengths numbers counts) turn a b s c)) (now (room .entry)) (now (room .exit)) ⌝ }
 {
     let k = numbers.len();
     let slope = trip_of(starts, lengths, numbers, turn, c, b + 1);
@@ -112,7 +112,7 @@ fn fill_row(
 )
     requires { ⌜ RowTask (now starts) (now lengths) (now numbers) (now counts) turn reads (now room) a b n ⌝ }
     requires { ⌜ left ≡ readsIn (now counts) (b + 1) ⌝ }
-    ensures { λ _. ⌜ Written (rowAt (length (now (numbers .entry))) reads a (b + 1)) n (worth (stopsAt starts lengths numbers counts) turn a (suc b)) (now (room .entry)) (now (room .exit)) ⌝ }
+    ensures { λ _. ⌜ Written (rowAt (length (now (numbers .entry))) reads a (b + 1)) n (worth (plainStopsAt starts lengths numbers counts) turn a (suc b)) (now (room .entry)) (now (room .exit)) ⌝ }
 {
     let k = numbers.len();
     let from = row(k, reads, a, b) + counts[b + 1] as usize;

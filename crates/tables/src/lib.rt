@@ -1,4 +1,5 @@
-// tables: the list of a run by its rule, on a table that the caller lends. It stands on the judging alone; what "least" means is said in `least`.
+// tables: the list of a run by its rule, on a table that the caller lends, for files that lie in no aggregate: the planner hands in the stops of a
+// run as such files. It stands on the judging alone; what "least" means is said in `least`.
 mod filling;
 mod listing;
 mod reading;

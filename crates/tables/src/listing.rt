@@ -5,7 +5,7 @@ ghost use Prim.Native.Nat.{_+_, _-_, _≤_, _<_};
 ghost use lib.ListN.{length};
 ghost use lib.Dec.{ltb};
 ghost use Rattle.least.specs.Recurrence.{leastList};
-ghost use Rattle.runs.specs.Run.{runAt, stopsAt, mostReads};
+ghost use Rattle.runs.specs.Run.{aloneAt, plainStopsAt, mostReads};
 ghost use Rattle.tables.specs.Listing.{Lists, listRowsBefore, listRowsAfter};
 ghost use Rattle.tables.specs.Private.{Judged, ListWritten, Beyond, tableSize, ruleList, listRowsVerdict};
 use crate::Listed;
@@ -69,7 +69,7 @@ fn least_list(
     requires { ⌜ length (now numbers) ≤ length (now froms) + 1 ⌝ }
     requires { ⌜ length (now numbers) ≤ length (now tos) + 1 ⌝ }
     requires { ⌜ tableSize (length (now numbers)) reads ≤ length (now room) ⌝ }
-    ensures { λ r. ⌜ ListWritten (leastList turn (stopsAt starts lengths numbers counts)) r (now (froms .entry)) (now (tos .entry)) (now (froms .exit)) (now (tos .exit)) ⌝ }
+    ensures { λ r. ⌜ ListWritten (leastList turn (plainStopsAt starts lengths numbers counts)) r (now (froms .entry)) (now (tos .entry)) (now (froms .exit)) (now (tos .exit)) ⌝ }
     ensures { λ r. ⌜ Beyond (tableSize (length (now (numbers .entry))) reads) (now (room .entry)) (now (room .exit)) ⌝ }
 {
     if numbers.len() == 0 {
@@ -106,7 +106,7 @@ fn list_by(
     requires { ⌜ length (now numbers) ≤ length (now froms) + 1 ⌝ }
     requires { ⌜ length (now numbers) ≤ length (now tos) + 1 ⌝ }
     requires { ⌜ tableSize (length (now numbers)) reads ≤ length (now room) ⌝ }
-    ensures { λ r. ⌜ ListWritten (ruleList rule turn (stopsAt starts lengths numbers counts)) r (now (froms .entry)) (now (tos .entry)) (now (froms .exit)) (now (tos .exit)) ⌝ }
+    ensures { λ r. ⌜ ListWritten (ruleList rule turn (plainStopsAt starts lengths numbers counts)) r (now (froms .entry)) (now (tos .entry)) (now (froms .exit)) (now (tos .exit)) ⌝ }
     ensures { λ r. ⌜ Beyond (tableSize (length (now (numbers .entry))) reads) (now (room .entry)) (now (room .exit)) ⌝ }
 {
     match rule {
@@ -125,7 +125,7 @@ fn list_by(
     }
 }
 
-// The list of a run by its rule, in the first entries of two rows; and the room zeroed.
+// The list of a run of files that lie in no aggregate, by its rule, in the first entries of two rows; and the room zeroed.
 pub fn list(
     starts: &[u64],
     lengths: &[u64],
@@ -138,9 +138,9 @@ pub fn list(
     tos: &mut [u64],
     room: &mut [u64],
 ) -> Listed
-    ensures { λ r. ⌜ Lists (runAt starts lengths numbers counts head turn) rule (listRowsBefore froms tos room) r (listRowsAfter froms tos room) ⌝ }
+    ensures { λ r. ⌜ Lists (aloneAt starts lengths numbers counts head turn) rule (listRowsBefore froms tos room) r (listRowsAfter froms tos room) ⌝ }
 {
-    let run = runs::judge(starts, lengths, numbers, counts, head, turn);
+    let run = runs::judge_alone(starts, lengths, numbers, counts, head, turn);
     if refused(run) {
         return Listed {
             verdict: run,

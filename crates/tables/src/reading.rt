@@ -2,7 +2,7 @@
 ghost use mathlib.Core.Path.{_≡_};
 ghost use Prim.Native.Nat.{suc, _+_, _-_, _≤_, _<_};
 ghost use lib.ListN.{length};
-ghost use Rattle.runs.specs.Run.{stopsFrom, stopsAt};
+ghost use Rattle.runs.specs.Run.{plainStops, plainStopsAt};
 ghost use Rattle.tables.specs.Private.{Asked, DetourFrom, Filled, ListWritten, worth, choiceWorth, chosen, listAt};
 use crate::stops::early_of;
 use crate::stops::reads_before;
@@ -26,7 +26,7 @@ fn detour_cost(
 ) -> u64
     requires { ⌜ Asked (now starts) (now lengths) (now numbers) (now counts) turn reads (now room) a b s ⌝ }
     requires { ⌜ DetourFrom (now counts) a b c w ⌝ }
-    ensures { λ r. ⌜ r ≡ choiceWorth (stopsAt starts lengths numbers counts) turn a b s c ⌝ }
+    ensures { λ r. ⌜ r ≡ choiceWorth (plainStopsAt starts lengths numbers counts) turn a b s c ⌝ }
 {
     let k = numbers.len();
     let slope = trip_of(starts, lengths, numbers, turn, c, b + 1);
@@ -51,9 +51,9 @@ fn detour_start(
     least: u64,
 ) -> usize
     requires { ⌜ Asked (now starts) (now lengths) (now numbers) (now counts) turn reads (now room) a b s ⌝ }
-    requires { ⌜ least ≡ worth (stopsFrom (now starts) (now lengths) (now numbers) (now counts)) turn a (suc b) s ⌝ }
-    requires { ⌜ 0 < chosen (stopsFrom (now starts) (now lengths) (now numbers) (now counts)) turn a b s ⌝ }
-    ensures { λ r. ⌜ r ≡ chosen (stopsAt starts lengths numbers counts) turn a b s ⌝ }
+    requires { ⌜ least ≡ worth (plainStops (now starts) (now lengths) (now numbers) (now counts)) turn a (suc b) s ⌝ }
+    requires { ⌜ 0 < chosen (plainStops (now starts) (now lengths) (now numbers) (now counts)) turn a b s ⌝ }
+    ensures { λ r. ⌜ r ≡ chosen (plainStopsAt starts lengths numbers counts) turn a b s ⌝ }
 {
     let mut c = b + 1;
     let mut w = reads_before(counts, b + 1);
@@ -96,7 +96,7 @@ fn choice_of(
     s: usize,
 ) -> usize
     requires { ⌜ Asked (now starts) (now lengths) (now numbers) (now counts) turn reads (now room) a b s ⌝ }
-    ensures { λ r. ⌜ r ≡ chosen (stopsAt starts lengths numbers counts) turn a b s ⌝ }
+    ensures { λ r. ⌜ r ≡ chosen (plainStopsAt starts lengths numbers counts) turn a b s ⌝ }
 {
     let k = numbers.len();
     let least = room[row(k, reads, a, b + 1) + s];
@@ -136,7 +136,7 @@ pub(crate) fn read_off(
     requires { ⌜ 0 < length (now numbers) ⌝ }
     requires { ⌜ length (now numbers) ≤ length (now froms) + 1 ⌝ }
     requires { ⌜ length (now numbers) ≤ length (now tos) + 1 ⌝ }
-    ensures { λ r. ⌜ ListWritten (listAt (stopsAt starts lengths numbers counts) turn 0 (length (now (numbers .entry)) - 1) 0) r (now (froms .entry)) (now (tos .entry)) (now (froms .exit)) (now (tos .exit)) ⌝ }
+    ensures { λ r. ⌜ ListWritten (listAt (plainStopsAt starts lengths numbers counts) turn 0 (length (now (numbers .entry)) - 1) 0) r (now (froms .entry)) (now (tos .entry)) (now (froms .exit)) (now (tos .exit)) ⌝ }
 {
     let mut edges = [0usize; 64];
     let mut ends = [0usize; 64];

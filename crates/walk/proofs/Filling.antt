@@ -1,5 +1,5 @@
 -- Filling the rows for times and legs and adding up the sum: what is done with what is left is the whole, and nothing wraps.
-use Prim.Native.Nat.{ℕ, zero, suc, _+_, _-_, _*_, _≤_, _<_, _^_}
+use Prim.Native.Nat.{ℕ, suc, _+_, _-_, _*_, _≤_, _<_, _^_}
 use mathlib.Core.Path.{_≡_, refl, ap, _∙_}
 use mathlib.Core.Bool.{true, false}
 use mathlib.Core.Logic.{⊎-elim}
@@ -8,55 +8,25 @@ use native.Mathlib.Omega.{arith}
 use native.Mathlib.Nat.{mul-le-mul-left}
 use native.Mathlib.Numerals.{add-one}
 use lib.ListN.{length, getD, take, drop, set, length-set, take-append-drop, drop-of-length-le}
-use lib.Seq.{drop-cons, take-suc-set, drop-set-lt, drop-drop}
+use lib.Seq.{take-suc-set, drop-set-lt, drop-drop}
 use Rattle.walk.specs.declared.Head.{Head}
 use Rattle.walk.specs.declared.Leg.{Leg}
 use Rattle.walk.specs.declared.Read.{Read}
-use Rattle.runs.specs.Run.{Stop, stopOf, stopsFrom, total, mostReads, lastPlace, highestTurn}
-use Rattle.walk.specs.Walk.{headAt, setOff, afterLeg, Moves, walked, reads, timeOf, legFrom, legFor, readOf, timesOf, legsFor, sumOf}
+use Rattle.runs.specs.Run.{Stop, stopOf, wantStops, total, mostReads, lastPlace, highestTurn}
+use Rattle.walk.specs.Walk.{headAt, setOff, afterLeg, Moves, walked, reads, timeOf, legFor, readOf, timesOf, legsFor, sumOf}
 use Rattle.walk.specs.Private.{legAt, Walkable}
 use Rattle.runs.proofs.Search.{true-or-false}
 use Rattle.runs.proofs.Accepted.{total-drop}
+use Rattle.runs.proofs.Joined.{Places}
+use Rattle.runs.proofs.Stops.{wants-length, wants-drop}
 use Rattle.walk.proofs.Steps.{set-off-clock, read-inside}
+use Rattle.walk.proofs.Joins.{time-same, leg-same}
 use Rattle.walk.proofs.Legs.{legMost}
 
 -- One number for each stop.
 pub one-each : (f : Stop → ℕ) (stops : List Stop) → length (map f stops) ≡ length stops
 one-each f [] = refl
 one-each f (s ∷ ss) = ap suc (one-each f ss)
-
--- The stops read off the rows, one for each want.
-module _ (starts lengths : List ℕ) where
-  pub stops-length : (ns cs : List ℕ) → length cs ≡ length ns → length (stopsFrom starts lengths ns cs) ≡ length ns
-  unfolding stopsFrom
-  stops-length [] cs e = refl
-  stops-length (n ∷ ns) [] e = absurd (omega arith)
-  stops-length (n ∷ ns) (c ∷ cs) e = ap suc (stops-length ns cs (omega arith))
-
-  pub stop-at : (ns cs : List ℕ) → length cs ≡ length ns → (i : ℕ) → i < length ns → (d : Stop)
-      → getD (stopsFrom starts lengths ns cs) i d ≡ stopOf starts lengths (getD ns i 0) (getD cs i 0)
-  unfolding stopsFrom
-  stop-at [] cs e i l d = absurd (omega arith)
-  stop-at (n ∷ ns) [] e i l d = absurd (omega arith)
-  stop-at (n ∷ ns) (c ∷ cs) e zero l d = refl
-  stop-at (n ∷ ns) (c ∷ cs) e (suc i) l d = stop-at ns cs (omega arith) i (omega arith) d
-
-  stops-drop : (ns cs : List ℕ) → length cs ≡ length ns → (i : ℕ) → i < length ns
-      → drop i (stopsFrom starts lengths ns cs) ≡ stopOf starts lengths (getD ns i 0) (getD cs i 0) ∷ drop (i + 1) (stopsFrom starts lengths ns cs)
-  stops-drop ns cs e i l =
-      let nowhere : Stop = record { file = 0; start = 0; end = 0; count = 0 } in
-      rw (add-one, drop-cons (stopsFrom starts lengths ns cs) i nowhere (omega (arith, stops-length ns cs e)), stop-at ns cs e i l nowhere)
-
-  -- How often a file is wanted has no part in its time, nor in its leg.
-  count-free : (price : ℕ) (h : Head) (gs : List Leg) (f c : ℕ) → timeOf price h gs (stopOf starts lengths f 0) ≡ timeOf price h gs (stopOf starts lengths f c)
-  unfolding timeOf
-  count-free price h [] f c = refl
-  count-free price h (g ∷ gs) f c = rw (count-free price (afterLeg price h g) gs f c)
-
-  leg-count-free : (n : ℕ) (gs : List Leg) (f c : ℕ) → legFrom n gs (stopOf starts lengths f 0) ≡ legFrom n gs (stopOf starts lengths f c)
-  unfolding legFrom
-  leg-count-free n [] f c = refl
-  leg-count-free n (g ∷ gs) f c = rw (leg-count-free (suc n) gs f c)
 
 -- No time passes what the legs can cost.
 abbrev pub timeMost : ℕ
@@ -154,17 +124,21 @@ filling-start gs head turn stops counts times legs =
     reads-left [] = omega arith
     reads-left (c ∷ cs) = omega arith
 
-module _ (starts lengths ns cs : List ℕ) (equal : length cs ≡ length ns) (gs : List Leg) (head turn : ℕ) (times₀ legs₀ times legs : List ℕ) (sum i : ℕ)
-    (p : Filling gs head turn (stopsFrom starts lengths ns cs) cs times₀ legs₀ times legs sum i) where
-  module _ (w : Walkable gs head turn) (l : i < length ns) (t : Read) (is : t ≡ readOf turn (headAt head) gs (stopOf starts lengths (getD ns i 0) 0)) where
+module _ (starts lengths aggregates ns cs : List ℕ) (equal : length cs ≡ length ns) (gs : List Leg) (head turn : ℕ) (times₀ legs₀ times legs : List ℕ) (sum i : ℕ)
+    (p : Filling gs head turn (wantStops starts lengths aggregates ns cs) cs times₀ legs₀ times legs sum i) where
+  module _ (w : Walkable gs head turn) (l : i < length ns) (t : Read) (is : t ≡ readOf turn (headAt head) gs (stopOf starts lengths aggregates (getD ns i 0) 0)) where
     time-small : t .time ≤ timeMost
-    time-small = rw is (time-bound gs head turn w (stopOf starts lengths (getD ns i 0) 0))
+    time-small = rw is (time-bound gs head turn w (stopOf starts lengths aggregates (getD ns i 0) 0))
 
-    is-time : t .time ≡ timeOf turn (headAt head) gs (stopOf starts lengths (getD ns i 0) (getD cs i 0))
-    is-time = ap (λ x. x .time) is ∙ count-free starts lengths turn (headAt head) gs (getD ns i 0) (getD cs i 0)
+    -- How often a file is wanted has no part in its time, nor in its leg.
+    any-count : Places (stopOf starts lengths aggregates (getD ns i 0) 0) (stopOf starts lengths aggregates (getD ns i 0) (getD cs i 0))
+    any-count = record { start = refl; end = refl }
 
-    is-leg : t .leg ≡ legFor gs (stopOf starts lengths (getD ns i 0) (getD cs i 0))
-    is-leg = ap (λ x. x .leg) is ∙ leg-count-free starts lengths 1 gs (getD ns i 0) (getD cs i 0)
+    is-time : t .time ≡ timeOf turn (headAt head) gs (stopOf starts lengths aggregates (getD ns i 0) (getD cs i 0))
+    is-time = ap (λ x. x .time) is ∙ time-same turn gs (headAt head) _ _ any-count
+
+    is-leg : t .leg ≡ legFor gs (stopOf starts lengths aggregates (getD ns i 0) (getD cs i 0))
+    is-leg = ap (λ x. x .leg) is ∙ leg-same 1 gs _ _ any-count
 
     product-small : getD cs i 0 * t .time ≤ getD cs i 0 * timeMost
     product-small = mul-le-mul-left (getD cs i 0) time-small
@@ -176,15 +150,15 @@ module _ (starts lengths ns cs : List ℕ) (equal : length cs ≡ length ns) (gs
     pub sum-fits : total cs ≤ mostReads → sum + getD cs i 0 * t .time < 2 ^ 64
     sum-fits few = omega (arith, product-small, total-drop cs i (omega arith), p .small)
 
-    next : drop i (stopsFrom starts lengths ns cs) ≡ stopOf starts lengths (getD ns i 0) (getD cs i 0) ∷ drop (i + 1) (stopsFrom starts lengths ns cs)
-    next = stops-drop starts lengths ns cs equal i l
+    next : drop i (wantStops starts lengths aggregates ns cs) ≡ stopOf starts lengths aggregates (getD ns i 0) (getD cs i 0) ∷ drop (i + 1) (wantStops starts lengths aggregates ns cs)
+    next = rw add-one (wants-drop starts lengths aggregates ns cs equal i l)
 
     pub filled-one : i < length times → i < length legs
-        → Filling gs head turn (stopsFrom starts lengths ns cs) cs times₀ legs₀ (set times i (t .time)) (set legs i (t .leg)) (sum + getD cs i 0 * t .time) (i + 1)
+        → Filling gs head turn (wantStops starts lengths aggregates ns cs) cs times₀ legs₀ (set times i (t .time)) (set legs i (t .leg)) (sum + getD cs i 0 * t .time) (i + 1)
     unfolding sumOf
     filled-one h k =
         record {
-          within = omega (arith, stops-length starts lengths ns cs equal);
+          within = omega (arith, wants-length starts lengths aggregates ns cs equal);
           timed = row-on _ _ times₀ times i (p .timed) _ next (t .time) is-time h;
           numbered = row-on _ _ legs₀ legs i (p .numbered) _ next (t .leg) is-leg k;
           whole = rw is-time (omega (arith, rw next at (p .whole)));
@@ -192,20 +166,20 @@ module _ (starts lengths ns cs : List ℕ) (equal : length cs ≡ length ns) (gs
         }
 
   -- All filled.
-  none-left : length ns ≤ i → drop i (stopsFrom starts lengths ns cs) ≡ []
-  none-left h = let past : length (stopsFrom starts lengths ns cs) ≤ i = omega (arith, stops-length starts lengths ns cs equal) in drop-of-length-le (stopsFrom starts lengths ns cs) past
+  none-left : length ns ≤ i → drop i (wantStops starts lengths aggregates ns cs) ≡ []
+  none-left h = let past : length (wantStops starts lengths aggregates ns cs) ≤ i = omega (arith, wants-length starts lengths aggregates ns cs equal) in drop-of-length-le (wantStops starts lengths aggregates ns cs) past
 
   all-done : length ns ≤ i → length ns ≡ i
-  all-done h = omega (arith, p .within, stops-length starts lengths ns cs equal)
+  all-done h = omega (arith, p .within, wants-length starts lengths aggregates ns cs equal)
 
-  pub filled-times : length ns ≤ i → times ≡ timesOf turn (headAt head) gs (stopsFrom starts lengths ns cs) ++ drop (length ns) times₀
+  pub filled-times : length ns ≤ i → times ≡ timesOf turn (headAt head) gs (wantStops starts lengths aggregates ns cs) ++ drop (length ns) times₀
   unfolding timesOf
   filled-times h = rw (all-done h) (row-whole _ _ times₀ times i (p .timed) (none-left h))
 
-  pub filled-legs : length ns ≤ i → legs ≡ legsFor gs (stopsFrom starts lengths ns cs) ++ drop (length ns) legs₀
+  pub filled-legs : length ns ≤ i → legs ≡ legsFor gs (wantStops starts lengths aggregates ns cs) ++ drop (length ns) legs₀
   unfolding legsFor
   filled-legs h = rw (all-done h) (row-whole _ _ legs₀ legs i (p .numbered) (none-left h))
 
-  pub filled-sum : length ns ≤ i → sum ≡ sumOf turn (headAt head) gs (stopsFrom starts lengths ns cs)
+  pub filled-sum : length ns ≤ i → sum ≡ sumOf turn (headAt head) gs (wantStops starts lengths aggregates ns cs)
   unfolding sumOf
   filled-sum h = omega (arith, rw (none-left h) at (p .whole))

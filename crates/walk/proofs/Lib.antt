@@ -1,5 +1,6 @@
 -- Laws that this crate's proofs share, and those that other crates cite.
 pub mod Steps
+pub mod Joins
 pub mod Legs
 pub mod Filling
 pub mod Sweeps
@@ -7,4 +8,3 @@ pub mod Walks
 pub mod Priced
 pub mod Laws
 pub mod Places
-pub mod Sound

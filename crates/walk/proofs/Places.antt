@@ -1,6 +1,6 @@
 -- A refusal's place is small, so that a number and a place fit one word together: a file, a want, or an entry at most one behind the wants.
 use Prim.Native.Nat.{ℕ, zero, suc, _≤_, _<_}
-use mathlib.Core.Path.{_≡_, refl, sym}
+use mathlib.Core.Path.{_≡_, refl}
 use mathlib.Core.Bool.{Bool, true, false, not, _||_}
 use mathlib.Core.Logic.{by-cases, ⊎-elim}
 use mathlib.Core.List.{List, [], _∷_}
@@ -8,20 +8,19 @@ use native.Mathlib.Omega.{arith}
 use native.Mathlib.Decide.{decLt}
 use lib.ListN.{length}
 use lib.Dec.{ltb, eqb}
-use borrow.Author.Tests.{ltb-false, eqb-true, not-false}
+use borrow.Author.Tests.{ltb-false}
 use Rattle.refusals.specs.declared.Refusal.{Refusal}
 use Rattle.refusals.specs.declared.Refusal.the-variants.{FileRows, BadFile, WantRows, BadWant, TooManyReads, TurnPrice, HeadPlace, ShortRow, BadEntry}
 use Rattle.refusals.specs.declared.Verdict.{Verdict}
 use Rattle.refusals.specs.Refusals.{refuseIf, refuseAt, firstOf, firstWhere}
 use Rattle.runs.specs.Run.{Run, stopsOf, rightEnd, total, mostFiles, mostWants, mostReads, lastPlace, highestTurn}
 use Rattle.runs.specs.Judging.{badFile, badWant, tableChecks, wantsChecks, headChecks, judgeOf}
-use Rattle.runs.specs.Lists.{listOf, listVerdict, firstBadEntry}
+use Rattle.runs.specs.Lists.{listOf, badEntry, firstBadEntry, listVerdict}
 use Rattle.walk.specs.Price.{ReadRows, shortReadRows, priceVerdict}
-use Rattle.runs.specs.Private.{rowBad}
 use Rattle.runs.proofs.Search.{true-or-false, or-false-both, first-within, first-before}
 use Rattle.refusals.proofs.Verdicts.{refuses, accepts-if}
-use Rattle.runs.proofs.Judged.{GoodRun, accepted-run}
-use Rattle.runs.proofs.Entries.{first-bad-row}
+use Rattle.runs.proofs.Judged.{GoodRun, accepted-run, table-rows-fit}
+use Rattle.runs.proofs.Stops.{run-sound, stops-few}
 use Rattle.walk.proofs.Walks.{GoodEntry, good-entry, entries-few, entries-none}
 
 abbrev pub placeMost : ℕ
@@ -48,13 +47,13 @@ at-near (suc p) kind l = l
 rows-few : (most n m : ℕ) (kind : Refusal) → refuses (refuseIf true kind) ≡ true → refuses (refuseIf (ltb most n || not (eqb n m)) kind) ≡ false → n ≤ most
 rows-few most n m kind r e = ltb-false most n (or-false-both _ _ (accepts-if (ltb most n || not (eqb n m)) kind r e) .0)
 
-table-near : (starts lengths : List ℕ) → (firstOf (tableChecks starts lengths)) .place ≤ placeMost
-table-near starts lengths =
-    first-near (tableChecks starts lengths) (
-      if-near (ltb mostFiles (length starts) || not (eqb (length starts) (length lengths))) FileRows,
+table-near : (starts lengths aggregates : List ℕ) → (firstOf (tableChecks starts lengths aggregates)) .place ≤ placeMost
+table-near starts lengths aggregates =
+    first-near (tableChecks starts lengths aggregates) (
+      if-near (ltb mostFiles (length starts) || not (eqb (length starts) (length lengths)) || not (eqb (length starts) (length aggregates))) FileRows,
       λ e. (
-        at-near (firstWhere (badFile starts lengths) (length starts)) BadFile
-            (omega (arith, rows-few mostFiles (length starts) (length lengths) FileRows refl e, first-within (badFile starts lengths) (length starts))),
+        at-near (firstWhere (badFile starts lengths aggregates) (length starts)) BadFile
+            (omega (arith, table-rows-fit (length starts) (length lengths) (length aggregates) e .few, first-within (badFile starts lengths aggregates) (length starts))),
         λ d. tt,
       ),
     )
@@ -79,25 +78,26 @@ pub judge-near : (r : Run) → (judgeOf r) .place ≤ placeMost
 unfolding judgeOf
 judge-near r =
     first-near
-    (firstOf (tableChecks (r .starts) (r .lengths))
+    (firstOf (tableChecks (r .starts) (r .lengths) (r .aggregates))
     ∷ firstOf (wantsChecks (length (r .starts)) (r .numbers) (r .counts))
     ∷ firstOf (headChecks (r .turn) (r .head) (rightEnd (stopsOf r)))
     ∷ []) (
-      table-near (r .starts) (r .lengths),
+      table-near (r .starts) (r .lengths) (r .aggregates),
       λ e. (wants-near (length (r .starts)) (r .numbers) (r .counts), λ d. (head-near (r .turn) (r .head) (rightEnd (stopsOf r)), λ c. tt)),
     )
 
 module _ (r : Run) (good : GoodRun r) (froms tos : List ℕ) where
-  entry-near : (p : ℕ) → firstWhere (rowBad (r .numbers) froms tos) (length froms) ≡ p → p ≤ placeMost
+  entry-near : (p : ℕ) → firstBadEntry (stopsOf r) (listOf froms tos) ≡ p → p ≤ placeMost
+  unfolding firstBadEntry
   entry-near zero e = omega arith
   entry-near (suc i) e =
-      let each : (j : ℕ) → j < i → GoodEntry (r .numbers) froms tos j
-      = λ j l. good-entry (r .numbers) froms tos j (first-before (rowBad (r .numbers) froms tos) (length froms) i e j l)
+      let each : (j : ℕ) → j < i → GoodEntry (stopsOf r) (listOf froms tos) j
+      = λ j l. good-entry (stopsOf r) (listOf froms tos) j (first-before (badEntry (stopsOf r) (listOf froms tos)) (length (listOf froms tos)) i e j l)
       in
       by-cases
-      (decLt 0 (length (r .numbers)))
-      (λ some. omega (arith, entries-few _ _ _ (good .wants) froms tos i each some, good .wants .few))
-      (λ none. omega (arith, entries-none _ _ _ (good .wants) froms tos i each (omega arith)))
+      (decLt 0 (length (stopsOf r)))
+      (λ some. omega (arith, entries-few (stopsOf r) (r .head) (run-sound r good) (listOf froms tos) i each some, stops-few r good, good .wants .few))
+      (λ none. omega (arith, entries-none (stopsOf r) (r .head) (run-sound r good) (listOf froms tos) i each (omega arith)))
 
   list-near : (listVerdict (stopsOf r) froms tos) .place ≤ placeMost
   unfolding listVerdict
@@ -106,10 +106,7 @@ module _ (r : Run) (good : GoodRun r) (froms tos : List ℕ) where
       (refuseIf (not (eqb (length froms) (length tos))) BadEntry ∷ refuseAt (firstBadEntry (stopsOf r) (listOf froms tos)) BadEntry ∷ []) (
         if-near (not (eqb (length froms) (length tos))) BadEntry,
         λ e. (
-          at-near (firstBadEntry (stopsOf r) (listOf froms tos)) BadEntry
-              (rw
-              (first-bad-row (r .starts) (r .lengths) (r .numbers) (r .counts) froms tos (sym (good .wants .equal)) (eqb-true _ _ (not-false _ (accepts-if (not (eqb (length froms) (length tos))) BadEntry refl e))))
-              (entry-near _ refl)),
+          at-near (firstBadEntry (stopsOf r) (listOf froms tos)) BadEntry (entry-near _ refl),
           λ d. tt,
         ),
       )

@@ -10,7 +10,7 @@ use Rattle.refusals.specs.declared.Verdict.{Verdict}
 use Rattle.walk.specs.declared.Answer.{Answer}
 use Rattle.walk.specs.declared.Head.{Head}
 use Rattle.refusals.specs.Refusals.{isRefusal, accepted, refuseIf, firstOf}
-use Rattle.runs.specs.Run.{Run, stopsOf}
+use Rattle.runs.specs.Run.{Run, wantStopsOf, stopsOf}
 use Rattle.runs.specs.Judging.{judgeOf}
 use Rattle.walk.specs.Walk.{headAt, walked, timesOf, legsFor, sumOf}
 use Rattle.runs.specs.Lists.{listVerdict}
@@ -21,6 +21,7 @@ use Rattle.refusals.proofs.Verdicts.{refuses, first-refuses, first-passes, none
 use Rattle.runs.proofs.Judged.{GoodRun, accepted-run}
 use Rattle.runs.proofs.Entries.{length-list}
 use Rattle.runs.proofs.Search.{or-false-both}
+use Rattle.walk.proofs.Joins.{run-sum-joined}
 use Rattle.walk.proofs.Walks.{GoodList, accepted-list, legs-in-rows}
 
 module _ (r : Run) (froms tos : List ℕ) (rows : ReadRows) where
@@ -66,8 +67,8 @@ module _ (r : Run) (froms tos : List ℕ) (rows : ReadRows) where
       list-refused e d a is =
           rw is (refused-so w (w-is ∙ first-refuses (listVerdict (stopsOf r) froms tos) after-list (list-says true d) ∙ sym (passes-run e)) (sym g-is ∙ d))
 
-      pub list-good : f ≡ false → g ≡ false → GoodList (r .numbers) froms tos
-      list-good e d = accepted-list (r .starts) (r .lengths) (r .numbers) (r .counts) froms tos (sym (run-good e .wants .equal)) (list-says false d)
+      pub list-good : f ≡ false → g ≡ false → GoodList (stopsOf r) froms tos
+      list-good e d = accepted-list (stopsOf r) froms tos (list-says false d)
 
       passes-list : f ≡ false → g ≡ false → priceVerdict r froms tos rows ≡ firstOf after-list
       unfolding after-run after-list
@@ -91,14 +92,15 @@ module _ (r : Run) (froms tos : List ℕ) (rows : ReadRows) where
 
         -- Accepted: the numbers of the walk over the legs that the rows hold, the sweep ending where it does.
         pub priced : f ≡ false → g ≡ false → k ≡ false
-            → (to : ℕ) → to ≡ sweepEnd (detourLegs (r .starts) (r .lengths) froms tos) (stopsOf r)
-            → (sum : ℕ) → sum ≡ sumOf (r .turn) (headAt (r .head)) (rowLegs (r .starts) (r .lengths) (r .numbers) froms tos to) (stopsOf r)
-            → (times : List ℕ) → times ≡ timesOf (r .turn) (headAt (r .head)) (rowLegs (r .starts) (r .lengths) (r .numbers) froms tos to) (stopsOf r) ++ drop (length (r .numbers)) (rows .times)
-            → (legs : List ℕ) → legs ≡ legsFor (rowLegs (r .starts) (r .lengths) (r .numbers) froms tos to) (stopsOf r) ++ drop (length (r .numbers)) (rows .legs)
-            → (h : Head) → h ≡ walked (r .turn) (headAt (r .head)) (rowLegs (r .starts) (r .lengths) (r .numbers) froms tos to)
+            → (to : ℕ) → to ≡ sweepEnd (detourLegs (r .starts) (r .lengths) (r .aggregates) froms tos) (wantStopsOf r)
+            → (sum : ℕ) → sum ≡ sumOf (r .turn) (headAt (r .head)) (rowLegs (r .starts) (r .lengths) (r .aggregates) (r .numbers) froms tos to) (wantStopsOf r)
+            → (times : List ℕ) → times ≡ timesOf (r .turn) (headAt (r .head)) (rowLegs (r .starts) (r .lengths) (r .aggregates) (r .numbers) froms tos to) (wantStopsOf r) ++ drop (length (r .numbers)) (rows .times)
+            → (legs : List ℕ) → legs ≡ legsFor (rowLegs (r .starts) (r .lengths) (r .aggregates) (r .numbers) froms tos to) (wantStopsOf r) ++ drop (length (r .numbers)) (rows .legs)
+            → (h : Head) → h ≡ walked (r .turn) (headAt (r .head)) (rowLegs (r .starts) (r .lengths) (r .aggregates) (r .numbers) froms tos to)
             → Answers (record { refusal = Accepted; place = 0; sum = sum; finish = h .clock; end = h .place; detours = length froms }) (readRows times legs)
         unfolding priceAnswer priceRows pricedAnswer pricedTimes pricedLegs
         priced e d c to to-is sum sum-is times times-are legs legs-are h h-is =
             let good = list-good e d in
-            let walk = legs-in-rows (r .starts) (r .lengths) (r .numbers) (r .counts) froms tos (sym (run-good e .wants .equal)) good to to-is in
-            (rw (accepts e d c, sum-is, h-is, walk, length-list froms tos (good .even)), rw (accepts e d c, times-are, legs-are, walk))
+            let walk = legs-in-rows r (run-good e) froms tos good to to-is in
+            let whole = sum-is ∙ sym (run-sum-joined (r .turn) (headAt (r .head)) (rowLegs (r .starts) (r .lengths) (r .aggregates) (r .numbers) froms tos to) r) in
+            (rw (accepts e d c, whole, h-is, walk, length-list froms tos (good .even)), rw (accepts e d c, times-are, legs-are, walk))

@@ -11,12 +11,13 @@ use lib.ListN.{length, getD, drop, drop-of-length-le}
 use lib.Seq.{drop-cons}
 use lib.Dec.{leb}
 use Rattle.walk.specs.declared.Leg.{Leg}
-use Rattle.runs.specs.Run.{Stop, stopOf, stopsFrom, stopAt, endAt}
+use Rattle.runs.specs.Run.{Stop, stopOf, wantStops, stopAt}
 use Rattle.walk.specs.Walk.{served}
 use Rattle.walk.specs.Detours.{unreadEnd, sweepEnd}
-use Rattle.walk.specs.Private.{legAt}
+use Rattle.walk.specs.Private.{rightOf, legAt}
 use Rattle.runs.proofs.Search.{true-or-false}
-use Rattle.walk.proofs.Filling.{stops-length, stop-at}
+use Rattle.runs.proofs.Stops.{wants-length, want-at}
+use Rattle.walk.proofs.Joins.{served-same}
 
 module _ (gs : List Leg) where
   -- The search passes over a stop that has been read, and goes on from the end of one that has not.
@@ -91,27 +92,21 @@ module _ (gs : List Leg) where
   swept-to-first (s ∷ ss) some h = sym (all-read ss (s .end) (λ j b. h (suc j) (omega arith) (omega arith)))
 
 -- Nothing wanted: there is no sweep.
-pub no-sweep : (gs : List Leg) (starts lengths ns cs : List ℕ) → length ns ≡ 0 → 0 ≡ sweepEnd gs (stopsFrom starts lengths ns cs)
-unfolding sweepEnd stopsFrom
-no-sweep gs starts lengths [] cs e = refl
-no-sweep gs starts lengths (n ∷ ns) cs e = absurd (omega arith)
-
--- How often a file is wanted has no part in whether it is read.
-served-any-count : (gs : List Leg) (starts lengths : List ℕ) (f c : ℕ) → served gs (stopOf starts lengths f c) ≡ served gs (stopOf starts lengths f 0)
-unfolding served
-served-any-count [] starts lengths f c = refl
-served-any-count (g ∷ gs) starts lengths f c = rw (served-any-count gs starts lengths f c)
+pub no-sweep : (gs : List Leg) (starts lengths aggregates ns cs : List ℕ) → length ns ≡ 0 → 0 ≡ sweepEnd gs (wantStops starts lengths aggregates ns cs)
+unfolding sweepEnd wantStops
+no-sweep gs starts lengths aggregates [] cs e = refl
+no-sweep gs starts lengths aggregates (n ∷ ns) cs e = absurd (omega arith)
 
 -- The search, as the loop has it: all wants right of the i-th have been read.
-pub record ReadRight (gs : List Leg) (starts lengths numbers : List ℕ) (i : ℕ) : Type 0 where
+pub record ReadRight (gs : List Leg) (starts lengths aggregates numbers : List ℕ) (i : ℕ) : Type 0 where
   pub within : i < length numbers
-  pub read : (j : ℕ) → i < j → j < length numbers → served gs (stopOf starts lengths (getD numbers j 0) 0) ≡ true
+  pub read : (j : ℕ) → i < j → j < length numbers → served gs (stopOf starts lengths aggregates (getD numbers j 0) 0) ≡ true
 
-pub read-none : (gs : List Leg) (starts lengths ns : List ℕ) (i : ℕ) → i + 1 ≡ length ns → ReadRight gs starts lengths ns i
-read-none gs starts lengths ns i e = record { within = omega arith; read = λ j a b. absurd (omega arith) }
+pub read-none : (gs : List Leg) (starts lengths aggregates ns : List ℕ) (i : ℕ) → i + 1 ≡ length ns → ReadRight gs starts lengths aggregates ns i
+read-none gs starts lengths aggregates ns i e = record { within = omega arith; read = λ j a b. absurd (omega arith) }
 
-module _ (gs : List Leg) (starts lengths ns : List ℕ) (i : ℕ) (p : ReadRight gs starts lengths ns i) where
-  pub read-one-more : served gs (stopOf starts lengths (getD ns i 0) 0) ≡ true → ReadRight gs starts lengths ns (i - 1)
+module _ (gs : List Leg) (starts lengths aggregates ns : List ℕ) (i : ℕ) (p : ReadRight gs starts lengths aggregates ns i) where
+  pub read-one-more : served gs (stopOf starts lengths aggregates (getD ns i 0) 0) ≡ true → ReadRight gs starts lengths aggregates ns (i - 1)
   read-one-more t =
       record {
         within = omega (arith, p .within);
@@ -122,27 +117,27 @@ module _ (gs : List Leg) (starts lengths ns : List ℕ) (i : ℕ) (p : ReadRight
       at-least j a = omega arith
 
   module _ (cs : List ℕ) (same : length cs ≡ length ns) where
-    stop-is : (j : ℕ) → j < length ns → stopAt (stopsFrom starts lengths ns cs) j ≡ stopOf starts lengths (getD ns j 0) (getD cs j 0)
-    stop-is j b = stop-at starts lengths ns cs same j b _
+    stop-is : (j : ℕ) → j < length ns → stopAt (wantStops starts lengths aggregates ns cs) j ≡ stopOf starts lengths aggregates (getD ns j 0) (getD cs j 0)
+    stop-is j b = want-at starts lengths aggregates ns cs same j b
 
-    size : length (stopsFrom starts lengths ns cs) ≡ length ns
-    size = stops-length starts lengths ns cs same
+    size : length (wantStops starts lengths aggregates ns cs) ≡ length ns
+    size = wants-length starts lengths aggregates ns cs same
 
-    served-at : (j : ℕ) → j < length ns → served gs (stopAt (stopsFrom starts lengths ns cs) j) ≡ served gs (stopOf starts lengths (getD ns j 0) 0)
-    served-at j b = rw (stop-is j b) (served-any-count gs starts lengths (getD ns j 0) (getD cs j 0))
+    served-at : (j : ℕ) → j < length ns → served gs (stopAt (wantStops starts lengths aggregates ns cs) j) ≡ served gs (stopOf starts lengths aggregates (getD ns j 0) 0)
+    served-at j b = rw (stop-is j b) (served-same gs _ _ (record { start = refl; end = refl }))
 
-    rest-read : (j : ℕ) → i < j → j < length (stopsFrom starts lengths ns cs) → served gs (stopAt (stopsFrom starts lengths ns cs) j) ≡ true
+    rest-read : (j : ℕ) → i < j → j < length (wantStops starts lengths aggregates ns cs) → served gs (stopAt (wantStops starts lengths aggregates ns cs) j) ≡ true
     rest-read j a b = served-at j (omega (arith, size)) ∙ p .read j a (omega (arith, size))
 
-    pub found-unread : served gs (stopOf starts lengths (getD ns i 0) 0) ≡ false → 0 < i → endAt starts lengths (getD ns i 0 - 1) ≡ sweepEnd gs (stopsFrom starts lengths ns cs)
+    pub found-unread : served gs (stopOf starts lengths aggregates (getD ns i 0) 0) ≡ false → 0 < i → rightOf starts lengths aggregates (getD ns i 0) ≡ sweepEnd gs (wantStops starts lengths aggregates ns cs)
     found-unread f some =
         sym (ap (λ s. s .end) (stop-is i (p .within)))
-        ∙ swept-to-unread gs (stopsFrom starts lengths ns cs) i (omega (arith, size, p .within)) rest-read (served-at i (p .within) ∙ f) some
+        ∙ swept-to-unread gs (wantStops starts lengths aggregates ns cs) i (omega (arith, size, p .within)) rest-read (served-at i (p .within) ∙ f) some
 
-    pub found-first : i ≡ 0 → endAt starts lengths (getD ns 0 0 - 1) ≡ sweepEnd gs (stopsFrom starts lengths ns cs)
+    pub found-first : i ≡ 0 → rightOf starts lengths aggregates (getD ns 0 0) ≡ sweepEnd gs (wantStops starts lengths aggregates ns cs)
     found-first e =
         sym (ap (λ s. s .end) (stop-is 0 (omega (arith, p .within))))
-        ∙ swept-to-first gs (stopsFrom starts lengths ns cs) (omega (arith, size, p .within)) (λ j a b. rest-read j (omega arith) b)
+        ∙ swept-to-first gs (wantStops starts lengths aggregates ns cs) (omega (arith, size, p .within)) (λ j a b. rest-read j (omega arith) b)
 
 -- Whether a detour reads a file, as the loop has it: what is left decides.
 abbrev pub Serving : List Leg → Stop → ℕ → Type 0

@@ -9,7 +9,7 @@ use Rattle.refusals.specs.declared.Verdict.{Verdict}
 use Rattle.walk.specs.declared.Answer.{Answer}
 use Rattle.refusals.specs.Refusals.{isRefusal, refuseIf, firstOf}
 use denote.Triple.Both.{Both}
-use Rattle.runs.specs.Run.{Run, Row, stopsOf}
+use Rattle.runs.specs.Run.{Run, Row, wantStopsOf, stopsOf}
 use Rattle.runs.specs.Judging.{judgeOf}
 use Rattle.walk.specs.Walk.{headAt, walked, timesOf, legsFor, sumOf}
 use Rattle.runs.specs.Lists.{Detour, listOf, listVerdict}
@@ -31,12 +31,12 @@ pricedAnswer r list =
       detours = length list;
     }
 
--- One time and one leg for each want, in their order.
+-- One time and one leg for each want handed in, in their order; wants of one aggregate have the same.
 unfoldable pub pricedTimes : Run → List Detour → List ℕ
-pricedTimes r list = timesOf (r .turn) (headAt (r .head)) (legsOf (stopsOf r) list) (stopsOf r)
+pricedTimes r list = timesOf (r .turn) (headAt (r .head)) (legsOf (stopsOf r) list) (wantStopsOf r)
 
 unfoldable pub pricedLegs : Run → List Detour → List ℕ
-pricedLegs r list = legsFor (legsOf (stopsOf r) list) (stopsOf r)
+pricedLegs r list = legsFor (legsOf (stopsOf r) list) (wantStopsOf r)
 
 -- The lent rows, for times and for legs; as two parameters of a function hold them when it is called and when it returns.
 pub record ReadRows : Type 0 where
@@ -52,7 +52,7 @@ readRowsBefore times legs = readRows (times .entry .now) (legs .entry .now)
 abbrev pub readRowsAfter : Both Row Row → Both Row Row → ReadRows
 readRowsAfter times legs = readRows (times .exit .now) (legs .exit .now)
 
--- 8: a row for times or for legs shorter than k.
+-- 8: a row for times or for legs shorter than k, the wants handed in.
 abbrev pub shortReadRows : ℕ → ReadRows → Bool
 shortReadRows k rows = ltb (length (rows .times)) k || ltb (length (rows .legs)) k
 

@@ -2,16 +2,16 @@
 // It holds nothing per leg or file: only the head and positions in the caller's rows.
 ghost use mathlib.Core.Path.{_≡_};
 ghost use mathlib.Core.List.{List, _++_};
-ghost use Prim.Native.Nat.{ℕ, _-_, _≤_, _<_};
+ghost use Prim.Native.Nat.{ℕ, _≤_, _<_};
 ghost use mathlib.Core.Bool.{_&&_, _||_};
 ghost use lib.ListN.{length, getD, drop};
 ghost use lib.Dec.{leb, ltb};
-ghost use Rattle.runs.specs.Run.{runAt, stopsAt, stopsFrom, total, endAt, stopOf, mostReads};
+ghost use Rattle.runs.specs.Run.{runAt, wantStopsAt, wantStops, total, stopOf, mostReads};
 ghost use Rattle.walk.specs.Walk.{headAt, walked, served, readOf, timesOf, legsFor, sumOf};
 ghost use Rattle.walk.specs.Detours.{sweepEnd};
 ghost use Rattle.walk.specs.Price.{refusalAnswer, priceAnswer, priceRows, readRowsBefore, readRowsAfter};
-ghost use Rattle.runs.specs.Private.{SoundTable, InTable};
-ghost use Rattle.walk.specs.Private.{ListFits, RowsFit, WalkFits, rowLegs, legsIn, legsAt, detoursAt, legAt};
+ghost use Rattle.runs.specs.Private.{InTable};
+ghost use Rattle.walk.specs.Private.{Tabled, ListFits, RowsFit, WalkFits, leftOf, rightOf, rowLegs, legsIn, legsAt, detoursAt, legAt};
 use crate::Answer;
 use crate::Head;
 use crate::Leg;
@@ -20,30 +20,35 @@ use refusals::Refusal;
 use refusals::Verdict;
 use refusals::refuse_if;
 use refusals::refused;
+use runs::first_member;
 use runs::judge;
 use runs::judge_list;
+use runs::last_member;
 
-// Where a file of the table starts and ends.
-fn file_start(starts: &[u64], file: u64) -> u64
+// Where a file's aggregate starts, at its first member, and where it ends, at its last.
+fn extent_start(starts: &[u64], aggregates: &[u64], file: u64) -> u64
     requires { ⌜ InTable (now starts) file ⌝ }
-    ensures { λ r. ⌜ r ≡ getD (now (starts .entry)) (file - 1) 0 ⌝ }
-{
-    starts[(file - 1) as usize]
-}
-
-fn file_end(starts: &[u64], lengths: &[u64], file: u64) -> u64
-    requires { ⌜ SoundTable (now starts) (now lengths) ⌝ }
-    requires { ⌜ InTable (now starts) file ⌝ }
-    ensures { λ r. ⌜ r ≡ endAt (now (starts .entry)) (now (lengths .entry)) (file - 1) ⌝ }
+    ensures { λ r. ⌜ r ≡ leftOf (now (starts .entry)) (now (aggregates .entry)) file ⌝ }
 {
     let at = (file - 1) as usize;
-    starts[at] + lengths[at]
+    let first = first_member(aggregates, at);
+    starts[first]
+}
+
+fn extent_end(starts: &[u64], lengths: &[u64], aggregates: &[u64], file: u64) -> u64
+    requires { ⌜ Tabled (now starts) (now lengths) (now aggregates) ⌝ }
+    requires { ⌜ InTable (now starts) file ⌝ }
+    ensures { λ r. ⌜ r ≡ rightOf (now (starts .entry)) (now (lengths .entry)) (now (aggregates .entry)) file ⌝ }
+{
+    let at = (file - 1) as usize;
+    let last = last_member(aggregates, at);
+    starts[last] + lengths[last]
 }
 
 // How many legs a list has: its detours, and the last sweep where anything is wanted.
 fn leg_count(numbers: &[u64], froms: &[u64]) -> usize
     requires { ⌜ length (now froms) ≤ length (now numbers) ⌝ }
-    ensures { λ r. ⌜ ((s l tos : List ℕ) (reach : ℕ) → length (now (froms .entry)) ≡ length tos → r ≡ length (rowLegs s l (now (numbers .entry)) (now (froms .entry)) tos reach)) ⌝ }
+    ensures { λ r. ⌜ ((s l a tos : List ℕ) (reach : ℕ) → length (now (froms .entry)) ≡ length tos → r ≡ length (rowLegs s l a (now (numbers .entry)) (now (froms .entry)) tos reach)) ⌝ }
 {
     if numbers.len() == 0 {
         return 0;
@@ -51,15 +56,15 @@ fn leg_count(numbers: &[u64], froms: &[u64]) -> usize
     froms.len() + 1
 }
 
-// A detour's leg: left to the start of one file, right to the end of another.
-fn detour_leg(starts: &[u64], lengths: &[u64], from: u64, to: u64) -> Leg
-    requires { ⌜ SoundTable (now starts) (now lengths) ⌝ }
+// A detour's leg: left to the start of one aggregate, right to the end of another.
+fn detour_leg(starts: &[u64], lengths: &[u64], aggregates: &[u64], from: u64, to: u64) -> Leg
+    requires { ⌜ Tabled (now starts) (now lengths) (now aggregates) ⌝ }
     requires { ⌜ InTable (now starts) from ⌝ }
     requires { ⌜ InTable (now starts) to ⌝ }
-    ensures { λ r. ⌜ r ≡ record { left = getD (now (starts .entry)) (from - 1) 0; right = endAt (now (starts .entry)) (now (lengths .entry)) (to - 1) } ⌝ }
+    ensures { λ r. ⌜ r ≡ record { left = leftOf (now (starts .entry)) (now (aggregates .entry)) from; right = rightOf (now (starts .entry)) (now (lengths .entry)) (now (aggregates .entry)) to } ⌝ }
 {
-    let left = file_start(starts, from);
-    let right = file_end(starts, lengths, to);
+    let left = extent_start(starts, aggregates, from);
+    let right = extent_end(starts, lengths, aggregates, to);
     Leg { left, right }
 }
 
@@ -75,17 +80,24 @@ fn reads_file(leg: Leg, start: u64, end: u64) -> bool
     false
 }
 
-// Whether a detour reads a file of the table.
-fn detour_reads(starts: &[u64], lengths: &[u64], froms: &[u64], tos: &[u64], file: u64) -> bool
-    requires { ⌜ ListFits (now starts) (now lengths) (now froms) (now tos) ⌝ }
+// Whether a detour reads the aggregate of a file of the table.
+fn detour_reads(
+    starts: &[u64],
+    lengths: &[u64],
+    aggregates: &[u64],
+    froms: &[u64],
+    tos: &[u64],
+    file: u64,
+) -> bool
+    requires { ⌜ ListFits (now starts) (now lengths) (now aggregates) (now froms) (now tos) ⌝ }
     requires { ⌜ InTable (now starts) file ⌝ }
-    ensures { λ r. ⌜ r ≡ served (detoursAt starts lengths froms tos) (stopOf (now (starts .entry)) (now (lengths .entry)) file 0) ⌝ }
+    ensures { λ r. ⌜ r ≡ served (detoursAt starts lengths aggregates froms tos) (stopOf (now (starts .entry)) (now (lengths .entry)) (now (aggregates .entry)) file 0) ⌝ }
 {
-    let start = file_start(starts, file);
-    let end = file_end(starts, lengths, file);
+    let start = extent_start(starts, aggregates, file);
+    let end = extent_end(starts, lengths, aggregates, file);
     let mut i: usize = 0;
     while i < froms.len() {
-        let leg = detour_leg(starts, lengths, froms[i], tos[i]);
+        let leg = detour_leg(starts, lengths, aggregates, froms[i], tos[i]);
         if reads_file(leg, start, end) {
             return true;
         }
@@ -94,10 +106,17 @@ fn detour_reads(starts: &[u64], lengths: &[u64], froms: &[u64], tos: &[u64], fil
     false
 }
 
-// Where the last sweep ends: at the end of the rightmost wanted file that no detour reads, looked for from the right.
-fn sweep_end(starts: &[u64], lengths: &[u64], numbers: &[u64], froms: &[u64], tos: &[u64]) -> u64
-    requires { ⌜ RowsFit (now starts) (now lengths) (now numbers) (now froms) (now tos) ⌝ }
-    ensures { λ r. ⌜ ((cs : List ℕ) → length cs ≡ length (now (numbers .entry)) → r ≡ sweepEnd (detoursAt starts lengths froms tos) (stopsFrom (now (starts .entry)) (now (lengths .entry)) (now (numbers .entry)) cs)) ⌝ }
+// Where the last sweep ends: at the end of the rightmost wanted aggregate that no detour reads, looked for from the right.
+fn sweep_end(
+    starts: &[u64],
+    lengths: &[u64],
+    aggregates: &[u64],
+    numbers: &[u64],
+    froms: &[u64],
+    tos: &[u64],
+) -> u64
+    requires { ⌜ RowsFit (now starts) (now lengths) (now aggregates) (now numbers) (now froms) (now tos) ⌝ }
+    ensures { λ r. ⌜ ((cs : List ℕ) → length cs ≡ length (now (numbers .entry)) → r ≡ sweepEnd (detoursAt starts lengths aggregates froms tos) (wantStops (now (starts .entry)) (now (lengths .entry)) (now (aggregates .entry)) (now (numbers .entry)) cs)) ⌝ }
 {
     if numbers.len() == 0 {
         return 0;
@@ -105,21 +124,21 @@ fn sweep_end(starts: &[u64], lengths: &[u64], numbers: &[u64], froms: &[u64], to
     let mut i: usize = numbers.len() - 1;
     while 0 < i {
         let file = numbers[i];
-        if !detour_reads(starts, lengths, froms, tos, file) {
-            return file_end(starts, lengths, file);
+        if !detour_reads(starts, lengths, aggregates, froms, tos, file) {
+            return extent_end(starts, lengths, aggregates, file);
         }
         i -= 1;
     }
-    file_end(starts, lengths, numbers[0])
+    extent_end(starts, lengths, aggregates, numbers[0])
 }
 
-// The last sweep: from the start of the leftmost wanted file to its end.
-fn sweep_leg(starts: &[u64], numbers: &[u64], reach: u64) -> Leg
+// The last sweep: from the start of the leftmost wanted aggregate to its end.
+fn sweep_leg(starts: &[u64], aggregates: &[u64], numbers: &[u64], reach: u64) -> Leg
     requires { ⌜ ((i : ℕ) → i < length (now numbers) → InTable (now starts) (getD (now numbers) i 0)) ⌝ }
     requires { ⌜ 0 < length (now numbers) ⌝ }
-    ensures { λ r. ⌜ r ≡ record { left = getD (now (starts .entry)) (getD (now (numbers .entry)) 0 0 - 1) 0; right = reach } ⌝ }
+    ensures { λ r. ⌜ r ≡ record { left = leftOf (now (starts .entry)) (now (aggregates .entry)) (getD (now (numbers .entry)) 0 0); right = reach } ⌝ }
 {
-    let left = file_start(starts, numbers[0]);
+    let left = extent_start(starts, aggregates, numbers[0]);
     Leg { left, right: reach }
 }
 
@@ -127,26 +146,28 @@ fn sweep_leg(starts: &[u64], numbers: &[u64], reach: u64) -> Leg
 fn leg_at(
     starts: &[u64],
     lengths: &[u64],
+    aggregates: &[u64],
     numbers: &[u64],
     froms: &[u64],
     tos: &[u64],
     reach: u64,
     i: usize,
 ) -> Leg
-    requires { ⌜ RowsFit (now starts) (now lengths) (now numbers) (now froms) (now tos) ⌝ }
-    requires { ⌜ i < length (legsIn starts lengths numbers froms tos reach) ⌝ }
-    ensures { λ r. ⌜ r ≡ legAt (legsAt starts lengths numbers froms tos reach) i ⌝ }
+    requires { ⌜ RowsFit (now starts) (now lengths) (now aggregates) (now numbers) (now froms) (now tos) ⌝ }
+    requires { ⌜ i < length (legsIn starts lengths aggregates numbers froms tos reach) ⌝ }
+    ensures { λ r. ⌜ r ≡ legAt (legsAt starts lengths aggregates numbers froms tos reach) i ⌝ }
 {
     if i < froms.len() {
-        return detour_leg(starts, lengths, froms[i], tos[i]);
+        return detour_leg(starts, lengths, aggregates, froms[i], tos[i]);
     }
-    sweep_leg(starts, numbers, reach)
+    sweep_leg(starts, aggregates, numbers, reach)
 }
 
-// When the walk reads a file of the table, and in which leg: walk the legs until the one that reads it.
+// When the walk reads the aggregate of a file of the table, and in which leg: walk the legs until the one that reads it.
 fn read_of(
     starts: &[u64],
     lengths: &[u64],
+    aggregates: &[u64],
     numbers: &[u64],
     froms: &[u64],
     tos: &[u64],
@@ -156,16 +177,16 @@ fn read_of(
     file: u64,
     many: usize,
 ) -> Read
-    requires { ⌜ WalkFits (now starts) (now lengths) (now numbers) (now froms) (now tos) reach head turn many ⌝ }
+    requires { ⌜ WalkFits (now starts) (now lengths) (now aggregates) (now numbers) (now froms) (now tos) reach head turn many ⌝ }
     requires { ⌜ InTable (now starts) file ⌝ }
-    ensures { λ r. ⌜ r ≡ readOf turn (headAt head) (legsAt starts lengths numbers froms tos reach) (stopOf (now (starts .entry)) (now (lengths .entry)) file 0) ⌝ }
+    ensures { λ r. ⌜ r ≡ readOf turn (headAt head) (legsAt starts lengths aggregates numbers froms tos reach) (stopOf (now (starts .entry)) (now (lengths .entry)) (now (aggregates .entry)) file 0) ⌝ }
 {
-    let start = file_start(starts, file);
-    let end = file_end(starts, lengths, file);
+    let start = extent_start(starts, aggregates, file);
+    let end = extent_end(starts, lengths, aggregates, file);
     let mut h = Head::at(head);
     let mut i: usize = 0;
     while i < many {
-        let leg = leg_at(starts, lengths, numbers, froms, tos, reach, i);
+        let leg = leg_at(starts, lengths, aggregates, numbers, froms, tos, reach, i);
         let right = leg.right;
         let out = h.set_off(turn, leg);
         if reads_file(leg, start, end) {
@@ -185,6 +206,7 @@ fn read_of(
 fn walk_end(
     starts: &[u64],
     lengths: &[u64],
+    aggregates: &[u64],
     numbers: &[u64],
     froms: &[u64],
     tos: &[u64],
@@ -193,13 +215,13 @@ fn walk_end(
     turn: u64,
     many: usize,
 ) -> Head
-    requires { ⌜ WalkFits (now starts) (now lengths) (now numbers) (now froms) (now tos) reach head turn many ⌝ }
-    ensures { λ r. ⌜ r ≡ walked turn (headAt head) (legsAt starts lengths numbers froms tos reach) ⌝ }
+    requires { ⌜ WalkFits (now starts) (now lengths) (now aggregates) (now numbers) (now froms) (now tos) reach head turn many ⌝ }
+    ensures { λ r. ⌜ r ≡ walked turn (headAt head) (legsAt starts lengths aggregates numbers froms tos reach) ⌝ }
 {
     let mut h = Head::at(head);
     let mut i: usize = 0;
     while i < many {
-        let leg = leg_at(starts, lengths, numbers, froms, tos, reach, i);
+        let leg = leg_at(starts, lengths, aggregates, numbers, froms, tos, reach, i);
         let right = leg.right;
         h = h.set_off(turn, leg).run_right(right);
         i += 1;
@@ -211,6 +233,7 @@ fn walk_end(
 fn fill_reads(
     starts: &[u64],
     lengths: &[u64],
+    aggregates: &[u64],
     numbers: &[u64],
     counts: &[u64],
     froms: &[u64],
@@ -222,12 +245,12 @@ fn fill_reads(
     times: &mut [u64],
     legs: &mut [u64],
 ) -> u64
-    requires { ⌜ WalkFits (now starts) (now lengths) (now numbers) (now froms) (now tos) reach head turn many ⌝ }
+    requires { ⌜ WalkFits (now starts) (now lengths) (now aggregates) (now numbers) (now froms) (now tos) reach head turn many ⌝ }
     requires { ⌜ (length (now counts) ≡ length (now numbers)) × (total (now counts) ≤ mostReads) ⌝ }
     requires { ⌜ (length (now numbers) ≤ length (now times)) × (length (now numbers) ≤ length (now legs)) ⌝ }
-    ensures { λ r. ⌜ r ≡ sumOf turn (headAt head) (legsAt starts lengths numbers froms tos reach) (stopsAt starts lengths numbers counts) ⌝ }
-    ensures { λ r. ⌜ now (times .exit) ≡ timesOf turn (headAt head) (legsAt starts lengths numbers froms tos reach) (stopsAt starts lengths numbers counts) ++ drop (length (now (numbers .entry))) (now (times .entry)) ⌝ }
-    ensures { λ r. ⌜ now (legs .exit) ≡ legsFor (legsAt starts lengths numbers froms tos reach) (stopsAt starts lengths numbers counts) ++ drop (length (now (numbers .entry))) (now (legs .entry)) ⌝ }
+    ensures { λ r. ⌜ r ≡ sumOf turn (headAt head) (legsAt starts lengths aggregates numbers froms tos reach) (wantStopsAt starts lengths aggregates numbers counts) ⌝ }
+    ensures { λ r. ⌜ now (times .exit) ≡ timesOf turn (headAt head) (legsAt starts lengths aggregates numbers froms tos reach) (wantStopsAt starts lengths aggregates numbers counts) ++ drop (length (now (numbers .entry))) (now (times .entry)) ⌝ }
+    ensures { λ r. ⌜ now (legs .exit) ≡ legsFor (legsAt starts lengths aggregates numbers froms tos reach) (wantStopsAt starts lengths aggregates numbers counts) ++ drop (length (now (numbers .entry))) (now (legs .entry)) ⌝ }
 {
     let mut sum: u64 = 0;
     let mut i: usize = 0;
@@ -235,6 +258,7 @@ fn fill_reads(
         let read = read_of(
             starts,
             lengths,
+            aggregates,
             numbers,
             froms,
             tos,
@@ -281,6 +305,7 @@ fn short_rows(wants: usize, times: usize, legs: usize) -> bool
 pub fn price(
     starts: &[u64],
     lengths: &[u64],
+    aggregates: &[u64],
     numbers: &[u64],
     counts: &[u64],
     head: u64,
@@ -290,14 +315,14 @@ pub fn price(
     times: &mut [u64],
     legs: &mut [u64],
 ) -> Answer
-    ensures { λ r. ⌜ r ≡ priceAnswer (runAt starts lengths numbers counts head turn) (now (froms .entry)) (now (tos .entry)) (readRowsBefore times legs) ⌝ }
-    ensures { λ r. ⌜ readRowsAfter times legs ≡ priceRows (runAt starts lengths numbers counts head turn) (now (froms .entry)) (now (tos .entry)) (readRowsBefore times legs) ⌝ }
+    ensures { λ r. ⌜ r ≡ priceAnswer (runAt starts lengths aggregates numbers counts head turn) (now (froms .entry)) (now (tos .entry)) (readRowsBefore times legs) ⌝ }
+    ensures { λ r. ⌜ readRowsAfter times legs ≡ priceRows (runAt starts lengths aggregates numbers counts head turn) (now (froms .entry)) (now (tos .entry)) (readRowsBefore times legs) ⌝ }
 {
-    let run = judge(starts, lengths, numbers, counts, head, turn);
+    let run = judge(starts, lengths, aggregates, numbers, counts, head, turn);
     if refused(run) {
         return refuse(run);
     }
-    let list = judge_list(numbers, froms, tos);
+    let list = judge_list(aggregates, numbers, froms, tos);
     if refused(list) {
         return refuse(list);
     }
@@ -308,11 +333,12 @@ pub fn price(
     if refused(rows) {
         return refuse(rows);
     }
-    let reach = sweep_end(starts, lengths, numbers, froms, tos);
+    let reach = sweep_end(starts, lengths, aggregates, numbers, froms, tos);
     let many = leg_count(numbers, froms);
     let sum = fill_reads(
         starts,
         lengths,
+        aggregates,
         numbers,
         counts,
         froms,
@@ -327,6 +353,7 @@ pub fn price(
     let last = walk_end(
         starts,
         lengths,
+        aggregates,
         numbers,
         froms,
         tos,

@@ -111,8 +111,11 @@ decimal-below (suc most) n k l =
     longer zero m h rest = absurd (omega arith)
     longer (suc j) m h rest = rw (length-append (decimalIn most (n / 10)) ((48 + n % 10) ∷ [])) (omega (arith, rest j (omega arith)))
 
+pub decimal-digits : (n k : ℕ) → n < 10 ^ suc k → length (decimal n) ≤ suc k
+decimal-digits n k l = decimal-below n n k l
+
 pub decimal-short : (n : ℕ) → n < 2 ^ 64 → length (decimal n) ≤ 20
-decimal-short n l = decimal-below n n 19 (omega arith)
+decimal-short n l = decimal-digits n 19 (omega arith)
 
 -- A number put by its digits.
 pub digits-short : (n k : ℕ) (text : List ℕ) → n < 2 ^ 64 → Fewest 10 1 n k → text ≡ digits 10 k n → length text ≤ 20

@@ -13,7 +13,7 @@ use Rattle.refusals.specs.declared.Refusal.the-variants.{BadName}
 use Rattle.refusals.specs.declared.Verdict.{Verdict}
 use Rattle.walk.specs.declared.Answer.{Answer}
 use Rattle.refusals.specs.Refusals.{isRefusal, refuseIf, firstOf, accepted}
-use Rattle.runs.specs.Run.{Run, Stop, stopsOf, total, mostWants}
+use Rattle.runs.specs.Run.{Run, Stop, stopsOf, wantStopsOf, total, mostWants}
 use Rattle.runs.specs.Judging.{judgeOf}
 use Rattle.runs.specs.Lists.{listOf, listVerdict}
 use Rattle.walk.specs.Walk.{timesOf, legsFor}
@@ -21,7 +21,8 @@ use Rattle.walk.specs.Price.{refusalAnswer, pricedAnswer, pricedTimes, pricedLe
 use Rattle.runs.proofs.Search.{true-or-false}
 use Rattle.runs.proofs.Judged.{GoodRun}
 use Rattle.walk.proofs.Walks.{GoodList, accepted-list, list-fits}
-use Rattle.walk.proofs.Filling.{one-each, stops-length}
+use Rattle.walk.proofs.Filling.{one-each}
+use Rattle.runs.proofs.Stops.{wants-length}
 use Rattle.texts.specs.Text.{isName}
 use Rattle.writers.specs.Writing.{rowVerdict}
 use Rattle.writers.specs.PlanSheet.{planLines, planText, planSheetVerdict}
@@ -78,9 +79,9 @@ module _ (name : List ℕ) (run : Run) (froms tos row : List ℕ) (v w : Verdict
           plan-passes ∙ rw (list-says ∙ e) (ap (λ x. record { refusal = x .refusal; place = x .place }) (sym (priced-refused (list-says ∙ e))))
 
       module _ (fine : g ≡ false) where
-        pub good-list : GoodList (run .numbers) froms tos
+        pub good-list : GoodList (stopsOf run) froms tos
         unfolding list
-        good-list = accepted-list (run .starts) (run .lengths) (run .numbers) (run .counts) froms tos (sym (plan-good .wants .equal)) (list-says ∙ fine)
+        good-list = accepted-list (stopsOf run) froms tos (list-says ∙ fine)
 
         pub plan-last : planSheetVerdict name run froms tos row ≡ rowVerdict (planText name run froms tos) row
         unfolding list
@@ -97,8 +98,8 @@ module _ (name : List ℕ) (run : Run) (froms tos row : List ℕ) (v w : Verdict
           numbered = ap (λ x. x .legs) rows-are ∙ rw (price-verdict, list-says ∙ fine)
 
           -- One number for each want.
-          each-want : (f : Stop → ℕ) → length (map f (stopsOf run)) ≡ length (run .numbers)
-          each-want f = one-each f (stopsOf run) ∙ stops-length (run .starts) (run .lengths) (run .numbers) (run .counts) (sym (plan-good .wants .equal))
+          each-want : (f : Stop → ℕ) → length (map f (wantStopsOf run)) ≡ length (run .numbers)
+          each-want f = one-each f (wantStopsOf run) ∙ wants-length (run .starts) (run .lengths) (run .aggregates) (run .numbers) (run .counts) (sym (plan-good .wants .equal))
 
           first-entries : (values later : List ℕ) → length values ≡ length (run .numbers) → (row : List ℕ) → row ≡ values ++ later → take (length (run .numbers)) row ≡ values
           first-entries values later e row h = ap (take (length (run .numbers))) h ∙ take-at values later (length (run .numbers)) e

@@ -6,40 +6,46 @@ use mathlib.Core.Bool.{true, false, cond, _&&_, _||_}
 use mathlib.Core.List.{List, [], _∷_, _++_, append-assoc, append-nil}
 use native.Mathlib.Omega.{arith}
 use lib.ListN.{length, getD, length-append}
-use borrow.Author.Tests.{le-ltb}
+use lib.Dec.{ltb}
+use borrow.Author.Tests.{le-ltb, ltb-false}
 use Rattle.refusals.specs.Refusals.{isRefusal, accepted}
-use Rattle.runs.specs.Run.{Run, total, mostWants}
-use Rattle.runs.specs.Judging.{judgeOf, badFile}
-use Rattle.runs.proofs.Search.{first-zero}
+use Rattle.runs.specs.Run.{Run, total, mostWants, mostAggregates}
+use Rattle.runs.specs.Judging.{judgeOf, badPlace, badNumber, returns}
+use Rattle.runs.proofs.Search.{first-zero, or-false-both}
 use Rattle.runs.proofs.Accepted.{GoodFile, good-file}
 use Rattle.runs.proofs.Judged.{accepted-run}
 use Rattle.runs.specs.declared.Rule.{Rule}
 use Rattle.runs.specs.declared.Rule.the-variants.{Sweep, Least}
 use Rattle.texts.specs.Text.{lineFeed, has, behind, isName, isNameByte, between, allOf, isEmpty, startsWith, isNumber, decimal}
-use Rattle.sheets.specs.Lines.{lineOf, afterLines, lineAfter, tapeKey, headKey, turnKey, ruleKey, ruleText, filesKey, fileKey, wantsKey, wantKey, valueText, isTapeLine, isNumberLine, numberBehind, isCountLine, isTurnLine, turnWith, emptyTurn, turnIn, isRuleLine, ruleIn, firstIn, secondIn}
-use Rattle.sheets.specs.Sheet.{longestSheet, mostSheetFiles, sheetHead, sheetTurnWith, sheetTurn, sheetRule, sheetFiles, fileText, wantsText, sheetWants, wantText, endText, firstBadPair, firstBadTop, firstBadBelow, firstBadLine, eachOf, sheetRun, sheetName}
+use Rattle.sheets.specs.Lines.{lineOf, afterLines, lineAfter, tapeKey, headKey, turnKey, ruleKey, ruleText, filesKey, fileKey, wantsKey, wantKey, valueText, isTapeLine, isNumberLine, numberBehind, isCountLine, isTurnLine, turnWith, emptyTurn, turnIn, isRuleLine, ruleIn, isPairLine, firstIn, secondIn, isTripleLine, middleIn, thirdIn}
+use Rattle.sheets.specs.Sheet.{longestSheet, mostSheetFiles, sheetHead, sheetTurnWith, sheetTurn, sheetRule, sheetFiles, fileText, wantsText, sheetWants, wantText, endText, firstBadOf, firstBadTop, firstBadBelow, firstBadLine, eachOf, sheetRun, sheetName}
 use Rattle.sheets.specs.Reading.{sheetVerdict, readName}
-use Rattle.writers.specs.Writing.{line, numberLine, pairText, pairLine, pairLines, topText, sheetText}
+use Rattle.writers.specs.Writing.{line, numberLine, pairText, pairLine, pairLines, tripleText, tripleLine, tripleLines, topText, sheetText}
 use Rattle.texts.proofs.Bytes.{and-true-both, not-empty}
-use Rattle.writers.proofs.Pages.{decimal-short}
+use Rattle.writers.proofs.Pages.{decimal-digits, decimal-short}
 use Rattle.texts.proofs.Decimals.{has-none, decimal-without, decimal-some, decimal-number, decimal-value}
 use Rattle.writers.proofs.Sheets.{name-length}
-use Rattle.writers.proofs.Reread.{line-first, line-behind, key-begins, key-value, number-back, value-back, count-back, pairs-behind, pairs-good, firsts-back, seconds-back}
+use Rattle.writers.proofs.Reread.{line-first, line-behind, key-begins, key-value, number-back, value-back, count-back, pairs-behind, pairs-good, firsts-back, seconds-back, triples-behind, triples-good, lefts-back, middles-back, thirds-back}
 
--- Every entry of a row is below 2 to the 64.
+-- Every entry of a row is below a number: 2 to the 64, or the power of ten that says how many digits it has.
+abbrev pub RowBelow : ℕ → List ℕ → Type 0
+RowBelow most row = (i : ℕ) → i < length row → getD row i 0 < most
+
 abbrev pub SmallRow : List ℕ → Type 0
-SmallRow row = (i : ℕ) → i < length row → getD row i 0 < 2 ^ 64
+SmallRow row = RowBelow (2 ^ 64) row
 
--- A run that a sheet can hold.
+-- A run that a sheet can hold. A place has at most 13 digits, an aggregate number at most 4.
 pub record SmallRun (run : Run) : Type 0 where
   pub head : run .head < 2 ^ 64
   pub turn : run .turn < 2 ^ 64
   pub files : length (run .starts) ≤ mostSheetFiles
   pub table : length (run .starts) ≡ length (run .lengths)
+  pub numbered : length (run .starts) ≡ length (run .aggregates)
   pub wants : length (run .numbers) ≤ mostWants
   pub pairs : length (run .numbers) ≡ length (run .counts)
-  pub starts : SmallRow (run .starts)
-  pub lengths : SmallRow (run .lengths)
+  pub starts : RowBelow (10 ^ 13) (run .starts)
+  pub lengths : RowBelow (10 ^ 13) (run .lengths)
+  pub aggregates : RowBelow (10 ^ 4) (run .aggregates)
   pub numbers : SmallRow (run .numbers)
   pub counts : SmallRow (run .counts)
 
@@ -48,19 +54,25 @@ entry-total [] i = omega arith
 entry-total (x ∷ row) zero = omega arith
 entry-total (x ∷ row) (suc i) = omega (arith, entry-total row i)
 
+-- An aggregate number of an accepted run is within its limit.
+number-fits : (aggregates : List ℕ) (i : ℕ) → badNumber aggregates i ≡ false → getD aggregates i 0 ≤ mostAggregates
+number-fits aggregates i e = ltb-false mostAggregates (getD aggregates i 0) (or-false-both (ltb mostAggregates (getD aggregates i 0)) (returns aggregates i) e .0)
+
 pub small-run : (run : Run) → isRefusal ((judgeOf run) .refusal) ≡ false → length (run .starts) ≤ mostSheetFiles → SmallRun run
 small-run run e few =
     let g = accepted-run run e in
-    let file : (i : ℕ) → i < length (run .starts) → GoodFile (run .starts) (run .lengths) i = λ i l. good-file (run .starts) (run .lengths) i (first-zero (badFile (run .starts) (run .lengths)) (length (run .starts)) (g .files .table .sound) i l) in
+    let file : (i : ℕ) → i < length (run .starts) → GoodFile (run .starts) (run .lengths) i = λ i l. good-file (run .starts) (run .lengths) i (first-zero (badPlace (run .starts) (run .lengths)) (length (run .starts)) (g .files .table .sound) i l) in
     record {
       head = omega (arith, g .start .near);
       turn = omega (arith, g .start .cheap);
       files = few;
       table = g .files .table .equal;
+      numbered = g .files .rows;
       wants = g .wants .few;
       pairs = g .wants .equal;
       starts = λ i l. omega (arith, file i l .ends);
       lengths = λ i l. omega (arith, file i (omega (arith, g .files .table .equal)) .ends);
+      aggregates = λ i l. omega (arith, number-fits (run .aggregates) i (g .files .numbers i (omega (arith, g .files .rows))));
       numbers = λ i l. omega (arith, g .wants .each i l .inTable, g .files .few);
       counts = λ i l. omega (arith, entry-total (run .counts) i, g .wants .reads);
     }
@@ -86,6 +98,26 @@ pairs-length key (a ∷ xs) (b ∷ ys) k s t =
       pairs-length key xs ys k (λ i l. s (suc i) (omega arith)) (λ i l. t (suc i) (omega arith)),
     )
 
+triple-length : (key : List ℕ) (a b c : ℕ) → a < 10 ^ 13 → b < 10 ^ 13 → c < 10 ^ 4 → length (tripleLine key a b c) ≤ length key + 33
+triple-length key a b c l m n =
+    let pair = length-append (decimal a ++ (44 ∷ [])) (decimal b) in
+    let front = length-append (pairText a b) (44 ∷ []) in
+    let whole = length-append (pairText a b ++ (44 ∷ [])) (decimal c) in
+    omega (arith, line-length key (tripleText a b c), whole, front, pair, length-append (decimal a) (44 ∷ []), decimal-digits a 12 l, decimal-digits b 12 m, decimal-digits c 3 n)
+
+triples-length : (key xs ys zs : List ℕ) → length key ≤ 5 → RowBelow (10 ^ 13) xs → RowBelow (10 ^ 13) ys → RowBelow (10 ^ 4) zs → length (tripleLines key xs ys zs) ≤ length xs * 38
+unfolding tripleLines
+triples-length key [] ys zs k s t u = omega arith
+triples-length key (a ∷ xs) [] zs k s t u = omega arith
+triples-length key (a ∷ xs) (b ∷ ys) [] k s t u = omega arith
+triples-length key (a ∷ xs) (b ∷ ys) (c ∷ zs) k s t u =
+    omega (
+      arith,
+      length-append (tripleLine key a b c) (tripleLines key xs ys zs),
+      triple-length key a b c (s 0 (omega arith)) (t 0 (omega arith)) (u 0 (omega arith)),
+      triples-length key xs ys zs k (λ i l. s (suc i) (omega arith)) (λ i l. t (suc i) (omega arith)) (λ i l. u (suc i) (omega arith)),
+    )
+
 regrouped : (a b c d e f g h : List ℕ) → a ++ b ++ c ++ d ++ e ++ f ++ g ++ h ≡ a ++ (b ++ (c ++ (d ++ (e ++ (f ++ (g ++ h))))))
 regrouped a b c d e f g h = simp append-assoc
 
@@ -96,7 +128,7 @@ rule-length : (r : Rule) → length (line ruleKey (ruleText r)) ≤ 11
 rule-length Sweep = omega arith
 rule-length Least = omega arith
 
-sum-length : (a b c d e f g h : List ℕ) → length a ≤ 22 → length b ≤ 26 → length c ≤ 26 → length d ≤ 11 → length e ≤ 27 → length f ≤ 12544 → length g ≤ 27 → length h ≤ 3136
+sum-length : (a b c d e f g h : List ℕ) → length a ≤ 22 → length b ≤ 26 → length c ≤ 26 → length d ≤ 11 → length e ≤ 27 → length f ≤ 9728 → length g ≤ 27 → length h ≤ 3136
     → length (a ++ b ++ c ++ d ++ e ++ f ++ g ++ h) ≤ 16384
 sum-length a b c d e f g h la lb lc ld le lf lg lh = simp length-append (omega arith)
 
@@ -134,7 +166,7 @@ module _ (name : List ℕ) (rule : Rule) (run : Run) (named : isName name ≡ tr
   rest₆ = pairLines wantKey (run .numbers) (run .counts)
 
   rest₅ : List ℕ
-  rest₅ = pairLines fileKey (run .starts) (run .lengths) ++ (numberLine wantsKey W ++ rest₆)
+  rest₅ = tripleLines fileKey (run .starts) (run .lengths) (run .aggregates) ++ (numberLine wantsKey W ++ rest₆)
 
   rest₄ : List ℕ
   rest₄ = numberLine filesKey F ++ rest₅
@@ -155,7 +187,7 @@ module _ (name : List ℕ) (rule : Rule) (run : Run) (named : isName name ≡ tr
   unfolding text sheetText topText rest₁ rest₂ rest₃ rest₄ rest₅ rest₆ F W
   text-is =
       regrouped (line tapeKey name) (numberLine headKey (run .head)) (numberLine turnKey (run .turn)) (line ruleKey (ruleText rule))
-      (numberLine filesKey F) (pairLines fileKey (run .starts) (run .lengths)) (numberLine wantsKey W) rest₆
+      (numberLine filesKey F) (tripleLines fileKey (run .starts) (run .lengths) (run .aggregates)) (numberLine wantsKey W) rest₆
 
   -- The lines hold no LF of their own.
   name-flat : has lineFeed name ≡ false
@@ -234,7 +266,7 @@ module _ (name : List ℕ) (rule : Rule) (run : Run) (named : isName name ≡ tr
   wants-text =
       ap (λ n. afterLines n (fileText text)) files-back
       ∙ ap (afterLines F) files-text
-      ∙ pairs-behind fileKey refl (numberLine wantsKey W ++ rest₆) (run .starts) (run .lengths) (small .table)
+      ∙ triples-behind fileKey refl (numberLine wantsKey W ++ rest₆) (run .starts) (run .lengths) (run .aggregates) (small .table) (small .numbered)
 
   wants-line : lineOf (wantsText text) ≡ wantsKey ++ decimal W
   unfolding has
@@ -282,18 +314,21 @@ module _ (name : List ℕ) (rule : Rule) (run : Run) (named : isName name ≡ tr
   unfolding W
   wants-good = ap (isCountLine wantsKey mostWants) wants-line ∙ count-back wantsKey W W-small mostWants (small .wants)
 
-  file-good : firstBadPair fileKey (sheetFiles text) (fileText text) ≡ 0
+  file-good : firstBadOf (isTripleLine fileKey) (sheetFiles text) (fileText text) ≡ 0
   unfolding rest₅ F has
   file-good =
-      ap (λ n. firstBadPair fileKey n (fileText text)) files-back
-      ∙ ap (firstBadPair fileKey F) files-text
-      ∙ pairs-good fileKey refl (numberLine wantsKey W ++ rest₆) (run .starts) (run .lengths) (small .table) (small .starts) (λ i l. small .lengths i (omega (arith, small .table)))
+      ap (λ n. firstBadOf (isTripleLine fileKey) n (fileText text)) files-back
+      ∙ ap (firstBadOf (isTripleLine fileKey) F) files-text
+      ∙ triples-good fileKey refl (numberLine wantsKey W ++ rest₆) (run .starts) (run .lengths) (run .aggregates) (small .table) (small .numbered)
+      (λ i l. omega (arith, small .starts i l))
+      (λ i l. omega (arith, small .lengths i (omega (arith, small .table))))
+      (λ i l. omega (arith, small .aggregates i (omega (arith, small .numbered))))
 
-  want-good : firstBadPair wantKey (sheetWants text) (wantText text) ≡ 0
+  want-good : firstBadOf (isPairLine wantKey) (sheetWants text) (wantText text) ≡ 0
   unfolding W has
   want-good =
-      ap (λ n. firstBadPair wantKey n (wantText text)) wants-back
-      ∙ ap (firstBadPair wantKey W) want-pairs
+      ap (λ n. firstBadOf (isPairLine wantKey) n (wantText text)) wants-back
+      ∙ ap (firstBadOf (isPairLine wantKey) W) want-pairs
       ∙ pairs-good wantKey refl [] (run .numbers) (run .counts) (small .pairs) (small .numbers) (λ i l. small .counts i (omega (arith, small .pairs)))
 
   all-described : firstBadLine text ≡ 0
@@ -327,24 +362,25 @@ module _ (name : List ℕ) (rule : Rule) (run : Run) (named : isName name ≡ tr
   run-back : sheetRun text ≡ run
   unfolding sheetRun F W rest₅ has
   run-back =
-      let starts = file-column (firstIn fileKey) (run .starts) (firsts-back fileKey refl (numberLine wantsKey W ++ rest₆) (run .starts) (run .lengths) (small .table)) in
-      let lengths = file-column (secondIn fileKey) (run .lengths) (seconds-back fileKey refl (numberLine wantsKey W ++ rest₆) (run .starts) (run .lengths) (small .table)) in
+      let starts = file-column (firstIn fileKey) (run .starts) (lefts-back fileKey refl (numberLine wantsKey W ++ rest₆) (run .starts) (run .lengths) (run .aggregates) (small .table) (small .numbered)) in
+      let lengths = file-column (middleIn fileKey) (run .lengths) (middles-back fileKey refl (numberLine wantsKey W ++ rest₆) (run .starts) (run .lengths) (run .aggregates) (small .table) (small .numbered)) in
+      let aggregates = file-column (thirdIn fileKey) (run .aggregates) (thirds-back fileKey refl (numberLine wantsKey W ++ rest₆) (run .starts) (run .lengths) (run .aggregates) (small .table) (small .numbered)) in
       let numbers = want-column (firstIn wantKey) (run .numbers) (firsts-back wantKey refl [] (run .numbers) (run .counts) (small .pairs)) in
       let counts = want-column (secondIn wantKey) (run .counts) (seconds-back wantKey refl [] (run .numbers) (run .counts) (small .pairs)) in
-      λ i. record { starts = starts i; lengths = lengths i; numbers = numbers i; counts = counts i; head = head-back i; turn = turn-back i }
+      λ i. record { starts = starts i; lengths = lengths i; aggregates = aggregates i; numbers = numbers i; counts = counts i; head = head-back i; turn = turn-back i }
 
   -- The sheet is not too long.
   short-enough : length text ≤ longestSheet
   unfolding text sheetText topText F W
   short-enough =
       sum-length (line tapeKey name) (numberLine headKey (run .head)) (numberLine turnKey (run .turn)) (line ruleKey (ruleText rule))
-      (numberLine filesKey F) (pairLines fileKey (run .starts) (run .lengths)) (numberLine wantsKey W) (pairLines wantKey (run .numbers) (run .counts))
+      (numberLine filesKey F) (tripleLines fileKey (run .starts) (run .lengths) (run .aggregates)) (numberLine wantsKey W) (pairLines wantKey (run .numbers) (run .counts))
       (omega (arith, line-length tapeKey name, name-length name named))
       (number-length headKey (run .head) (small .head))
       (number-length turnKey (run .turn) (small .turn))
       (rule-length rule)
       (number-length filesKey F F-small)
-      (omega (arith, pairs-length fileKey (run .starts) (run .lengths) (omega arith) (small .starts) (small .lengths), small .files))
+      (omega (arith, triples-length fileKey (run .starts) (run .lengths) (run .aggregates) (omega arith) (small .starts) (small .lengths) (small .aggregates), small .files))
       (number-length wantsKey W W-small)
       (omega (arith, pairs-length wantKey (run .numbers) (run .counts) (omega arith) (small .numbers) (small .counts), small .wants))
 

@@ -19,9 +19,9 @@ use Rattle.runs.specs.declared.Rule.{Rule}
 use Rattle.refusals.proofs.Verdicts.{test-says, AllAccept, all-accept, accepts-if}
 use Rattle.writers.specs.declared.Written.{Written}
 use Rattle.texts.specs.Text.{isName, isNameByte, allOf, between}
-use Rattle.sheets.specs.Sheet.{longestSheet, mostSheetFiles}
+use Rattle.sheets.specs.Sheet.{mostSheetFiles}
 use Rattle.writers.specs.Writing.{sheetText, rowVerdict, writeVerdict, writtenAnswer, writtenRow, Handed}
-use Rattle.writers.specs.Private.{Wrote, SheetFits, writtenOf}
+use Rattle.writers.specs.Private.{Wrote, sheetMost, SheetFits, writtenOf}
 use Rattle.texts.proofs.Bytes.{and-true-both}
 
 -- A refusal: the answer is the refusal's, and the row stays.
@@ -139,7 +139,7 @@ module _ (name : List ℕ) (rule : Rule) (run : Run) (row : List ℕ) (v w : Ver
   write-refused e = judged-refused name run (ltb mostSheetFiles (length (run .starts))) v w v-is w-is f f-is (rowVerdict (sheetText name rule run) row ∷ []) e
 
   module _ (good : f ≡ false) where
-    pub sheet-fits : (page : List ℕ) → longestSheet ≤ length page → SheetFits page name (run .starts) (run .lengths) (run .numbers) (run .counts)
+    pub sheet-fits : (page : List ℕ) → sheetMost ≤ length page → SheetFits page name (run .starts) (run .lengths) (run .aggregates) (run .numbers) (run .counts)
     sheet-fits page room =
         let over = ltb mostSheetFiles (length (run .starts)) in
         let g = good-run name run over v w v-is w-is f f-is good in
@@ -148,6 +148,7 @@ module _ (name : List ℕ) (rule : Rule) (run : Run) (row : List ℕ) (v w : Ver
           short = name-fits name run over v w v-is w-is f f-is good;
           files = ltb-false mostSheetFiles (length (run .starts)) (few-files name run over v w v-is w-is f f-is good);
           table = g .files .table .equal;
+          numbered = g .files .rows;
           wants = g .wants .few;
           pairs = g .wants .equal;
         }

@@ -8,7 +8,7 @@ use Rattle.refusals.specs.declared.Refusal.the-variants.{Accepted}
 use Rattle.refusals.specs.declared.Verdict.{Verdict}
 use Rattle.refusals.specs.Refusals.{isRefusal}
 use Rattle.runs.specs.Run.{mostWants}
-use Rattle.sheets.specs.Sheet.{longestSheet, mostSheetFiles}
+use Rattle.sheets.specs.Sheet.{mostSheetFiles}
 use Rattle.writers.specs.declared.Written.{Written}
 use Rattle.writers.specs.Writing.{refusedWriting}
 
@@ -18,12 +18,18 @@ pub record Wrote (page : List ℕ) (at : ℕ) (text : List ℕ) (most : ℕ) (pa
   pub bytes : take next page′ ≡ take at page ++ text
   pub within : next ≤ at + most
 
+-- No run sheet is longer than this, whatever its numbers are: 112 bytes for the first lines, 68 for each of 256 files, 27 for the number of wants and
+-- 49 for each of 64 wants. (That of an accepted run is shorter, and within the limit of a sheet: proofs/RoundTrip.)
+abbrev pub sheetMost : ℕ
+sheetMost = 20683
+
 -- What fits on a page: a name and rows within the sheet's limits.
-pub record SheetFits (page name starts lengths numbers counts : List ℕ) : Type 0 where
-  pub room : longestSheet ≤ length page
+pub record SheetFits (page name starts lengths aggregates numbers counts : List ℕ) : Type 0 where
+  pub room : sheetMost ≤ length page
   pub short : length name ≤ 16
   pub files : length starts ≤ mostSheetFiles
   pub table : length starts ≡ length lengths
+  pub numbered : length starts ≡ length aggregates
   pub wants : length numbers ≤ mostWants
   pub pairs : length numbers ≡ length counts
 

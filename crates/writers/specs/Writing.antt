@@ -59,7 +59,7 @@ topText name head turn rule files =
 unfoldable pub sheetText : List ℕ → Rule → Run → List ℕ
 sheetText name rule run =
     topText name (run .head) (run .turn) rule (length (run .starts))
-    ++ pairLines fileKey (run .starts) (run .lengths)
+    ++ tripleLines fileKey (run .starts) (run .lengths) (run .aggregates)
     ++ numberLine wantsKey (length (run .numbers))
     ++ pairLines wantKey (run .numbers) (run .counts)
 

@@ -53,6 +53,7 @@ pub fn write_plan(
     name: &[u8],
     starts: &[u64],
     lengths: &[u64],
+    aggregates: &[u64],
     numbers: &[u64],
     counts: &[u64],
     head: u64,
@@ -61,9 +62,9 @@ pub fn write_plan(
     tos: &[u64],
     out: &mut [u8],
 ) -> Written
-    ensures { λ r. ⌜ PlanWritten (now (name .entry)) (runAt starts lengths numbers counts head turn) (now (froms .entry)) (now (tos .entry)) (now (out .entry)) r (now (out .exit)) ⌝ }
+    ensures { λ r. ⌜ PlanWritten (now (name .entry)) (runAt starts lengths aggregates numbers counts head turn) (now (froms .entry)) (now (tos .entry)) (now (out .entry)) r (now (out .exit)) ⌝ }
 {
-    let run = runs::judge(starts, lengths, numbers, counts, head, turn);
+    let run = runs::judge(starts, lengths, aggregates, numbers, counts, head, turn);
     let named = judge_name(run, false, name);
     if refused(named) {
         return written(named, 0);
@@ -73,6 +74,7 @@ pub fn write_plan(
     let answer = walk::price(
         starts,
         lengths,
+        aggregates,
         numbers,
         counts,
         head,

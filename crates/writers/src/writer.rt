@@ -3,15 +3,15 @@ ghost use Prim.Native.Nat.{_+_, _≤_};
 ghost use lib.ListN.{length};
 ghost use Rattle.runs.specs.Run.{runAt};
 ghost use Rattle.sheets.specs.Lines.{ruleKey, ruleText};
-ghost use Rattle.sheets.specs.Sheet.{longestSheet};
 ghost use Rattle.writers.specs.Writing.{line, topText, sheetText, SheetWritten};
-ghost use Rattle.writers.specs.Private.{Wrote, SheetFits};
+ghost use Rattle.writers.specs.Private.{Wrote, sheetMost, SheetFits};
 use crate::Written;
 use crate::page::hand_out;
 use crate::page::judge_name;
 use crate::page::put_line;
 use crate::page::put_number_line;
 use crate::page::put_pairs;
+use crate::page::put_triples;
 use crate::page::written;
 use refusals::refused;
 use runs::Rule;
@@ -45,16 +45,17 @@ fn put_sheet(
     rule: Rule,
     starts: &[u64],
     lengths: &[u64],
+    aggregates: &[u64],
     numbers: &[u64],
     counts: &[u64],
     head: u64,
     turn: u64,
 ) -> usize
-    requires { ⌜ SheetFits (now page) (now name) (now starts) (now lengths) (now numbers) (now counts) ⌝ }
-    ensures { λ r. ⌜ Wrote (now (page .entry)) 0 (sheetText (now (name .entry)) rule (runAt starts lengths numbers counts head turn)) longestSheet (now (page .exit)) r ⌝ }
+    requires { ⌜ SheetFits (now page) (now name) (now starts) (now lengths) (now aggregates) (now numbers) (now counts) ⌝ }
+    ensures { λ r. ⌜ Wrote (now (page .entry)) 0 (sheetText (now (name .entry)) rule (runAt starts lengths aggregates numbers counts head turn)) sheetMost (now (page .exit)) r ⌝ }
 {
     let file_at = put_top(page, name, head, turn, rule, starts.len() as u64);
-    let wants_at = put_pairs(page, file_at, b"file=", starts, lengths);
+    let wants_at = put_triples(page, file_at, b"file=", starts, lengths, aggregates);
     let want_at = put_number_line(page, wants_at, b"wants=", numbers.len() as u64);
     put_pairs(page, want_at, b"want=", numbers, counts)
 }
@@ -64,26 +65,28 @@ pub fn write_sheet(
     rule: Rule,
     starts: &[u64],
     lengths: &[u64],
+    aggregates: &[u64],
     numbers: &[u64],
     counts: &[u64],
     head: u64,
     turn: u64,
     out: &mut [u8],
 ) -> Written
-    ensures { λ r. ⌜ SheetWritten (now (name .entry)) rule (runAt starts lengths numbers counts head turn) (now (out .entry)) r (now (out .exit)) ⌝ }
+    ensures { λ r. ⌜ SheetWritten (now (name .entry)) rule (runAt starts lengths aggregates numbers counts head turn) (now (out .entry)) r (now (out .exit)) ⌝ }
 {
-    let run = runs::judge(starts, lengths, numbers, counts, head, turn);
+    let run = runs::judge(starts, lengths, aggregates, numbers, counts, head, turn);
     let verdict = judge_name(run, MOST_SHEET_FILES < starts.len() as u64, name);
     if refused(verdict) {
         return written(verdict, 0);
     }
-    let mut page = [0u8; 16384];
+    let mut page = [0u8; 20683];
     let bytes = put_sheet(
         &mut page,
         name,
         rule,
         starts,
         lengths,
+        aggregates,
         numbers,
         counts,
         head,

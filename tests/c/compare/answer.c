@@ -7,15 +7,15 @@
 uint64_t *cells;
 uint64_t plans_searched, plans_by_cells;
 
-static size_t position_of(uint64_t file)
+size_t position_of(uint64_t name)
 {
     size_t i = 0;
-    while (wanted[i] != file)
+    while (wanted[i] != name)
         i++;
     return i;
 }
 
-/* A well-formed list by file number as one by position. */
+/* A well-formed list by names as one by position. */
 static void take_up_list(const uint64_t *a, const uint64_t *b, size_t n, struct list *list)
 {
     list->length = (uint8_t)n;
@@ -68,14 +68,14 @@ static void try_neighbours(const struct list *given, uint64_t sum, size_t tries)
     }
 }
 
-/* More wants than can be searched: the list given stands in the rows; is it least? */
+/* More stops than can be searched: the list given stands in the rows; is it least? */
 static void examine_list_given(struct list *list)
 {
     enum { NEIGHBOURS = 300 };
     const uint64_t *a = now + offset[DETOUR_STARTS], *b = now + offset[DETOUR_ENDS];
     uint64_t n = now[offset[SUMS] + 3];
     if (n >= run.k)
-        differ("the number of detours is below the number of wants", run.k - 1, n);
+        differ("the number of detours is below the number of stops", run.k - 1, n);
     for (size_t i = 0; i < n; i++)
         if (broken_by(wanted, run.k, a, b, i) != NONE)
             differ("the list given is well formed; the first bad entry", 0, i + 1);
@@ -108,8 +108,10 @@ void write_answer(void)
     struct walk walk;
     find_list(&list);
     walk_list(&run, &list, &walk);
-    memcpy(due + offset[TIMES], walk.times, run.k * sizeof *due);
-    memcpy(due + offset[LEGS], walk.legs, run.k * sizeof *due);
+    for (size_t i = 0; i < call.length[NUMBERS]; i++) {
+        due[offset[TIMES] + i] = walk.times[stop_of[i]];
+        due[offset[LEGS] + i] = walk.legs[stop_of[i]];
+    }
     uint64_t sums[4] = {walk.sum, walk.finish, walk.end, list.length};
     memcpy(due + offset[SUMS], sums, sizeof sums);
     if (!call.plan)

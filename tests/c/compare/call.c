@@ -9,6 +9,7 @@
 /* The header says the same. */
 _Static_assert(VIOLSTREAM_MAX_FILES == LIMIT_FILES && VIOLSTREAM_MAX_WANTS == LIMIT_WANTS
                && VIOLSTREAM_MAX_READS == LIMIT_READS, "numbers of files, wants and reads");
+_Static_assert(VIOLSTREAM_MAX_AGGREGATE == LIMIT_AGGREGATE, "aggregate numbers");
 _Static_assert(VIOLSTREAM_MAX_POSITION == LIMIT_POSITION && VIOLSTREAM_MAX_TURN == LIMIT_TURN, "positions and turn price");
 _Static_assert(VIOLSTREAM_ROOM_WORDS(10, 50) == 5100 && VIOLSTREAM_ROOM_MOST == 4198400, "words of room");
 _Static_assert(VIOLSTREAM_FILE_ROWS == 1 && VIOLSTREAM_BAD_FILE == 2 && VIOLSTREAM_WANT_ROWS == 3 && VIOLSTREAM_BAD_WANT == 4
@@ -18,7 +19,7 @@ _Static_assert(VIOLSTREAM_FILE_ROWS == 1 && VIOLSTREAM_BAD_FILE == 2 && VIOLSTRE
 _Static_assert(VIOLSTREAM_SWEEP == 0 && VIOLSTREAM_LEAST == 1, "rule numbers");
 
 const char *const row_names[ROWS] = {
-    "starts", "lengths", "numbers", "counts", "detour_starts", "detour_ends", "times", "legs", "sums", "room",
+    "starts", "lengths", "aggregates", "numbers", "counts", "detour_starts", "detour_ends", "times", "legs", "sums", "room",
 };
 
 struct call call;
@@ -58,14 +59,32 @@ uint64_t drafted_tape_end(void)
     return n == 0 ? 0 : call.draft[STARTS][n - 1] + call.draft[LENGTHS][n - 1];
 }
 
-/* Of a sound table with sound wants; 0 without wants. */
+/* Where the aggregate of the last want ends. Of a sound table with sound wants; 0 without wants. */
 uint64_t drafted_wanted_end(void)
 {
+    const uint64_t *aggregates = call.draft[AGGREGATES];
     size_t k = call.length[NUMBERS];
     if (k == 0)
         return 0;
     size_t last = (size_t)call.draft[NUMBERS][k - 1] - 1;
+    while (aggregates[last] != 0 && last + 1 < call.length[STARTS] && aggregates[last + 1] == aggregates[last])
+        last++;
     return call.draft[STARTS][last] + call.draft[LENGTHS][last];
+}
+
+/* The names of the stops, and how many there are. Of a sound table with sound wants. */
+size_t drafted_stops(uint64_t names[LIMIT_WANTS + 1])
+{
+    const uint64_t *aggregates = call.draft[AGGREGATES];
+    size_t stops = 0;
+    for (size_t i = 0; i < call.length[NUMBERS]; i++) {
+        size_t first = (size_t)call.draft[NUMBERS][i] - 1;
+        while (aggregates[first] != 0 && first > 0 && aggregates[first - 1] == aggregates[first])
+            first--;
+        if (stops == 0 || names[stops - 1] != first + 1)
+            names[stops++] = first + 1;
+    }
+    return stops;
 }
 
 static size_t put_noise(size_t at, size_t words)
@@ -146,9 +165,10 @@ const uint64_t *expected(enum row r)
 static uint64_t call_library(void)
 {
     if (call.plan)
-        return violstream_plan(LENT(STARTS), LENT(LENGTHS), LENT(NUMBERS), LENT(COUNTS), call.head, call.turn, call.rule,
-                               LENT(DETOUR_STARTS), LENT(DETOUR_ENDS), LENT(TIMES), LENT(LEGS), LENT(SUMS), LENT(ROOM));
-    return violstream_price(LENT(STARTS), LENT(LENGTHS), LENT(NUMBERS), LENT(COUNTS), call.head, call.turn,
+        return violstream_plan(LENT(STARTS), LENT(LENGTHS), LENT(AGGREGATES), LENT(NUMBERS), LENT(COUNTS), call.head, call.turn,
+                               call.rule, LENT(DETOUR_STARTS), LENT(DETOUR_ENDS), LENT(TIMES), LENT(LEGS), LENT(SUMS),
+                               LENT(ROOM));
+    return violstream_price(LENT(STARTS), LENT(LENGTHS), LENT(AGGREGATES), LENT(NUMBERS), LENT(COUNTS), call.head, call.turn,
                             LENT(DETOUR_STARTS), LENT(DETOUR_ENDS), LENT(TIMES), LENT(LEGS), LENT(SUMS));
 }
 

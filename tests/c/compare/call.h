@@ -7,7 +7,7 @@
 #include <stdint.h>
 #include "bounds.h"
 
-enum row { STARTS, LENGTHS, NUMBERS, COUNTS, DETOUR_STARTS, DETOUR_ENDS, TIMES, LEGS, SUMS, ROOM, ROWS };
+enum row { STARTS, LENGTHS, AGGREGATES, NUMBERS, COUNTS, DETOUR_STARTS, DETOUR_ENDS, TIMES, LEGS, SUMS, ROOM, ROWS };
 enum { INPUTS = TIMES, MOST_DRAFTED = 4200, GUARD = 8, MOST_SHIFT = 3 };
 enum { MOST_ANSWER = 8192 };      /* words in a row for an answer other than the room */
 #define MOST_ROOM ((size_t)LIMIT_WANTS * LIMIT_WANTS * (LIMIT_READS + 1) + 64)
@@ -36,6 +36,7 @@ bool is_read(enum row r);
 uint64_t drafted_reads(void);
 uint64_t drafted_tape_end(void);
 uint64_t drafted_wanted_end(void);
+size_t drafted_stops(uint64_t names[LIMIT_WANTS + 1]);
 
 void lay_out(void);
 const uint64_t *expected(enum row r);

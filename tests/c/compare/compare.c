@@ -1,11 +1,15 @@
 /* Calls violstream_price and violstream_plan at random and compares every answer with one worked out here:
  *
  *   - refusals by judging the call in the order of the table, literally;
+ *   - stops by taking the table apart from left to right, once, into aggregates and files that lie in none;
  *   - times, legs, sum, finish and end by moving a head along the legs of the list;
- *   - the least list of up to 10 wants by trying all well-formed lists, enumerated from the three rules as they are
- *     written (1,430 lists for 8 wants), and the literal tie rule;
- *   - for more wants, the least sum by the cells of document 000 (paper.c), and no cheaper or earlier list among lists
+ *   - the least list of up to 10 stops by trying all well-formed lists, enumerated from the three rules as they are
+ *     written (1,430 lists for 8 stops), and the literal tie rule;
+ *   - for more stops, the least sum by the cells of document 000 (paper.c), and no cheaper or earlier list among lists
  *     that differ from the one given in up to two entries.
+ *
+ * Where some file lies in an aggregate, the library is called once more, on the stops as files of a table without
+ * aggregates: the two answers must be the same, by other names.
  *
  * All rows of a call stand in one arena between guard words. After the call every word of the arena, guards and rows
  * that are only read among them, is compared with what it must be.
@@ -17,7 +21,7 @@
  * valgrind --error-exitcode=9 target/tests/compare --apart --calls 20000
  *
  * random.c draws numbers, draw_runs.c, draw_lists.c and draw_calls.c the calls; call.c lends the rows and calls; lists.c,
- * walk.c, judge.c and answer.c work out the answer; differ.c says where it is another; met.c counts what was met;
+ * walk.c, judge.c and answer.c work out the answer, joined.c the call on stops alone; differ.c says where it is another; met.c counts what was met;
  * worked.c has the cases that are worked by hand. */
 #define _POSIX_C_SOURCE 199309L
 #include <inttypes.h>
@@ -46,6 +50,8 @@ uint64_t check_call(void)
         write_answer();
     answered = must_be == 0;
     compare_every_word();
+    if (answered)
+        compare_with_joined();
     note_call(must_be);
     return must_be;
 }
@@ -89,8 +95,10 @@ static void check_random_calls(uint64_t from, uint64_t calls)
 static void print_summary(uint64_t calls, double taken)
 {
     printf("compare.c: %" PRIu64 " calls agree, seed %" PRIu64 ": price %" PRIu64 " accepted, %" PRIu64 " refused; plan %" PRIu64
-           " accepted (%" PRIu64 " against all lists, %" PRIu64 " against document 000's cells), %" PRIu64 " refused; %.1f s\n",
-           calls, seed, results[0][0], refused(0), results[1][0], plans_searched, plans_by_cells, refused(1), taken);
+           " accepted (%" PRIu64 " against all lists, %" PRIu64 " against document 000's cells), %" PRIu64 " refused; %" PRIu64
+           " also against their stops alone; %.1f s\n",
+           calls, seed, results[0][0], refused(0), results[1][0], plans_searched, plans_by_cells, refused(1), compared_joined,
+           taken);
 }
 
 static void read_arguments(char **words, uint64_t *calls, uint64_t *from)
@@ -121,6 +129,7 @@ int main(int argc, char **argv)
     now = allocate(ARENA_WORDS, sizeof *now);
     due = allocate(ARENA_WORDS, sizeof *due);
     cells = allocate(MOST_ROOM, sizeof *cells);
+    joined_room = allocate(MOST_ROOM, sizeof *joined_room);
     enumerate_lists();
     check_worked_cases();
     check_random_calls(from, calls);

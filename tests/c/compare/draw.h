@@ -19,11 +19,12 @@ struct spread any_spread(const uint64_t *mosts, size_t n);
 
 #define ANY_SPREAD(...) any_spread((const uint64_t[]){__VA_ARGS__}, sizeof(uint64_t[]){__VA_ARGS__} / sizeof(uint64_t))
 
-uint64_t draw_tape(size_t k, size_t unwanted, struct spread gap, struct spread length);
+void draw_tape(size_t k, size_t unwanted, struct spread gap, struct spread length);
+void draw_aggregates(uint64_t top);
 void draw_counts(struct spread count);
 void draw_reads(uint64_t reads);
 void draw_answer_rows(void);
-uint64_t shift_to_limit(uint64_t wanted_end);
+void shift_to_limit(void);
 void draw_run(size_t k);
 void lengthen(enum row r);
 

@@ -15,6 +15,15 @@ static void sound_plan(size_t k)
     draw_answer_rows();
 }
 
+/* At most 8 stops, of which lists are soon tried; of more wants where aggregates make them so few. */
+static void small_plan(void)
+{
+    uint64_t names[LIMIT_WANTS + 1];
+    sound_plan(one_in(4) ? between(9, 20) : any_small());
+    if (drafted_stops(names) > 8)
+        sound_plan(any_small());
+}
+
 static void sound_price(size_t k)
 {
     call.plan = false;
@@ -26,7 +35,7 @@ static void sound_price(size_t k)
 static void sound_call(void)
 {
     if (one_in(2))
-        sound_plan(any_small());
+        small_plan();
     else
         sound_price(one_in(4) ? between(0, LIMIT_WANTS) : below(13));
 }
@@ -41,7 +50,7 @@ static void price_broken_list(void)
         call.length[one_in(2) ? DETOUR_STARTS : DETOUR_ENDS]--;
 }
 
-/* 64 wants; with 1,024 reads there is no larger call. */
+/* 64 wants; with 1,024 reads and no aggregates there is no larger call. */
 static void largest_plan(uint64_t reads)
 {
     sound_plan(LIMIT_WANTS);
@@ -60,6 +69,8 @@ static void long_table(size_t files)
     size_t k = below(9);
     struct spread gap = ANY_SPREAD(0, 1, 1000), length = ANY_SPREAD(1, 2, 1000, 1 << 27);
     draw_tape(files, 0, gap, length);
+    for (size_t i = 0, alone = one_in(3); alone && i < files; i++)
+        call.draft[AGGREGATES][i] = LIMIT_AGGREGATE - i % LIMIT_AGGREGATE;
     for (size_t i = 0; i < k; i++)
         call.draft[NUMBERS][i] = files / k * i + 1 + below(files / k);
     call.length[NUMBERS] = k;
@@ -79,18 +90,29 @@ static uint64_t odd_rule(void)
     return odd[below(sizeof odd / sizeof *odd)];
 }
 
+/* The head at the last wanted file's own end, where its aggregate may go on. */
+static void head_at_last_want(void)
+{
+    size_t last = (size_t)call.draft[NUMBERS][call.length[NUMBERS] - 1] - 1;
+    call.head = call.draft[STARTS][last] + call.draft[LENGTHS][last];
+}
+
 static void run_at_edge(bool over)
 {
     size_t k = call.length[NUMBERS];
-    switch (below(5)) {
+    switch (below(6)) {
     case 0: call.turn = LIMIT_TURN + over; break;
     case 1: call.head = LIMIT_POSITION + over; break;
     case 2: call.head = drafted_wanted_end() - (over && k > 0); break;
     case 3:
-        shift_to_limit(0);
+        shift_to_limit();
         if (over && call.length[STARTS] > 0)
             call.draft[LENGTHS][call.length[STARTS] - 1]++;
         call.head = LIMIT_POSITION;
+        break;
+    case 4:
+        if (k > 0)
+            head_at_last_want();
         break;
     default:
         if (k > 0)
@@ -100,10 +122,11 @@ static void run_at_edge(bool over)
 
 static void rows_at_edge(bool over)
 {
-    size_t k = call.length[NUMBERS], most_detours = k == 0 ? 0 : k - 1;
+    uint64_t names[LIMIT_WANTS + 1];
+    size_t k = drafted_stops(names), wants = call.length[NUMBERS], most_detours = k == 0 ? 0 : k - 1;
     switch (below(call.plan ? 6 : 3)) {
-    case 0: lend_edge(TIMES, k, over); break;
-    case 1: lend_edge(LEGS, k, over); break;
+    case 0: lend_edge(TIMES, wants, over); break;
+    case 1: lend_edge(LEGS, wants, over); break;
     case 2: lend_edge(SUMS, 4, over); break;
     case 3: lend_edge(ROOM, k * k * (size_t)(drafted_reads() + 1), over); break;
     case 4: lend_edge(DETOUR_STARTS, most_detours, over); break;
@@ -111,13 +134,34 @@ static void rows_at_edge(bool over)
     }
 }
 
+/* A number that returns after another entry, or after 0; or after neither, which it may. */
+static void return_number(void)
+{
+    uint64_t *aggregates = call.draft[AGGREGATES], number = between(1, LIMIT_AGGREGATE);
+    size_t n = call.length[AGGREGATES];
+    if (n < 3)
+        return;
+    size_t at = below(n - 2);
+    aggregates[at] = aggregates[one_in(2) ? at + 2 : between(at + 2, n - 1)] = number;
+    if (one_in(2))
+        aggregates[at + 1] = one_in(2) ? 0 : number;
+}
+
 static void numbers_at_edge(bool over)
 {
-    switch (below(10)) {
+    switch (below(12)) {
     case 0: long_table(LIMIT_FILES + over); break;
     case 1:
         draw_run(LIMIT_WANTS + over);
         draw_counts((struct spread){2, false});
+        break;
+    case 2:
+        draw_aggregates(LIMIT_AGGREGATE + over);
+        call.head = LIMIT_POSITION;
+        break;
+    case 3:
+        return_number();
+        call.head = LIMIT_POSITION;
         break;
     default: call.rule = over ? odd_rule() : below(2);
     }
@@ -178,8 +222,9 @@ static void damaged_call(void)
 {
     sound_call();
     for (size_t times = between(1, 3); times > 0; times--)
-        switch (below(8)) {
+        switch (below(9)) {
         case 0: call.head = wild(call.head); break;
+        case 8: return_number(); break;
         case 1: call.turn = wild(LIMIT_TURN); break;
         case 2: call.rule = one_in(2) ? odd_rule() : wild(0); break;
         case 3:
@@ -194,7 +239,8 @@ static void wild_call(void)
 {
     call.plan = one_in(2);
     for (int r = 0; r < ROWS; r++) {
-        call.length[r] = r % 2 == 1 && r < TIMES && one_in(2) ? call.length[r - 1] : below(7);
+        bool beside = r == LENGTHS || r == AGGREGATES || r == COUNTS || r == DETOUR_ENDS;
+        call.length[r] = beside && !one_in(3) ? call.length[r - 1] : below(7);
         call.null[r] = one_in(2);
         for (size_t i = 0; r < INPUTS && i < call.length[r]; i++)
             call.draft[r][i] = wild(i);
@@ -218,7 +264,7 @@ void draw_call(void)
     else if (kind < 160)
         sound_plan(between(MOST_SEARCHED + 1, 24));
     else if (kind < 4500)
-        sound_plan(any_small());
+        small_plan();
     else if (kind < 6000)
         sound_price(one_in(4) ? between(0, LIMIT_WANTS) : below(13));
     else if (kind < 7500)

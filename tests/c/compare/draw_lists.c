@@ -3,18 +3,21 @@
 #include "lists.h"
 #include "random.h"
 
+static uint64_t names[LIMIT_WANTS + 1];     /* of the stops of the run in the draft */
+static size_t stops;
+
 static void draft_list(const struct list *list)
 {
     call.length[DETOUR_STARTS] = call.length[DETOUR_ENDS] = list->length;
     for (size_t i = 0; i < list->length; i++) {
-        call.draft[DETOUR_STARTS][i] = call.draft[NUMBERS][list->start[i]];
-        call.draft[DETOUR_ENDS][i] = call.draft[NUMBERS][list->end[i]];
+        call.draft[DETOUR_STARTS][i] = names[list->start[i]];
+        call.draft[DETOUR_ENDS][i] = names[list->end[i]];
     }
 }
 
 static enum rule_broken broken_in_draft(size_t i)
 {
-    return broken_by(call.draft[NUMBERS], call.length[NUMBERS], call.draft[DETOUR_STARTS], call.draft[DETOUR_ENDS], i);
+    return broken_by(names, stops, call.draft[DETOUR_STARTS], call.draft[DETOUR_ENDS], i);
 }
 
 static bool draft_is_well_formed(void)
@@ -25,7 +28,7 @@ static bool draft_is_well_formed(void)
     return true;
 }
 
-/* A well-formed list for more wants than are enumerated, grown one detour at a time. */
+/* A well-formed list for more stops than are enumerated, grown one detour at a time. */
 static void grow_list(size_t k, struct list *list)
 {
     list->length = 0;
@@ -39,7 +42,7 @@ static void grow_list(size_t k, struct list *list)
     }
 }
 
-/* (k, k) (k-1, k-1) ... : a detour for each want, the longest list there is. */
+/* (k, k) (k-1, k-1) ... : a detour for each stop, the longest list there is. */
 static void longest_list(size_t k, struct list *list)
 {
     list->length = (uint8_t)(k - 1);
@@ -49,7 +52,7 @@ static void longest_list(size_t k, struct list *list)
 
 void draw_list(void)
 {
-    size_t k = call.length[NUMBERS];
+    size_t k = stops = drafted_stops(names);
     struct list list;
     if (k <= MOST_SEARCHED)
         list = all_lists[k][below(number_of_lists[k])];
@@ -65,7 +68,11 @@ static uint64_t any_name(void)
     uint64_t files = call.length[STARTS];
     if (one_in(6))
         return one_in(2) ? wild(files) : below(files + 2);
-    return call.length[NUMBERS] == 0 ? below(3) : call.draft[NUMBERS][below(call.length[NUMBERS])];
+    if (stops == 0)
+        return below(3);
+    if (one_in(6))                          /* perhaps a file of an aggregate, and not the first */
+        return one_in(2) ? call.draft[NUMBERS][below(call.length[NUMBERS])] : names[below(stops)] + 1;
+    return names[below(stops)];
 }
 
 /* Puts in place of one entry one that breaks a rule chosen at random, if some tries find one. */
@@ -75,6 +82,7 @@ void break_list(void)
         lengthen(DETOUR_STARTS);
         lengthen(DETOUR_ENDS);
     }
+    stops = drafted_stops(names);
     size_t at = below(call.length[DETOUR_STARTS]);
     enum rule_broken kind = (enum rule_broken)between(NOT_WANTED, CROSSING);
     for (int tries = 0; tries < 200; tries++) {

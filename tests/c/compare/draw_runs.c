@@ -21,10 +21,26 @@ static void add_file(uint64_t *end, struct spread gap, struct spread length)
     *end = call.draft[STARTS][n] + call.draft[LENGTHS][n];
 }
 
-/* k wanted files, with up to `unwanted` others before each and after the last; the end of the last wanted file. */
-uint64_t draw_tape(size_t k, size_t unwanted, struct spread gap, struct spread length)
+/* Numbers that never return, the first of them `top`; files of one number are neighbours. None, some or all files lie in an
+ * aggregate, and up to one, a few or many in the same. The others follow at a stride that is odd, so that the first
+ * 4,096 numbers differ: one of 1 to 4,096 and whatever `top` is, if that is above. */
+void draw_aggregates(uint64_t top)
 {
-    uint64_t end = 0, wanted_end = 0;
+    uint64_t parts_alone = one_in(3) ? 100 : below(3) * 40, longest = (uint64_t[]){1, 2, 4, 30}[below(4)];
+    uint64_t stride = (uint64_t[]){1, LIMIT_AGGREGATE - 1, 2 * below(LIMIT_AGGREGATE / 2) + 1}[below(3)], used = 0;
+    call.length[AGGREGATES] = call.length[STARTS];
+    for (size_t i = 0; i < call.length[AGGREGATES];) {
+        uint64_t number = below(100) < parts_alone ? 0 : used == 0 ? top : 1 + (top - 1 + used * stride) % LIMIT_AGGREGATE;
+        used += number != 0;
+        for (uint64_t files = between(1, longest); files > 0 && i < call.length[AGGREGATES]; files--)
+            call.draft[AGGREGATES][i++] = number;
+    }
+}
+
+/* k wanted files, with up to `unwanted` others before each and after the last. */
+void draw_tape(size_t k, size_t unwanted, struct spread gap, struct spread length)
+{
+    uint64_t end = 0;
     call.length[STARTS] = call.length[LENGTHS] = call.length[NUMBERS] = 0;
     for (size_t i = 0; i <= k; i++) {
         for (size_t others = below(unwanted + 1); others > 0; others--)
@@ -32,10 +48,9 @@ uint64_t draw_tape(size_t k, size_t unwanted, struct spread gap, struct spread l
         if (i == k)
             break;
         add_file(&end, gap, length);
-        wanted_end = end;
         call.draft[NUMBERS][call.length[NUMBERS]++] = call.length[STARTS];
     }
-    return wanted_end;
+    draw_aggregates(between(1, LIMIT_AGGREGATE));
 }
 
 void draw_counts(struct spread count)
@@ -63,13 +78,14 @@ static size_t a_little_more(size_t least)
 
 void draw_answer_rows(void)
 {
-    size_t k = call.length[NUMBERS];
+    uint64_t names[LIMIT_WANTS + 1];
+    size_t k = drafted_stops(names), wants = call.length[NUMBERS];
     if (call.plan)
         call.length[DETOUR_STARTS] = a_little_more(k == 0 ? 0 : k - 1);
     if (call.plan)
         call.length[DETOUR_ENDS] = a_little_more(k == 0 ? 0 : k - 1);
-    call.length[TIMES] = a_little_more(k);
-    call.length[LEGS] = a_little_more(k);
+    call.length[TIMES] = a_little_more(wants);
+    call.length[LEGS] = a_little_more(wants);
     call.length[SUMS] = a_little_more(4);
     call.length[ROOM] = call.plan ? a_little_more(k * k * (size_t)(drafted_reads() + 1)) : 0;
     for (int r = 0; r < ROWS; r++)
@@ -77,15 +93,14 @@ void draw_answer_rows(void)
 }
 
 /* Moves every file right so that the last one ends at the limit. */
-uint64_t shift_to_limit(uint64_t wanted_end)
+void shift_to_limit(void)
 {
     size_t n = call.length[STARTS];
     if (n == 0)
-        return wanted_end;
+        return;
     uint64_t by = LIMIT_POSITION - drafted_tape_end();
     for (size_t i = 0; i < n; i++)
         call.draft[STARTS][i] += by;
-    return wanted_end + by;
 }
 
 static uint64_t draw_head(uint64_t wanted_end)
@@ -105,11 +120,11 @@ void draw_run(size_t k)
     struct spread length = ANY_SPREAD(1, 1, 2, 2, 3, 10, 10, 1000, 2147483648);
     struct spread count = ANY_SPREAD(1, 1, 2, 3, 5, 16);
     struct spread turn = ANY_SPREAD(0, 0, 0, 0, 1, 2, 5, 30, 1000, LIMIT_TURN);
-    uint64_t wanted_end = draw_tape(k, one_in(2) ? 0 : below(3), gap, length);
+    draw_tape(k, one_in(2) ? 0 : below(3), gap, length);
     if (one_in(8))
-        wanted_end = shift_to_limit(wanted_end);
+        shift_to_limit();
     draw_counts(count);
-    call.head = draw_head(wanted_end);
+    call.head = draw_head(drafted_wanted_end());
     call.turn = draw(turn, 0);
     call.rule = one_in(10) ? 0 : 1;
 }

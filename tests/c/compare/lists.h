@@ -1,4 +1,4 @@
-/* Lists of detours, by position among the wants: the rules for them, all of them, and their walk. */
+/* Lists of detours, by position among the stops: the rules for them, all of them, and their walk. */
 #ifndef LISTS_H
 #define LISTS_H
 
@@ -21,7 +21,7 @@ enum rule_broken broken_by(const uint64_t *wanted, size_t k, const uint64_t *a, 
 bool comes_first(const struct list *x, const struct list *y, size_t k);
 void put_in(struct list *list, size_t start, size_t end);
 
-enum { MOST_SEARCHED = 10 };      /* wants up to which every list is tried */
+enum { MOST_SEARCHED = 10 };      /* stops up to which every list is tried */
 extern struct list *all_lists[MOST_SEARCHED + 1];
 extern size_t number_of_lists[MOST_SEARCHED + 1];
 

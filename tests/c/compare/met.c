@@ -7,19 +7,29 @@
 uint64_t results[2][256];
 
 enum met {
-    LARGEST_PLAN, LARGEST_PRICE, FILES_4096, FILES_4097, WANTS_64, WANTS_65, READS_1024, READS_1025, END_AT_LIMIT,
+    LARGEST_PLAN, LARGEST_PRICE, FILES_4096, FILES_4097, AGGREGATE_4096, AGGREGATE_4097, RETURNS_AFTER_NONE,
+    RETURNS_AFTER_OTHER, AGGREGATES_UNEQUAL, EACH_ITS_OWN, WANTS_64, WANTS_65, READS_1024, READS_1025, END_AT_LIMIT,
     END_OVER_LIMIT, TURN_AT_LIMIT, TURN_OVER_LIMIT, HEAD_AT_LIMIT, HEAD_OVER_LIMIT, HEAD_AT_END, HEAD_LEFT_OF_END,
+    HEAD_AT_LAST_WANT, WANTS_JOINED, FIRST_NOT_WANTED, LATER_WANTED, LATER_NOT_WANTED, ROWS_FOR_STOPS, ROOM_FOR_STOPS,
+    TIMES_FOR_STOPS,
     RULE_2, RULE_255, RULE_256, RULE_LARGEST, UNEQUAL_HALVES, ROWS_JUST_ENOUGH, TIMES_SHORT, LEGS_SHORT,
     SUMS_SHORT, DETOUR_STARTS_SHORT, DETOUR_ENDS_SHORT, ROOM_SHORT_SWEEP, ROOM_SHORT_LEAST, NULL_ROWS, METS
 };
 
 static const char *const met_names[METS] = {
     "accepted: a plan of 64 wants and 1,024 reads", "accepted: a price of 64 wants and 1,024 reads",
-    "accepted: 4,096 files", "refused: 4,097 files", "accepted: 64 wants", "refused: 65 wants",
+    "accepted: 4,096 files", "refused: 4,097 files",
+    "accepted: aggregate number 4,096", "refused: aggregate number 4,097", "refused: a number that returns after 0",
+    "refused: a number that returns after another", "refused: aggregates of another number than files",
+    "accepted: 4,096 files, each in an aggregate of its own", "accepted: 64 wants", "refused: 65 wants",
     "accepted: 1,024 reads", "refused: 1,025 reads", "accepted: a file that ends at the limit",
     "refused: a file that ends one over the limit", "accepted: turn price at the limit",
     "refused: turn price one over the limit", "accepted: head at the limit", "refused: head one over the limit",
     "accepted: head at the rightmost wanted end", "refused: head one left of the rightmost wanted end",
+    "refused: head right of the last wanted file, left of its aggregate's end", "accepted: a plan of wants that are joined, with a detour",
+    "accepted: a plan whose list names a file that is not wanted", "refused: a list that names a wanted file which is not the first",
+    "refused: a list that names an unwanted file of a wanted aggregate", "accepted: rows for detours by the stops and not by the wants",
+    "accepted: room by the stops and not by the wants", "refused: times for the stops and not for the wants",
     "refused: rule 2", "refused: rule 255", "refused: rule 256", "refused: rule 2^64 - 1",
     "refused: halves of a list of unequal number", "accepted: rows and room of just the words needed",
     "refused: times one word short", "refused: legs one word short", "refused: sums one word short",
@@ -35,14 +45,74 @@ static void note(enum met m, bool is_met)
     times_met[m] += is_met;
 }
 
+/* Of an accepted table: every file lies in an aggregate, and no two in the same. */
+static bool each_in_its_own(void)
+{
+    for (size_t i = 0; i < call.length[AGGREGATES]; i++)
+        if (call.draft[AGGREGATES][i] == 0 || name_of(i + 1) != i + 1)
+            return false;
+    return true;
+}
+
+static void note_numbers(uint64_t result)
+{
+    const uint64_t *aggregates = call.draft[AGGREGATES];
+    bool highest = false, met_before = false;
+    size_t at = result % 256 == 2 ? (size_t)(result / 256) - 1 : 0;
+    for (size_t i = 0; result == 0 && i < call.length[AGGREGATES]; i++)
+        highest = highest || aggregates[i] == LIMIT_AGGREGATE;
+    for (size_t i = 0; i + 1 < at; i++)
+        met_before = met_before || aggregates[i] == aggregates[at];
+    bool returns = met_before && aggregates[at] != 0 && aggregates[at - 1] != aggregates[at];
+    note(AGGREGATE_4096, highest);
+    note(AGGREGATE_4097, result % 256 == 2 && aggregates[at] == LIMIT_AGGREGATE + 1);
+    note(RETURNS_AFTER_NONE, returns && aggregates[at - 1] == 0);
+    note(RETURNS_AFTER_OTHER, returns && aggregates[at - 1] != 0);
+}
+
+static bool is_wanted(uint64_t file)
+{
+    for (size_t i = 0; i < call.length[NUMBERS]; i++)
+        if (call.draft[NUMBERS][i] == file)
+            return true;
+    return false;
+}
+
+static bool is_stop(uint64_t name)
+{
+    for (size_t i = 0; i < run.k; i++)
+        if (wanted[i] == name)
+            return true;
+    return false;
+}
+
+/* Lists and what they name, of a run that is sound. */
+static void note_names(uint64_t result)
+{
+    size_t n = result == 0 && call.plan ? (size_t)due[offset[SUMS] + 3] : 0;
+    bool unwanted = false;
+    for (size_t i = 0; i < n; i++)
+        unwanted = unwanted || !is_wanted(due[offset[DETOUR_STARTS] + i]) || !is_wanted(due[offset[DETOUR_ENDS] + i]);
+    note(WANTS_JOINED, n > 0 && run.k < call.length[NUMBERS]);
+    note(FIRST_NOT_WANTED, unwanted);
+    if (result % 256 != 10 || result == 10)
+        return;
+    uint64_t name = call.draft[DETOUR_STARTS][result / 256 - 1];
+    bool later = is_stop(name_of(name)) && name_of(name) != name;
+    note(LATER_WANTED, later && is_wanted(name));
+    note(LATER_NOT_WANTED, later && !is_wanted(name));
+}
+
 static void note_sizes(uint64_t result)
 {
     size_t files = call.length[STARTS], wants = call.length[NUMBERS];
-    bool largest = result == 0 && wants == LIMIT_WANTS && run.reads == LIMIT_READS;
+    bool largest = result == 0 && run.k == LIMIT_WANTS && run.reads == LIMIT_READS;
     note(LARGEST_PLAN, largest && call.plan && call.rule == 1);
     note(LARGEST_PRICE, largest && !call.plan);
     note(FILES_4096, result == 0 && files == LIMIT_FILES);
-    note(FILES_4097, result == 1 && files == LIMIT_FILES + 1 && call.length[LENGTHS] == files);
+    note(FILES_4097, result == 1 && files == LIMIT_FILES + 1 && call.length[LENGTHS] == files && call.length[AGGREGATES] == files);
+    note(AGGREGATES_UNEQUAL, result == 1 && files <= LIMIT_FILES && call.length[LENGTHS] == files);
+    note(EACH_ITS_OWN, result == 0 && files == LIMIT_FILES && each_in_its_own());
     note(WANTS_64, result == 0 && wants == LIMIT_WANTS);
     note(WANTS_65, result == 3 && wants == LIMIT_WANTS + 1 && call.length[COUNTS] == wants);
     note(READS_1024, result == 0 && run.reads == LIMIT_READS);
@@ -60,6 +130,9 @@ static void note_places(uint64_t result)
     note(HEAD_OVER_LIMIT, result == 7 && call.head == LIMIT_POSITION + 1);
     note(HEAD_AT_END, result == 0 && wanted_end > 0 && call.head == wanted_end);
     note(HEAD_LEFT_OF_END, result == 7 && wanted_end > 0 && call.head == wanted_end - 1);
+    size_t last = wanted_end > 0 ? (size_t)call.draft[NUMBERS][call.length[NUMBERS] - 1] - 1 : 0;
+    note(HEAD_AT_LAST_WANT, result == 7 && wanted_end > 0 && call.head <= LIMIT_POSITION
+         && call.head >= call.draft[STARTS][last] + call.draft[LENGTHS][last]);
 }
 
 static void note_rules(uint64_t result)
@@ -84,13 +157,17 @@ static void note_rows(uint64_t result)
     const size_t *length = call.length, k = length[NUMBERS];
     bool both_for_wants = length[TIMES] >= k && length[LEGS] >= k;
     bool row_short = result == 8, room_short = result == 9 && length[ROOM] + 1 == room_words();
-    note(ROWS_JUST_ENOUGH, result == 0 && call.plan && k > 1 && length[TIMES] == k && length[LEGS] == k && length[SUMS] == 4
-         && length[DETOUR_STARTS] == k - 1 && length[DETOUR_ENDS] == k - 1 && length[ROOM] == room_words());
+    bool planned = result == 0 && call.plan && run.k > 1;
+    note(ROWS_JUST_ENOUGH, planned && length[TIMES] == k && length[LEGS] == k && length[SUMS] == 4
+         && length[DETOUR_STARTS] == run.k - 1 && length[DETOUR_ENDS] == run.k - 1 && length[ROOM] == room_words());
+    note(ROWS_FOR_STOPS, planned && length[DETOUR_STARTS] + 1 < k && length[DETOUR_ENDS] + 1 < k);
+    note(ROOM_FOR_STOPS, planned && length[ROOM] < k * k * (size_t)(run.reads + 1));
+    note(TIMES_FOR_STOPS, row_short && length[TIMES] >= run.k && length[TIMES] < k && length[LEGS] >= k && length[SUMS] >= 4);
     note(TIMES_SHORT, row_short && length[TIMES] + 1 == k && length[LEGS] >= k && length[SUMS] >= 4);
     note(LEGS_SHORT, row_short && length[LEGS] + 1 == k && length[TIMES] >= k && length[SUMS] >= 4);
     note(SUMS_SHORT, row_short && length[SUMS] == 3 && both_for_wants);
-    note(DETOUR_STARTS_SHORT, row_short && call.plan && length[DETOUR_STARTS] + 2 == k && both_for_wants);
-    note(DETOUR_ENDS_SHORT, row_short && call.plan && length[DETOUR_ENDS] + 2 == k && both_for_wants);
+    note(DETOUR_STARTS_SHORT, row_short && call.plan && length[DETOUR_STARTS] + 2 == run.k && both_for_wants);
+    note(DETOUR_ENDS_SHORT, row_short && call.plan && length[DETOUR_ENDS] + 2 == run.k && both_for_wants);
     note(ROOM_SHORT_SWEEP, room_short && call.rule == 0);
     note(ROOM_SHORT_LEAST, room_short && call.rule == 1);
     note(NULL_ROWS, result == 0 && call.plan && k == 0 && length[ROOM] == 0 && all_empty_rows_are_null());
@@ -100,6 +177,8 @@ void note_call(uint64_t result)
 {
     results[call.plan][result % 256]++;
     note_sizes(result);
+    note_numbers(result);
+    note_names(result);
     note_places(result);
     note_rules(result);
     note_rows(result);

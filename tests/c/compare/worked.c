@@ -1,4 +1,4 @@
-/* The cases that document 01 works by hand. */
+/* The cases that document 01 works by hand, and those with aggregates. */
 #include <string.h>
 #include "call.h"
 #include "compare.h"
@@ -15,27 +15,41 @@ struct worked {
     size_t detours;
     uint64_t from[2], to[2], result, sum, leg[4];
     bool least;                             /* the planner gives this list */
+    uint64_t aggregate[4], finish, end, time[4];        /* of those with aggregates */
 };
 
+#define PLAIN {0}, 0, 0, {0}
+#define GAP 4, {0, 10, 16, 20}, {10, 4, 4, 30}       /* files 2 and 3 with a gap between them */
+
 static const struct worked worked_cases[] = {
-    {"no wants", 1, {0}, {10}, 0, {0}, {0}, 60, 0, 0, {0}, {0}, 0, 0, {0}, true},
-    {"one file", 1, {5}, {3}, 1, {1}, {3}, 8, 2, 0, {0}, {0}, 0, 24, {1}, true},
-    {"two files, tie, empty", 2, {0, 10}, {10, 10}, 2, {1, 2}, {1, 1}, 20, 0, 0, {0}, {0}, 0, 70, {1, 1}, true},
-    {"two files, tie, (2,2)", 2, {0, 10}, {10, 10}, 2, {1, 2}, {1, 1}, 20, 0, 1, {2}, {2}, 0, 70, {2, 1}, false},
-    {"two reads, (2,2)", 2, {0, 10}, {10, 10}, 2, {1, 2}, {1, 2}, 20, 0, 1, {2}, {2}, 0, 90, {2, 1}, true},
-    {"two reads, empty", 2, {0, 10}, {10, 10}, 2, {1, 2}, {1, 2}, 20, 0, 0, {0}, {0}, 0, 110, {1, 1}, false},
-    {"turn 1, empty", 2, {0, 10}, {10, 10}, 2, {1, 2}, {1, 1}, 20, 1, 0, {0}, {0}, 0, 72, {1, 1}, true},
-    {"turn 1, (2,2)", 2, {0, 10}, {10, 10}, 2, {1, 2}, {1, 1}, 20, 1, 1, {2}, {2}, 0, 74, {2, 1}, false},
-    {"only file 2", 2, {0, 10}, {10, 10}, 1, {2}, {1}, 20, 0, 0, {0}, {0}, 0, 20, {1}, true},
-    {"sheet, empty", 3, {0, 10, 20}, {10, 4, 30}, 3, {1, 2, 3}, {1, 3, 1}, 60, 1, 0, {0}, {0}, 0, 407, {1, 1, 1}, false},
-    {"sheet, (2,2)", 3, {0, 10, 20}, {10, 4, 30}, 3, {1, 2, 3}, {1, 3, 1}, 60, 1, 1, {2}, {2}, 0, 367, {2, 1, 2}, true},
-    {"sheet, (2,3)", 3, {0, 10, 20}, {10, 4, 30}, 3, {1, 2, 3}, {1, 3, 1}, 60, 1, 1, {2}, {3}, 0, 409, {2, 1, 1}, false},
-    {"sheet, (3,3)", 3, {0, 10, 20}, {10, 4, 30}, 3, {1, 2, 3}, {1, 3, 1}, 60, 1, 1, {3}, {3}, 0, 615, {2, 2, 1}, false},
-    {"sheet, (3,3)(2,2)", 3, {0, 10, 20}, {10, 4, 30}, 3, {1, 2, 3}, {1, 3, 1}, 60, 1, 2, {3, 2}, {3, 2}, 0, 565, {3, 2, 1}, false},
-    {"four files, (3,3)(2,4)", 4, {0, 2, 4, 6}, {2, 2, 2, 2}, 4, {1, 2, 3, 4}, {1, 1, 1, 1}, 8, 1, 2, {3, 2}, {3, 4}, 0, 72, {3, 2, 1, 2}, false},
-    {"four files, empty", 4, {0, 2, 4, 6}, {2, 2, 2, 2}, 4, {1, 2, 3, 4}, {1, 1, 1, 1}, 8, 1, 0, {0}, {0}, 0, 56, {1, 1, 1, 1}, true},
-    {"equal ends", 4, {0, 2, 4, 6}, {2, 2, 2, 2}, 4, {1, 2, 3, 4}, {1, 1, 1, 1}, 8, 1, 2, {3, 2}, {4, 4}, 10 + 2 * 256, 0, {0}, false},
-    {"crossing", 4, {0, 2, 4, 6}, {2, 2, 2, 2}, 4, {1, 2, 3, 4}, {1, 1, 1, 1}, 8, 1, 2, {3, 2}, {4, 3}, 10 + 2 * 256, 0, {0}, false},
+    {"no wants", 1, {0}, {10}, 0, {0}, {0}, 60, 0, 0, {0}, {0}, 0, 0, {0}, true, PLAIN},
+    {"one file", 1, {5}, {3}, 1, {1}, {3}, 8, 2, 0, {0}, {0}, 0, 24, {1}, true, PLAIN},
+    {"two files, tie, empty", 2, {0, 10}, {10, 10}, 2, {1, 2}, {1, 1}, 20, 0, 0, {0}, {0}, 0, 70, {1, 1}, true, PLAIN},
+    {"two files, tie, (2,2)", 2, {0, 10}, {10, 10}, 2, {1, 2}, {1, 1}, 20, 0, 1, {2}, {2}, 0, 70, {2, 1}, false, PLAIN},
+    {"two reads, (2,2)", 2, {0, 10}, {10, 10}, 2, {1, 2}, {1, 2}, 20, 0, 1, {2}, {2}, 0, 90, {2, 1}, true, PLAIN},
+    {"two reads, empty", 2, {0, 10}, {10, 10}, 2, {1, 2}, {1, 2}, 20, 0, 0, {0}, {0}, 0, 110, {1, 1}, false, PLAIN},
+    {"turn 1, empty", 2, {0, 10}, {10, 10}, 2, {1, 2}, {1, 1}, 20, 1, 0, {0}, {0}, 0, 72, {1, 1}, true, PLAIN},
+    {"turn 1, (2,2)", 2, {0, 10}, {10, 10}, 2, {1, 2}, {1, 1}, 20, 1, 1, {2}, {2}, 0, 74, {2, 1}, false, PLAIN},
+    {"only file 2", 2, {0, 10}, {10, 10}, 1, {2}, {1}, 20, 0, 0, {0}, {0}, 0, 20, {1}, true, PLAIN},
+    {"sheet, empty", 3, {0, 10, 20}, {10, 4, 30}, 3, {1, 2, 3}, {1, 3, 1}, 60, 1, 0, {0}, {0}, 0, 407, {1, 1, 1}, false, PLAIN},
+    {"sheet, (2,2)", 3, {0, 10, 20}, {10, 4, 30}, 3, {1, 2, 3}, {1, 3, 1}, 60, 1, 1, {2}, {2}, 0, 367, {2, 1, 2}, true, PLAIN},
+    {"sheet, (2,3)", 3, {0, 10, 20}, {10, 4, 30}, 3, {1, 2, 3}, {1, 3, 1}, 60, 1, 1, {2}, {3}, 0, 409, {2, 1, 1}, false, PLAIN},
+    {"sheet, (3,3)", 3, {0, 10, 20}, {10, 4, 30}, 3, {1, 2, 3}, {1, 3, 1}, 60, 1, 1, {3}, {3}, 0, 615, {2, 2, 1}, false, PLAIN},
+    {"sheet, (3,3)(2,2)", 3, {0, 10, 20}, {10, 4, 30}, 3, {1, 2, 3}, {1, 3, 1}, 60, 1, 2, {3, 2}, {3, 2}, 0, 565, {3, 2, 1}, false, PLAIN},
+    {"four files, (3,3)(2,4)", 4, {0, 2, 4, 6}, {2, 2, 2, 2}, 4, {1, 2, 3, 4}, {1, 1, 1, 1}, 8, 1, 2, {3, 2}, {3, 4}, 0, 72, {3, 2, 1, 2}, false, PLAIN},
+    {"four files, empty", 4, {0, 2, 4, 6}, {2, 2, 2, 2}, 4, {1, 2, 3, 4}, {1, 1, 1, 1}, 8, 1, 0, {0}, {0}, 0, 56, {1, 1, 1, 1}, true, PLAIN},
+    {"equal ends", 4, {0, 2, 4, 6}, {2, 2, 2, 2}, 4, {1, 2, 3, 4}, {1, 1, 1, 1}, 8, 1, 2, {3, 2}, {4, 4}, 10 + 2 * 256, 0, {0}, false, PLAIN},
+    {"crossing", 4, {0, 2, 4, 6}, {2, 2, 2, 2}, 4, {1, 2, 3, 4}, {1, 1, 1, 1}, 8, 1, 2, {3, 2}, {4, 3}, 10 + 2 * 256, 0, {0}, false, PLAIN},
+    {"aggregate, (2,2)", GAP, 3, {1, 3, 4}, {1, 3, 1}, 60, 1, 1, {2}, {2}, 0, 409, {2, 1, 2}, true, {0, 7, 7, 0}, 133, 50, {93, 61, 133}},
+    {"aggregate, by its second file", GAP, 3, {1, 3, 4}, {1, 3, 1}, 60, 1, 1, {3}, {3}, 10 + 256, 0, {0}, false, {0, 7, 7, 0}, 0, 0, {0}},
+    {"none, (3,3)", GAP, 3, {1, 3, 4}, {1, 3, 1}, 60, 1, 1, {3}, {3}, 0, 349, {2, 1, 2}, true, {0}, 121, 50, {81, 49, 121}},
+    {"both members", GAP, 4, {1, 2, 3, 4}, {1, 2, 1, 1}, 60, 1, 1, {2}, {2}, 0, 409, {2, 1, 1, 2}, true, {0, 7, 7, 0}, 133, 50, {93, 61, 61, 133}},
+    {"head left of the aggregate's end", 2, {0, 10}, {4, 4}, 1, {1}, {1}, 13, 0, 0, {0}, {0}, 7, 0, {0}, true, {9, 9}, 0, 0, {0}},
+    {"head at the aggregate's end", 2, {0, 10}, {4, 4}, 1, {1}, {1}, 14, 0, 0, {0}, {0}, 0, 28, {1}, true, {9, 9}, 28, 14, {28}},
+    {"5, 0, 5", GAP, 1, {1}, {1}, 60, 1, 0, {0}, {0}, 2 + 3 * 256, 0, {0}, true, {5, 0, 5, 0}, 0, 0, {0}},
+    {"5, 3, 3, 5", GAP, 1, {1}, {1}, 60, 1, 0, {0}, {0}, 2 + 4 * 256, 0, {0}, true, {5, 3, 3, 5}, 0, 0, {0}},
+    {"4,096", GAP, 1, {1}, {1}, 60, 1, 0, {0}, {0}, 0, 71, {1}, true, {4096, 3, 3, 2}, 71, 10, {71}},
+    {"4,097", GAP, 1, {1}, {1}, 60, 1, 0, {0}, {0}, 2 + 2 * 256, 0, {0}, true, {4096, 4097, 3, 2}, 0, 0, {0}},
 };
 
 static void draft_words(enum row r, const uint64_t *words, size_t n)
@@ -52,6 +66,7 @@ static void check_worked(const struct worked *w, bool plan)
     call.rule = 1;
     draft_words(STARTS, w->start, w->files);
     draft_words(LENGTHS, w->length, w->files);
+    draft_words(AGGREGATES, w->aggregate, w->files);
     draft_words(NUMBERS, w->number, w->wants);
     draft_words(COUNTS, w->count, w->wants);
     draft_words(DETOUR_STARTS, w->from, w->detours);
@@ -65,7 +80,15 @@ static void check_worked(const struct worked *w, bool plan)
     for (size_t i = 0; result == 0 && i < w->wants; i++)
         if (now[offset[LEGS] + i] != w->leg[i])
             differ("a leg worked by hand", w->leg[i], now[offset[LEGS] + i]);
-    if (plan && now[offset[SUMS] + 3] != w->detours)
+    for (size_t i = 0; result == 0 && w->time[0] != 0 && i < w->wants; i++)
+        if (now[offset[TIMES] + i] != w->time[i])
+            differ("a time worked by hand", w->time[i], now[offset[TIMES] + i]);
+    if (result == 0 && w->time[0] != 0 && (now[offset[SUMS] + 1] != w->finish || now[offset[SUMS] + 2] != w->end))
+        differ("the finish worked by hand, at the end worked by hand", w->finish, now[offset[SUMS] + 1]);
+    for (size_t i = 0; plan && result == 0 && i < w->detours; i++)
+        if (now[offset[DETOUR_STARTS] + i] != w->from[i] || now[offset[DETOUR_ENDS] + i] != w->to[i])
+            differ("the start of a detour worked by hand", w->from[i], now[offset[DETOUR_STARTS] + i]);
+    if (plan && result == 0 && now[offset[SUMS] + 3] != w->detours)
         differ("the number of detours worked by hand", w->detours, now[offset[SUMS] + 3]);
 }
 
@@ -80,5 +103,5 @@ void check_worked_cases(void)
     }
     worked_case = NULL;
     memset(results, 0, sizeof results);
-    plans_searched = 0;
+    plans_searched = compared_joined = 0;
 }

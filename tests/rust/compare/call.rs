@@ -4,17 +4,19 @@ use std::fmt;
 
 pub const STARTS: usize = 0;
 pub const LENGTHS: usize = 1;
-pub const NUMBERS: usize = 2;
-pub const COUNTS: usize = 3;
-pub const FROM: usize = 4;
-pub const TO: usize = 5;
-pub const TIMES: usize = 6;
-pub const LEGS: usize = 7;
-pub const SUMS: usize = 8;
-pub const ROOM: usize = 9;
-pub const ROWS: usize = 10;
-pub const NAMES: [&str; ROWS] =
-    ["starts", "lengths", "numbers", "counts", "detour_starts", "detour_ends", "times", "legs", "sums", "room"];
+pub const AGGREGATES: usize = 2;
+pub const NUMBERS: usize = 3;
+pub const COUNTS: usize = 4;
+pub const FROM: usize = 5;
+pub const TO: usize = 6;
+pub const TIMES: usize = 7;
+pub const LEGS: usize = 8;
+pub const SUMS: usize = 9;
+pub const ROOM: usize = 10;
+pub const ROWS: usize = 11;
+pub const NAMES: [&str; ROWS] = [
+    "starts", "lengths", "aggregates", "numbers", "counts", "detour_starts", "detour_ends", "times", "legs", "sums", "room",
+];
 
 /// The parameters, with every row as it stands before the call.
 #[derive(Clone, Default)]

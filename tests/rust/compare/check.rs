@@ -1,9 +1,10 @@
 //! One call checked, and what was met.
 
 use crate::call::*;
-use crate::draw::{last_wanted_end, reads_drawn};
+use crate::draw::{last_file_end, last_wanted_end, reads_drawn, stop_names};
 use crate::fence::{make, Fenced};
-use crate::judge::judge;
+use crate::joined::compare_with_joined;
+use crate::judge::{judge, read_with};
 use crate::limits::*;
 use crate::lists::{all_lists, Detour};
 use crate::rows::{by_position, compare_rows, difference, written, Difference, Written};
@@ -11,18 +12,23 @@ use crate::walk::{search, Run};
 use crate::windows::plan_by_windows;
 use std::collections::BTreeMap;
 
-pub const SEARCHED: usize = 10; // wants up to which every list is tried
+pub const SEARCHED: usize = 10; // stops up to which every list is tried
 
 /// The words of room that an accepted run needs.
 fn room_needed(call: &Call) -> usize {
+    let k = stop_names(call).len();
+    k * k * (reads_drawn(call) as usize + 1)
+}
+
+fn room_by_wants(call: &Call) -> usize {
     call.len(NUMBERS) * call.len(NUMBERS) * (reads_drawn(call) as usize + 1)
 }
 
 /// The rows for the answer are one word short in `row` and nowhere else.
 fn one_short(call: &Call, row: usize) -> bool {
-    let k = call.len(NUMBERS);
-    let detours = if call.plan { k.saturating_sub(1) } else { 0 };
-    let needed = [(FROM, detours), (TO, detours), (TIMES, k), (LEGS, k), (SUMS, 4)];
+    let wants = call.len(NUMBERS);
+    let detours = if call.plan { stop_names(call).len().saturating_sub(1) } else { 0 };
+    let needed = [(FROM, detours), (TO, detours), (TIMES, wants), (LEGS, wants), (SUMS, 4)];
     needed.iter().all(|&(r, n)| if r == row { call.len(r) + 1 == n } else { call.len(r) >= n })
 }
 
@@ -33,12 +39,59 @@ fn tape_end(call: &Call) -> u64 {
     }
 }
 
+/// The aggregate number of the file that 2 names, and of the file before it; 0 where there is none.
+fn numbers_at(call: &Call, result: u64) -> (u64, u64) {
+    let at = (result / 256) as usize;
+    let number = |i: usize| call.rows[AGGREGATES].get(i).copied().unwrap_or(0);
+    (number(at.wrapping_sub(1)), number(at.wrapping_sub(2)))
+}
+
+/// A file refused by 2 whose number some file left of the one before it has.
+fn returns(call: &Call, result: u64) -> bool {
+    let (number, before) = numbers_at(call, result);
+    let earlier = (result / 256).saturating_sub(2) as usize;
+    result % 256 == 2 && number != 0 && before != number && call.rows[AGGREGATES][..earlier].contains(&number)
+}
+
+/// The entry of a list that 10 names starts at a file of a wanted aggregate, and not at the first.
+fn later_member(call: &Call, result: u64) -> bool {
+    if result % 256 != 10 || result == 10 {
+        return false;
+    }
+    let file = call.rows[FROM][(result / 256) as usize - 1];
+    let in_table = (1..=call.len(STARTS) as u64).contains(&file);
+    in_table && !stop_names(call).contains(&file) && read_with(call, file).iter().any(|f| call.rows[NUMBERS].contains(f))
+}
+
+fn joined(call: &Call) -> bool {
+    stop_names(call).len() < call.len(NUMBERS)
+}
+
 /// What a long run must have met, each by what it is and how it is told from the call and the result.
 pub const TO_MEET: &[(&str, fn(&Call, u64) -> bool)] = &[
-    ("plan of 64 wants and 1,024 reads", |c, r| r == 0 && c.plan && c.len(NUMBERS) == WANTS && reads_drawn(c) == READS),
+    ("plan of 64 stops and 1,024 reads", |c, r| r == 0 && c.plan && stop_names(c).len() == WANTS && reads_drawn(c) == READS),
     ("price of 64 wants and 1,024 reads", |c, r| r == 0 && !c.plan && c.len(NUMBERS) == WANTS && reads_drawn(c) == READS),
     ("4,096 files", |c, r| r == 0 && c.len(STARTS) == FILES),
     ("4,097 files", |c, r| r == 1 && c.len(STARTS) == FILES + 1 && c.len(LENGTHS) == FILES + 1),
+    ("aggregates of another number than files", |c, r| r == 1 && c.len(STARTS) <= FILES && c.len(STARTS) == c.len(LENGTHS)),
+    ("aggregate number 4,096", |c, r| r == 0 && c.rows[AGGREGATES].contains(&AGGREGATE)),
+    ("aggregate number 4,097", |c, r| r % 256 == 2 && numbers_at(c, r).0 == AGGREGATE + 1),
+    ("a number that returns after 0", |c, r| returns(c, r) && numbers_at(c, r).1 == 0),
+    ("a number that returns after another", |c, r| returns(c, r) && numbers_at(c, r).1 != 0),
+    ("4,096 files, each in its own aggregate", |c, r| {
+        r == 0 && c.len(STARTS) == FILES && c.rows[AGGREGATES].windows(2).all(|w| w[0] != w[1] && w[0] != 0)
+    }),
+    ("wants that are joined", |c, r| r == 0 && c.plan && joined(c) && stop_names(c).len() > 1),
+    ("a stop whose first file is not wanted", |c, r| r == 0 && stop_names(c).iter().any(|f| !c.rows[NUMBERS].contains(f))),
+    ("a list that names a file which is not the first", |c, r| later_member(c, r)),
+    ("head right of the last wanted file, left of its aggregate's end", |c, r| {
+        r == 7 && c.head <= POSITION && c.len(NUMBERS) > 0 && last_file_end(c) <= c.head
+    }),
+    ("times for the stops and not for the wants", |c, r| {
+        r == 8 && c.len(TIMES) < c.len(NUMBERS) && stop_names(c).len() <= c.len(TIMES)
+    }),
+    ("detours by the stops and not by the wants", |c, r| r == 0 && c.plan && c.len(FROM) + 1 < c.len(NUMBERS)),
+    ("room by the stops and not by the wants", |c, r| r == 0 && c.plan && c.len(ROOM) < room_by_wants(c)),
     ("65 wants", |c, r| r == 3 && c.len(NUMBERS) == WANTS + 1 && c.len(COUNTS) == WANTS + 1),
     ("1,025 reads", |c, r| r == 5 && c.rows[COUNTS].iter().all(|&n| n <= READS) && reads_drawn(c) == READS + 1),
     ("file up to the limit", |c, r| r == 0 && tape_end(c) == POSITION),
@@ -72,6 +125,7 @@ pub struct Checker {
     pub broken: BTreeMap<(&'static str, usize), u64>,
     pub searched: u64,
     pub by_windows: u64,
+    pub also_joined: u64,
 }
 
 impl Checker {
@@ -80,7 +134,7 @@ impl Checker {
         let numbers: Vec<usize> = lists.iter().map(Vec::len).collect();
         assert_eq!(numbers, [1, 1, 2, 5, 14, 42, 132, 429, 1430, 4862, 16796], "the numbers of well-formed lists");
         let met = vec![0; TO_MEET.len()];
-        Checker { lists, met, results: BTreeMap::new(), broken: BTreeMap::new(), searched: 0, by_windows: 0 }
+        Checker { lists, met, results: BTreeMap::new(), broken: BTreeMap::new(), searched: 0, by_windows: 0, also_joined: 0 }
     }
 
     fn least(&mut self, run: &Run) -> Vec<Detour> {
@@ -97,7 +151,8 @@ impl Checker {
         match judge(call) {
             Err((number, place)) => {
                 if number == 10 && place > 0 {
-                    *self.broken.entry((rule_broken(call, place - 1), place)).or_insert(0) += 1;
+                    let list: Vec<Detour> = call.rows[FROM].iter().cloned().zip(call.rows[TO].iter().cloned()).collect();
+                    *self.broken.entry((rule_broken(&stop_names(call), &list, place - 1), place)).or_insert(0) += 1;
                 }
                 (number + 256 * place as u64, Written::default())
             }
@@ -122,6 +177,10 @@ impl Checker {
             return Err(difference("the result, its number and its place".to_string(), account(must_be), account(is)));
         }
         compare_rows(call, &rows, &written)?;
+        if must_be == 0 && call.rows[AGGREGATES].iter().any(|&number| number != 0) {
+            compare_with_joined(call, &rows)?;
+            self.also_joined += 1;
+        }
         self.note(call, must_be);
         Ok(())
     }
@@ -135,19 +194,17 @@ impl Checker {
 }
 
 /// Which rule entry i breaks, for the count of what was met; the judging does not use it.
-pub fn rule_broken(call: &Call, i: usize) -> &'static str {
-    let entry = |j: usize| (call.rows[FROM][j], call.rows[TO][j]);
-    let wanted = |file: u64| call.rows[NUMBERS].contains(&file);
-    let (a, b) = entry(i);
-    if !wanted(a) || !wanted(b) {
-        "not wanted"
+pub fn rule_broken(names: &[u64], list: &[Detour], i: usize) -> &'static str {
+    let (a, b) = list[i];
+    if !names.contains(&a) || !names.contains(&b) {
+        "no stop"
     } else if a > b {
         "backward"
-    } else if call.rows[NUMBERS][0] == a {
+    } else if names[0] == a {
         "at leftmost"
-    } else if (0..i).any(|j| entry(j).0 <= a) {
+    } else if list[..i].iter().any(|d| d.0 <= a) {
         "not falling"
-    } else if (0..i).any(|j| entry(j).1 == b) {
+    } else if list[..i].iter().any(|d| d.1 == b) {
         "same end"
     } else {
         "crossing"

@@ -1,10 +1,14 @@
 //! Calls violstream_price and violstream_plan at random and compares every answer with one worked out here:
 //!
 //! - refusals: the first row of the table that applies, over whole numbers wide enough never to wrap;
+//! - stops: for each want all files of the table that have its aggregate's number, gathered by the first of them;
 //! - times, legs, sum, finish and end: the legs of the list, walked one after the other;
-//! - the least list of up to 10 wants: every choice of an end for every start is written down, the three rules are held
-//!   against each pair of entries, and of the lists left (1,430 for 8 wants) the tie rule picks one;
-//! - for more wants: the cheapest plan of each window of wants, remembered by window.
+//! - the least list of up to 10 stops: every choice of an end for every start is written down, the three rules are held
+//!   against each pair of entries, and of the lists left (1,430 for 8 stops) the tie rule picks one;
+//! - for more stops: the cheapest plan of each window of stops, remembered by window.
+//!
+//! Where some file lies in an aggregate, the library is called once more, on the whole table with each aggregate made one
+//! file: the two answers must be the same, by other names.
 //!
 //! Every row stands between guard words. After a call every word of every row, and every guard, is compared with what it
 //! must be: unchanged, but for the first entries of the rows for the answer of an accepted call.
@@ -16,6 +20,7 @@ mod call;
 mod check;
 mod draw;
 mod fence;
+mod joined;
 mod judge;
 mod kinds;
 mod limits;
@@ -61,8 +66,8 @@ fn require_all_met(checker: &Checker) {
         require(times > 0, what.to_string());
     }
     for entry in 1..=8 {
-        for rule in ["not wanted", "backward", "at leftmost", "not falling", "same end", "crossing"].iter() {
-            let possible = entry > 1 || ["not wanted", "backward", "at leftmost"].contains(rule);
+        for rule in ["no stop", "backward", "at leftmost", "not falling", "same end", "crossing"].iter() {
+            let possible = entry > 1 || ["no stop", "backward", "at leftmost"].contains(rule);
             require(!possible || checker.broken.contains_key(&(*rule, entry)), format!("{} at entry {}", rule, entry));
         }
     }
@@ -74,9 +79,9 @@ fn summary(checker: &Checker, calls: u64, seed: u64, seconds: f64) -> String {
     };
     format!(
         "compare.rs: {} calls agree, seed {}: price {} accepted, {} refused; plan {} accepted ({} against all lists, {} by \
-         windows), {} refused; {:.1} s",
+         windows), {} refused; {} also against their tables joined; {:.1} s",
         calls, seed, count(false, false), count(false, true), count(true, false), checker.searched, checker.by_windows,
-        count(true, true), seconds
+        count(true, true), checker.also_joined, seconds
     )
 }
 
@@ -108,6 +113,7 @@ fn main() {
     check_worked(&mut checker);
     checker.results.clear();
     checker.searched = 0;
+    checker.also_joined = 0;
     for number in from..from + calls {
         let mut random = Random::of(seed, number);
         let call = draw_call(&mut random);

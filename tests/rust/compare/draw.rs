@@ -1,6 +1,7 @@
 //! Drawing sound runs and lists.
 
 use crate::call::*;
+use crate::judge::{read_with, stops_of};
 use crate::limits::*;
 use crate::lists::{well_formed, Detour};
 use crate::random::Random;
@@ -42,8 +43,43 @@ fn draw_tape(random: &mut Random, call: &mut Call, k: usize, others: u64) {
     }
 }
 
+fn end_of(call: &Call, file: u64) -> u64 {
+    call.rows[STARTS][file as usize - 1] + call.rows[LENGTHS][file as usize - 1]
+}
+
+/// The end of the last wanted file by itself, and that of its aggregate.
+pub fn last_file_end(call: &Call) -> u64 {
+    call.rows[NUMBERS].last().map_or(0, |&file| end_of(call, file))
+}
+
 pub fn last_wanted_end(call: &Call) -> u64 {
-    call.rows[NUMBERS].last().map_or(0, |&f| call.rows[STARTS][f as usize - 1] + call.rows[LENGTHS][f as usize - 1])
+    call.rows[NUMBERS].last().and_then(|&file| read_with(call, file).pop()).map_or(0, |file| end_of(call, file))
+}
+
+/// The first files of the stops of a sound table with sound wants.
+pub fn stop_names(call: &Call) -> Vec<u64> {
+    stops_of(call).0.iter().map(|stop| stop.file).collect()
+}
+
+/// In which aggregates the files lie: of 100 stretches of neighbours so many in one, with numbers shuffled, the first `first`.
+pub fn draw_aggregates(random: &mut Random, call: &mut Call, first: u64) {
+    let inside = random.pick(&[0, 0, 30, 60, 100, 100]);
+    let longest = random.pick(&[1, 2, 3, 5, 40]);
+    let mut unused: Vec<u64> = (1..=AGGREGATE).filter(|&number| number != first).collect();
+    let mut next = Some(first);
+    call.rows[AGGREGATES].clear();
+    while call.len(AGGREGATES) < call.len(STARTS) {
+        let stretch = random.within(1, longest).min((call.len(STARTS) - call.len(AGGREGATES)) as u64);
+        let number = match (random.chance(inside), next.take()) {
+            (true, Some(number)) => number,
+            (true, None) if !unused.is_empty() => unused.swap_remove(random.index(unused.len())),
+            (_, kept) => {
+                next = kept;
+                0
+            }
+        };
+        call.rows[AGGREGATES].extend(std::iter::repeat(number).take(stretch as usize));
+    }
 }
 
 /// Shifts the tape so that its last file ends at the limit.
@@ -59,6 +95,8 @@ pub fn draw_run(random: &mut Random, k: usize) -> Call {
     let mut call = Call::default();
     let others = if random.chance(50) { 0 } else { random.below(2 * k as u64 + 3) };
     draw_tape(random, &mut call, k, others);
+    let first = random.within(1, AGGREGATE);
+    draw_aggregates(random, &mut call, first);
     if random.chance(10) {
         push_to_the_end(&mut call);
     }
@@ -83,11 +121,12 @@ fn noise(random: &mut Random, least: usize) -> Vec<u64> {
 
 /// Rows for the answer, long enough or longer, with anything in them.
 pub fn lend_rows(random: &mut Random, call: &mut Call) {
-    let k = call.len(NUMBERS);
-    call.rows[TIMES] = noise(random, k);
-    call.rows[LEGS] = noise(random, k);
+    let wants = call.len(NUMBERS);
+    call.rows[TIMES] = noise(random, wants);
+    call.rows[LEGS] = noise(random, wants);
     call.rows[SUMS] = noise(random, 4);
     if call.plan {
+        let k = stop_names(call).len();
         call.rows[FROM] = noise(random, k.saturating_sub(1));
         call.rows[TO] = noise(random, k.saturating_sub(1));
         call.rows[ROOM] = noise(random, k * k * (reads_drawn(call) as usize + 1));
@@ -123,9 +162,10 @@ fn draw_list(random: &mut Random, k: usize) -> Vec<Detour> {
 
 pub fn price_call(random: &mut Random, k: usize) -> Call {
     let mut call = draw_run(random, k);
-    let list = draw_list(random, k);
-    call.rows[FROM] = list.iter().map(|d| call.rows[NUMBERS][d.0 as usize]).collect();
-    call.rows[TO] = list.iter().map(|d| call.rows[NUMBERS][d.1 as usize]).collect();
+    let names = stop_names(&call);
+    let list = draw_list(random, names.len());
+    call.rows[FROM] = list.iter().map(|d| names[d.0 as usize]).collect();
+    call.rows[TO] = list.iter().map(|d| names[d.1 as usize]).collect();
     lend_rows(random, &mut call);
     call
 }

@@ -5,6 +5,7 @@ use crate::call::*;
 extern "C" {
     fn violstream_price(
         starts: *const u64, starts_len: usize, lengths: *const u64, lengths_len: usize,
+        aggregates: *const u64, aggregates_len: usize,
         numbers: *const u64, numbers_len: usize, counts: *const u64, counts_len: usize,
         head: u64, turn: u64,
         detour_starts: *const u64, detour_starts_len: usize, detour_ends: *const u64, detour_ends_len: usize,
@@ -12,6 +13,7 @@ extern "C" {
     ) -> u64;
     fn violstream_plan(
         starts: *const u64, starts_len: usize, lengths: *const u64, lengths_len: usize,
+        aggregates: *const u64, aggregates_len: usize,
         numbers: *const u64, numbers_len: usize, counts: *const u64, counts_len: usize,
         head: u64, turn: u64, rule: u64,
         detour_starts: *mut u64, detour_starts_len: usize, detour_ends: *mut u64, detour_ends_len: usize,
@@ -67,14 +69,16 @@ pub fn make(call: &Call, rows: &mut [Fenced]) -> u64 {
     unsafe {
         if call.plan {
             violstream_plan(
-                p[STARTS], n[STARTS], p[LENGTHS], n[LENGTHS], p[NUMBERS], n[NUMBERS], p[COUNTS], n[COUNTS],
+                p[STARTS], n[STARTS], p[LENGTHS], n[LENGTHS], p[AGGREGATES], n[AGGREGATES],
+                p[NUMBERS], n[NUMBERS], p[COUNTS], n[COUNTS],
                 call.head, call.turn, call.rule,
                 p[FROM], n[FROM], p[TO], n[TO], p[TIMES], n[TIMES], p[LEGS], n[LEGS], p[SUMS], n[SUMS],
                 p[ROOM], n[ROOM],
             )
         } else {
             violstream_price(
-                p[STARTS], n[STARTS], p[LENGTHS], n[LENGTHS], p[NUMBERS], n[NUMBERS], p[COUNTS], n[COUNTS],
+                p[STARTS], n[STARTS], p[LENGTHS], n[LENGTHS], p[AGGREGATES], n[AGGREGATES],
+                p[NUMBERS], n[NUMBERS], p[COUNTS], n[COUNTS],
                 call.head, call.turn,
                 p[FROM], n[FROM], p[TO], n[TO], p[TIMES], n[TIMES], p[LEGS], n[LEGS], p[SUMS], n[SUMS],
             )

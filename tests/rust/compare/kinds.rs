@@ -11,6 +11,17 @@ fn few(random: &mut Random) -> usize {
     random.pick(&[0, 1, 2, 3, 4, 5, 6, 6, 7, 7, 7, 8, 8, 8])
 }
 
+/// More wants than that, where aggregates make them few stops.
+fn joined_plan(random: &mut Random) -> Call {
+    let wants = random.within(6, 24) as usize;
+    let call = plan_call(random, wants);
+    if stop_names(&call).len() <= 8 {
+        return call;
+    }
+    let k = few(random);
+    plan_call(random, k)
+}
+
 fn sound_call(random: &mut Random) -> Call {
     if random.chance(50) {
         let k = few(random);
@@ -21,12 +32,15 @@ fn sound_call(random: &mut Random) -> Call {
     }
 }
 
-/// A name for a detour's file: a wanted one, an unwanted one, or none at all.
-fn any_name(random: &mut Random, call: &Call) -> u64 {
-    if call.len(NUMBERS) == 0 || random.chance(15) {
+/// A name for a detour's stop: of one, of a file that need not be the first of its aggregate, of an unwanted one, or none at all.
+fn any_name(random: &mut Random, call: &Call, names: &[u64]) -> u64 {
+    if names.is_empty() || random.chance(15) {
         return if random.chance(50) { random.below(call.len(STARTS) as u64 + 3) } else { random.word() };
     }
-    random.pick(&call.rows[NUMBERS])
+    if random.chance(10) {
+        return random.pick(&call.rows[NUMBERS]);
+    }
+    random.pick(names) + random.chance(10) as u64
 }
 
 /// A list that breaks some rule at some entry, and sometimes more than one.
@@ -38,14 +52,15 @@ fn broken_list_call(random: &mut Random) -> Call {
         call.rows[TO].push(0);
     }
     let at = random.index(call.len(FROM));
-    let aim = random.pick(&["not wanted", "backward", "at leftmost", "not falling", "same end", "crossing"]);
+    let aim = random.pick(&["no stop", "backward", "at leftmost", "not falling", "same end", "crossing"]);
+    let names = stop_names(&call);
     for _ in 0..150 {
-        call.rows[FROM][at] = any_name(random, &call);
-        call.rows[TO][at] = any_name(random, &call);
+        call.rows[FROM][at] = any_name(random, &call, &names);
+        call.rows[TO][at] = any_name(random, &call, &names);
         let list: Vec<Detour> = call.rows[FROM].iter().cloned().zip(call.rows[TO].iter().cloned()).collect();
-        let leftmost = call.rows[NUMBERS].first().cloned().unwrap_or(0);
+        let leftmost = names.first().cloned().unwrap_or(0);
         let sound = list[at].0 <= list[at].1 && well_formed(&list[..=at], leftmost);
-        if !sound && call.len(NUMBERS) > 0 && rule_broken(&call, at) == aim {
+        if !sound && !names.is_empty() && rule_broken(&names, &list, at) == aim {
             break;
         }
     }
@@ -72,6 +87,9 @@ fn set_reads(random: &mut Random, call: &mut Call, reads: u64) {
 
 fn largest_plan(random: &mut Random, reads: u64) -> Call {
     let mut call = draw_run(random, WANTS);
+    if random.chance(60) {
+        call.rows[AGGREGATES].fill(0);
+    }
     call.plan = true;
     call.rule = 1;
     set_reads(random, &mut call, reads);
@@ -90,6 +108,12 @@ fn long_table(random: &mut Random, files: usize) -> Call {
     let size = random.pick(&[1, 3, 1 << 28]);
     call.rows[STARTS] = (0..files as u64).map(|i| i * size).collect();
     call.rows[LENGTHS] = vec![size; files];
+    if random.chance(30) {
+        call.rows[AGGREGATES] = (0..files as u64).map(|i| 1 + i * 2049 % AGGREGATE).collect();
+    } else {
+        let first = random.within(1, AGGREGATE);
+        draw_aggregates(random, &mut call, first);
+    }
     for file in 1..=files as u64 {
         if call.len(NUMBERS) < 8 && (file == files as u64 || random.below(600) == 0) {
             call.rows[NUMBERS].push(file);
@@ -100,14 +124,31 @@ fn long_table(random: &mut Random, files: usize) -> Call {
     call
 }
 
+/// Gives two files that are not neighbours the same number; sound where all between them have it too.
+fn repeat_a_number(random: &mut Random, call: &mut Call) {
+    let n = call.len(AGGREGATES);
+    if n > 2 {
+        let (at, number) = (random.index(n - 2), random.within(1, AGGREGATE));
+        let between = random.pick(&[0, number, call.rows[AGGREGATES][at + 1]]);
+        call.rows[AGGREGATES][at] = number;
+        call.rows[AGGREGATES][at + 1] = between;
+        call.rows[AGGREGATES][at + 2] = number;
+    }
+}
+
 /// The run itself at a limit, or one over it.
 fn run_at_a_limit(random: &mut Random, call: &mut Call, over: u64) {
-    match random.below(6) {
+    match random.below(8) {
         0 => call.turn = TURN + over,
         1 => call.head = POSITION + over,
         2 => call.head = last_wanted_end(call).saturating_sub(over),
         3 => set_reads(random, call, READS + over),
-        4 => call.rule = if over == 0 { random.below(2) } else { random.pick(&[2, 255, 256, 257, 1 << 32, u64::MAX]) },
+        4 => repeat_a_number(random, call),
+        5 => {
+            draw_aggregates(random, call, AGGREGATE + over);
+            call.head = POSITION;
+        }
+        6 => call.rule = if over == 0 { random.below(2) } else { random.pick(&[2, 255, 256, 257, 1 << 32, u64::MAX]) },
         _ => {
             push_to_the_end(call);
             if let Some(length) = call.rows[LENGTHS].last_mut() {
@@ -121,9 +162,9 @@ fn run_at_a_limit(random: &mut Random, call: &mut Call, over: u64) {
 
 /// A row for the answer of the length needed, or one word less.
 fn row_at_its_limit(random: &mut Random, call: &mut Call, short: u64) {
-    let k = call.len(NUMBERS);
+    let (k, wants) = (stop_names(call).len(), call.len(NUMBERS));
     let room = k * k * (reads_drawn(call) as usize + 1);
-    let needed = [0, 0, 0, 0, k.saturating_sub(1), k.saturating_sub(1), k, k, 4, room];
+    let needed = [0, 0, 0, 0, 0, k.saturating_sub(1), k.saturating_sub(1), wants, wants, 4, room];
     let row = random.pick(if call.plan { &[FROM, TO, TIMES, LEGS, SUMS, ROOM][..] } else { &[TIMES, LEGS, SUMS] });
     call.rows[row].truncate(needed[row].saturating_sub(short as usize));
 }
@@ -156,7 +197,8 @@ fn call_at_a_limit(random: &mut Random) -> Call {
 fn damage(random: &mut Random, call: &mut Call) {
     let row = random.index(ROWS);
     let len = call.len(row);
-    match random.below(9) {
+    match random.below(10) {
+        9 => repeat_a_number(random, call),
         0 => call.head = random.odd(call.head),
         1 => call.turn = random.odd(TURN),
         2 => call.rule = random.odd(256),
@@ -205,7 +247,8 @@ pub fn draw_call(random: &mut Random) -> Call {
             let k = random.within(SEARCHED as u64 + 1, 30) as usize;
             plan_call(random, k)
         }
-        121..=4200 => {
+        121..=1000 => joined_plan(random),
+        1001..=4200 => {
             let k = few(random);
             plan_call(random, k)
         }

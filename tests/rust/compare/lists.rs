@@ -2,7 +2,7 @@
 
 use std::cmp::Ordering;
 
-/// A detour by two numbers that rise with the files: file numbers, or positions among the wants.
+/// A detour by two numbers that rise with the files: file numbers, or positions among the stops.
 pub type Detour = (u64, u64);
 
 /// The three rules, word for word, over every entry and every pair.
@@ -43,7 +43,7 @@ fn choose_ends(start: u64, k: u64, list: &mut Vec<Detour>, kept: &mut Vec<Vec<De
     }
 }
 
-/// All well-formed lists of k wants, by position from 0.
+/// All well-formed lists of k stops, by position from 0.
 pub fn all_lists(k: usize) -> Vec<Vec<Detour>> {
     let mut kept = Vec::new();
     choose_ends(k.saturating_sub(1) as u64, k as u64, &mut Vec::new(), &mut kept);

@@ -14,7 +14,7 @@ pub struct Written {
 }
 
 pub fn by_position(run: &Run, list: &[Detour]) -> Vec<Detour> {
-    let at = |file: u64| run.stops.iter().position(|stop| stop.file == file).expect("a wanted file") as u64;
+    let at = |file: u64| run.stops.iter().position(|stop| stop.file == file).expect("the first file of a stop") as u64;
     list.iter().map(|d| (at(d.0), at(d.1))).collect()
 }
 
@@ -23,8 +23,8 @@ pub fn written(call: &Call, run: &Run, list: &[Detour]) -> Written {
     let (runs, head) = rightward_runs(run, list);
     let mut written = Written::default();
     written.first[SUMS] = vec![sum_of(run, list), head.clock, head.place, list.len() as u64];
-    written.first[TIMES] = run.stops.iter().map(|stop| time_of(stop, &runs)).collect();
-    written.first[LEGS] = run.stops.iter().map(|stop| leg_of(stop, &runs)).collect();
+    written.first[TIMES] = run.of_wants.iter().map(|&i| time_of(&run.stops[i], &runs)).collect();
+    written.first[LEGS] = run.of_wants.iter().map(|&i| leg_of(&run.stops[i], &runs)).collect();
     if call.plan {
         written.first[FROM] = list.iter().map(|d| run.stops[d.0 as usize].file).collect();
         written.first[TO] = list.iter().map(|d| run.stops[d.1 as usize].file).collect();

@@ -2,6 +2,8 @@
 
 use crate::lists::{tie_order, Detour};
 
+/// A file, or all that lie in its aggregate: the first file, where it starts, where the last ends, and the reads of all.
+#[derive(Clone)]
 pub struct Stop {
     pub file: u64,
     pub start: u64,
@@ -11,6 +13,7 @@ pub struct Stop {
 
 pub struct Run {
     pub stops: Vec<Stop>,
+    pub of_wants: Vec<usize>, // for each want handed in, its stop
     pub head: u64,
     pub turn: u64,
 }
@@ -66,7 +69,7 @@ pub fn rightward_runs(run: &Run, list: &[Detour]) -> (Vec<Rightward>, Head) {
     }
     let in_detour = |i: u64| list.iter().any(|&(a, b)| a <= i && i <= b);
     let last = (0..run.k() as u64).rev().find(|&i| !in_detour(i));
-    let sweep = (0, last.expect("the leftmost want is in no detour"));
+    let sweep = (0, last.expect("the leftmost stop is in no detour"));
     for &(a, b) in list.iter().chain(Some(&sweep)) {
         if !runs.is_empty() {
             head = head.turned(run.turn);
@@ -82,7 +85,7 @@ pub fn rightward_runs(run: &Run, list: &[Detour]) -> (Vec<Rightward>, Head) {
 /// The runs before the one that reads a stop, which is the first from its start or further left to its end or further right.
 fn runs_before(stop: &Stop, runs: &[Rightward]) -> usize {
     let reads = |r: &Rightward| r.from.place <= stop.start && stop.end <= r.to;
-    runs.iter().position(reads).expect("the last sweep reads every want")
+    runs.iter().position(reads).expect("the last sweep reads every stop")
 }
 
 pub fn time_of(stop: &Stop, runs: &[Rightward]) -> u64 {

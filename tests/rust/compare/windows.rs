@@ -1,12 +1,12 @@
-//! More wants than can be searched: windows of wants.
+//! More stops than can be searched: windows of stops.
 
 use crate::lists::Detour;
 use crate::walk::Run;
 
-/// Costs of windows. Window (a, b) holds the wants after a up to b, with a leg from a past b to come; s reads right of b wait.
+/// Costs of windows. Window (a, b) holds the stops after a up to b, with a leg from a past b to come; s reads right of b wait.
 struct Windows<'a> {
     run: &'a Run,
-    left: Vec<u64>,     // reads left of each want
+    left: Vec<u64>,     // reads left of each stop
     known: Vec<u64>,    // u64::MAX: not yet known
     width: usize,
 }
@@ -20,7 +20,7 @@ impl<'a> Windows<'a> {
         Windows { run, left, known: vec![u64::MAX; run.room()], width: run.reads() as usize + 1 }
     }
 
-    /// What skipping want b costs, or reading it by a detour that starts at c.
+    /// What skipping stop b costs, or reading it by a detour that starts at c.
     fn choice(&mut self, a: usize, b: usize, s: u64, detour: Option<usize>) -> u64 {
         let stops = &self.run.stops;
         let from = detour.unwrap_or(a);

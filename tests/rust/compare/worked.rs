@@ -1,4 +1,4 @@
-//! The cases that document 01 works by hand.
+//! The cases that document 01 works by hand, and those with aggregates.
 
 use crate::call::*;
 use crate::check::Checker;
@@ -39,13 +39,75 @@ fn split(pairs: &[Detour]) -> (Vec<u64>, Vec<u64>) {
 fn worked_call(random: &mut Random, worked: &Worked, plan: bool) -> Call {
     let &(files, wants, head, turn, list, _, _, _) = worked;
     let mut call = Call { plan, head, turn, rule: 1, ..Call::default() };
-    let pairs = [split(files), split(wants), split(list)];
-    for (i, (first, second)) in IntoIterator::into_iter(pairs).enumerate() {
-        call.rows[2 * i] = first;
-        call.rows[2 * i + 1] = second;
+    for &(pairs, first, second) in &[(files, STARTS, LENGTHS), (wants, NUMBERS, COUNTS), (list, FROM, TO)] {
+        let (firsts, seconds) = split(pairs);
+        call.rows[first] = firsts;
+        call.rows[second] = seconds;
     }
+    call.rows[AGGREGATES] = vec![0; files.len()];
     lend_rows(random, &mut call);
     call
+}
+
+/// Aggregate numbers, wants, a list for files 2 and 3 with a gap between them, head 60, turn price 1; then sums, times and
+/// legs, and whether it is the least list.
+type Aggregated = (&'static [u64], &'static [Detour], &'static [Detour], [u64; 4], &'static [u64], &'static [u64], bool);
+
+const GAP: &[Detour] = &[(0, 10), (10, 4), (16, 4), (20, 30)];
+const AGGREGATED: &[Aggregated] = &[
+    (&[0, 7, 7, 0], &[(1, 1), (3, 3), (4, 1)], &[(2, 2)], [409, 133, 50, 1], &[93, 61, 133], &[2, 1, 2], true),
+    (&[0, 0, 0, 0], &[(1, 1), (3, 3), (4, 1)], &[(3, 3)], [349, 121, 50, 1], &[81, 49, 121], &[2, 1, 2], true),
+    (&[0, 7, 7, 0], &[(1, 1), (2, 1), (3, 2), (4, 1)], &[(2, 2)], [409, 133, 50, 1], &[93, 61, 61, 133], &[2, 1, 1, 2], true),
+    (&[1, 1, 1, 1], &[(2, 1), (3, 2)], &[], [333, 111, 50, 0], &[111, 111], &[1, 1], true),
+    (&[4096, 3, 3, 2], &[(1, 1)], &[], [71, 71, 10, 0], &[71], &[1], true),
+];
+
+/// Aggregate numbers, a list, the head, and the refusal of a run that wants files 1, 2 and 3 once each.
+const REFUSED: &[(&[u64], &[Detour], u64, u64)] = &[
+    (&[5, 0, 5, 0], &[], 60, 2 + 3 * 256),
+    (&[5, 3, 3, 5], &[], 60, 2 + 4 * 256),
+    (&[0, 4097, 0, 0], &[], 60, 2 + 2 * 256),
+    (&[0, 0, 0], &[], 60, 1),
+    (&[0, 0, 7, 7], &[], 49, 7),
+    (&[0, 7, 7, 0], &[(3, 3)], 60, 10 + 256),
+    (&[0, 7, 7, 0], &[(2, 3)], 60, 10 + 256),
+    (&[7, 7, 0, 0], &[(3, 3), (2, 2)], 60, 10 + 2 * 256),
+];
+
+fn with_aggregates(random: &mut Random, numbers: &[u64], wants: &[Detour], list: &[Detour], plan: bool) -> Call {
+    let (starts, lengths) = split(GAP);
+    let mut call = Call { plan, head: 60, turn: 1, rule: 1, ..Call::default() };
+    call.rows[STARTS] = starts;
+    call.rows[LENGTHS] = lengths;
+    call.rows[AGGREGATES] = vec![0; GAP.len()];
+    let (firsts, seconds) = split(wants);
+    call.rows[NUMBERS] = firsts;
+    call.rows[COUNTS] = seconds;
+    let (from, to) = split(list);
+    call.rows[FROM] = from;
+    call.rows[TO] = to;
+    lend_rows(random, &mut call);
+    call.rows[AGGREGATES] = numbers.to_vec();
+    call
+}
+
+fn check_aggregated(checker: &mut Checker, random: &mut Random) {
+    for &(numbers, wants, list, sums, times, legs, least) in AGGREGATED {
+        for &plan in if least { &[false, true][..] } else { &[false][..] } {
+            let call = with_aggregates(random, numbers, wants, list, plan);
+            let (result, written) = checker.expect(&call);
+            let found = (result, &written.first[SUMS][..], &written.first[TIMES][..], &written.first[LEGS][..]);
+            assert_eq!(found, (0, &sums[..], times, legs), "an answer worked by hand\n{}", call);
+            assert!(!plan || (written.first[FROM].iter().cloned().zip(written.first[TO].iter().cloned())).eq(list.iter().cloned()));
+            check_or_exit(checker, &call, 0, "worked case with aggregates".to_string());
+        }
+    }
+    for &(numbers, list, head, refusal) in REFUSED {
+        let mut call = with_aggregates(random, numbers, &[(1, 1), (2, 1), (3, 1)], list, false);
+        call.head = head;
+        assert_eq!(checker.expect(&call).0, refusal, "a refusal worked by hand\n{}", call);
+        check_or_exit(checker, &call, 0, "refused case with aggregates".to_string());
+    }
 }
 
 /// This program's own answer must be the sum and the legs worked by hand, and the library's must be this program's.
@@ -61,4 +123,5 @@ pub fn check_worked(checker: &mut Checker) {
             check_or_exit(checker, &call, 0, "worked case".to_string());
         }
     }
+    check_aggregated(checker, &mut random);
 }

@@ -2,52 +2,38 @@
 -- Assumes nothing.
 use Rattle.runs.specs.Run.{Run, runOf}
 use Rattle.planner.specs.Plan.{Rows, rowsOf}
-use Rattle.boundary.proofs.Plans.{run-refused, run-placed, rule-refused, sums-refused, plan-placed, plan-refused, plan-filled}
+use Rattle.boundary.proofs.Plans.{rule-refused, sums-refused, plan-placed, plan-refused, plan-filled}
 use borrow.Author.Needs.{needs}
 use Rattle.boundary.proofs.violstream_plan.Statement.{statement}
 use Rattle.boundary.proofs.violstream_plan.Tie as tie
 
 -- The run and the rows that were handed in.
 abbrev run : tie.Start → Run
-run s = let a = s .args in runOf (a .starts .now) (a .lengths .now) (a .numbers .now) (a .counts .now) (a .head) (a .turn)
+run s = let a = s .args in runOf (a .starts .now) (a .lengths .now) (a .aggregates .now) (a .numbers .now) (a .counts .now) (a .head) (a .turn)
 
 abbrev rows : tie.Start → Rows
 rows s = let a = s .args in rowsOf (a .detour-starts .now) (a .detour-ends .now) (a .times .now) (a .legs .now) (a .room .now)
 
-judge-requires : tie.Need-judge-requires
-judge-requires c κs = search needs
+abbrev start : tie.Else1 → tie.Start
+start e = e .before .before .before .before .before .before .before .before .before .before .before .before
 
-refused-requires : tie.Need-refused-requires
-refused-requires c κs = search needs
-
-refuse-requires : tie.Need-refuse-requires
-refuse-requires c κs = search needs
-
-code-requires : tie.Need-code-requires
-code-requires c κs =
-    let j = c .before .before .before in
-    let s = j .before .before .before .before .before .before .before .before .before .before .before in
-    run-placed (run s) (s .args .rule) (rows s) (s .args .sums .now) _ _ (j .judge .ensures) (c .before .before .refused .ensures) _ (c .refuse .ensures)
+refused-code-requires : tie.Need-refused-code-requires
+refused-code-requires c κs = search needs
 
 returns : tie.Need-returns
 returns c =
-    let j = c .before .before .before .before in
-    let s = j .before .before .before .before .before .before .before .before .before .before .before in
-    run-refused (run s) (s .args .rule) (rows s) (s .args .sums .now) _ _ (j .judge .ensures) (c .before .before .before .refused .ensures) (c .before .before .if1 .taken) _ (c .before .refuse .ensures) _ (c .code .ensures)
+    let t = c .before in
+    let s = t .before .before .before .before .before .before .before .before .before .before .before .before in
+    rule-refused (run s) (s .args .rule) (rows s) (s .args .sums .now) (t .if1 .taken) _ (c .refused-code .ensures)
+
+refused-code-requires-2 : tie.Need-refused-code-requires-2
+refused-code-requires-2 c κs = search needs
 
 returns-2 : tie.Need-returns-2
 returns-2 c =
-    let e = c .before in
-    let j = e .before .before in
-    let s = j .before .before .before .before .before .before .before .before .before .before .before in
-    rule-refused (run s) (s .args .rule) (rows s) (s .args .sums .now) _ _ (j .judge .ensures) (e .before .refused .ensures) (e .if1 .left) (c .if2 .taken)
-
-returns-3 : tie.Need-returns-3
-returns-3 c =
     let e = c .before .before in
-    let j = e .before .before in
-    let s = j .before .before .before .before .before .before .before .before .before .before .before in
-    sums-refused (run s) (s .args .rule) (rows s) (s .args .sums .now) _ _ (j .judge .ensures) (e .before .refused .ensures) (e .if1 .left) (c .before .if2 .left) (c .if3 .taken)
+    let s = start e in
+    sums-refused (run s) (s .args .rule) (rows s) (s .args .sums .now) (e .if1 .left) (c .before .if2 .taken) _ (c .refused-code2 .ensures)
 
 rule-numbered-requires : tie.Need-rule-numbered-requires
 rule-numbered-requires c κs = search needs
@@ -55,14 +41,13 @@ rule-numbered-requires c κs = search needs
 plan-requires : tie.Need-plan-requires
 plan-requires c κs = search needs
 
-code-requires-2 : tie.Need-code-requires-2
-code-requires-2 c κs =
+code-requires : tie.Need-code-requires
+code-requires c κs =
     let p = c .before .before .before .before .before .before .before .before .before .before in
     let g = p .before .before .before .before .before .before .before in
-    let e = g .before .before in
-    let j = e .before .before in
-    let s = j .before .before .before .before .before .before .before .before .before .before .before in
-    plan-placed (run s) (s .args .rule) (rows s) (s .args .sums .now) _ _ (j .judge .ensures) (e .before .refused .ensures) (e .if1 .left) (g .before .if2 .left) (g .if3 .left) _ _ (rw (p .before .before .before .before .before .before .rule-numbered .ensures) at (p .plan .ensures))
+    let e = g .before in
+    let s = start e in
+    plan-placed (run s) (s .args .rule) (rows s) (s .args .sums .now) (e .if1 .left) (g .if2 .left) _ _ (rw (p .before .before .before .before .before .before .rule-numbered .ensures) at (p .plan .ensures))
 
 same-length : tie.Need-same-length
 same-length c = search needs
@@ -76,21 +61,20 @@ same-length-3 c = search needs
 same-length-4 : tie.Need-same-length-4
 same-length-4 c = search needs
 
-returns-4 : tie.Need-returns-4
-returns-4 c =
+same-length-5 : tie.Need-same-length-5
+same-length-5 c = search needs
+
+returns-3 : tie.Need-returns-3
+returns-3 c =
     let p = c .before .before .before .before .before .before .before .before .before .before .before .before in
     let g = p .before .before .before .before .before .before .before in
-    let e = g .before .before in
-    let j = e .before .before in
-    let s = j .before .before .before .before .before .before .before .before .before .before .before in
-    plan-refused (run s) (s .args .rule) (rows s) (s .args .sums .now) _ _ (j .judge .ensures) (e .before .refused .ensures) (e .if1 .left) (g .before .if2 .left) (g .if3 .left) _ _ (rw (p .before .before .before .before .before .before .rule-numbered .ensures) at (p .plan .ensures))
-    _ (c .before .code2 .ensures) (c .if4 .taken)
+    let e = g .before in
+    let s = start e in
+    plan-refused (run s) (s .args .rule) (rows s) (s .args .sums .now) (e .if1 .left) (g .if2 .left) _ _ (rw (p .before .before .before .before .before .before .rule-numbered .ensures) at (p .plan .ensures))
+    _ (c .before .code .ensures) (c .if3 .taken)
 
 fill-sums-requires : tie.Need-fill-sums-requires
 fill-sums-requires c κs = search needs
-
-same-length-5 : tie.Need-same-length-5
-same-length-5 c = search needs
 
 same-length-6 : tie.Need-same-length-6
 same-length-6 c = search needs
@@ -110,37 +94,33 @@ same-length-10 c = search needs
 same-length-11 : tie.Need-same-length-11
 same-length-11 c = search needs
 
-returns-5 : tie.Need-returns-5
-returns-5 c =
+returns-4 : tie.Need-returns-4
+returns-4 c =
     let d = c .before .before .before .before in
     let p = d .before .before .before .before .before .before .before .before .before .before .before .before in
     let g = p .before .before .before .before .before .before .before in
-    let e = g .before .before in
-    let j = e .before .before in
-    let s = j .before .before .before .before .before .before .before .before .before .before .before in
-    plan-filled (run s) (s .args .rule) (rows s) (s .args .sums .now) _ _ (j .judge .ensures) (e .before .refused .ensures) (e .if1 .left) (g .before .if2 .left) (g .if3 .left) _ _ (rw (p .before .before .before .before .before .before .rule-numbered .ensures) at (p .plan .ensures))
-    _ (d .before .code2 .ensures) (d .if4 .left) _ (c .before .before .fill-sums .ensures)
+    let e = g .before in
+    let s = start e in
+    plan-filled (run s) (s .args .rule) (rows s) (s .args .sums .now) (e .if1 .left) (g .if2 .left) _ _ (rw (p .before .before .before .before .before .before .rule-numbered .ensures) at (p .plan .ensures))
+    _ (d .before .code .ensures) (d .if3 .left) _ (c .before .before .fill-sums .ensures)
 
 pub violstream-plan-spec : {M : Type 1} → statement M
 violstream-plan-spec =
     tie.close
     (tie.spec
-    judge-requires
-    refused-requires
-    refuse-requires
-    code-requires
+    refused-code-requires
     returns
+    refused-code-requires-2
     returns-2
-    returns-3
     rule-numbered-requires
     plan-requires
-    code-requires-2
+    code-requires
     same-length
     same-length-2
     same-length-3
     same-length-4
     same-length-5
-    returns-4
+    returns-3
     fill-sums-requires
     same-length-6
     same-length-7
@@ -148,4 +128,4 @@ violstream-plan-spec =
     same-length-9
     same-length-10
     same-length-11
-    returns-5)
+    returns-4)

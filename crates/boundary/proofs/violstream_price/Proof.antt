@@ -12,7 +12,7 @@ use Rattle.boundary.proofs.violstream_price.Tie as tie
 
 -- The run and the rows that were handed in.
 abbrev run : tie.Start → Run
-run s = let a = s .args in runOf (a .starts .now) (a .lengths .now) (a .numbers .now) (a .counts .now) (a .head) (a .turn)
+run s = let a = s .args in runOf (a .starts .now) (a .lengths .now) (a .aggregates .now) (a .numbers .now) (a .counts .now) (a .head) (a .turn)
 
 abbrev rows : tie.Start → ReadRows
 rows s = readRows (s .args .times .now) (s .args .legs .now)
@@ -22,7 +22,7 @@ short-price-requires c κs = search needs
 
 returns : tie.Need-returns
 returns c =
-    let s = c .before .before .before .before .before .before .before .before .before .before .before in
+    let s = c .before .before .before .before .before .before .before .before .before .before .before .before in
     record {
       says = c .short-price .ensures (rows s) (s .args .sums .now) (c .before .if1 .taken);
       readsAre = short-reads (run s) (s .args .detour-starts .now) (s .args .detour-ends .now) (rows s) (s .args .sums .now) (c .before .if1 .taken);
@@ -42,7 +42,7 @@ returns-2 : tie.Need-returns-2
 returns-2 c =
     let p = c .before .before .before .before .before .before in
     let e = p .before .before .before in
-    let s = e .before .before .before .before .before .before .before .before .before .before in
+    let s = e .before .before .before .before .before .before .before .before .before .before .before in
     let is = c .before .code .ensures ∙ price-code (run s) (s .args .detour-starts .now) (s .args .detour-ends .now) (rows s) _ (p .price .ensures .0) in
     record {
       says = is ∙ sym (ap codeOf (call-is-price (run s) (s .args .detour-starts .now) (s .args .detour-ends .now) (rows s) (s .args .sums .now) (e .if1 .left)));
@@ -72,7 +72,7 @@ returns-3 c =
     let d = c .before .before .before .before in
     let p = d .before .before .before .before .before .before in
     let e = p .before .before .before in
-    let s = e .before .before .before .before .before .before .before .before .before .before in
+    let s = e .before .before .before .before .before .before .before .before .before .before .before in
     let is = d .before .code .ensures ∙ price-code (run s) (s .args .detour-starts .now) (s .args .detour-ends .now) (rows s) _ (p .price .ensures .0) in
     let none = sym is ∙ d .if2 .left in
     record {

@@ -2,19 +2,38 @@
 -- Assumes nothing.
 use mathlib.Core.Path.{_≡_, refl, sym}
 use mathlib.Core.Bool.{false}
+use native.Mathlib.Omega.{arith}
+use Prim.Native.Nat.{_≤_}
+use lib.ListN.{length, take}
 use lib.Seq.{length-take-le}
-use Rattle.refusals.specs.Refusals.{isRefusal}
+use Rattle.refusals.proofs.Verdicts.{refuses}
 use Rattle.runs.specs.Run.{Run, runOf}
 use Rattle.runs.specs.Judging.{judgeOf}
+use Rattle.joins.specs.Joining.{JoinRows, joinRows}
+use Rattle.tables.specs.Listing.{ListRows, listRows}
 use Rattle.planner.specs.Plan.{Rows, rowsOf}
-use Rattle.planner.proofs.Refusals.{run-refused, run-accepted, times-refused, legs-refused, engine-refused, engine-listed, run-planned}
+use Rattle.planner.specs.Private.{Holds, ListsNamed, IsNamed}
+use Rattle.planner.proofs.Joined.{LongRows, join-verdict, join-long, join-holds}
+use Rattle.planner.proofs.Refusals.{engineRows, run-refused, run-accepted, times-refused, legs-refused, engine-refused, engine-listed, run-planned}
 use Rattle.planner.proofs.Priced.{in-froms, in-tos, planned-so}
 use borrow.Author.Needs.{needs}
 use Rattle.planner.proofs.plan.Statement.{statement}
 use Rattle.planner.proofs.plan.Tie as tie
 
-judge-requires : tie.Need-judge-requires
-judge-requires c κs = search needs
+slice-aggregate-join : tie.Need-slice-aggregate-join
+slice-aggregate-join c = search needs
+
+slice-aggregate-join-2 : tie.Need-slice-aggregate-join-2
+slice-aggregate-join-2 c = search needs
+
+slice-aggregate-join-3 : tie.Need-slice-aggregate-join-3
+slice-aggregate-join-3 c = search needs
+
+slice-aggregate-join-4 : tie.Need-slice-aggregate-join-4
+slice-aggregate-join-4 c = search needs
+
+join-requires : tie.Need-join-requires
+join-requires c κs = search needs
 
 refused-requires : tie.Need-refused-requires
 refused-requires c κs = search needs
@@ -22,21 +41,34 @@ refused-requires c κs = search needs
 refuse-requires : tie.Need-refuse-requires
 refuse-requires c κs = search needs
 
+-- The run and the rows that were handed in; joining says of the run what judging says.
+abbrev start : tie.After-join → tie.Start
+start j = j .before .before .before .before .before .before .before .before .before .before .before .before .before .before .before
+
+abbrev run : tie.After-join → Run
+run j = let a = start j .args in runOf (a .starts .now) (a .lengths .now) (a .aggregates .now) (a .numbers .now) (a .counts .now) (a .head) (a .turn)
+
+abbrev rows : tie.After-join → Rows
+rows j = let a = start j .args in rowsOf (a .froms .now) (a .tos .now) (a .times .now) (a .legs .now) (a .room .now)
+
+judged : (j : tie.After-join) → j .join .result .verdict ≡ judgeOf (run j)
+judged j = join-verdict (run j) (j .join .result) _ (j .join .ensures .0) (j .join .ensures .1)
+
+abbrev joining : tie.After-refused → tie.After-join
+joining f = f .before .before .before .before .before .before
+
 returns : tie.Need-returns
-returns c = run-refused _ _ _ _ _ (c .before .before .before .judge .ensures) (c .before .before .refused .ensures) (c .before .if1 .taken) _ (c .refuse .ensures)
+returns c =
+    let f = c .before .before in
+    let j = joining f in
+    run-refused (run j) (start j .args .rule) (rows j) _ _ (judged j) (f .refused .ensures) (c .before .if1 .taken) _ (c .refuse .ensures)
 
--- The run and the rows that were handed in, where the run has passed.
-abbrev start : tie.Else1 → tie.Start
-start e = e .before .before .before .before .before .before .before .before .before .before .before .before
+-- Where the run has passed.
+abbrev joined : tie.Else1 → tie.After-join
+joined e = joining (e .before)
 
-abbrev run : tie.Else1 → Run
-run e = let a = start e .args in runOf (a .starts .now) (a .lengths .now) (a .numbers .now) (a .counts .now) (a .head) (a .turn)
-
-abbrev rows : tie.Else1 → Rows
-rows e = let a = start e .args in rowsOf (a .froms .now) (a .tos .now) (a .times .now) (a .legs .now) (a .room .now)
-
-passed : (e : tie.Else1) → isRefusal (judgeOf (run e) .refusal) ≡ false
-passed e = run-accepted (run e) (start e .args .rule) (rows e) _ _ (e .before .before .judge .ensures) (e .before .refused .ensures) (e .if1 .left)
+passed : (e : tie.Else1) → refuses (judgeOf (run (joined e))) ≡ false
+passed e = let j = joined e in run-accepted (run j) (start j .args .rule) (rows j) _ _ (judged j) (e .before .refused .ensures) (e .if1 .left)
 
 refuse-requires-2 : tie.Need-refuse-requires-2
 refuse-requires-2 c κs = search needs
@@ -44,7 +76,8 @@ refuse-requires-2 c κs = search needs
 returns-2 : tie.Need-returns-2
 returns-2 c =
     let e = c .before .before in
-    times-refused (run e) (start e .args .rule) (rows e) _ _ (e .before .before .judge .ensures) (e .before .refused .ensures) (e .if1 .left) (c .before .if2 .taken) _ (c .refuse2 .ensures)
+    let j = joined e in
+    times-refused (run j) (start j .args .rule) (rows j) _ _ (judged j) (e .before .refused .ensures) (e .if1 .left) (c .before .if2 .taken) _ (c .refuse2 .ensures)
 
 refuse-requires-3 : tie.Need-refuse-requires-3
 refuse-requires-3 c κs = search needs
@@ -52,10 +85,48 @@ refuse-requires-3 c κs = search needs
 returns-3 : tie.Need-returns-3
 returns-3 c =
     let e = c .before .before .before in
-    legs-refused (run e) (start e .args .rule) (rows e) _ _ (e .before .before .judge .ensures) (e .before .refused .ensures) (e .if1 .left) (c .before .if3 .taken) _ (c .refuse3 .ensures)
+    let j = joined e in
+    legs-refused (run j) (start j .args .rule) (rows j) _ _ (judged j) (e .before .refused .ensures) (e .if1 .left) (c .before .if3 .taken) _ (c .refuse3 .ensures)
 
-list-requires : tie.Need-list-requires
-list-requires c κs = search needs
+-- Where the rows for times and legs have passed too: the four rows hold the run's stops.
+abbrev first : tie.Else3 → tie.Else1
+first d = d .before .before
+
+abbrev after : tie.After-join → JoinRows
+after j = let l = j .join .last .1 .1 .1 .1 .1 .1 .1 in joinRows (l .0) (l .1 .0) (l .1 .1 .0) (l .1 .1 .1 .0)
+
+long : (d : tie.Else3) → LongRows (joined (first d) .join .result .stops) (after (joined (first d)))
+long d = let j = joined (first d) in join-long (run j) (j .join .result) (after j) (j .join .ensures .0) (j .join .ensures .1) (passed (first d))
+
+holds : (d : tie.Else3) → let j = joined (first d) in let k = j .join .result .stops in Holds (run j) (take k (after j .firsts)) (take k (after j .lefts)) (take k (after j .spans)) (take k (after j .reads)) (run j .head) (run j .turn)
+holds d = let j = joined (first d) in join-holds (run j) (j .join .result) (after j) (j .join .ensures .0) (j .join .ensures .1) (passed (first d))
+
+array-share-prefix-firsts : tie.Need-array-share-prefix-firsts
+array-share-prefix-firsts c = long c .firsts
+
+slice-aggregate-list-named : tie.Need-slice-aggregate-list-named
+slice-aggregate-list-named c = sym (length-take-le _ _ (array-share-prefix-firsts (c .before)))
+
+array-share-prefix-lefts : tie.Need-array-share-prefix-lefts
+array-share-prefix-lefts c = long (c .before) .lefts
+
+slice-aggregate-list-named-2 : tie.Need-slice-aggregate-list-named-2
+slice-aggregate-list-named-2 c = sym (length-take-le _ _ (array-share-prefix-lefts (c .before)))
+
+array-share-prefix-spans : tie.Need-array-share-prefix-spans
+array-share-prefix-spans c = long (c .before .before) .spans
+
+slice-aggregate-list-named-3 : tie.Need-slice-aggregate-list-named-3
+slice-aggregate-list-named-3 c = sym (length-take-le _ _ (array-share-prefix-spans (c .before)))
+
+array-share-prefix-reads : tie.Need-array-share-prefix-reads
+array-share-prefix-reads c = long (c .before .before .before) .reads
+
+slice-aggregate-list-named-4 : tie.Need-slice-aggregate-list-named-4
+slice-aggregate-list-named-4 c = sym (length-take-le _ _ (array-share-prefix-reads (c .before)))
+
+list-named-requires : tie.Need-list-named-requires
+list-named-requires c κs = let d = c .before .before .before .before .before .before .before in record { run = run (joined (first d)); holds = holds d }
 
 refused-requires-2 : tie.Need-refused-requires-2
 refused-requires-2 c κs = search needs
@@ -72,33 +143,56 @@ same-length-2 c = search needs
 same-length-3 : tie.Need-same-length-3
 same-length-3 c = search needs
 
+-- The list of the run.
+abbrev third : tie.After-list-named → tie.Else3
+third m = m .before .before .before .before .before .before .before .before
+
+abbrev listing : tie.After-refused2 → tie.After-list-named
+listing g = g .before .before .before .before .before .before .before .before
+
+abbrev listed : tie.After-list-named → ListRows
+listed m = let l = m .list-named .last .1 .1 .1 .1 .1 .1 .1 in listRows (l .0) (l .1 .0) (l .1 .1 .0)
+
+named : (m : tie.After-list-named) → let j = joined (first (third m)) in ListsNamed (run j) (start j .args .rule) (engineRows (rows j)) (m .list-named .result) (listed m)
+named m = m .list-named .ensures (run (joined (first (third m)))) (holds (third m))
+
 returns-4 : tie.Need-returns-4
 returns-4 c =
-    let m = c .before .before .before .before .before .before .before .before .before .before in
-    let d = m .before .before .before .before in
-    let e = d .before .before in
-    engine-refused (run e) (start e .args .rule) (rows e) _ _ (e .before .before .judge .ensures) (e .before .refused .ensures) (e .if1 .left) (d .before .if2 .left) (d .if3 .left)
-    _ _ (m .list .ensures) _ (c .before .before .refused2 .ensures) (c .before .if4 .taken) _ (c .refuse4 .ensures) _ _ _ refl
+    let g = c .before .before in
+    let d = third (listing g) in
+    let e = first d in
+    let j = joined e in
+    engine-refused (run j) (start j .args .rule) (rows j) _ _ (judged j) (e .before .refused .ensures) (e .if1 .left) (d .before .if2 .left) (d .if3 .left)
+    _ _ (named (listing g)) _ (g .refused2 .ensures) (c .before .if4 .taken) _ (c .refuse4 .ensures) _ _ _ refl
+
+is-named : (x : tie.Else4) → let m = listing (x .before) in let j = joined (first (third m)) in IsNamed (run j) (start j .args .rule) (engineRows (rows j)) (m .list-named .result) (listed m)
+is-named x =
+    let m = listing (x .before) in
+    let d = third m in
+    let e = first d in
+    let j = joined e in
+    engine-listed (run j) (start j .args .rule) (rows j) _ _ (judged j) (e .before .refused .ensures) (e .if1 .left) (d .before .if2 .left) (d .if3 .left)
+    _ _ (named m) _ (x .before .refused2 .ensures) (x .if4 .left)
+
+-- Both rows hold so many entries.
+in-rows : (x : tie.Else4) → let m = listing (x .before) in let n = m .list-named .result .detours in (n ≤ length (listed m .froms)) × (n ≤ length (listed m .tos))
+in-rows x =
+    let m = listing (x .before) in
+    let d = third m in
+    let j = joined (first d) in
+    let l = m .list-named .result in (
+      in-froms (run j) (start j .args .rule) (rows j) (passed (first d)) (d .before .if2 .left) (d .if3 .left) l _ _ _ (is-named x),
+      in-tos (run j) (start j .args .rule) (rows j) (passed (first d)) (d .before .if2 .left) (d .if3 .left) l _ _ _ (is-named x),
+    )
 
 slice-reshare-prefix-price : tie.Need-slice-reshare-prefix-price
-slice-reshare-prefix-price c =
-    let m = c .before .before .before .before .before .before .before .before .before in
-    let d = m .before .before .before .before in
-    let e = d .before .before in
-    in-froms (run e) (start e .args .rule) (rows e) (passed e) (d .before .if2 .left) (d .if3 .left) (m .list .result) _ _ _
-    (engine-listed (run e) (start e .args .rule) (rows e) _ _ (e .before .before .judge .ensures) (e .before .refused .ensures) (e .if1 .left) (d .before .if2 .left) (d .if3 .left) _ _ (m .list .ensures) _ (c .before .refused2 .ensures) (c .if4 .left))
+slice-reshare-prefix-price c = omega (arith, in-rows c .0, in-rows c .1)
 
 slice-aggregate-price : tie.Need-slice-aggregate-price
 slice-aggregate-price c = sym (length-take-le _ _ (slice-reshare-prefix-price (c .before)))
 
 slice-reshare-prefix-price-2 : tie.Need-slice-reshare-prefix-price-2
-slice-reshare-prefix-price-2 c =
-    let x = c .before in
-    let m = x .before .before .before .before .before .before .before .before .before in
-    let d = m .before .before .before .before in
-    let e = d .before .before in
-    in-tos (run e) (start e .args .rule) (rows e) (passed e) (d .before .if2 .left) (d .if3 .left) (m .list .result) _ _ _
-    (engine-listed (run e) (start e .args .rule) (rows e) _ _ (e .before .before .judge .ensures) (e .before .refused .ensures) (e .if1 .left) (d .before .if2 .left) (d .if3 .left) _ _ (m .list .ensures) _ (x .before .refused2 .ensures) (x .if4 .left))
+slice-reshare-prefix-price-2 c = omega (arith, in-rows (c .before) .0, in-rows (c .before) .1)
 
 slice-aggregate-price-2 : tie.Need-slice-aggregate-price-2
 slice-aggregate-price-2 c = sym (length-take-le _ _ (slice-reshare-prefix-price-2 (c .before)))
@@ -123,20 +217,24 @@ same-length-8 c = search needs
 
 returns-5 : tie.Need-returns-5
 returns-5 c =
-    let x = c .before .before .before .before .before .before .before .before .before in
-    let m = x .before .before .before .before .before .before .before .before .before in
-    let d = m .before .before .before .before in
-    let e = d .before .before in
-    let p = c .before .before .before .before .price .ensures in
-    let list = engine-listed (run e) (start e .args .rule) (rows e) _ _ (e .before .before .judge .ensures) (e .before .refused .ensures) (e .if1 .left) (d .before .if2 .left) (d .if3 .left) _ _ (m .list .ensures) _ (x .before .refused2 .ensures) (x .if4 .left) in
-    run-planned (run e) (start e .args .rule) (rows e) _ _ (e .before .before .judge .ensures) (e .before .refused .ensures) (e .if1 .left) (d .before .if2 .left) (d .if3 .left) _ _ (m .list .ensures) _ (x .before .refused2 .ensures) (x .if4 .left) _ _
-    (planned-so (run e) (start e .args .rule) (rows e) (passed e) (d .before .if2 .left) (d .if3 .left) (m .list .result) _ _ _ list _ _ _ (p .0) (p .1))
+    let p = c .before .before .before .before in
+    let x = p .before .before .before .before .before in
+    let m = listing (x .before) in
+    let d = third m in
+    let e = first d in
+    let j = joined e in
+    run-planned (run j) (start j .args .rule) (rows j) _ _ (judged j) (e .before .refused .ensures) (e .if1 .left) (d .before .if2 .left) (d .if3 .left) _ _ (named m) _ (x .before .refused2 .ensures) (x .if4 .left) _ _
+    (planned-so (run j) (start j .args .rule) (rows j) (passed e) (d .before .if2 .left) (d .if3 .left) (m .list-named .result) _ _ _ (is-named x) _ _ _ (p .price .ensures .0) (p .price .ensures .1))
 
 pub plan-spec : {M : Type 1} → statement M
 plan-spec =
     tie.close
     (tie.spec
-    judge-requires
+    slice-aggregate-join
+    slice-aggregate-join-2
+    slice-aggregate-join-3
+    slice-aggregate-join-4
+    join-requires
     refused-requires
     refuse-requires
     returns
@@ -144,7 +242,15 @@ plan-spec =
     returns-2
     refuse-requires-3
     returns-3
-    list-requires
+    array-share-prefix-firsts
+    slice-aggregate-list-named
+    array-share-prefix-lefts
+    slice-aggregate-list-named-2
+    array-share-prefix-spans
+    slice-aggregate-list-named-3
+    array-share-prefix-reads
+    slice-aggregate-list-named-4
+    list-named-requires
     refused-requires-2
     refuse-requires-4
     same-length

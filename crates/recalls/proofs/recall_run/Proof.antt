@@ -67,7 +67,7 @@ returns-2 c =
     let c6 = c .before .before .before .before .before .before in
     let c13 = c6 .before .before .before .before .before .before .before in
     let c19 = c13 .before .before .before .before .before .before in
-    run-recalled _ _ _ (record { froms = search needs; tos = search needs; times = search needs; legs = search needs; room = search needs }) (c13 .plan .result) _ (c13 .plan .ensures) _ (c6 .before .refused .ensures) (c6 .if1 .left) _ _ (c19 .before .before .before .before .before .before .pre) _ _ (c .before .before .write-plan .ensures)
+    run-recalled _ _ _ (record { froms = search needs; tos = search needs; times = search needs; legs = search needs; room = search needs }) (c13 .plan .result) _ (c13 .plan .ensures) _ (c6 .before .refused .ensures) (c6 .if1 .left) _ _ (c19 .before .before .before .before .before .before .before .pre) _ _ (c .before .before .write-plan .ensures)
 
 pub recall-run-spec : {M : Type 1} → statement M
 recall-run-spec =

@@ -2,7 +2,7 @@
 -- Assumes nothing.
 use mathlib.Core.Path.{sym, _∙_}
 use lib.Seq.{length-take-le}
-use Rattle.ltfs.proofs.Laid.{laid-refused, laid-passed, laid-ends, laid-out}
+use Rattle.ltfs.proofs.Laid.{laid-refused, laid-passed, laid-ends, laid-out, kept-few}
 use borrow.Author.Needs.{needs}
 use Rattle.ltfs.proofs.sheet.lay_out.Statement.{statement}
 use Rattle.ltfs.proofs.sheet.lay_out.Tie as tie
@@ -80,7 +80,7 @@ slice-aggregate-write-table-2 c =
     sym (length-take-le _ _ (search needs))
 
 write-table-requires : tie.Need-write-table-requires
-write-table-requires c κs = search needs
+write-table-requires c κs = kept-few _ _ _ (c .before .before .before .before .before .before .before .before .before .before .before .before .before .gather .ensures .within)
 
 report-of-requires : tie.Need-report-of-requires
 report-of-requires c κs = search needs
@@ -100,7 +100,7 @@ returns-2 c =
     (sym (c10 .before .refused .ensures) ∙ c10 .if1 .left) in
     let a = laid-out (c23 .args .name .now) (c23 .args .size) (c23 .args .partition) _ (c23 .args .out .now) (c17 .gather .result) _ _ (c17 .gather .ensures) (p .0) (p .1) (p .2)
     (record { first = c17 .gather .kept .1 .1 .1 .0; second = c17 .gather .kept .1 .1 .1 .1 .0 }) (c23 .pre) (sym (p .3)) _
-    (c7 .last-end .ensures) _ _ (c3 .write-table .ensures .0) (c3 .write-table .ensures .1) in
+    (c7 .last-end .ensures) _ _ (c3 .write-table .ensures) in
     ((c .report-of .ensures) ∙ a .0, a .1)
 
 pub lay-out-spec : {M : Type 1} → statement M

@@ -9,10 +9,10 @@ use Rattle.runs.proofs.lists.first_bad_entry.Statement.{statement}
 use Rattle.runs.proofs.lists.first_bad_entry.Tie as tie
 
 abbrev Inv-loop : tie.InvT-loop
-Inv-loop numbers froms tos i₀ i = EntriesPassed numbers froms tos i
+Inv-loop aggregates numbers froms tos i₀ i = EntriesPassed aggregates numbers froms tos i
 
 abbrev μ-loop : tie.MeasureT-loop
-μ-loop numbers froms tos i₀ i = length froms - i
+μ-loop aggregates numbers froms tos i₀ i = length froms - i
 
 loop-holds : tie.Need-loop-holds Inv-loop μ-loop
 loop-holds c = record { within = search needs; none = first-none _ }
@@ -36,7 +36,7 @@ add-result : tie.Need-add-result Inv-loop μ-loop
 add-result c = search needs
 
 returns : tie.Need-returns Inv-loop μ-loop
-returns c = bad-by-itself _ _ _ _ (c .before .before .before .before .before .loop .inv) (search needs) _ (c .before .bad-alone .ensures) (c .if1 .taken)
+returns c = bad-by-itself _ _ _ _ _ (c .before .before .before .before .before .loop .inv) (search needs) _ (c .before .bad-alone .ensures) (c .if1 .taken)
 
 clashes-requires : tie.Need-clashes-requires Inv-loop μ-loop
 clashes-requires c κs = search needs
@@ -47,7 +47,7 @@ add-result-2 c = search needs
 returns-2 : tie.Need-returns-2 Inv-loop μ-loop
 returns-2 c =
     let b = c .before .before in
-    bad-against _ _ _ _ (b .before .before .before .before .before .loop .inv) (search needs) _ (b .before .bad-alone .ensures) _ (c .before .clashes .ensures) (c .if2 .taken)
+    bad-against _ _ _ _ _ (b .before .before .before .before .before .loop .inv) (search needs) _ (b .before .bad-alone .ensures) _ (c .before .clashes .ensures) (c .if2 .taken)
 
 add-i : tie.Need-add-i Inv-loop μ-loop
 add-i c = search needs
@@ -58,7 +58,7 @@ loop-less c = search needs
 loop-again : tie.Need-loop-again Inv-loop μ-loop
 loop-again c =
     let b = c .before .before in
-    entry-passed _ _ _ _ (b .before .before .before .before .before .loop .inv) (search needs) _ (b .before .bad-alone .ensures) _ (c .before .clashes .ensures) (b .if1 .left) (c .if2 .left)
+    entry-passed _ _ _ _ _ (b .before .before .before .before .before .loop .inv) (search needs) _ (b .before .bad-alone .ensures) _ (c .before .clashes .ensures) (b .if1 .left) (c .if2 .left)
 
 returns-3 : tie.Need-returns-3 Inv-loop μ-loop
 returns-3 c = let p = c .before .loop .inv in first-done _ _ _ (p .none) (p .within) (c .loop-test .left)

@@ -34,11 +34,11 @@ returns-2 : tie.Need-returns-2
 unfolding listVerdict
 returns-2 c = λ s l cs same.
     let passed = c .before .before in
-    let a = passed .before .before .before .before .before .before .args in
+    let a = passed .before .before .before .before .before .before .before .args in
     let is = passed .before .before .refuse-if .ensures in
     let pass = test-says is (passed .before .refused .ensures) (passed .if1 .left) in
     let even = eqb-true _ _ (not-false _ (accepts-if _ BadEntry refl pass)) in
-    let found = c .before .first-bad-entry .ensures ∙ sym (first-bad-row s l (a .numbers .now) cs (a .froms .now) (a .tos .now) same even) in
+    let found = c .before .first-bad-entry .ensures ∙ sym (first-bad-row s l (a .aggregates .now) (a .numbers .now) cs same (a .froms .now) (a .tos .now) even) in
     rw pass (last-at BadEntry refl (c .refuse-at .ensures) found)
 
 pub judge-list-spec : {M : Type 1} → statement M

@@ -2,18 +2,19 @@
 -- Assumes nothing.
 use borrow.Author.Needs.{needs}
 use Prim.Native.Nat.{_-_}
-use Rattle.sheets.proofs.Passing.{PairsSeen, pairs-none, pair-bad-here, pair-seen, pairs-passed}
+use Rattle.sheets.specs.Lines.{isPairLine}
+use Rattle.sheets.proofs.Passing.{LinesSeen, lines-none, line-bad-here, line-seen, lines-passed, pair-read, pair-unread}
 use Rattle.sheets.proofs.lines.pair_lines.Statement.{statement}
 use Rattle.sheets.proofs.lines.pair_lines.Tie as tie
 
 abbrev Inv-loop : tie.InvT-loop
-Inv-loop sheet at key count next₀ i₀ next i = PairsSeen key sheet at count next i
+Inv-loop sheet at key count next₀ i₀ next i = LinesSeen (isPairLine key) sheet at count next i
 
 abbrev μ-loop : tie.MeasureT-loop
 μ-loop sheet at key count next₀ i₀ next i = count - i
 
 loop-holds : tie.Need-loop-holds Inv-loop μ-loop
-loop-holds c = pairs-none _ _ _ _ (c .before .before .pre .0)
+loop-holds c = lines-none _ _ _ _ (c .before .before .pre .0)
 
 pair-line-requires : tie.Need-pair-line-requires Inv-loop μ-loop
 pair-line-requires c κs = (c .before .loop .inv .within, c .before .before .before .before .pre .1)
@@ -28,7 +29,7 @@ add-t10 : tie.Need-add-t10 Inv-loop μ-loop
 add-t10 c = search needs
 
 returns : tie.Need-returns Inv-loop μ-loop
-returns c = pair-bad-here _ _ _ _ _ _ (c .before .before .before .before .loop .inv) (search needs) _ (c .before .before .pair-line .ensures) (c .enum-told .given .1)
+returns c = line-bad-here _ _ _ _ _ _ (c .before .before .before .before .loop .inv) (search needs) (pair-unread _ _ _ _ (c .before .before .pair-line .ensures) (c .enum-told .given .1))
 
 add-i : tie.Need-add-i Inv-loop μ-loop
 add-i c = search needs
@@ -37,10 +38,10 @@ loop-less : tie.Need-loop-less Inv-loop μ-loop
 loop-less c = search needs
 
 loop-again : tie.Need-loop-again Inv-loop μ-loop
-loop-again c = pair-seen _ _ _ _ _ _ (c .before .before .before .before .before .loop .inv) (search needs) _ (c .before .before .before .pair-line .ensures) _ _ _ (c .before .after .given .1)
+loop-again c = line-seen _ _ _ _ _ _ (c .before .before .before .before .before .loop .inv) (search needs) _ (pair-read _ _ _ _ (c .before .before .before .pair-line .ensures) _ _ _ (c .before .after .given .1) .passed)
 
 returns-2 : tie.Need-returns-2 Inv-loop μ-loop
-returns-2 c = pairs-passed _ _ _ _ _ _ (c .before .loop .inv) (c .loop-test .left)
+returns-2 c = lines-passed _ _ _ _ _ _ (c .before .loop .inv) (c .loop-test .left)
 
 pub pair-lines-spec : {M : Type 1} → statement M
 pair-lines-spec =

@@ -1,7 +1,8 @@
 use borrow.Author.Needs.{needs}
 use Prim.Native.Nat.{_-_}
 use native.Mathlib.Omega.{arith}
-use Rattle.sheets.proofs.Rows.{Filling, filling-none, left-long, right-long, filled, never-bad, pair-filled}
+use Rattle.sheets.proofs.Rows.{Filling, filling-none, left-long, right-long, filled, pair-filled}
+use Rattle.sheets.proofs.Passing.{never-bad, pair-read, pair-unread}
 use Rattle.sheets.proofs.reader.fill_pair.Statement.{statement}
 use Rattle.sheets.proofs.reader.fill_pair.Tie as tie
 
@@ -18,7 +19,7 @@ loop-holds : tie.Need-loop-holds Inv-loop μ-loop
 loop-holds c = filling-none _ _ _ _ _ _ (c .before .before .before .before .pre)
 
 pair-line-requires : tie.Need-pair-line-requires Inv-loop μ-loop
-pair-line-requires c κs = (c .before .loop .inv .within, c .before .before .before .before .before .before .pre .keyed)
+pair-line-requires c κs = (c .before .loop .inv .seen .within, c .before .before .before .before .before .before .pre .keyed)
 
 enum-known-first : tie.Need-enum-known-first Inv-loop μ-loop
 enum-known-first c = search needs
@@ -33,7 +34,7 @@ same-length-2 : tie.Need-same-length-2 Inv-loop μ-loop
 same-length-2 c = right-long _ _ _ _ _ _ (c .before .before .before .before .before .before .before .before .before .pre) _ _ _ _ (c .before .before .before .before .loop .inv)
 
 returns : tie.Need-returns Inv-loop μ-loop
-returns c = absurd (never-bad _ _ _ _ _ _ (c .before .before .before .before .before .before .before .before .before .pre) _ _ _ _ (c .before .before .before .before .loop .inv) (search needs) _ (c .before .before .pair-line .ensures) (c .enum-told .given .1))
+returns c = absurd (never-bad _ _ _ _ _ _ (c .before .before .before .before .loop .inv .seen) (search needs) (c .before .before .before .before .before .before .before .before .before .pre .none) (pair-unread _ _ _ _ (c .before .before .pair-line .ensures) (c .enum-told .given .1)))
 
 mul-firsts : tie.Need-mul-firsts Inv-loop μ-loop
 mul-firsts c = search needs
@@ -54,7 +55,7 @@ loop-less : tie.Need-loop-less Inv-loop μ-loop
 loop-less c = search needs
 
 loop-again : tie.Need-loop-again Inv-loop μ-loop
-loop-again c = pair-filled _ _ _ _ _ _ (c .before .before .before .before .before .before .before .before .before .before .pre) _ _ _ _ (c .before .before .before .before .before .loop .inv) (search needs) _ (c .before .before .before .pair-line .ensures) _ _ _ (c .before .first .given .1)
+loop-again c = pair-filled _ _ _ _ _ _ (c .before .before .before .before .before .before .before .before .before .before .pre) _ _ _ _ (c .before .before .before .before .before .loop .inv) (search needs) _ _ _ (pair-read _ _ _ _ (c .before .before .before .pair-line .ensures) _ _ _ (c .before .first .given .1))
 
 same-length-3 : tie.Need-same-length-3 Inv-loop μ-loop
 same-length-3 c = left-long _ _ _ _ _ _ (c .before .before .before .before .before .before .pre) _ _ _ _ (c .before .loop .inv)

@@ -1,33 +1,33 @@
 -- `sheets::reader::read_below` meets its contract: the lines of files, then what stands below them.
 -- Assumes nothing.
 use native.Mathlib.Omega.{arith}
-use Rattle.sheets.specs.Lines.{fileKey}
-use Rattle.sheets.proofs.Passing.{pairs-ended, pairs-failed}
+use Rattle.sheets.specs.Lines.{fileKey, isTripleLine}
+use Rattle.sheets.proofs.Passing.{lines-ended, lines-failed}
 use Rattle.sheets.proofs.Order.{files-bad-below, files-good-below}
 use borrow.Author.Needs.{needs}
 use Rattle.sheets.proofs.reader.read_below.Statement.{statement}
 use Rattle.sheets.proofs.reader.read_below.Tie as tie
 
-slice-aggregate-pair-lines : tie.Need-slice-aggregate-pair-lines
-slice-aggregate-pair-lines c = search needs
+slice-aggregate-triple-lines : tie.Need-slice-aggregate-triple-lines
+slice-aggregate-triple-lines c = search needs
 
-pair-lines-requires : tie.Need-pair-lines-requires
-pair-lines-requires c κs = search needs
+triple-lines-requires : tie.Need-triple-lines-requires
+triple-lines-requires c κs = search needs
 
 enum-known-line : tie.Need-enum-known-line
 enum-known-line c = search needs
 
 add-t11 : tie.Need-add-t11
-add-t11 c = let bad = pairs-failed fileKey _ _ _ _ (c .before .before .before .pair-lines .ensures) _ (c .before .line .given .1) in omega (arith, c .before .before .before .before .before .before .pre .few, bad .most)
+add-t11 c = let bad = lines-failed (isTripleLine fileKey) _ _ _ _ (c .before .before .before .triple-lines .ensures) _ (c .before .line .given .1) in omega (arith, c .before .before .before .before .before .before .pre .few, bad .most)
 
 enum-known-next : tie.Need-enum-known-next
 enum-known-next c = search needs
 
 read-wants-requires : tie.Need-read-wants-requires
-read-wants-requires c κs = files-good-below _ _ _ _ (c .before .before .before .before .before .before .pre) (pairs-ended fileKey _ _ _ _ (c .before .before .before .pair-lines .ensures) _ (c .before .next .given .1))
+read-wants-requires c κs = files-good-below _ _ _ _ (c .before .before .before .before .before .before .pre) (lines-ended (isTripleLine fileKey) _ _ _ _ (c .before .before .before .triple-lines .ensures) _ (c .before .next .given .1))
 
 returns : tie.Need-returns
-returns c = files-bad-below _ _ _ _ (c .before .before .before .before .before .before .pre) (pairs-failed fileKey _ _ _ _ (c .before .before .before .pair-lines .ensures) _ (c .before .line .given .1))
+returns c = files-bad-below _ _ _ _ (c .before .before .before .before .before .before .pre) (lines-failed (isTripleLine fileKey) _ _ _ _ (c .before .before .before .triple-lines .ensures) _ (c .before .line .given .1))
 
 returns-2 : tie.Need-returns-2
 returns-2 c = search needs
@@ -36,8 +36,8 @@ pub read-below-spec : {M : Type 1} → statement M
 read-below-spec =
     tie.close
     (tie.spec
-    slice-aggregate-pair-lines
-    pair-lines-requires
+    slice-aggregate-triple-lines
+    triple-lines-requires
     enum-known-line
     add-t11
     enum-known-next

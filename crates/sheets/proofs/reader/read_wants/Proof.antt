@@ -1,8 +1,8 @@
 -- `sheets::reader::read_wants` meets its contract: the `wants` line, the lines of wants, and nothing behind them.
 -- Assumes nothing.
 use native.Mathlib.Omega.{arith}
-use Rattle.sheets.specs.Lines.{wantKey}
-use Rattle.sheets.proofs.Passing.{pairs-ended, pairs-failed}
+use Rattle.sheets.specs.Lines.{wantKey, isPairLine}
+use Rattle.sheets.proofs.Passing.{lines-ended, lines-failed}
 use Rattle.sheets.proofs.Order.{wants-bad, wants-within, wants-few, want-bad, text-behind, below-good}
 use borrow.Author.Needs.{needs}
 use Rattle.sheets.proofs.reader.read_wants.Statement.{statement}
@@ -41,7 +41,7 @@ add-t19 c = search needs
 add-t20 : tie.Need-add-t20
 add-t20 c =
     let few = wants-few _ _ _ (c .before .before .before .before .before .before .before .before .before .before .before .pre) _ (c .before .before .before .before .before .before .before .before .count-line .ensures) _ _ (c .before .before .before .before .before .before .wants .given .1) in
-    let bad = pairs-failed wantKey _ _ _ _ (c .before .before .before .pair-lines .ensures) _ (c .before .line .given .1) in
+    let bad = lines-failed (isPairLine wantKey) _ _ _ _ (c .before .before .before .pair-lines .ensures) _ (c .before .line .given .1) in
     omega (arith, c .before .before .before .before .before .before .before .before .before .before .before .pre .few, bad .most)
 
 enum-known-end : tie.Need-enum-known-end
@@ -65,21 +65,21 @@ returns-2 : tie.Need-returns-2
 returns-2 c =
     let c4 = c .before .before .before .before in
     let c8 = c4 .before .before .before .before in
-    want-bad _ _ _ (c8 .before .before .before .pre) _ (c8 .count-line .ensures) _ _ (c4 .before .before .wants .given .1) _ (pairs-failed wantKey _ _ _ _ (c .before .before .before .pair-lines .ensures) _ (c .before .line .given .1))
+    want-bad _ _ _ (c8 .before .before .before .pre) _ (c8 .count-line .ensures) _ _ (c4 .before .before .wants .given .1) _ (lines-failed (isPairLine wantKey) _ _ _ _ (c .before .before .before .pair-lines .ensures) _ (c .before .line .given .1))
 
 returns-3 : tie.Need-returns-3
 returns-3 c =
     let c4 = c .before .before .before .before in
     let c8 = c4 .before .before .before .before in
     let c12 = c8 .before .before .before .before in
-    text-behind _ _ _ (c12 .pre) _ (c8 .before .count-line .ensures) _ _ (c4 .before .before .before .wants .given .1) _ (pairs-ended wantKey _ _ _ _ (c4 .pair-lines .ensures) _ (c .before .before .end .given .1)) (c .if1 .taken)
+    text-behind _ _ _ (c12 .pre) _ (c8 .before .count-line .ensures) _ _ (c4 .before .before .before .wants .given .1) _ (lines-ended (isPairLine wantKey) _ _ _ _ (c4 .pair-lines .ensures) _ (c .before .before .end .given .1)) (c .if1 .taken)
 
 returns-4 : tie.Need-returns-4
 returns-4 c =
     let c4 = c .before .before .before .before in
     let c8 = c4 .before .before .before .before in
     let c12 = c8 .before .before .before .before in
-    below-good _ _ _ (c12 .pre) _ (c8 .before .count-line .ensures) _ _ (c4 .before .before .before .wants .given .1) _ (pairs-ended wantKey _ _ _ _ (c4 .pair-lines .ensures) _ (c .before .before .end .given .1)) (c .if1 .left)
+    below-good _ _ _ (c12 .pre) _ (c8 .before .count-line .ensures) _ _ (c4 .before .before .before .wants .given .1) _ (lines-ended (isPairLine wantKey) _ _ _ _ (c4 .pair-lines .ensures) _ (c .before .before .end .given .1)) (c .if1 .left)
 
 pub read-wants-spec : {M : Type 1} → statement M
 read-wants-spec =

@@ -20,23 +20,23 @@ shared-slice-read-detour-leg-2 c = search needs
 
 detour-leg-requires : tie.Need-detour-leg-requires
 detour-leg-requires c κs =
-    let p = c .before .before .before .before .before .before .before .before .pre in
+    let p = c .before .before .before .before .before .before .before .before .before .pre in
     (p .0 .list .table, (p .0 .list .lefts _ (search needs), p .0 .list .rights _ (search needs)))
 
 returns : tie.Need-returns
 returns c =
-    let s = c .before .before .before .before .before .before .before .before .before in
-    c .detour-leg .ensures ∙ leg-of-detour _ _ (s .args .numbers .now) _ _ (s .args .reach) (s .pre .0 .list .even) _ (search needs)
+    let s = c .before .before .before .before .before .before .before .before .before .before in
+    c .detour-leg .ensures ∙ leg-of-detour _ _ _ (s .args .numbers .now) _ _ (s .args .reach) (s .pre .0 .list .even) _ (search needs)
 
 sweep-leg-requires : tie.Need-sweep-leg-requires
 sweep-leg-requires c κs =
-    let s = c .before .before .before .before .before .before in
-    (s .pre .0 .wants, leg-of-sweep _ _ _ _ _ _ (s .pre .0 .list .even) _ (c .if1 .left) (s .pre .1) .0)
+    let s = c .before .before .before .before .before .before .before in
+    (s .pre .0 .wants, leg-of-sweep _ _ _ _ _ _ _ (s .pre .0 .list .even) _ (c .if1 .left) (s .pre .1) .0)
 
 returns-2 : tie.Need-returns-2
 returns-2 c =
-    let s = c .before .before .before .before .before .before .before in
-    c .sweep-leg .ensures ∙ leg-of-sweep _ _ _ _ _ _ (s .pre .0 .list .even) _ (c .before .if1 .left) (s .pre .1) .1
+    let s = c .before .before .before .before .before .before .before .before in
+    c .sweep-leg .ensures ∙ leg-of-sweep _ _ _ _ _ _ _ (s .pre .0 .list .even) _ (c .before .if1 .left) (s .pre .1) .1
 
 pub leg-at-spec : {M : Type 1} → statement M
 leg-at-spec =

@@ -5,20 +5,20 @@ use mathlib.Core.Path.{_≡_, sym, ap, _∙_}
 use lib.ListN.{length}
 use Rattle.refusals.specs.declared.Refusal.the-variants.{ShortRow}
 use Rattle.refusals.specs.Refusals.{refuseIf}
-use Rattle.runs.specs.Run.{Run, runOf, stopsOf}
+use Rattle.runs.specs.Run.{Run, runOf, wantStopsOf, stopsOf}
 use Rattle.runs.specs.Lists.{listVerdict}
 use Rattle.runs.proofs.Judged.{GoodRun}
 use Rattle.walk.specs.Price.{ReadRows, readRows, shortReadRows}
 use Rattle.walk.specs.Detours.{sweepEnd}
 use Rattle.walk.specs.Private.{detourLegs, WalkFits}
-use Rattle.walk.proofs.Walks.{GoodList, rows-fit, walkable, list-fits}
+use Rattle.walk.proofs.Walks.{GoodList, rows-fit, rows-walkable, list-fits}
 use Rattle.walk.proofs.Priced.{run-refused, run-good, list-refused, list-good, rows-refused, rows-long, priced}
 use Rattle.walk.proofs.pricing.price.Statement.{statement}
 use Rattle.walk.proofs.pricing.price.Tie as tie
 
 -- The run, the list and the row that were handed in.
 abbrev run : tie.Start → Run
-run s = let a = s .args in runOf (a .starts .now) (a .lengths .now) (a .numbers .now) (a .counts .now) (a .head) (a .turn)
+run s = let a = s .args in runOf (a .starts .now) (a .lengths .now) (a .aggregates .now) (a .numbers .now) (a .counts .now) (a .head) (a .turn)
 
 judge-requires : tie.Need-judge-requires
 judge-requires c κs = search needs
@@ -36,7 +36,7 @@ lent s = readRows (s .args .times .now) (s .args .legs .now)
 returns : tie.Need-returns
 returns c =
     let j = c .before .before .before in
-    let s = j .before .before .before .before .before .before .before .before .before in
+    let s = j .before .before .before .before .before .before .before .before .before .before in
     run-refused (run s) (s .args .froms .now) (s .args .tos .now) (lent s) _ _ (j .judge .ensures) (c .before .before .refused .ensures) (c .before .if1 .taken) _ (c .refuse .ensures)
 
 judge-list-requires : tie.Need-judge-list-requires
@@ -50,7 +50,7 @@ refuse-requires-2 c κs = search needs
 
 -- Past the first check the run is good; and the list's verdict is that of its stops.
 abbrev start : tie.Else1 → tie.Start
-start e = e .before .before .before .before .before .before .before .before .before .before .before
+start e = e .before .before .before .before .before .before .before .before .before .before .before .before
 
 good-run : (e : tie.Else1) → GoodRun (run (start e))
 good-run e =
@@ -98,7 +98,7 @@ returns-3 c =
     _ _ (list-is l) (d .before .refused2 .ensures) _ _ (rows-are x) (c .before .before .refused3 .ensures) (e .if1 .left) (d .if2 .left) (c .before .if3 .taken) _ (c .refuse3 .ensures)
 
 -- Past the second check the list is good too.
-good-list : (d : tie.Else2) → let s = start (d .before .before .before) in GoodList (s .args .numbers .now) (s .args .froms .now) (s .args .tos .now)
+good-list : (d : tie.Else2) → let s = start (d .before .before .before) in GoodList (stopsOf (run s)) (s .args .froms .now) (s .args .tos .now)
 good-list d =
     let l = d .before .before in
     let e = l .before in
@@ -122,14 +122,14 @@ leg-count-requires c κs =
 
 -- The sweep ends where the definition says.
 swept : (w : tie.After-sweep-end) → let s = start (w .before .before .before .before .before .before .before .before) in
-    w .sweep-end .result ≡ sweepEnd (detourLegs (s .args .starts .now) (s .args .lengths .now) (s .args .froms .now) (s .args .tos .now)) (stopsOf (run s))
+    w .sweep-end .result ≡ sweepEnd (detourLegs (s .args .starts .now) (s .args .lengths .now) (s .args .aggregates .now) (s .args .froms .now) (s .args .tos .now)) (wantStopsOf (run s))
 swept w =
     let e = w .before .before .before .before .before .before .before .before in
     w .sweep-end .ensures (start e .args .counts .now) (sym (good-run e .wants .equal))
 
 -- So its legs can be walked.
 walk-fits : (n : tie.After-leg-count) → let s = start (n .before .before .before .before .before .before .before .before .before) in
-    WalkFits (s .args .starts .now) (s .args .lengths .now) (s .args .numbers .now) (s .args .froms .now) (s .args .tos .now) (n .before .sweep-end .result) (s .args .head) (s .args .turn) (n .leg-count .result)
+    WalkFits (s .args .starts .now) (s .args .lengths .now) (s .args .aggregates .now) (s .args .numbers .now) (s .args .froms .now) (s .args .tos .now) (n .before .sweep-end .result) (s .args .head) (s .args .turn) (n .leg-count .result)
 walk-fits n =
     let d = n .before .before .before .before .before .before in
     let e = d .before .before .before in
@@ -139,8 +139,8 @@ walk-fits n =
     let to = n .before .sweep-end .result in
     record {
       fit = rows-fit (run s) r (s .args .froms .now) (s .args .tos .now) g;
-      within = walkable (run s) r (s .args .froms .now) (s .args .tos .now) g to (swept (n .before));
-      all = n .leg-count .ensures (s .args .starts .now) (s .args .lengths .now) (s .args .tos .now) to (g .even);
+      within = rows-walkable (run s) r (s .args .froms .now) (s .args .tos .now) g to (swept (n .before));
+      all = n .leg-count .ensures (s .args .starts .now) (s .args .lengths .now) (s .args .aggregates .now) (s .args .tos .now) to (g .even);
     }
 
 fill-reads-requires : tie.Need-fill-reads-requires

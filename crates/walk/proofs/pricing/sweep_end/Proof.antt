@@ -10,19 +10,19 @@ use Rattle.walk.proofs.pricing.sweep_end.Statement.{statement}
 use Rattle.walk.proofs.pricing.sweep_end.Tie as tie
 
 abbrev Inv-loop : tie.InvT-loop
-Inv-loop starts lengths numbers froms tos i₀ i = ReadRight (detourLegs starts lengths froms tos) starts lengths numbers i
+Inv-loop starts lengths aggregates numbers froms tos i₀ i = ReadRight (detourLegs starts lengths aggregates froms tos) starts lengths aggregates numbers i
 
 abbrev μ-loop : tie.MeasureT-loop
-μ-loop starts lengths numbers froms tos i₀ i = i
+μ-loop starts lengths aggregates numbers froms tos i₀ i = i
 
 returns : tie.Need-returns Inv-loop μ-loop
-returns c = λ cs e. no-sweep _ _ _ _ cs (c .if1 .taken)
+returns c = λ cs e. no-sweep _ _ _ _ _ cs (c .if1 .taken)
 
 sub-i : tie.Need-sub-i Inv-loop μ-loop
 sub-i c = search needs
 
 loop-holds : tie.Need-loop-holds Inv-loop μ-loop
-loop-holds c = read-none _ _ _ _ _ (search needs)
+loop-holds c = read-none _ _ _ _ _ _ (search needs)
 
 mul-file : tie.Need-mul-file Inv-loop μ-loop
 mul-file c = search needs
@@ -33,20 +33,20 @@ shared-slice-read-file c = c .before .before .loop .inv .within
 detour-reads-requires : tie.Need-detour-reads-requires Inv-loop μ-loop
 detour-reads-requires c κs =
     let l = c .before .before in
-    let s = l .before .before .before .before .before .before .before in
+    let s = l .before .before .before .before .before .before .before .before in
     (s .pre .list, s .pre .wants _ (l .loop .inv .within))
 
-file-end-requires : tie.Need-file-end-requires Inv-loop μ-loop
-file-end-requires c κs =
+extent-end-requires : tie.Need-extent-end-requires Inv-loop μ-loop
+extent-end-requires c κs =
     let l = c .before .before .before .before in
-    let s = l .before .before .before .before .before .before .before in
+    let s = l .before .before .before .before .before .before .before .before in
     (s .pre .list .table, s .pre .wants _ (l .loop .inv .within))
 
 returns-2 : tie.Need-returns-2 Inv-loop μ-loop
 returns-2 c =
     let t = c .before in
     let l = t .before .before .before .before in
-    λ cs e. c .file-end .ensures ∙ found-unread _ _ _ _ _ (l .loop .inv) cs e (sym (t .before .detour-reads .ensures) ∙ not-true _ (t .if2 .taken)) (t .before .before .before .loop-test .taken)
+    λ cs e. c .extent-end .ensures ∙ found-unread _ _ _ _ _ _ (l .loop .inv) cs e (sym (t .before .detour-reads .ensures) ∙ not-true _ (t .if2 .taken)) (t .before .before .before .loop-test .taken)
 
 sub-i-2 : tie.Need-sub-i-2 Inv-loop μ-loop
 sub-i-2 c = search needs
@@ -57,21 +57,21 @@ loop-less c = search needs
 loop-again : tie.Need-loop-again Inv-loop μ-loop
 loop-again c =
     let d = c .before in
-    read-one-more _ _ _ _ _ (d .before .before .before .loop .inv) (sym (d .detour-reads .ensures) ∙ not-false _ (c .if2 .left))
+    read-one-more _ _ _ _ _ _ (d .before .before .before .loop .inv) (sym (d .detour-reads .ensures) ∙ not-false _ (c .if2 .left))
 
-shared-slice-read-file-end : tie.Need-shared-slice-read-file-end Inv-loop μ-loop
-shared-slice-read-file-end c = omega (arith, c .before .before .loop .inv .within)
+shared-slice-read-extent-end : tie.Need-shared-slice-read-extent-end Inv-loop μ-loop
+shared-slice-read-extent-end c = omega (arith, c .before .before .loop .inv .within)
 
-file-end-requires-2 : tie.Need-file-end-requires-2 Inv-loop μ-loop
-file-end-requires-2 c κs =
+extent-end-requires-2 : tie.Need-extent-end-requires-2 Inv-loop μ-loop
+extent-end-requires-2 c κs =
     let l = c .before .before in
-    let s = l .before .before .before .before .before .before .before in
+    let s = l .before .before .before .before .before .before .before .before in
     (s .pre .list .table, s .pre .wants _ (omega (arith, l .loop .inv .within)))
 
 returns-3 : tie.Need-returns-3 Inv-loop μ-loop
 returns-3 c =
     let a = c .before .before in
-    λ cs e. c .file-end2 .ensures ∙ found-first _ _ _ _ _ (a .before .loop .inv) cs e (omega (arith, a .loop-test .left))
+    λ cs e. c .extent-end2 .ensures ∙ found-first _ _ _ _ _ _ (a .before .loop .inv) cs e (omega (arith, a .loop-test .left))
 
 pub sweep-end-spec : {M : Type 1} → statement M
 sweep-end-spec =
@@ -85,11 +85,11 @@ sweep-end-spec =
     mul-file
     shared-slice-read-file
     detour-reads-requires
-    file-end-requires
+    extent-end-requires
     returns-2
     sub-i-2
     loop-less
     loop-again
-    shared-slice-read-file-end
-    file-end-requires-2
+    shared-slice-read-extent-end
+    extent-end-requires-2
     returns-3)

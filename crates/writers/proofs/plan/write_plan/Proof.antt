@@ -27,8 +27,8 @@ returns c =
     let c4 = c .before .before .before .before in
     let c8 = c4 .before .before .before .before in
     let c12 = c8 .before .before .before .before in
-    let a = c12 .before .args in
-    let run = runOf (a .starts .now) (a .lengths .now) (a .numbers .now) (a .counts .now) (a .head) (a .turn) in
+    let a = c12 .before .before .args in
+    let run = runOf (a .starts .now) (a .lengths .now) (a .aggregates .now) (a .numbers .now) (a .counts .now) (a .head) (a .turn) in
     refused-handed _ _ _ _ _ _ (plan-refused (a .name .now) run (a .froms .now) (a .tos .now) (a .out .now) _ _
     (c4 .judge .ensures) (c .before .before .before .judge-name .ensures) _ (c .before .before .refused .ensures) (c .before .if1 .taken)) (sym (c .before .before .refused .ensures) ∙ c .before .if1 .taken) (c .written .ensures)
 
@@ -51,8 +51,8 @@ returns-2 : tie.Need-returns-2
 returns-2 c =
     let price = c .before .before .before .before .before in
     let named = price .before .before .before in
-    let a = named .before .before .before .before .before .before .before .before .before .before .before .before .args in
-    let run = runOf (a .starts .now) (a .lengths .now) (a .numbers .now) (a .counts .now) (a .head) (a .turn) in
+    let a = named .before .before .before .before .before .before .before .before .before .before .before .before .before .args in
+    let run = runOf (a .starts .now) (a .lengths .now) (a .aggregates .now) (a .numbers .now) (a .counts .now) (a .head) (a .turn) in
     refused-handed _ _ _ _ _ _ (plan-list-refused (a .name .now) run (a .froms .now) (a .tos .now) (a .out .now) _ _
     (named .before .before .before .judge .ensures) (named .before .before .judge-name .ensures) _ (named .before .refused .ensures) (named .if1 .left)
     _ _ (search needs) (search needs) (price .price .result) (price .price .ensures .0) _ (c .before .before .refused2 .ensures) (c .before .if2 .taken)) (sym (c .before .before .refused2 .ensures) ∙ c .before .if2 .taken) (c .written2 .ensures)
@@ -67,8 +67,8 @@ array-share-prefix-times : tie.Need-array-share-prefix-times
 array-share-prefix-times c =
     let price = c .before .before .before .before .before .before in
     let named = price .before .before .before in
-    let a = named .before .before .before .before .before .before .before .before .before .before .before .before .args in
-    let run = runOf (a .starts .now) (a .lengths .now) (a .numbers .now) (a .counts .now) (a .head) (a .turn) in
+    let a = named .before .before .before .before .before .before .before .before .before .before .before .before .before .args in
+    let run = runOf (a .starts .now) (a .lengths .now) (a .aggregates .now) (a .numbers .now) (a .counts .now) (a .head) (a .turn) in
     let few = plan-good (a .name .now) run (a .froms .now) (a .tos .now) (a .out .now) _ _
     (named .before .before .before .judge .ensures) (named .before .before .judge-name .ensures) _ (named .before .refused .ensures) (named .if1 .left) .wants .few in
     omega (arith, few)
@@ -77,8 +77,8 @@ slice-aggregate-put-plan-2 : tie.Need-slice-aggregate-put-plan-2
 slice-aggregate-put-plan-2 c =
     let price = c .before .before .before .before .before .before .before in
     let named = price .before .before .before in
-    let a = named .before .before .before .before .before .before .before .before .before .before .before .before .args in
-    let run = runOf (a .starts .now) (a .lengths .now) (a .numbers .now) (a .counts .now) (a .head) (a .turn) in
+    let a = named .before .before .before .before .before .before .before .before .before .before .before .before .before .args in
+    let run = runOf (a .starts .now) (a .lengths .now) (a .aggregates .now) (a .numbers .now) (a .counts .now) (a .head) (a .turn) in
     times-length (a .name .now) run (a .froms .now) (a .tos .now) (a .out .now) _ _
     (named .before .before .before .judge .ensures) (named .before .before .judge-name .ensures) _ (named .before .refused .ensures) (named .if1 .left)
     _ _ (search needs) (search needs) (price .price .result) (price .price .ensures .0) _ (c .before .before .before .before .refused2 .ensures) (c .before .before .before .if2 .left) _ _ (price .price .ensures .1)
@@ -87,8 +87,8 @@ array-share-prefix-legs : tie.Need-array-share-prefix-legs
 array-share-prefix-legs c =
     let price = c .before .before .before .before .before .before .before in
     let named = price .before .before .before in
-    let a = named .before .before .before .before .before .before .before .before .before .before .before .before .args in
-    let run = runOf (a .starts .now) (a .lengths .now) (a .numbers .now) (a .counts .now) (a .head) (a .turn) in
+    let a = named .before .before .before .before .before .before .before .before .before .before .before .before .before .args in
+    let run = runOf (a .starts .now) (a .lengths .now) (a .aggregates .now) (a .numbers .now) (a .counts .now) (a .head) (a .turn) in
     let few = plan-good (a .name .now) run (a .froms .now) (a .tos .now) (a .out .now) _ _
     (named .before .before .before .judge .ensures) (named .before .before .judge-name .ensures) _ (named .before .refused .ensures) (named .if1 .left) .wants .few in
     omega (arith, few)
@@ -97,8 +97,8 @@ slice-aggregate-put-plan-3 : tie.Need-slice-aggregate-put-plan-3
 slice-aggregate-put-plan-3 c =
     let price = c .before .before .before .before .before .before .before .before in
     let named = price .before .before .before in
-    let a = named .before .before .before .before .before .before .before .before .before .before .before .before .args in
-    let run = runOf (a .starts .now) (a .lengths .now) (a .numbers .now) (a .counts .now) (a .head) (a .turn) in
+    let a = named .before .before .before .before .before .before .before .before .before .before .before .before .before .args in
+    let run = runOf (a .starts .now) (a .lengths .now) (a .aggregates .now) (a .numbers .now) (a .counts .now) (a .head) (a .turn) in
     legs-length (a .name .now) run (a .froms .now) (a .tos .now) (a .out .now) _ _
     (named .before .before .before .judge .ensures) (named .before .before .judge-name .ensures) _ (named .before .refused .ensures) (named .if1 .left)
     _ _ (search needs) (search needs) (price .price .result) (price .price .ensures .0) _ (c .before .before .before .before .before .refused2 .ensures) (c .before .before .before .before .if2 .left) _ _ (price .price .ensures .1)
@@ -107,8 +107,8 @@ put-plan-requires : tie.Need-put-plan-requires
 put-plan-requires c κs =
     let price = c .before .before .before .before .before .before .before .before in
     let named = price .before .before .before in
-    let a = named .before .before .before .before .before .before .before .before .before .before .before .before .args in
-    let run = runOf (a .starts .now) (a .lengths .now) (a .numbers .now) (a .counts .now) (a .head) (a .turn) in
+    let a = named .before .before .before .before .before .before .before .before .before .before .before .before .before .args in
+    let run = runOf (a .starts .now) (a .lengths .now) (a .aggregates .now) (a .numbers .now) (a .counts .now) (a .head) (a .turn) in
     plan-fits (a .name .now) run (a .froms .now) (a .tos .now) (a .out .now) _ _
     (named .before .before .before .judge .ensures) (named .before .before .judge-name .ensures) _ (named .before .refused .ensures) (named .if1 .left)
     _ _ (search needs) (search needs) (price .price .result) (price .price .ensures .0) _ (c .before .before .before .before .before .refused2 .ensures) (c .before .before .before .before .if2 .left) _ _ (price .price .ensures .1) _ (search needs)
@@ -129,8 +129,8 @@ returns-3 : tie.Need-returns-3
 returns-3 c =
     let price = c .before .before .before .before .before .before .before .before .before .before .before .before .before .before .before in
     let named = price .before .before .before in
-    let a = named .before .before .before .before .before .before .before .before .before .before .before .before .args in
-    let run = runOf (a .starts .now) (a .lengths .now) (a .numbers .now) (a .counts .now) (a .head) (a .turn) in
+    let a = named .before .before .before .before .before .before .before .before .before .before .before .before .before .args in
+    let run = runOf (a .starts .now) (a .lengths .now) (a .aggregates .now) (a .numbers .now) (a .counts .now) (a .head) (a .turn) in
     let reads = counted-exact (a .counts .now) (plan-good (a .name .now) run (a .froms .now) (a .tos .now) (a .out .now) _ _ (named .before .before .before .judge .ensures) (named .before .before .judge-name .ensures) _ (named .before .refused .ensures) (named .if1 .left) .wants .reads) in
     let wrote = plan-wrote (a .name .now) run (a .froms .now) (a .tos .now) (a .out .now) _ _
     (named .before .before .before .judge .ensures) (named .before .before .judge-name .ensures) _ (named .before .refused .ensures) (named .if1 .left)

@@ -10,11 +10,11 @@ use Rattle.writers.proofs.writer.put_sheet.Tie as tie
 put-top-requires : tie.Need-put-top-requires
 put-top-requires c κs = search needs
 
-slice-aggregate-put-pairs : tie.Need-slice-aggregate-put-pairs
-slice-aggregate-put-pairs c = search needs
+slice-aggregate-put-triples : tie.Need-slice-aggregate-put-triples
+slice-aggregate-put-triples c = search needs
 
-put-pairs-requires : tie.Need-put-pairs-requires
-put-pairs-requires c κs = search needs
+put-triples-requires : tie.Need-put-triples-requires
+put-triples-requires c κs = search needs
 
 slice-aggregate-put-number-line : tie.Need-slice-aggregate-put-number-line
 slice-aggregate-put-number-line c = search needs
@@ -22,11 +22,11 @@ slice-aggregate-put-number-line c = search needs
 put-number-line-requires : tie.Need-put-number-line-requires
 put-number-line-requires c κs = search needs
 
-slice-aggregate-put-pairs-2 : tie.Need-slice-aggregate-put-pairs-2
-slice-aggregate-put-pairs-2 c = search needs
+slice-aggregate-put-pairs : tie.Need-slice-aggregate-put-pairs
+slice-aggregate-put-pairs c = search needs
 
-put-pairs-requires-2 : tie.Need-put-pairs-requires-2
-put-pairs-requires-2 c κs = search needs
+put-pairs-requires : tie.Need-put-pairs-requires
+put-pairs-requires c κs = search needs
 
 same-length : tie.Need-same-length
 same-length c = search needs
@@ -40,20 +40,20 @@ returns c =
     let c16 = c12 .before .before .before .before in
     let c20 = c16 .before .before .before .before in
     let c24 = c20 .before .before .before .before in
-    let two = wrote-both _ _ _ _ _ _ _ _ _ _ (c16 .before .put-top .ensures) (c12 .put-pairs .ensures) in
+    let two = wrote-both _ _ _ _ _ _ _ _ _ _ (c16 .before .put-top .ensures) (c12 .put-triples .ensures) in
     let three = wrote-both _ _ _ _ _ _ _ _ _ _ two (c4 .before .before .before .put-number-line .ensures) in
-    wrote-within _ _ _ _ _ _ _ (omega (arith, c24 .before .pre .files, c24 .before .pre .wants)) (wrote-both _ _ _ _ _ _ _ _ _ _ three (c .before .before .put-pairs2 .ensures))
+    wrote-within _ _ _ _ _ _ _ (omega (arith, c24 .before .before .pre .files, c24 .before .before .pre .wants)) (wrote-both _ _ _ _ _ _ _ _ _ _ three (c .before .before .put-pairs .ensures))
 
 pub put-sheet-spec : {M : Type 1} → statement M
 put-sheet-spec =
     tie.close
     (tie.spec
     put-top-requires
-    slice-aggregate-put-pairs
-    put-pairs-requires
+    slice-aggregate-put-triples
+    put-triples-requires
     slice-aggregate-put-number-line
     put-number-line-requires
-    slice-aggregate-put-pairs-2
-    put-pairs-requires-2
+    slice-aggregate-put-pairs
+    put-pairs-requires
     same-length
     returns)

@@ -1,0 +1,6 @@
+-- Laws that this crate's proofs share, and those that other crates cite.
+mod Joining
+mod Filling
+mod Answers
+pub mod Table
+pub mod Renamed
