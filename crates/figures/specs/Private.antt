@@ -1,0 +1,14 @@
+-- Contracts of private functions.
+use Prim.Native.Nat.{ℕ}
+use mathlib.Core.Path.{_≡_}
+use mathlib.Core.Bool.{false}
+use mathlib.Core.List.{List}
+use Rattle.refusals.specs.Refusals.{isRefusal}
+use Rattle.runs.specs.Run.{Run, stopsOf}
+use Rattle.runs.specs.Judging.{judgeOf}
+use Rattle.runs.specs.Lists.{listVerdict}
+
+-- A run and a list that are accepted.
+pub record Priceable (r : Run) (froms tos : List ℕ) : Type 0 where
+  pub run : isRefusal (judgeOf r .refusal) ≡ false
+  pub list : isRefusal (listVerdict (stopsOf r) froms tos .refusal) ≡ false
