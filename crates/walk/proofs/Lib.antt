@@ -2,6 +2,7 @@
 pub mod Steps
 pub mod Joins
 pub mod Legs
+pub mod Between
 pub mod Filling
 pub mod Sweeps
 pub mod Walks

@@ -1,20 +1,17 @@
 -- Where the last sweep ends: at the end of one of the stops. Looked for from the right, it is the first that no detour has read.
 use Prim.Native.Nat.{ℕ, zero, suc, _+_, _-_, _≤_, _<_}
 use mathlib.Core.Path.{_≡_, refl, ap, sym, _∙_}
-use mathlib.Core.Bool.{Bool, true, false, _&&_}
+use mathlib.Core.Bool.{true, false}
 use mathlib.Core.Logic.{_⊎_, inl, inr, ⊎-elim}
 use mathlib.Core.List.{List, [], _∷_}
 use native.Mathlib.Omega.{arith}
 use native.Mathlib.Nat.{eq-or-lt-of-le}
-use native.Mathlib.Numerals.{add-one}
-use lib.ListN.{length, getD, drop, drop-of-length-le}
-use lib.Seq.{drop-cons}
-use lib.Dec.{leb}
+use lib.ListN.{length, getD}
 use Rattle.walk.specs.declared.Leg.{Leg}
 use Rattle.runs.specs.Run.{Stop, stopOf, wantStops, stopAt}
 use Rattle.walk.specs.Walk.{served}
 use Rattle.walk.specs.Detours.{unreadEnd, sweepEnd}
-use Rattle.walk.specs.Private.{rightOf, legAt}
+use Rattle.walk.specs.Private.{rightOf}
 use Rattle.runs.proofs.Search.{true-or-false}
 use Rattle.runs.proofs.Stops.{wants-length, want-at}
 use Rattle.walk.proofs.Joins.{served-same}
@@ -138,31 +135,3 @@ module _ (gs : List Leg) (starts lengths aggregates ns : List ℕ) (i : ℕ) (p 
     found-first e =
         sym (ap (λ s. s .end) (stop-is 0 (omega (arith, p .within))))
         ∙ swept-to-first gs (wantStops starts lengths aggregates ns cs) (omega (arith, size, p .within)) (λ j a b. rest-read j (omega arith) b)
-
--- Whether a detour reads a file, as the loop has it: what is left decides.
-abbrev pub Serving : List Leg → Stop → ℕ → Type 0
-Serving gs s i = served (drop i gs) s ≡ served gs s
-
-module _ (gs : List Leg) (s : Stop) where
-  pub serving-start : Serving gs s 0
-  serving-start = start gs
-    where
-      start : (gs : List Leg) → served (drop 0 gs) s ≡ served gs s
-      start [] = refl
-      start (g ∷ gs) = refl
-
-  pub served-by-none : (i : ℕ) → Serving gs s i → length gs ≤ i → false ≡ served gs s
-  unfolding served
-  served-by-none i p l = rw (drop-of-length-le gs l) at p
-
-  module _ (i : ℕ) (p : Serving gs s i) (l : i < length gs) (g : Leg) (is : g ≡ legAt gs i) (t : Bool) (test : t ≡ (leb (g .left) (s .start) && leb (s .end) (g .right))) where
-    splits : drop i gs ≡ g ∷ drop (i + 1) gs
-    splits = rw (is, add-one) (drop-cons gs i _ l)
-
-    pub served-now : t ≡ true → true ≡ served gs s
-    unfolding served
-    served-now e = rw (splits, sym test ∙ e) at p
-
-    pub serving-on : t ≡ false → Serving gs s (i + 1)
-    unfolding served
-    serving-on e = rw (splits, sym test ∙ e) at p

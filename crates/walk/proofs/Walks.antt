@@ -13,7 +13,7 @@ use borrow.Author.Tests.{eqb-true, ltb-false, leb-false, not-true, not-false}
 use Rattle.walk.specs.declared.Leg.{Leg}
 use Rattle.refusals.specs.declared.Refusal.the-variants.{BadEntry}
 use Rattle.refusals.specs.Refusals.{refuseIf, refuseAt}
-use Rattle.runs.specs.Run.{Run, Stop, joined, wantStops, wantStopsOf, stopsOf, stopAt, lastPlace, highestTurn, mostWants}
+use Rattle.runs.specs.Run.{Run, Stop, goesOn, joined, wantStops, wantStopsOf, stopsOf, stopAt, lastPlace, highestTurn, mostWants}
 use Rattle.walk.specs.Walk.{Moves}
 use Rattle.runs.specs.Lists.{Detour, listOf, wanted, leftmost, badAfter, badEntry, entryOf, firstBadEntry, listVerdict}
 use Rattle.walk.specs.Detours.{startOf, endOf, legOf, sweepEnd, lastSweep, legsOf}
@@ -368,6 +368,11 @@ module _ (r : Run) (run : GoodRun r) (froms tos : List ℕ) (g : GoodList (stops
       let is = sym (p .is) ∙ ap (λ s. s .file) (want-at (r .starts) (r .lengths) (r .aggregates) (r .numbers) (r .counts) same (p .index) l) ∙ first-file (r .aggregates) (getD (r .numbers) (p .index) 0) (n .least) in
       record { least = omega (arith, is); most = omega (arith, is, first-below (r .aggregates) (getD (r .numbers) (p .index) 0 - 1), n .least, n .most) }
 
+  -- And the first of its aggregate.
+  name-begins : (f : ℕ) → wanted (stopsOf r) f ≡ true → goesOn (r .aggregates) (f - 1) ≡ false
+  name-begins f w =
+      not-true _ (and-true-both _ _ (sym (wanted-named (r .starts) (r .lengths) (r .aggregates) (r .numbers) (r .counts) same f) ∙ w) .0)
+
   pub rows-fit : RowsFit (r .starts) (r .lengths) (r .aggregates) (r .numbers) froms tos
   rows-fit =
       record {
@@ -377,6 +382,7 @@ module _ (r : Run) (run : GoodRun r) (froms tos : List ℕ) (g : GoodList (stops
               even = g .even;
               lefts = λ i l. named-in-table (getD froms i 0) (from-is i l);
               rights = λ i l. named-in-table (getD tos i 0) (to-is i l);
+              named = λ i l. (name-begins (getD froms i 0) (from-is i l), name-begins (getD tos i 0) (to-is i l));
             };
         wants = wants-named (r .starts) (r .numbers) (r .counts) (run .wants);
       }

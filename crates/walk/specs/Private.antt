@@ -1,10 +1,12 @@
 -- The legs of a list read off the caller's rows, for the contracts of private functions. No public contract cites this file.
 use Prim.Native.Nat.{ℕ, _-_, _<_, _≤_}
 use mathlib.Core.Path.{_≡_}
+use mathlib.Core.Bool.{Bool, false, _||_, _&&_}
 use mathlib.Core.List.{List, [], _∷_, _++_}
 use lib.ListN.{length, getD}
+use lib.Dec.{leb}
 use Rattle.walk.specs.declared.Leg.{Leg}
-use Rattle.runs.specs.Run.{Row, Lent, endAt, firstMember, lastMember, mostWants, lastPlace, highestTurn}
+use Rattle.runs.specs.Run.{Row, Lent, endAt, goesOn, firstMember, lastMember, mostWants, lastPlace, highestTurn}
 use Rattle.walk.specs.Walk.{Moves}
 use Rattle.runs.specs.Private.{SoundTable, InTable}
 
@@ -47,7 +49,14 @@ detoursAt starts lengths aggregates froms tos =
 abbrev pub legAt : List Leg → ℕ → Leg
 legAt gs i = getD gs i (record { left = 0; right = 0 })
 
--- A sound table with an aggregate number for each file; two rows of one length whose numbers all name its files; and with them a row of wants.
+-- Whether a stop's name lies from the start to the end of a detour, by numbers alone.
+unfoldable pub readByNumber : List ℕ → List ℕ → ℕ → Bool
+readByNumber [] tos first = false
+readByNumber (a ∷ froms) [] first = false
+readByNumber (a ∷ froms) (b ∷ tos) first = (leb a first && leb first b) || readByNumber froms tos first
+
+-- A sound table with an aggregate number for each file; two rows of one length whose numbers all name its files, each the first of its
+-- aggregate; and with them a row of wants.
 pub record Tabled (starts lengths aggregates : List ℕ) : Type 0 where
   pub sound : SoundTable starts lengths
   pub rows : length starts ≡ length aggregates
@@ -57,6 +66,7 @@ pub record ListFits (starts lengths aggregates froms tos : List ℕ) : Type 0 wh
   pub even : length froms ≡ length tos
   pub lefts : (i : ℕ) → i < length froms → InTable starts (getD froms i 0)
   pub rights : (i : ℕ) → i < length froms → InTable starts (getD tos i 0)
+  pub named : (i : ℕ) → i < length froms → (goesOn aggregates (getD froms i 0 - 1) ≡ false) × (goesOn aggregates (getD tos i 0 - 1) ≡ false)
 
 pub record RowsFit (starts lengths aggregates numbers froms tos : List ℕ) : Type 0 where
   pub list : ListFits starts lengths aggregates froms tos

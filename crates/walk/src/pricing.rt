@@ -2,16 +2,16 @@
 // It holds nothing per leg or file: only the head and positions in the caller's rows.
 ghost use mathlib.Core.Path.{_≡_};
 ghost use mathlib.Core.List.{List, _++_};
-ghost use Prim.Native.Nat.{ℕ, _≤_, _<_};
-ghost use mathlib.Core.Bool.{_&&_, _||_};
+ghost use Prim.Native.Nat.{ℕ, _-_, _≤_, _<_};
+ghost use mathlib.Core.Bool.{false, _&&_, _||_};
 ghost use lib.ListN.{length, getD, drop};
 ghost use lib.Dec.{leb, ltb};
-ghost use Rattle.runs.specs.Run.{runAt, wantStopsAt, wantStops, total, stopOf, mostReads};
-ghost use Rattle.walk.specs.Walk.{headAt, walked, served, readOf, timesOf, legsFor, sumOf};
+ghost use Rattle.runs.specs.Run.{runAt, goesOn, firstFile, wantStopsAt, wantStops, total, stopOf, mostReads};
+ghost use Rattle.walk.specs.Walk.{headAt, walked, readOf, timesOf, legsFor, sumOf};
 ghost use Rattle.walk.specs.Detours.{sweepEnd};
 ghost use Rattle.walk.specs.Price.{refusalAnswer, priceAnswer, priceRows, readRowsBefore, readRowsAfter};
 ghost use Rattle.runs.specs.Private.{InTable};
-ghost use Rattle.walk.specs.Private.{Tabled, ListFits, RowsFit, WalkFits, leftOf, rightOf, rowLegs, legsIn, legsAt, detoursAt, legAt};
+ghost use Rattle.walk.specs.Private.{Tabled, RowsFit, WalkFits, readByNumber, leftOf, rightOf, rowLegs, legsIn, legsAt, detoursAt, legAt};
 use crate::Answer;
 use crate::Head;
 use crate::Leg;
@@ -56,14 +56,15 @@ fn leg_count(numbers: &[u64], froms: &[u64]) -> usize
     froms.len() + 1
 }
 
-// A detour's leg: left to the start of one aggregate, right to the end of another.
+// A detour's leg: left to the start of one stop, right to the end of another. A stop is named by its first file.
 fn detour_leg(starts: &[u64], lengths: &[u64], aggregates: &[u64], from: u64, to: u64) -> Leg
     requires { ⌜ Tabled (now starts) (now lengths) (now aggregates) ⌝ }
     requires { ⌜ InTable (now starts) from ⌝ }
+    requires { ⌜ goesOn (now aggregates) (from - 1) ≡ false ⌝ }
     requires { ⌜ InTable (now starts) to ⌝ }
     ensures { λ r. ⌜ r ≡ record { left = leftOf (now (starts .entry)) (now (aggregates .entry)) from; right = rightOf (now (starts .entry)) (now (lengths .entry)) (now (aggregates .entry)) to } ⌝ }
 {
-    let left = extent_start(starts, aggregates, from);
+    let left = starts[(from - 1) as usize];
     let right = extent_end(starts, lengths, aggregates, to);
     Leg { left, right }
 }
@@ -80,25 +81,27 @@ fn reads_file(leg: Leg, start: u64, end: u64) -> bool
     false
 }
 
-// Whether a detour reads the aggregate of a file of the table.
-fn detour_reads(
-    starts: &[u64],
-    lengths: &[u64],
-    aggregates: &[u64],
-    froms: &[u64],
-    tos: &[u64],
-    file: u64,
-) -> bool
-    requires { ⌜ ListFits (now starts) (now lengths) (now aggregates) (now froms) (now tos) ⌝ }
-    requires { ⌜ InTable (now starts) file ⌝ }
-    ensures { λ r. ⌜ r ≡ served (detoursAt starts lengths aggregates froms tos) (stopOf (now (starts .entry)) (now (lengths .entry)) (now (aggregates .entry)) file 0) ⌝ }
+// Whether a number lies between two.
+fn lies_between(from: u64, to: u64, number: u64) -> bool
+    ensures { λ r. ⌜ r ≡ (leb from number && leb number to) ⌝ }
 {
-    let start = extent_start(starts, aggregates, file);
-    let end = extent_end(starts, lengths, aggregates, file);
+    if from <= number {
+        return number <= to;
+    }
+    false
+}
+
+// Whether a detour reads the aggregate of a file of the table: those do that start at or left of its first file and end at or right of it.
+fn detour_reads(aggregates: &[u64], froms: &[u64], tos: &[u64], file: u64) -> bool
+    requires { ⌜ 0 < file ⌝ }
+    requires { ⌜ length (now froms) ≡ length (now tos) ⌝ }
+    ensures { λ r. ⌜ r ≡ readByNumber (now (froms .entry)) (now (tos .entry)) (firstFile (now (aggregates .entry)) file) ⌝ }
+{
+    let at = (file - 1) as usize;
+    let first = first_member(aggregates, at) as u64 + 1;
     let mut i: usize = 0;
     while i < froms.len() {
-        let leg = detour_leg(starts, lengths, aggregates, froms[i], tos[i]);
-        if reads_file(leg, start, end) {
+        if lies_between(froms[i], tos[i], first) {
             return true;
         }
         i += 1;
@@ -124,7 +127,7 @@ fn sweep_end(
     let mut i: usize = numbers.len() - 1;
     while 0 < i {
         let file = numbers[i];
-        if !detour_reads(starts, lengths, aggregates, froms, tos, file) {
+        if !detour_reads(aggregates, froms, tos, file) {
             return extent_end(starts, lengths, aggregates, file);
         }
         i -= 1;

@@ -1,85 +1,66 @@
--- `walk::pricing::detour_reads` meets its contract: no detour so far reads the file, and those that are left decide.
+-- `walk::pricing::detour_reads` meets its contract: no detour so far has the file's stop between its ends, and those that are left decide.
 -- Assumes nothing.
 use borrow.Author.Needs.{needs}
-use Prim.Native.Nat.{_-_}
-use mathlib.Core.Path.{_≡_, sym, _∙_}
-use mathlib.Core.Bool.{_&&_}
+use Prim.Native.Nat.{_+_, _-_}
+use mathlib.Core.Path.{_≡_, ap, _∙_}
 use native.Mathlib.Omega.{arith}
 use lib.ListN.{length}
-use lib.Dec.{leb}
-use mathlib.Core.List.{List}
-use Rattle.walk.specs.declared.Leg.{Leg}
-use Rattle.runs.specs.Run.{Stop, stopOf}
-use Rattle.walk.specs.Private.{detourLegs}
-use Rattle.walk.proofs.Legs.{length-detours, detour-leg}
-use Rattle.walk.proofs.Sweeps.{Serving, serving-start, serving-on, served-now, served-by-none}
+use Rattle.runs.specs.Run.{firstFile}
+use Rattle.walk.specs.Private.{readByNumber}
+use Rattle.runs.proofs.Members.{first-below}
+use Rattle.runs.proofs.Stops.{first-file}
+use Rattle.walk.proofs.Between.{Searching, search-start, search-on, found-here, found-none}
 use Rattle.walk.proofs.pricing.detour_reads.Statement.{statement}
 use Rattle.walk.proofs.pricing.detour_reads.Tie as tie
 
 abbrev Inv-loop : tie.InvT-loop
-Inv-loop starts lengths aggregates froms tos file start end i₀ i = Serving (detourLegs starts lengths aggregates froms tos) (stopOf starts lengths aggregates file 0) i
+Inv-loop aggregates froms tos file at first i₀ i = Searching froms tos first i
 
 abbrev μ-loop : tie.MeasureT-loop
-μ-loop starts lengths aggregates froms tos file start end i₀ i = length froms - i
+μ-loop aggregates froms tos file at first i₀ i = length froms - i
 
--- The detours' legs, how many there are, and the file as a stop.
-abbrev gs : tie.Start Inv-loop μ-loop → List Leg
-gs s = let a = s .args in detourLegs (a .starts .now) (a .lengths .now) (a .aggregates .now) (a .froms .now) (a .tos .now)
+-- The stop's name.
+name : (c : tie.After-first-member Inv-loop μ-loop) → let s = c .before .before .before .before .args in c .first-member .result + 1 ≡ firstFile (s .aggregates .now) (s .file)
+name c =
+    let s = c .before .before .before .before in
+    omega (arith, c .first-member .ensures, first-file (s .args .aggregates .now) (s .args .file) (s .pre .0))
 
-abbrev stop : tie.Start Inv-loop μ-loop → Stop
-stop s = let a = s .args in stopOf (a .starts .now) (a .lengths .now) (a .aggregates .now) (a .file) 0
+sub-at : tie.Need-sub-at Inv-loop μ-loop
+sub-at c = search needs
 
-count : (s : tie.Start Inv-loop μ-loop) → length (gs s) ≡ length (s .args .froms .now)
-count s = length-detours (s .args .starts .now) (s .args .lengths .now) (s .args .aggregates .now) (s .args .froms .now) (s .args .tos .now) (s .pre .0 .even)
+first-member-requires : tie.Need-first-member-requires Inv-loop μ-loop
+first-member-requires c κs = search needs
 
-extent-start-requires : tie.Need-extent-start-requires Inv-loop μ-loop
-extent-start-requires c κs = search needs
-
-extent-end-requires : tie.Need-extent-end-requires Inv-loop μ-loop
-extent-end-requires c κs =
-    let s = c .before .before .before .before .before .before in
-    (s .pre .0 .table, s .pre .1)
+add-first : tie.Need-add-first Inv-loop μ-loop
+add-first c = omega (arith, c .first-member .ensures, first-below (c .before .before .before .before .args .aggregates .now) (c .before .before .before .before .args .file - 1))
 
 loop-holds : tie.Need-loop-holds Inv-loop μ-loop
-loop-holds c = serving-start _ _
+loop-holds c = search-start _ _ _
 
-mul-detour-leg : tie.Need-mul-detour-leg Inv-loop μ-loop
-mul-detour-leg c = search needs
+mul-lies-between : tie.Need-mul-lies-between Inv-loop μ-loop
+mul-lies-between c = search needs
 
-shared-slice-read-detour-leg : tie.Need-shared-slice-read-detour-leg Inv-loop μ-loop
-shared-slice-read-detour-leg c = search needs
+shared-slice-read-lies-between : tie.Need-shared-slice-read-lies-between Inv-loop μ-loop
+shared-slice-read-lies-between c = search needs
 
-mul-detour-leg-2 : tie.Need-mul-detour-leg-2 Inv-loop μ-loop
-mul-detour-leg-2 c = search needs
+mul-lies-between-2 : tie.Need-mul-lies-between-2 Inv-loop μ-loop
+mul-lies-between-2 c = search needs
 
-shared-slice-read-detour-leg-2 : tie.Need-shared-slice-read-detour-leg-2 Inv-loop μ-loop
-shared-slice-read-detour-leg-2 c =
-    let s = c .before .before .before .before .before .before .before .before .before .before .before in
-    omega (arith, s .pre .0 .even, c .before .before .loop-test .taken)
+shared-slice-read-lies-between-2 : tie.Need-shared-slice-read-lies-between-2 Inv-loop μ-loop
+shared-slice-read-lies-between-2 c =
+    let l = c .before .before in
+    omega (arith, l .before .before .before .before .before .before .pre .1, l .loop-test .taken)
 
-detour-leg-requires : tie.Need-detour-leg-requires Inv-loop μ-loop
-detour-leg-requires c κs =
-    let s = c .before .before .before .before .before .before .before .before .before .before .before in
-    (s .pre .0 .table, (s .pre .0 .lefts _ (c .before .before .loop-test .taken), s .pre .0 .rights _ (c .before .before .loop-test .taken)))
-
-reads-file-requires : tie.Need-reads-file-requires Inv-loop μ-loop
-reads-file-requires c κs = search needs
-
--- The test of the leg is that of the definition.
-test : (c : tie.After-reads-file Inv-loop μ-loop)
-    → let s = stop (c .before .before .before .before .before .before .before .before .before .before .before .before .before) in
-    c .reads-file .result ≡ (leb (c .before .detour-leg .result .left) (s .start) && leb (s .end) (c .before .detour-leg .result .right))
-test c =
-    let e = c .before .before .before .before .before .before in
-    rw (c .reads-file .ensures, e .extent-end .ensures, e .before .extent-start .ensures)
+lies-between-requires : tie.Need-lies-between-requires Inv-loop μ-loop
+lies-between-requires c κs = search needs
 
 returns : tie.Need-returns Inv-loop μ-loop
 returns c =
     let b = c .before in
-    let s = b .before .before .before .before .before .before .before .before .before .before .before .before .before in
-    let l = b .before .before .before .before .loop-test .taken in
-    served-now (gs s) (stop s) _ (b .before .before .before .before .before .loop .inv) (omega (arith, l, count s))
-    _ (b .before .detour-leg .ensures ∙ sym (detour-leg (s .args .starts .now) (s .args .lengths .now) (s .args .aggregates .now) (s .args .froms .now) (s .args .tos .now) (s .pre .0 .even) _ l)) _ (test b) (c .if1 .taken)
+    let l = b .before .before .before in
+    let m = l .before .before in
+    let s = m .before .before .before .before in
+    found-here _ _ _ _ (l .before .loop .inv) (s .pre .1) (l .loop-test .taken) _ (b .lies-between .ensures) (c .if1 .taken) ∙ ap (readByNumber (s .args .froms .now) (s .args .tos .now)) (name m)
 
 add-i : tie.Need-add-i Inv-loop μ-loop
 add-i c = search needs
@@ -90,15 +71,14 @@ loop-less c = search needs
 loop-again : tie.Need-loop-again Inv-loop μ-loop
 loop-again c =
     let b = c .before in
-    let s = b .before .before .before .before .before .before .before .before .before .before .before .before .before in
-    let l = b .before .before .before .before .loop-test .taken in
-    serving-on (gs s) (stop s) _ (b .before .before .before .before .before .loop .inv) (omega (arith, l, count s))
-    _ (b .before .detour-leg .ensures ∙ sym (detour-leg (s .args .starts .now) (s .args .lengths .now) (s .args .aggregates .now) (s .args .froms .now) (s .args .tos .now) (s .pre .0 .even) _ l)) _ (test b) (c .if1 .left)
+    let l = b .before .before .before in
+    search-on _ _ _ _ (l .before .loop .inv) (l .before .before .before .before .before .before .pre .1) (l .loop-test .taken) _ (b .lies-between .ensures) (c .if1 .left)
 
 returns-2 : tie.Need-returns-2 Inv-loop μ-loop
 returns-2 c =
-    let s = c .before .before .before .before .before .before .before .before .before in
-    served-by-none (gs s) (stop s) (c .before .loop .i) (c .before .loop .inv) (omega (arith, c .loop-test .left, count s))
+    let m = c .before .before in
+    let s = m .before .before .before .before in
+    found-none (s .args .froms .now) (s .args .tos .now) _ (c .before .loop .i) (c .before .loop .inv) (search needs) ∙ ap (readByNumber (s .args .froms .now) (s .args .tos .now)) (name m)
 
 pub detour-reads-spec : {M : Type 1} → statement M
 detour-reads-spec =
@@ -106,15 +86,15 @@ detour-reads-spec =
     (tie.spec
     Inv-loop
     μ-loop
-    extent-start-requires
-    extent-end-requires
+    sub-at
+    first-member-requires
+    add-first
     loop-holds
-    mul-detour-leg
-    shared-slice-read-detour-leg
-    mul-detour-leg-2
-    shared-slice-read-detour-leg-2
-    detour-leg-requires
-    reads-file-requires
+    mul-lies-between
+    shared-slice-read-lies-between
+    mul-lies-between-2
+    shared-slice-read-lies-between-2
+    lies-between-requires
     returns
     add-i
     loop-less

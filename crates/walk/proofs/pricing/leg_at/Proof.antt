@@ -21,7 +21,7 @@ shared-slice-read-detour-leg-2 c = search needs
 detour-leg-requires : tie.Need-detour-leg-requires
 detour-leg-requires c κs =
     let p = c .before .before .before .before .before .before .before .before .before .pre in
-    (p .0 .list .table, (p .0 .list .lefts _ (search needs), p .0 .list .rights _ (search needs)))
+    (p .0 .list .table, (p .0 .list .lefts _ (search needs), (p .0 .list .named (c .before .before .before .before .before .before .before .before .before .args .i) (search needs) .0, p .0 .list .rights _ (search needs))))
 
 returns : tie.Need-returns
 returns c =

@@ -3,8 +3,12 @@
 use borrow.Author.Needs.{needs}
 use native.Mathlib.Omega.{arith}
 use borrow.Author.Tests.{not-true, not-false}
-use mathlib.Core.Path.{_∙_, sym}
+use mathlib.Core.Path.{_≡_, _∙_, sym}
+use lib.ListN.{getD}
+use Rattle.runs.specs.Run.{stopOf}
+use Rattle.walk.specs.Walk.{served}
 use Rattle.walk.specs.Private.{detourLegs}
+use Rattle.walk.proofs.Between.{by-number}
 use Rattle.walk.proofs.Sweeps.{ReadRight, read-none, read-one-more, found-unread, found-first, no-sweep}
 use Rattle.walk.proofs.pricing.sweep_end.Statement.{statement}
 use Rattle.walk.proofs.pricing.sweep_end.Tie as tie
@@ -34,7 +38,7 @@ detour-reads-requires : tie.Need-detour-reads-requires Inv-loop μ-loop
 detour-reads-requires c κs =
     let l = c .before .before in
     let s = l .before .before .before .before .before .before .before .before in
-    (s .pre .list, s .pre .wants _ (l .loop .inv .within))
+    (s .pre .wants (l .loop .i) (l .loop .inv .within) .least, s .pre .list .even)
 
 extent-end-requires : tie.Need-extent-end-requires Inv-loop μ-loop
 extent-end-requires c κs =
@@ -42,11 +46,24 @@ extent-end-requires c κs =
     let s = l .before .before .before .before .before .before .before .before in
     (s .pre .list .table, s .pre .wants _ (l .loop .inv .within))
 
+-- The search by numbers says whether a detour reads the file.
+served-is : (c : tie.After-detour-reads Inv-loop μ-loop)
+    → let l = c .before .before .before in
+    let a = l .before .before .before .before .before .before .before .before .args in
+    served (detourLegs (a .starts .now) (a .lengths .now) (a .aggregates .now) (a .froms .now) (a .tos .now)) (stopOf (a .starts .now) (a .lengths .now) (a .aggregates .now) (getD (a .numbers .now) (l .loop .i) 0) 0)
+    ≡ c .detour-reads .result
+served-is c =
+    let l = c .before .before .before in
+    let s = l .before .before .before .before .before .before .before .before in
+    by-number (s .args .starts .now) (s .args .lengths .now) (s .args .aggregates .now) (s .pre .list .table) (getD (s .args .numbers .now) (l .loop .i) 0)
+    (s .pre .wants (l .loop .i) (l .loop .inv .within)) (s .args .froms .now) (s .args .tos .now) (s .pre .list)
+    ∙ sym (c .detour-reads .ensures)
+
 returns-2 : tie.Need-returns-2 Inv-loop μ-loop
 returns-2 c =
     let t = c .before in
     let l = t .before .before .before .before in
-    λ cs e. c .extent-end .ensures ∙ found-unread _ _ _ _ _ _ (l .loop .inv) cs e (sym (t .before .detour-reads .ensures) ∙ not-true _ (t .if2 .taken)) (t .before .before .before .loop-test .taken)
+    λ cs e. c .extent-end .ensures ∙ found-unread _ _ _ _ _ _ (l .loop .inv) cs e (served-is (t .before) ∙ not-true _ (t .if2 .taken)) (t .before .before .before .loop-test .taken)
 
 sub-i-2 : tie.Need-sub-i-2 Inv-loop μ-loop
 sub-i-2 c = search needs
@@ -57,7 +74,7 @@ loop-less c = search needs
 loop-again : tie.Need-loop-again Inv-loop μ-loop
 loop-again c =
     let d = c .before in
-    read-one-more _ _ _ _ _ _ (d .before .before .before .loop .inv) (sym (d .detour-reads .ensures) ∙ not-false _ (c .if2 .left))
+    read-one-more _ _ _ _ _ _ (d .before .before .before .loop .inv) (served-is d ∙ not-false _ (c .if2 .left))
 
 shared-slice-read-extent-end : tie.Need-shared-slice-read-extent-end Inv-loop μ-loop
 shared-slice-read-extent-end c = omega (arith, c .before .before .loop .inv .within)
