@@ -11,7 +11,7 @@ ghost use Rattle.runs.specs.Private.{Spanned};
 use crate::MOST_AGGREGATES;
 
 // Whether the entry at an index goes on with the one before it.
-pub fn goes_on(aggregates: &[u64], i: usize) -> bool
+pub(crate) fn goes_on(aggregates: &[u64], i: usize) -> bool
     ensures { λ r. ⌜ r ≡ goesOn (now (aggregates .entry)) i ⌝ }
 {
     if i == 0 {
@@ -118,7 +118,7 @@ fn higher(high: u64, number: u64) -> u64
 }
 
 // The first file whose aggregate number is bad, counted from 1; 0 where there is none.
-pub fn first_bad_number(aggregates: &[u64]) -> u64
+pub(crate) fn first_bad_number(aggregates: &[u64]) -> u64
     ensures { λ r. ⌜ r ≡ firstWhere (badNumber (now (aggregates .entry))) (length (now (aggregates .entry))) ⌝ }
 {
     let mut low: u64 = MOST_AGGREGATES;

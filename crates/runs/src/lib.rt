@@ -6,7 +6,6 @@ mod judging;
 mod lists;
 
 pub use aggregates::first_member;
-pub use aggregates::goes_on;
 pub use aggregates::last_member;
 pub use judging::count_reads;
 pub use judging::judge;
