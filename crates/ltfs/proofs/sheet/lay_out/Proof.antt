@@ -7,6 +7,13 @@ use borrow.Author.Needs.{needs}
 use Rattle.ltfs.proofs.sheet.lay_out.Statement.{statement}
 use Rattle.ltfs.proofs.sheet.lay_out.Tie as tie
 
+-- Where the files were judged, and where they were counted.
+abbrev judged : tie.After-refused → tie.After-judge-files
+judged c = c .before
+
+abbrev gathered : tie.After-judge-files → tie.After-gather
+gathered c = c .before .before .before .before .before
+
 slice-aggregate-gather : tie.Need-slice-aggregate-gather
 slice-aggregate-gather c = search needs
 
@@ -33,8 +40,8 @@ refusal-of-requires c κs = search needs
 
 returns : tie.Need-returns
 returns c =
-    let c3 = c .before .before .before in
-    let c8 = c3 .before .before .before .before .before in
+    let c3 = judged (c .before .before) in
+    let c8 = gathered c3 in
     let c14 = c8 .before .before .before .before .before .before in
     let a = laid-refused (c14 .args .name .now) (c14 .args .size) (c14 .args .partition) _ (c14 .args .out .now) (c8 .gather .result) _ _ (c8 .gather .ensures) _
     (record { first = c8 .gather .kept .1 .1 .1 .0; second = c8 .gather .kept .1 .1 .1 .1 .0 })
@@ -50,8 +57,8 @@ slice-aggregate-last-end-2 c = search needs
 last-end-requires : tie.Need-last-end-requires
 last-end-requires c κs =
     let c2 = c .before .before in
-    let c4 = c2 .before .before in
-    let c9 = c4 .before .before .before .before .before in
+    let c4 = judged (c2 .before) in
+    let c9 = gathered c4 in
     let c15 = c9 .before .before .before .before .before .before in
     let p = laid-passed (c15 .args .name .now) (c15 .args .size) (c15 .args .partition) _ (c15 .args .out .now) (c9 .gather .result) _ _ (c9 .gather .ensures) _ (c4 .judge-files .ensures)
     (sym (c2 .before .refused .ensures) ∙ c2 .if1 .left) in (
@@ -68,7 +75,7 @@ array-share-prefix-starts c = search needs
 
 slice-aggregate-write-table : tie.Need-slice-aggregate-write-table
 slice-aggregate-write-table c =
-    let w = c .before .before .before .before .before .before .before .before .before .before .before .gather .ensures .within in
+    let w = gathered (judged (c .before .before .before .before .before)) .gather .ensures .within in
     sym (length-take-le _ _ (search needs))
 
 array-share-prefix-lengths : tie.Need-array-share-prefix-lengths
@@ -76,11 +83,11 @@ array-share-prefix-lengths c = search needs
 
 slice-aggregate-write-table-2 : tie.Need-slice-aggregate-write-table-2
 slice-aggregate-write-table-2 c =
-    let w = c .before .before .before .before .before .before .before .before .before .before .before .before .gather .ensures .within in
+    let w = gathered (judged (c .before .before .before .before .before .before)) .gather .ensures .within in
     sym (length-take-le _ _ (search needs))
 
 write-table-requires : tie.Need-write-table-requires
-write-table-requires c κs = kept-few _ _ _ (c .before .before .before .before .before .before .before .before .before .before .before .before .before .gather .ensures .within)
+write-table-requires c κs = kept-few _ _ _ (gathered (judged (c .before .before .before .before .before .before .before)) .gather .ensures .within)
 
 report-of-requires : tie.Need-report-of-requires
 report-of-requires c κs = search needs
@@ -93,8 +100,8 @@ returns-2 c =
     let c3 = c .before .before .before in
     let c7 = c3 .before .before .before .before in
     let c10 = c7 .before .before .before in
-    let c12 = c10 .before .before in
-    let c17 = c12 .before .before .before .before .before in
+    let c12 = judged (c10 .before) in
+    let c17 = gathered c12 in
     let c23 = c17 .before .before .before .before .before .before in
     let p = laid-passed (c23 .args .name .now) (c23 .args .size) (c23 .args .partition) _ (c23 .args .out .now) (c17 .gather .result) _ _ (c17 .gather .ensures) _ (c12 .judge-files .ensures)
     (sym (c10 .before .refused .ensures) ∙ c10 .if1 .left) in
