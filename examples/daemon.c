@@ -1,10 +1,10 @@
 /* A caller in the manner of a recall daemon: rows and room are set aside once, then each line of standard input is a
  * request and gets one line of answer.
  *
- *   plan HEAD TURN RULE files N START LENGTH AGGREGATE ... wants N FILE COUNT ...
+ *   plan HEAD TURN files N START LENGTH AGGREGATE ... wants N FILE COUNT ...
  *   price HEAD TURN files N START LENGTH AGGREGATE ... wants N FILE COUNT ... detours N START END ...
  *
- * RULE is least or sweep, AGGREGATE 0 for a file that lies in none. An answer is
+ * AGGREGATE is 0 for a file that lies in none. An answer is
  *
  *   sum=367 finish=121 end=50 detours=2,2 times=1:81,2:55,3:121 legs=1:2,2:1,3:2
  *   refused=7 place=0 head above 2^40, or left of the end of the rightmost wanted file or its aggregate
@@ -22,7 +22,7 @@
 #include <string.h>
 #include <violstream.h>
 
-static const char example[] = "plan 60 1 least files 3 0 10 0 10 4 0 20 30 0 wants 3 1 1 2 3 3 1";
+static const char example[] = "plan 60 1 files 3 0 10 0 10 4 0 20 30 0 wants 3 1 1 2 3 3 1";
 
 /* One place more than the limits, so that a request over a limit can be lent as it is, and refused by the library. */
 enum { FILES = VIOLSTREAM_MAX_FILES + 1, WANTS = VIOLSTREAM_MAX_WANTS + 1 };
@@ -44,7 +44,7 @@ static struct {
 
 struct request {
     bool plan;
-    uint64_t head, turn, rule;
+    uint64_t head, turn;
 };
 
 struct words {
@@ -102,16 +102,6 @@ static void read_entries(struct words *words, const char *key, int numbers, size
     }
 }
 
-static uint64_t next_rule(struct words *words)
-{
-    const char *word = next_word(words);
-    if (strcmp(word, "least") == 0)
-        return VIOLSTREAM_LEAST;
-    if (strcmp(word, "sweep") != 0)
-        say_unreadable(words, "least or sweep", word);
-    return VIOLSTREAM_SWEEP;
-}
-
 /* Takes the request into the rows; false, with the reason printed, if it cannot be read. */
 static bool read_request(char *line, struct request *request)
 {
@@ -124,8 +114,6 @@ static bool read_request(char *line, struct request *request)
         return false;
     request->head = next_number(&words);
     request->turn = next_number(&words);
-    if (request->plan)
-        request->rule = next_rule(&words);
     read_entries(&words, "files", 3, FILES, &rows.files);
     read_entries(&words, "wants", 2, WANTS, &rows.wants);
     if (!request->plan)
@@ -185,7 +173,7 @@ static void answer(char *line)
         return;
     struct violstream_run run = run_of(&request);
     struct violstream_rows given = lent(&request);
-    uint64_t result = request.plan ? violstream_plan_rows(&run, request.rule, &given) : violstream_price_rows(&run, &given);
+    uint64_t result = request.plan ? violstream_plan_rows(&run, VIOLSTREAM_LEAST, &given) : violstream_price_rows(&run, &given);
     if (result == 0)
         print_accepted(given.sums);
     else

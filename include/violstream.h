@@ -118,7 +118,7 @@
 #include <stddef.h>
 #include <stdint.h>
 
-#define VIOLSTREAM_VERSION "2.0.0"
+#define VIOLSTREAM_VERSION "3.0.0"
 
 /* A value as another type, in the words of either language. */
 #ifdef __cplusplus
@@ -150,10 +150,9 @@
 extern "C" {
 #endif
 
-/* What to plan by: values of `rule`. */
+/* What to plan by: the one value of `rule`. What a plain sweep costs, violstream_price says of the empty list. */
 enum violstream_rule {
-    VIOLSTREAM_SWEEP = 0, /* always the empty list: one sweep from left to right */
-    VIOLSTREAM_LEAST = 1  /* the well-formed list of smallest sum, the first of those with that sum */
+    VIOLSTREAM_LEAST = 1 /* the well-formed list of smallest sum, the first of those with that sum */
 };
 
 /* Places in the row `sums`. Every sum of an accepted run is below 2^58. */
@@ -181,15 +180,14 @@ enum violstream_refusal {
     VIOLSTREAM_TURN_PRICE = 6,     /* turn price above 2^32; place 0 */
     VIOLSTREAM_HEAD_PLACE = 7,     /* head above 2^40, or left of the rightmost stop's end: of the aggregate's, where
                                       the last want is of a file in one; place 0 */
-    VIOLSTREAM_BAD_RULE = 14,      /* violstream_plan: rule neither 0 nor 1; place 0 */
+    VIOLSTREAM_BAD_RULE = 14,      /* violstream_plan: rule other than VIOLSTREAM_LEAST; place 0 */
     VIOLSTREAM_BAD_ENTRY = 10,     /* violstream_price: list not well formed; place: the first entry that breaks a rule
                                       by itself or against an earlier one, 0 if starts and ends differ in number. An
                                       entry that names a file of an aggregate other than the first breaks one */
     VIOLSTREAM_SHORT_ROW = 8,      /* times or legs shorter than the wants, or sums below 4 words; violstream_plan: also
                                       a row for starts or ends of detours shorter than the stops less one (0 for
                                       none); place 0 */
-    VIOLSTREAM_SHORT_ROOM = 9      /* violstream_plan, either rule: room below VIOLSTREAM_ROOM_WORDS of the stops and the
-                                      reads; place 0 */
+    VIOLSTREAM_SHORT_ROOM = 9      /* violstream_plan: room below VIOLSTREAM_ROOM_WORDS of the stops and the reads; place 0 */
 };
 
 /* The refusal's number in a result; VIOLSTREAM_ACCEPTED for 0. */
@@ -217,7 +215,7 @@ static inline const char *violstream_reason(uint64_t result)
     case VIOLSTREAM_TOO_MANY_READS: return "over 1,024 reads";
     case VIOLSTREAM_TURN_PRICE: return "turn price above 2^32";
     case VIOLSTREAM_HEAD_PLACE: return "head above 2^40, or left of the end of the rightmost wanted file or its aggregate";
-    case VIOLSTREAM_BAD_RULE: return "rule number neither 0 nor 1";
+    case VIOLSTREAM_BAD_RULE: return "rule number other than 1";
     case VIOLSTREAM_BAD_ENTRY: return "list of detours not well formed";
     case VIOLSTREAM_SHORT_ROW: return "row for the answer too short";
     case VIOLSTREAM_SHORT_ROOM: return "working room too small";
@@ -251,17 +249,17 @@ uint64_t violstream_price(const uint64_t *starts, size_t starts_len,
                           uint64_t *sums, size_t sums_len);
 
 /*
- * The best list of detours by a rule, and what it costs.
+ * The best list of detours, and what it costs.
  *
  *   starts, lengths, aggregates, numbers, counts, head, turn   the run, as above
- *   rule                         VIOLSTREAM_SWEEP or VIOLSTREAM_LEAST
+ *   rule                         VIOLSTREAM_LEAST
  *   detour_starts, detour_ends   for the answer, each at least one word for each stop but one
  *   times, legs, sums            for the answer, as above
  *   room                         working room, at least VIOLSTREAM_ROOM_WORDS(stops, reads) words, of any content
  *
  * Gives 0, or the refusal's number plus 256 times its place. On 0, the first sums[VIOLSTREAM_DETOURS] words of
  * detour_starts and detour_ends hold the list in the order done, times, legs and sums are as violstream_price gives them
- * for that list, and the first VIOLSTREAM_ROOM_WORDS(stops, reads) words of room are 0 under either rule.
+ * for that list, and the first VIOLSTREAM_ROOM_WORDS(stops, reads) words of room are 0.
  */
 uint64_t violstream_plan(const uint64_t *starts, size_t starts_len,
                          const uint64_t *lengths, size_t lengths_len,

@@ -15,7 +15,7 @@ enum { WANTS = 12, FILES = 2 * WANTS, READS = 4 * WANTS, ROOM = VIOLSTREAM_ROOM_
 
 /* What is lent to be read, and what is lent for the answer. Words alone, so that memcmp sees every one and no gap. */
 struct run {
-    uint64_t wants, head, turn, rule, starts[FILES], lengths[FILES], aggregates[FILES], numbers[WANTS], counts[WANTS];
+    uint64_t wants, head, turn, starts[FILES], lengths[FILES], aggregates[FILES], numbers[WANTS], counts[WANTS];
 };
 struct answer {
     uint64_t planned, from[WANTS], to[WANTS], times[WANTS], legs[WANTS], sums[VIOLSTREAM_SUMS];
@@ -44,7 +44,7 @@ static uint64_t upto(uint64_t most)
 static void draw(struct run *run, unsigned number)
 {
     uint64_t end = 0;
-    *run = (struct run){.wants = upto(WANTS), .turn = number % 6 == 5 ? VIOLSTREAM_MAX_TURN + 1 : upto(1000), .rule = upto(8) > 1};
+    *run = (struct run){.wants = upto(WANTS), .turn = number % 6 == 5 ? VIOLSTREAM_MAX_TURN + 1 : upto(1000)};
     for (size_t i = 0; i < FILES; i++) {
         run->starts[i] = end + upto(100) - 1;
         run->lengths[i] = upto(1000);
@@ -62,8 +62,8 @@ static void plan_and_price(const struct run *r, struct answer *a, uint64_t *room
 {
     memset(a, 0x5a, sizeof *a);
     a->planned = violstream_plan(r->starts, FILES, r->lengths, FILES, r->aggregates, FILES, r->numbers, r->wants, r->counts,
-                                 r->wants, r->head, r->turn, r->rule, a->from, WANTS, a->to, WANTS, a->times, WANTS, a->legs,
-                                 WANTS, a->sums, VIOLSTREAM_SUMS, room, ROOM);
+                                 r->wants, r->head, r->turn, VIOLSTREAM_LEAST, a->from, WANTS, a->to, WANTS, a->times, WANTS,
+                                 a->legs, WANTS, a->sums, VIOLSTREAM_SUMS, room, ROOM);
     size_t detours = a->planned == 0 ? a->sums[VIOLSTREAM_DETOURS] : 0;
     a->priced = violstream_price(r->starts, FILES, r->lengths, FILES, r->aggregates, FILES, r->numbers, r->wants, r->counts,
                                  r->wants, r->head, r->turn, a->from, detours, a->to, detours, a->times_again, WANTS,

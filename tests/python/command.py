@@ -275,7 +275,8 @@ def words_of_sheets(at):
             (changed(2, b"head=-1"), refusal(11, 2), "a number has a sign"),
             (changed(2, b"head="), refusal(11, 2), "the number is missing"),
             (changed(2, b"head=18446744073709551616"), refusal(11, 2), "18446744073709551616 is not below 2^64"),
-            (changed(4, b"rule=none"), refusal(11, 4), 'line 4: expected rule=least or rule=sweep; found "rule=none"'),
+            (changed(4, b"rule=none"), refusal(11, 4), 'line 4: expected rule=least; found "rule=none"'),
+            (changed(4, b"rule=sweep"), refusal(19, 4), 'the rule (line 4, "rule=sweep") is retired; write rule=least'),
             (changed(1, b"tape=vx0041"), refusal(11, 1), "capitals and digits only"),
             (changed(1, b"\xef\xbb\xbftape=VX0041"), refusal(11, 1), "a byte order mark"),
             (changed(1, b"a\x00\x1b[2J\xff"), refusal(11, 1), 'found "a\\x00\\x1b[2J\\xff"'),
@@ -289,7 +290,7 @@ def words_of_sheets(at):
 
 def words_of_damaged_sheets(at):
     """Of every sheet that plan.py tries, the words speak of the place that a reader of its own finds, and are fit for a terminal."""
-    begin = {2: "file %d (line ", 4: "want %d (line ", 11: "line %d: expected ", 12: "the sheet has over"}
+    begin = {2: "file %d (line ", 4: "want %d (line ", 11: "line %d: expected ", 12: "the sheet has over", 19: "the rule (line %d, "}
     tried = 0
     for sheet in sheets_of_plan():
         out = answer(sheet)

@@ -33,6 +33,9 @@ def main():
     result = plan(*run, *lent(starts, ends, times, legs, sums, row(*[7] * 53)))
     if result != 9:
         sys.exit(f"library.py: violstream_plan with too little room gives {result}")
+    result = plan(*run[:-1], WORD(0), *lent(starts, ends, times, legs, sums, row(*[7] * 54)))
+    if result != 14:
+        sys.exit(f"library.py: violstream_plan with rule 0 gives {result}")
     print("library.py: the shared library answers from Python")
 
 

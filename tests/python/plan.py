@@ -21,7 +21,7 @@ from sheets import read
 
 def answer(sheet):
     try:
-        name, head, turn, rule, table, asked = read(sheet)
+        name, head, turn, table, asked = read(sheet)
         judge(head, turn, table, asked)
         reads = sum(count for _, count in asked)
         files = [first for first, _ in stops(table, asked)]
@@ -32,12 +32,9 @@ def answer(sheet):
     def total(detours):
         times = walk(head, turn, table, asked, detours)[0]
         return sum(count * times[number] for number, count in asked)
-    if rule == b"sweep" or len(files) > 10:
-        best = []
-        if rule == b"least":
-            return None
-    else:
-        best = min(lists(files), key=lambda d: (total(d), order(files, d)))
+    if len(files) > 10:
+        return None
+    best = min(lists(files), key=lambda d: (total(d), order(files, d)))
     times, legs, clock, place = walk(head, turn, table, asked, best)
     lines = [b"tape=" + name, b"sum=%d" % total(best), b"reads=%d" % reads, b"finish=%d" % clock, b"end=%d" % place,
              b"detours=%d" % len(best)]
@@ -98,19 +95,27 @@ def cases():
     for at in range(len(example)):
         for byte in (b"0", b"9", b",", b"=", b"\n", b" ", b"\x00", b"\xff", b"A"):
             yield example[:at] + byte + example[at + 1:]
-    for old, new in ((b"turn=1", b"turn="), (b"rule=least", b"rule=sweep"), (b"head=60", b"head=49"), (b"head=60", b"head=1099511627777"),
+    retired = example.replace(b"rule=least", b"rule=sweep")
+    for cut in range(retired.index(b"rule="), len(retired) + 1):
+        yield retired[:cut]
+    for rule in (b"rule=", b"rule=swee", b"rule=sweeps", b"rule=SWEEP", b"rule=sweep ", b"rule=sweep\r", b"rule=least,sweep", b"sweep"):
+        yield example.replace(b"rule=least", rule)
+    for old, new in ((b"turn=1", b"turn="), (b"head=60", b"head=49"), (b"head=60", b"head=1099511627777"),
                      (b"turn=1", b"turn=4294967297"), (b"file=10,4,0", b"file=9,4,0"), (b"file=10,4,0", b"file=10,0,0"),
                      (b"file=10,4,0", b"file=10,4"), (b"file=10,4,0", b"file=10,4,0,0"), (b"file=10,4,0", b"file=10,4,4096"), (b"file=10,4,0", b"file=10,4,4097"), (b"want=2,3", b"want=2,1023"),
                      (b"want=2,3", b"want=2,1022"), (b"want=2,3", b"want=1,3"), (b"want=3,1", b"want=4,1"), (b"want=3,1", b"want=3,0"),
                      (b"tape=VX0041", b"tape=ABCDEFGHIJKLMNOPQ"), (b"tape=VX0041", b"tape="), (b"files=3", b"files=257"), (b"wants=3", b"wants=65"),
                      (b"head=60", b"head=060"), (b"head=60", b"head=18446744073709551616"), (b"head=60", b"head=18446744073709551615")):
         yield example.replace(old, new)
+        yield retired.replace(old, new)
     for numbers in ((5, 5, 0), (5, 0, 5), (0, 4096, 4096), (4097, 4097, 0), (7, 7, 7), (2, 1, 1), (5, 3, 5)):
         yield example.replace(b"10,0", b"10,%d" % numbers[0]).replace(b"4,0", b"4,%d" % numbers[1]).replace(b"30,0", b"30,%d" % numbers[2])
     yield aggregate_example(b"7")
     yield aggregate_example(b"0")
     yield example + b"\n"
     yield example + b" " * 16384
+    yield retired + b"\n"
+    yield retired + b" " * 16384
     yield b"x" * 16384
     yield sheet_of(10, 50)
     yield sheet_of(10, 51)
@@ -142,7 +147,7 @@ def compare(start):
             sys.exit(f"plan.py: for the sheet\n{sheet!r}\nthe program printed\n{out!r}\nand should have printed\n{must!r}")
         else:
             seen.add(out.split(b"\n")[0] if out.startswith(b"refused") else b"planned")
-    missing = {b"refused=%d" % n for n in (2, 4, 5, 6, 7, 9, 11, 12)} - seen
+    missing = {b"refused=%d" % n for n in (2, 4, 5, 6, 7, 9, 11, 12, 19)} - seen
     if missing:
         sys.exit(f"plan.py: no sheet met {sorted(missing)}")
     print(f"plan.py: {tried} sheets answered as they must be, every refusal of the program among them")

@@ -115,7 +115,10 @@ class Reader:
             self.items.append(item_of(word, name, self.file, self.until("=")))
             self.until(";")
             self.take(";")
-        elif word not in ("pub", "extern", '"C"'):
+        elif word == "pub":
+            if self.peek() == "(":
+                self.enclosed("(", ")")
+        elif word not in ("extern", '"C"'):
             raise Wrong(f"{self.file}: this check cannot read an item that begins with {word}")
 
     def read_use(self, path):

@@ -7,7 +7,8 @@ usage: tests/python/rewrite.py [--native] [PROGRAM]           (default target/bi
 The program is for x86-64; on another processor it is started as tools/machine.sh says.
 
 The reader (sheets.py) shares nothing with the program. A sheet that can be read comes back byte for byte, with a 0 after a bare `turn=`;
-what comes back is read once more, with several meanings of a bare `turn=`, and must be what the old sheet was where that meant 0.
+what comes back is read once more, with several meanings of a bare `turn=`, and must be what the old sheet was where that meant 0, or be
+refused as that was: a sheet with the retired rule is rewritten, and refused by its reader before and after.
 """
 import os
 import random
@@ -18,7 +19,7 @@ import time
 import programs
 from plan import contents, stored
 from runs import Refused
-from sheets import read
+from sheets import described, read
 
 LIMIT = 16384
 
@@ -26,7 +27,7 @@ LIMIT = 16384
 def answer(sheet):
     """What the program must print."""
     try:
-        read(sheet)
+        described(sheet)
     except Refused as refusal:
         return refusal.args[0]
     lines = sheet.split(b"\n")
@@ -36,11 +37,21 @@ def answer(sheet):
     return rewritten if len(rewritten) <= LIMIT else Refused(12).args[0]
 
 
+def meaning(sheet, empty):
+    """What a reader to whom nothing means `empty` answers, a refusal included."""
+    try:
+        return read(sheet, empty)
+    except Refused as refusal:
+        return refusal.args[0]
+
+
 def compare_meaning(sheet, rewritten):
     """Whatever nothing means to its reader, the new sheet is the old one to a reader to whom it meant 0."""
-    old = read(sheet, 0)
+    if described(rewritten)[3] != described(sheet)[3]:
+        sys.exit(f"rewrite.py: the rule of\n{sheet!r}\nis another in\n{rewritten!r}")
+    old = meaning(sheet, 0)
     for empty in (12000, 2**64 - 1):
-        if read(rewritten, empty) != old:
+        if meaning(rewritten, empty) != old:
             sys.exit(f"rewrite.py: with an empty price that means {empty},\n{rewritten!r}\nis not the sheet\n{sheet!r}\nread with 0")
 
 

@@ -28,8 +28,8 @@ def rows(sheet, line, at, key, numbers, count):
     return found, line, at
 
 
-def read(sheet, empty=12000):
-    """What a sheet holds, where nothing after `turn=` means `empty`."""
+def described(sheet, empty=12000):
+    """What stands on the lines of a sheet, where nothing after `turn=` means `empty`; 12 and 11 alone."""
     if len(sheet) > 16384:
         raise Refused(12)
     (name,), at = field(sheet, 1, 0, rb"tape=([A-Z0-9]{1,16})")
@@ -47,3 +47,11 @@ def read(sheet, empty=12000):
     if at < len(sheet):
         raise Refused(11, line)
     return name, int(head), int(turn or empty), rule, table, asked
+
+
+def read(sheet, empty=12000):
+    """What a sheet holds. There is one rule: one that names the other is refused by 19, once all its lines are as described."""
+    name, head, turn, rule, table, asked = described(sheet, empty)
+    if rule == b"sweep":
+        raise Refused(19, 4)
+    return name, head, turn, table, asked

@@ -7,7 +7,7 @@
 
 BEGIN {
     limit = "1099511627776"
-    split("tape=NAME|head=NUMBER|turn=NUMBER|rule=least or rule=sweep|files=NUMBER", forms, "|")
+    split("tape=NAME|head=NUMBER|turn=NUMBER|rule=least|files=NUMBER", forms, "|")
     for (i = 0; i < 256; i++)
         shape[i] = i < 32 || i > 126 ? sprintf("\\x%02x", i) : sprintf("%c", i)
     shape[9] = "\\t"
@@ -195,6 +195,8 @@ function words_for(number, place) {
         return "the sheet has over 16384 bytes, which no run sheet has"
     if (number == 11)
         return bad_line(place)
+    if (number == 19)
+        return "the rule (" stands(place) ") is retired; write rule=least"
     if (number == 2)
         return bad_file(place)
     if (number == 4)

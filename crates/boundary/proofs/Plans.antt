@@ -1,5 +1,5 @@
 -- The planner's call: 14 after 7, 8 for the row of sums too, and else the planner's own answer.
-use Prim.Native.Nat.{ℕ, zero, suc, _+_, _*_, _≤_, _<_}
+use Prim.Native.Nat.{ℕ, _+_, _*_, _≤_, _<_}
 use mathlib.Core.Path.{_≡_, refl, sym, ap, _∙_}
 use mathlib.Core.Bool.{Bool, true, false, true≢false, or-true, or-false}
 use mathlib.Core.Logic.{⊎-elim}
@@ -7,7 +7,7 @@ use mathlib.Core.List.{List, [], _∷_}
 use native.Mathlib.Omega.{arith}
 use lib.ListN.{length}
 use lib.Dec.{ltb}
-use borrow.Author.Tests.{lt-ltb, le-ltb, ne-eqb}
+use borrow.Author.Tests.{lt-ltb, le-ltb, eq-eqb, ne-eqb}
 use Rattle.refusals.specs.declared.Refusal.{Refusal}
 use Rattle.refusals.specs.declared.Refusal.the-variants.{ShortRow, ShortRoom, BadRule}
 use Rattle.refusals.specs.declared.Verdict.{Verdict}
@@ -22,7 +22,7 @@ use Rattle.walk.proofs.Places.{placeMost, judge-near, first-near, if-near}
 use Rattle.planner.proofs.Determined.{planned-once}
 use Rattle.planner.specs.Plan.{Rows, Plans, planVerdict, shortRows, roomFor}
 use Rattle.boundary.proofs.Calls.{code-accepts}
-use Rattle.boundary.specs.Boundary.{codeOf, sumsWith, badRule, ruleNumbered, planCall, PlanCalled}
+use Rattle.boundary.specs.Boundary.{codeOf, sumsWith, leastRule, badRule, planCall, PlanCalled}
 use Rattle.boundary.specs.Private.{codeUnless}
 
 -- The checks of the call: with a bad rule or a short row of sums only the run is looked at before it, else all that the planner judges.
@@ -55,13 +55,11 @@ refused-call r rule rows sums v code is h e =
       planned = λ g. absurd (true≢false (sym h ∙ (rw is at g)));
     }
 
-rule-over : (rule : ℕ) → 1 < rule → badRule rule ≡ true
-rule-over rule l = rw (ne-eqb rule 0 (omega arith), ne-eqb rule 1 (omega arith))
+rule-bad : (rule : ℕ) → (rule ≡ leastRule → ⊥) → badRule rule ≡ true
+rule-bad rule n = rw (ne-eqb rule leastRule n)
 
-rule-good : (rule : ℕ) → rule ≤ 1 → badRule rule ≡ false
-rule-good zero l = refl
-rule-good (suc zero) l = refl
-rule-good (suc (suc n)) l = absurd (omega arith)
+rule-good : (rule : ℕ) → rule ≡ leastRule → badRule rule ≡ false
+rule-good rule e = rw (eq-eqb rule leastRule e)
 
 -- A run that the judging refuses: its code.
 module _ (r : Run) (number : ℕ) (v : Verdict) (f : Bool) (v-is : v ≡ judgeOf r) (f-is : f ≡ isRefusal (v .refusal)) where
@@ -83,16 +81,16 @@ module _ (r : Run) (rule : ℕ) (rows : Rows) (sums : List ℕ) where
       (λ (h : refuses (judgeOf r) ≡ false). refused-call r rule rows sums (record { refusal = k; place = 0 }) code (is ∙ rw (h, some) refl) some (omega (arith, rw h at code-is)))
       (true-or-false (refuses (judgeOf r)))
 
-  pub rule-refused : 1 < rule → (code : ℕ) → code ≡ codeUnless (judgeOf r) 14 → PlanCalled r rule rows sums code rows sums
-  rule-refused l = early BadRule refl (rule-first r rule rows sums (rule-over rule l))
+  pub rule-refused : (rule ≡ leastRule → ⊥) → (code : ℕ) → code ≡ codeUnless (judgeOf r) 14 → PlanCalled r rule rows sums code rows sums
+  rule-refused n = early BadRule refl (rule-first r rule rows sums (rule-bad rule n))
 
-  pub sums-refused : rule ≤ 1 → length sums < 4 → (code : ℕ) → code ≡ codeUnless (judgeOf r) 8 → PlanCalled r rule rows sums code rows sums
-  sums-refused l h = early ShortRow refl (sums-first r rule rows sums (rule-good rule l) (lt-ltb (length sums) 4 h))
+  pub sums-refused : rule ≡ leastRule → length sums < 4 → (code : ℕ) → code ≡ codeUnless (judgeOf r) 8 → PlanCalled r rule rows sums code rows sums
+  sums-refused e h = early ShortRow refl (sums-first r rule rows sums (rule-good rule e) (lt-ltb (length sums) 4 h))
 
   -- Past these the call is judged as the planner judges.
-  module _ (l : rule ≤ 1) (long : 4 ≤ length sums) (a : Answer) (after : Rows) (plans : Plans r (ruleNumbered rule) rows a after) where
+  module _ (e : rule ≡ leastRule) (long : 4 ≤ length sums) (a : Answer) (after : Rows) (plans : Plans r rows a after) where
     same : planCall r rule rows sums ≡ planVerdict r rows
-    same = call-is-plan r rule rows sums (rule-good rule l) (le-ltb (length sums) 4 long)
+    same = call-is-plan r rule rows sums (rule-good rule e) (le-ltb (length sums) 4 long)
 
     pub plan-placed : a .place ≤ placeMost
     unfolding pricedAnswer
@@ -138,5 +136,5 @@ module _ (r : Run) (rule : ℕ) (before : Rows) (sums : List ℕ) (code code′ 
       go false e =
           let c = p .planned e in
           let d = q .planned e in
-          let same = planned-once r (ruleNumbered rule) before (c .answer) (d .answer) after after′ (c .planned) (d .planned) in
+          let same = planned-once r before (c .answer) (d .answer) after after′ (c .planned) (d .planned) in
           (c .says ∙ sym (d .says), (same .1, c .sumsAre ∙ ap (λ a. sumsWith a sums) (same .0) ∙ sym (d .sumsAre)))

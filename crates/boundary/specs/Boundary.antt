@@ -9,8 +9,6 @@ use lib.Dec.{ltb, eqb}
 use Rattle.refusals.specs.declared.Refusal.the-variants.{ShortRow, ShortRoom, BadRule}
 use Rattle.refusals.specs.declared.Verdict.{Verdict}
 use Rattle.walk.specs.declared.Answer.{Answer}
-use Rattle.runs.specs.declared.Rule.{Rule}
-use Rattle.runs.specs.declared.Rule.the-variants.{Sweep, Least}
 use Rattle.refusals.specs.Refusals.{numberOf, isRefusal, refuseIf, firstOf}
 use Rattle.runs.specs.Run.{Run, stopsOf}
 use Rattle.runs.specs.Judging.{judgeOf}
@@ -48,12 +46,12 @@ pub record PriceCalled (r : Run) (froms tos : List ℕ) (rows : ReadRows) (sums 
   pub readsAre : rowsOut ≡ priceReads r froms tos rows sums
   pub sumsAre : sumsOut ≡ priceSums r froms tos rows sums
 
--- The rule numbers: 0 is sweep, 1 is least, and any other is refused by 14.
-abbrev pub badRule : ℕ → Bool
-badRule rule = not (eqb rule 0 || eqb rule 1)
+-- The number of the least rule; every other is refused by 14.
+abbrev pub leastRule : ℕ
+leastRule = 1
 
-abbrev pub ruleNumbered : ℕ → Rule
-ruleNumbered rule = cond (eqb rule 0) Sweep Least
+abbrev pub badRule : ℕ → Bool
+badRule rule = not (eqb rule leastRule)
 
 -- The planner: 1 to 7, then 14, then 8 for any row, then 9.
 unfoldable pub planCall : Run → ℕ → Rows → List ℕ → Verdict
@@ -70,12 +68,12 @@ pub record CallRefused (v : Verdict) (before : Rows) (sums : List ℕ) (code : �
   pub kept : after ≡ before
   pub keptSums : out ≡ sums
 
-pub record CallPlanned (r : Run) (rule : ℕ) (before : Rows) (sums : List ℕ) (code : ℕ) (after : Rows) (out : List ℕ) : Type 0 where
+pub record CallPlanned (r : Run) (before : Rows) (sums : List ℕ) (code : ℕ) (after : Rows) (out : List ℕ) : Type 0 where
   pub says : code ≡ 0
   pub answer : Answer
-  pub planned : Planned r (ruleNumbered rule) before answer after
+  pub planned : Planned r before answer after
   pub sumsAre : out ≡ sumsWith answer sums
 
 pub record PlanCalled (r : Run) (rule : ℕ) (before : Rows) (sums : List ℕ) (code : ℕ) (after : Rows) (out : List ℕ) : Type 0 where
   pub refused : isRefusal ((planCall r rule before sums) .refusal) ≡ true → CallRefused (planCall r rule before sums) before sums code after out
-  pub planned : isRefusal ((planCall r rule before sums) .refusal) ≡ false → CallPlanned r rule before sums code after out
+  pub planned : isRefusal ((planCall r rule before sums) .refusal) ≡ false → CallPlanned r before sums code after out

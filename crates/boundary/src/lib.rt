@@ -9,10 +9,12 @@ ghost use Rattle.runs.specs.Run.{runAt};
 ghost use Rattle.runs.specs.Judging.{judgeOf};
 ghost use Rattle.walk.specs.Price.{ReadRows, readRowsBefore, readRowsAfter};
 ghost use Rattle.planner.specs.Plan.{rowsBefore, rowsAfter};
-ghost use Rattle.boundary.specs.Boundary.{codeOf, sumsWith, priceCall, ruleNumbered, PriceCalled, PlanCalled};
+ghost use Rattle.boundary.specs.Boundary.{codeOf, sumsWith, priceCall, PriceCalled, PlanCalled};
 ghost use Rattle.boundary.specs.Private.{codeUnless};
-use runs::Rule;
 use walk::Answer;
+
+// The one rule number that is planned by.
+const LEAST_RULE: u64 = 1;
 
 // An answer's code: 0, or a refusal's number plus 256 times its place.
 fn code(a: Answer) -> u64
@@ -121,13 +123,6 @@ pub extern "C" fn violstream_price(
     price
 }
 
-// Rule 0 is sweep; 1, and nothing else that comes here, is least.
-fn rule_numbered(rule: u64) -> Rule
-    ensures { λ r. ⌜ r ≡ ruleNumbered rule ⌝ }
-{
-    if rule == 0 { Rule::Sweep } else { Rule::Least }
-}
-
 // The code of a call that is refused by its own number unless the run is refused first. A plan judges the run by itself.
 fn refused_code(
     starts: &[u64],
@@ -167,7 +162,7 @@ pub extern "C" fn violstream_plan(
 ) -> u64
     ensures { λ r. ⌜ PlanCalled (runAt starts lengths aggregates numbers counts head turn) rule (rowsBefore «detour_starts» «detour_ends» times legs room) (now (sums .entry)) r (rowsAfter «detour_starts» «detour_ends» times legs room) (now (sums .exit)) ⌝ }
 {
-    if 1 < rule {
+    if rule != LEAST_RULE {
         return refused_code(starts, lengths, aggregates, numbers, counts, head, turn, 14);
     }
     if sums.len() < 4 {
@@ -181,7 +176,6 @@ pub extern "C" fn violstream_plan(
         counts,
         head,
         turn,
-        rule_numbered(rule),
         detour_starts,
         detour_ends,
         times,

@@ -17,10 +17,10 @@ use Rattle.walk.specs.Price.{ReadRows, pricedAnswer, priceVerdict}
 use Rattle.refusals.proofs.Verdicts.{refuses, all-accept, accepts-if}
 use Rattle.runs.proofs.Search.{or-false-both}
 use Rattle.planner.specs.Plan.{Rows, roomFor, Plans, planVerdict, shortRows}
-use Rattle.boundary.specs.Boundary.{shortSums, sumsWith, badRule, ruleNumbered, priceCall, priceReads, priceSums, planCall, PlanCalled, CallPlanned}
+use Rattle.boundary.specs.Boundary.{shortSums, sumsWith, badRule, priceCall, priceReads, priceSums, planCall, PlanCalled, CallPlanned}
 use Rattle.boundary.proofs.Calls.{code-accepts}
 use Rattle.demands.specs.Calls.{inSums, PlanCallWalks, Demand2PriceCall, Demand2PlanCall, Demand3PlanCall}
-use Rattle.demands.proofs.Demand2.{price-of-list, demand2-walk, demand2-least, demand2-sweep}
+use Rattle.demands.proofs.Demand2.{price-of-list, demand2-walk, demand2-least}
 use Rattle.demands.proofs.Demand3.{demand3}
 
 -- The row of sums holds the numbers of an accepted answer.
@@ -49,7 +49,7 @@ module _ (r : Run) (rule : ℕ) (before : Rows) (sums : List ℕ) (code : ℕ) (
   call-accepted true e = code-accepts (planCall r rule before sums) (sym (called .refused e .says) ∙ zero-code)
   call-accepted false e = e
 
-  call : CallPlanned r rule before sums code after out
+  call : CallPlanned r before sums code after out
   call = called .planned (call-accepted (refuses (planCall r rule before sums)) refl)
 
   plan-passes : refuses (planVerdict r before) ≡ false
@@ -70,29 +70,25 @@ module _ (r : Run) (rule : ℕ) (before : Rows) (sums : List ℕ) (code : ℕ) (
   in-sums : call .answer ≡ inSums out
   in-sums = sums-hold r (call .planned .list) (call .answer) sums out (call .planned .says) (call .sumsAre)
 
-  answered : Plans r (ruleNumbered rule) before (inSums out) after
+  answered : Plans r before (inSums out) after
   answered =
-      subst (λ a. Plans r (ruleNumbered rule) before a after) in-sums
+      subst (λ a. Plans r before a after) in-sums
       (record { refused = λ e. absurd (true≢false (sym e ∙ plan-passes)); planned = λ e. call .planned })
-
-  answered-by : (n : ℕ) → rule ≡ n → Plans r (ruleNumbered n) before (inSums out) after
-  answered-by n e = subst (λ n. Plans r (ruleNumbered n) before (inSums out) after) e answered
 
   four-in-sums : 4 ≤ length out
   four-in-sums = rw (call .sumsAre) (omega arith)
 
-  call-walks : PlanCallWalks r rule after out
+  call-walks : PlanCallWalks r after out
   call-walks =
       record {
         four = four-in-sums;
-        walk = demand2-walk r (ruleNumbered rule) before (inSums out) after answered refl;
-        least = λ e. demand2-least r before (inSums out) after (answered-by 1 e) refl;
-        swept = λ e. demand2-sweep r before (inSums out) after (answered-by 0 e) refl;
+        walk = demand2-walk r before (inSums out) after answered refl;
+        least = demand2-least r before (inSums out) after answered refl;
       }
 
 pub demand2-plan-call : Demand2PlanCall
 demand2-plan-call r rule before sums code after out called e = call-walks r rule before sums code after out called e
 
 pub demand3-plan-call : Demand3PlanCall
-demand3-plan-call first second before sums code after out accepted called e asks gs moves serves =
-    demand3 first second before (inSums out) after accepted (answered second 1 before sums code after out called e) refl asks gs moves serves
+demand3-plan-call first second rule before sums code after out accepted called e asks gs moves serves =
+    demand3 first second before (inSums out) after accepted (answered second rule before sums code after out called e) refl asks gs moves serves

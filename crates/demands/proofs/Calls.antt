@@ -1,7 +1,7 @@
 -- Demand 1 at the C boundary: each call's code names the first of the table that applies, and a refusal changes no row.
 -- The conditions that pricer and planner share with their calls are reworded from Demand1.
-use Prim.Native.Nat.{ℕ, _≤_, _<_}
-use mathlib.Core.Path.{_≡_, refl, sym, ap}
+use Prim.Native.Nat.{ℕ, _+_, _*_, _≤_, _<_}
+use mathlib.Core.Path.{_≡_, refl, sym, ap, _∙_}
 use mathlib.Core.Bool.{Bool, true, false, _||_}
 use mathlib.Core.Logic.{_⊎_, inl, inr, ⊎-elim}
 use mathlib.Core.List.{List, [], _∷_}
@@ -15,15 +15,15 @@ use Rattle.runs.specs.Run.{Run, stopsOf}
 use Rattle.runs.specs.Judging.{judgeOf}
 use Rattle.runs.specs.Lists.{listVerdict}
 use Rattle.walk.specs.Price.{ReadRows, shortReadRows, priceVerdict}
-use Rattle.refusals.proofs.Verdicts.{none-refuses, refuses}
+use Rattle.refusals.proofs.Verdicts.{none-refuses, refuses, number-small}
 use Rattle.runs.proofs.Judged.{accepted-run}
 use Rattle.planner.specs.Plan.{Rows, roomFor, shortRows}
-use Rattle.boundary.specs.Boundary.{shortSums, priceCall, priceReads, priceSums, PriceCalled, badRule, planCall, PlanCalled}
-use Rattle.demands.specs.Table.{RunApplies, ListIsBad}
+use Rattle.boundary.specs.Boundary.{shortSums, priceCall, priceReads, priceSums, PriceCalled, leastRule, badRule, planCall, PlanCalled}
+use Rattle.demands.specs.Table.{RunApplies, ListIsBad, runOrder, FirstThatApplies, none, here, later}
 use Rattle.demands.specs.Demand1.{PriceApplies, PlanApplies, priceOrder}
-use Rattle.demands.specs.Calls.{PriceCallApplies, PlanCallApplies, planCallOrder, PlanCallAnswers, Demand1PriceCall, Demand1PlanCall}
+use Rattle.demands.specs.Calls.{PriceCallApplies, PlanCallApplies, planCallOrder, PlanCallAnswers, Demand1PriceCall, Demand1PlanCall, RefusedForItsRule}
 use Rattle.demands.proofs.Tests.{tells-equal, tells-below, tells-not, tells-either}
-use Rattle.demands.proofs.Checks.{decides-if, decides-reworded, Finds, finds-none, finds-first, first-of-joined}
+use Rattle.demands.proofs.Checks.{decides-if, decides-reworded, Finds, finds-none, finds-first, first-of-joined, AllOfRun, behind-front, past-front, some-reworded}
 use Rattle.demands.proofs.Judged.{run-finds, run-small}
 use Rattle.demands.proofs.Listed.{decides-list}
 use Rattle.demands.proofs.Demand1.{tells-reads, price-of-run, price-list, ReadsShort, short-reads, reads-short, plan-of-run, IsShort, short-row, row-short, room-short, tells-short}
@@ -102,12 +102,12 @@ module _ (r : Run) (rule : ℕ) (rows : Rows) (sums : List ℕ) where
 
   plan-call-run : (k : Refusal) (p : ℕ) → numberOf k ≤ 7 → AtPlan k p → RunApplies r k p
   plan-call-run k p l (PlanCallApplies.plan h) = plan-of-run r rows k p l h
-  plan-call-run k p l (PlanCallApplies.bad-rule h g) = absurd (omega arith)
+  plan-call-run k p l (PlanCallApplies.bad-rule h) = absurd (omega arith)
   plan-call-run k p l (PlanCallApplies.short-sums h) = absurd (omega arith)
 
-  plan-call-rule : (p : ℕ) → AtPlan BadRule p → (p ≡ 0) × ((rule ≡ 0) ⊎ (rule ≡ 1) → ⊥)
+  plan-call-rule : (p : ℕ) → AtPlan BadRule p → (p ≡ 0) × (rule ≡ 1 → ⊥)
   plan-call-rule p (PlanCallApplies.plan (PlanApplies.run h)) = absurd (omega (arith, run-small r h))
-  plan-call-rule p (PlanCallApplies.bad-rule h g) = (refl, ⊎-elim h g)
+  plan-call-rule p (PlanCallApplies.bad-rule h) = (refl, λ e. omega (arith, e, h))
 
   short-plan-call : (p : ℕ) → (p ≡ 0) × (IsShort r rows ⊎ (length sums < 4)) → AtPlan ShortRow p
   short-plan-call p h = rw (h .0) (⊎-elim (λ s. PlanCallApplies.plan (short-row r rows 0 (refl, s))) PlanCallApplies.short-sums (h .1))
@@ -127,9 +127,8 @@ module _ (r : Run) (rule : ℕ) (rows : Rows) (sums : List ℕ) where
       let room = refuseIf (ltb (length (rows .room)) (roomFor r)) ShortRoom in
       run-finds r AtPlan (λ k p h. PlanCallApplies.plan (PlanApplies.run h)) plan-call-run (BadRule ∷ ShortRow ∷ ShortRoom ∷ []) (refuseIf (badRule rule) BadRule ∷ short ∷ room ∷ [])
       (λ a. finds-first AtPlan (short ∷ room ∷ []) refl
-      (decides-reworded (λ p h. rw (h .0) (PlanCallApplies.bad-rule (λ e. h .1 (inl e)) (λ e. h .1 (inr e)))) plan-call-rule
-      (decides-if (badRule rule) BadRule
-      (tells-not (eqb rule 0 || eqb rule 1) (tells-either (eqb rule 0) (eqb rule 1) (tells-equal rule 0) (tells-equal rule 1)))))
+      (decides-reworded (λ p h. rw (h .0) (PlanCallApplies.bad-rule (h .1))) plan-call-rule
+      (decides-if (badRule rule) BadRule (tells-not (eqb rule leastRule) (tells-equal rule leastRule))))
       (λ b. finds-first AtPlan (room ∷ []) refl
       (decides-reworded short-plan-call plan-call-short
       (decides-if (rows-short || shortSums sums) ShortRow (tells-either rows-short (shortSums sums) (tells-short r rows) (tells-below (length sums) 4))))
@@ -161,3 +160,38 @@ module _ (r : Run) (rule : ℕ) (rows : Rows) (sums : List ℕ) where
 
 pub demand1-plan-call : Demand1PlanCall
 demand1-plan-call r rule before sums code after out called = plan-call-says r rule before sums code after out called (refuses (planCall r rule before sums)) refl
+
+-- 14 exactly where the rule alone is refused.
+run-first : AllOfRun runOrder
+run-first = (omega arith, (omega arith, (omega arith, (omega arith, (omega arith, (omega arith, (omega arith, tt)))))))
+
+module _ (r : Run) (rule : ℕ) (rows : Rows) (sums : List ℕ) where
+  abbrev BehindRun : Refusal → ℕ → Type 0
+  BehindRun = FirstThatApplies (AtPlan r rule rows sums) (BadRule ∷ ShortRow ∷ ShortRoom ∷ [])
+
+  rule-is-bad : {kind : Refusal} {place : ℕ} → BehindRun kind place → numberOf kind ≡ 14 → rule ≡ 1 → ⊥
+  rule-is-bad (here h) n = plan-call-rule r rule rows sums _ h .1
+  rule-is-bad (later good (here h)) n = absurd (omega arith)
+  rule-is-bad (later good (later long (here h))) n = absurd (omega arith)
+  rule-is-bad (later good (later long (later big none))) n = absurd (omega arith)
+
+  rule-is-told : {kind : Refusal} {place : ℕ} → (rule ≡ 1 → ⊥) → BehindRun kind place → numberOf kind + 256 * place ≡ 14
+  rule-is-told n (here h) = omega (arith, plan-call-rule r rule rows sums _ h .0)
+  rule-is-told n (later good rest) = absurd (good 0 (PlanCallApplies.bad-rule n))
+
+pub refused-for-its-rule : RefusedForItsRule
+refused-for-its-rule r rule before sums code after out called =
+    let answers = demand1-plan-call r rule before sums code after out called in
+    let at = AtPlan r rule before sums in (
+      λ e.
+          let fourteen : numberOf (answers .kind) ≡ 14 = omega (arith, e, answers .says, number-small (answers .kind)) in
+          let behind = behind-front at runOrder run-first (omega (arith, fourteen)) (answers .first) in
+          record {
+            good-run = λ s. behind .0 (some-reworded (RunApplies r) at runOrder run-first (λ k p l h. PlanCallApplies.plan (PlanApplies.run h)) s);
+            bad-rule = rule-is-bad r rule before sums (behind .1) fourteen;
+          },
+      λ alone.
+          answers .says
+          ∙ rule-is-told r rule before sums (alone .bad-rule)
+          (past-front at runOrder (λ s. alone .good-run (some-reworded at (RunApplies r) runOrder run-first (plan-call-run r rule before sums) s)) (answers .first)),
+    )

@@ -1,15 +1,15 @@
 -- A check and the condition of the refusal table that it looks for; and a row of checks, each of which decides its condition, finds the
 -- first that applies.
-use Prim.Native.Nat.{ℕ, zero, suc, _<_}
+use Prim.Native.Nat.{ℕ, zero, suc, _≤_, _<_}
 use mathlib.Core.Path.{_≡_, refl, sym, ap, _∙_}
-use mathlib.Core.Bool.{Bool, true, false, true≢false}
+use mathlib.Core.Bool.{Bool, true, false, cond, true≢false}
 use mathlib.Core.Logic.{_↔_, inl, inr, ⊎-elim}
 use mathlib.Core.List.{List, [], _∷_, _++_}
 use native.Mathlib.Omega.{arith}
 use Rattle.refusals.specs.declared.Refusal.{Refusal}
 use Rattle.refusals.specs.declared.Refusal.the-variants.{Accepted}
 use Rattle.refusals.specs.declared.Verdict.{Verdict}
-use Rattle.refusals.specs.Refusals.{isRefusal, accepted, refuseIf, refuseAt, firstOf, firstWhere}
+use Rattle.refusals.specs.Refusals.{numberOf, isRefusal, accepted, refuseIf, refuseAt, firstOf, firstWhere}
 use Rattle.runs.proofs.Search.{first-zero}
 use Rattle.refusals.proofs.Verdicts.{refuses}
 use Rattle.demands.specs.Table.{FirstBad, FirstThatApplies, none, here, later, SomeApplies}
@@ -24,6 +24,11 @@ pub data Decides (kind : Refusal) (applies : ℕ → Type 0) (v : Verdict) : Typ
 pub decides-if : (b : Bool) (kind : Refusal) {P : Type 0} → Tells b P → Decides kind (λ p. (p ≡ 0) × P) (refuseIf b kind)
 decides-if true kind t = refused 0 refl (refl, t .when-true refl)
 decides-if false kind t = passed refl (λ p h. t .when-false refl (h .1))
+
+-- A condition with one place.
+pub decides-there : (b : Bool) (n : ℕ) (kind : Refusal) {P : Type 0} → Tells b P → Decides kind (λ p. (p ≡ suc n) × P) (refuseAt (cond b (suc n) 0) kind)
+decides-there true n kind t = refused (suc n) refl (refl, t .when-true refl)
+decides-there false n kind t = passed refl (λ p h. t .when-false refl (h .1))
 
 -- The first place at which a test holds: it holds there, and at none before.
 module _ (bad : ℕ → Bool) where
@@ -114,3 +119,28 @@ module _ (applies : Refusal → ℕ → Type 0) where
 
   pub refused-iff : {order : List Refusal} {kind : Refusal} {place : ℕ} → FirstThatApplies applies order kind place → AllRefuse order → (kind ≡ Accepted → ⊥) ↔ SomeApplies applies order
   refused-iff f all = (some-applies f, then-refused f all)
+
+-- A front of an order, of 1 to 7. Where a later number is found, nothing of the front applies; where nothing of it applies, what is found
+-- stands behind it.
+abbrev pub AllOfRun : List Refusal → Type 0
+AllOfRun [] = Unit {0}
+AllOfRun (kind ∷ rest) = (numberOf kind ≤ 7) × AllOfRun rest
+
+module _ (applies : Refusal → ℕ → Type 0) where
+  pub behind-front : (front : List Refusal) {rest : List Refusal} {kind : Refusal} {place : ℕ} → AllOfRun front → 7 < numberOf kind
+      → FirstThatApplies applies (front ++ rest) kind place → (SomeApplies applies front → ⊥) × FirstThatApplies applies rest kind place
+  behind-front [] all l f = (λ s. s, f)
+  behind-front (k ∷ front) all l (here h) = absurd (omega (arith, l, all .0))
+  behind-front (k ∷ front) all l (later skipped f) =
+      let others = behind-front front (all .1) l f in
+      (⊎-elim (λ h. skipped (h .0) (h .1)) (others .0), others .1)
+
+  pub past-front : (front : List Refusal) {rest : List Refusal} {kind : Refusal} {place : ℕ} → (SomeApplies applies front → ⊥)
+      → FirstThatApplies applies (front ++ rest) kind place → FirstThatApplies applies rest kind place
+  past-front [] n f = f
+  past-front (k ∷ front) n (here {place = p} h) = absurd (n (inl (p, h)))
+  past-front (k ∷ front) n (later skipped f) = past-front front (λ s. n (inr s)) f
+
+pub some-reworded : (P Q : Refusal → ℕ → Type 0) (order : List Refusal) → AllOfRun order → ((k : Refusal) (p : ℕ) → numberOf k ≤ 7 → P k p → Q k p) → SomeApplies P order → SomeApplies Q order
+some-reworded P Q [] all f s = s
+some-reworded P Q (k ∷ order) all f s = ⊎-elim (λ h. inl (h .0, f k (h .0) (all .0) (h .1))) (λ t. inr (some-reworded P Q order (all .1) f t)) s

@@ -12,7 +12,6 @@ use Rattle.refusals.specs.declared.Refusal.{Refusal}
 use Rattle.refusals.specs.declared.Refusal.the-variants.{BadEntry, ShortRow, ShortRoom}
 use Rattle.refusals.specs.declared.Verdict.{Verdict}
 use Rattle.walk.specs.declared.Answer.{Answer}
-use Rattle.runs.specs.declared.Rule.{Rule}
 use Rattle.refusals.specs.Refusals.{numberOf, accepted, refuseIf}
 use Rattle.runs.specs.Run.{Run, stopsOf}
 use Rattle.runs.specs.Judging.{judgeOf}
@@ -138,7 +137,7 @@ module _ (r : Run) (rows : Rows) where
   plan-accepted e =
       none-refuses (judgeOf r ∷ refuseIf (shortRows (length (r .numbers)) (length (stopsOf r)) rows) ShortRow ∷ refuseIf (ltb (length (rows .room)) (roomFor r)) ShortRoom ∷ []) e
 
-  module _ (rule : Rule) (answer : Answer) (after : Rows) (plans : Plans r rule rows answer after) where
+  module _ (answer : Answer) (after : Rows) (plans : Plans r rows answer after) where
     plan-says : (b : Bool) → refuses (planVerdict r rows) ≡ b → PlanAnswers r rows answer after
     unfolding pricedAnswer
     plan-says true e =
@@ -149,8 +148,8 @@ module _ (r : Run) (rows : Rows) where
         record { first = rw (plan .says) (rw (plan-accepted e) at plan-finds); kept = λ n. absurd (n (ap (λ a. a .refusal) (plan .says))) }
 
 pub demand1-plan : Demand1Plan
-demand1-plan r rule before answer after plans = plan-says r before rule answer after plans (refuses (planVerdict r before)) refl
+demand1-plan r before answer after plans = plan-says r before answer after plans (refuses (planVerdict r before)) refl
 
 pub plan-refused-iff : Demand1PlanIff
-plan-refused-iff r rule before answer after plans =
-    refused-iff (PlanApplies r before) (demand1-plan r rule before answer after plans .first) (refl, (refl, (refl, (refl, (refl, (refl, (refl, (refl, (refl, tt)))))))))
+plan-refused-iff r before answer after plans =
+    refused-iff (PlanApplies r before) (demand1-plan r before answer after plans .first) (refl, (refl, (refl, (refl, (refl, (refl, (refl, (refl, (refl, tt)))))))))

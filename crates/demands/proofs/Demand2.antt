@@ -1,4 +1,4 @@
--- Demand 2: the pricer's and the planner's numbers are the walk's, the planner's list is the least under the least rule and empty under the sweep rule, and its contract fits one answer.
+-- Demand 2: the pricer's and the planner's numbers are the walk's, the planner's list is the least, and its contract fits one answer.
 use Prim.Native.Nat.{ℕ}
 use mathlib.Core.Path.{_≡_, refl, sym, ap, _∙_}
 use mathlib.Core.Bool.{Bool, true, false, not, true≢false}
@@ -10,9 +10,7 @@ use lib.Dec.{eqb}
 use borrow.Author.Tests.{eqb-true, not-false}
 use Rattle.refusals.specs.declared.Refusal.the-variants.{Accepted, BadEntry, ShortRow}
 use Rattle.walk.specs.declared.Answer.{Answer}
-use Rattle.runs.specs.declared.Rule.{Rule}
-use Rattle.runs.specs.declared.Rule.the-variants.{Sweep, Least}
-use Rattle.refusals.specs.Refusals.{isRefusal, refuseIf, refuseAt, firstWhere}
+use Rattle.refusals.specs.Refusals.{isRefusal, refuseIf, refuseAt}
 use Rattle.runs.specs.Run.{Run, Stop, stopsOf, wantStopsOf}
 use Rattle.walk.specs.Walk.{headAt, timesOf, legsFor}
 use Rattle.walk.specs.Detours.{legsOf}
@@ -27,16 +25,9 @@ use Rattle.walk.proofs.Joins.{run-sum-joined}
 use Rattle.runs.proofs.Stops.{wants-length}
 use Rattle.least.specs.Least.{LeastFor}
 use Rattle.planner.specs.Plan.{Rows, readsIn, rowsWith}
-use Rattle.least.specs.Least.{ByRule}
 use Rattle.planner.proofs.Determined.{plan-determined}
-use Rattle.demands.specs.Demand2.{listIn, IsWalkOf, IsTheWalk, IsPriceOf, IsLeast, Demand2Price, Demand2Walk, Demand2Least, Demand2Sweep, Demand2One}
+use Rattle.demands.specs.Demand2.{listIn, IsWalkOf, IsTheWalk, IsPriceOf, IsLeast, Demand2Price, Demand2Walk, Demand2Least, Demand2One}
 use Rattle.demands.proofs.Planned.{plan-in-rows, run-accepted, list-in-rows}
-
--- A list by either rule is well formed.
-by-rule-formed : (rule : Rule) (r : Run) (list : List Detour) → ByRule rule r list → WellFormed (stopsOf r) list
-unfolding firstBadEntry firstWhere
-by-rule-formed Sweep r list e = rw e
-by-rule-formed Least r list least = least .formed
 
 -- The pricer's numbers, times and legs for a well-formed list, in rows that have them in front.
 priced-walk : (r : Run) (list : List Detour) (rows before : ReadRows) (answer : Answer) → answer ≡ pricedAnswer r list → rows ≡ readRowsWith r list before
@@ -112,21 +103,16 @@ demand2-price r froms tos rows answer out says fills accepts =
     price-of-list r froms tos rows e answer out (rw e at says) (rw e at fills)
 
 pub demand2-walk : Demand2Walk
-demand2-walk r rule before answer after plans accepts =
-    let plan = plan-in-rows r rule before answer after plans accepts in
+demand2-walk r before answer after plans accepts =
+    let plan = plan-in-rows r before answer after plans accepts in
     walk-of-list r (plan .list) before answer after (plan .says) (plan .rows)
-    (by-rule-formed rule r (plan .list) (plan .by-rule))
-    (sym (accepted-run r (run-accepted r rule before answer after plans accepts) .wants .equal))
+    (plan .least .formed)
+    (sym (accepted-run r (run-accepted r before answer after plans accepts) .wants .equal))
 
 pub demand2-least : Demand2Least
 demand2-least r before answer after plans accepts =
-    let plan = plan-in-rows r Least before answer after plans accepts in
-    least-of-list r (plan .list) before answer after (plan .says) (plan .rows) (plan .by-rule)
-
-pub demand2-sweep : Demand2Sweep
-demand2-sweep r before answer after plans accepts =
-    let plan = plan-in-rows r Sweep before answer after plans accepts in
-    list-in-rows r (plan .list) before answer after (plan .says) (plan .rows) ∙ plan .by-rule
+    let plan = plan-in-rows r before answer after plans accepts in
+    least-of-list r (plan .list) before answer after (plan .says) (plan .rows) (plan .least)
 
 pub demand2-one : Demand2One
-demand2-one r rule before answer answer′ after after′ plans plans′ = plan-determined r rule before answer answer′ after after′ plans plans′
+demand2-one r before answer answer′ after after′ plans plans′ = plan-determined r before answer answer′ after after′ plans plans′

@@ -1,7 +1,6 @@
 -- Demand 3: no movement beats the reported sum. The planner's list is least, so the law of plans on movements applies to the two runs.
 use mathlib.Core.Path.{_≡_, refl}
 use native.Mathlib.Nat.{le-refl}
-use Rattle.runs.specs.declared.Rule.the-variants.{Least}
 use Rattle.runs.specs.Run.{Run, stopsOf}
 use Rattle.runs.proofs.Judged.{accepted-run}
 use Rattle.runs.proofs.Stops.{accepted-sound}
@@ -16,18 +15,18 @@ one-table first second s l a = rw (s, l, a) (same-table (second .starts) (second
 
 pub demand3 : Demand3
 demand3 first second before answer after accepted plans accepts asks gs moves serves =
-    let plan = plan-in-rows second Least before answer after plans accepts in
-    let passes = run-accepted second Least before answer after plans accepts in
+    let plan = plan-in-rows second before answer after plans accepts in
+    let passes = run-accepted second before answer after plans accepts in
     let sound = accepted-sound second passes in
     let reads = reads-no-more first second (accepted-run first accepted) (accepted-run second passes) (asks .starts) (asks .aggregates) (asks .reads) in
     rw
     (reported-sum second (plan .list) answer (plan .says))
     (no-movement-beats (first .turn) (first .head) (second .turn) (second .head) (stopsOf first) (stopsOf second) (accepted-sound first accepted) sound (asks .head) (asks .turn)
     (covers-of-reads (second .head) (stopsOf first) (stopsOf second) sound reads (one-table first second (asks .starts) (asks .lengths) (asks .aggregates)))
-    gs moves serves (plan .list) (plan .by-rule))
+    gs moves serves (plan .list) (plan .least))
 
 pub demand3-same : Demand3Same
 demand3-same r before answer after plans accepts gs moves serves =
-    demand3 r r before answer after (run-accepted r Least before answer after plans accepts) plans accepts
+    demand3 r r before answer after (run-accepted r before answer after plans accepts) plans accepts
     (record { starts = refl; lengths = refl; aggregates = refl; reads = λ f. le-refl _; turn = le-refl _; head = le-refl _ })
     gs moves serves

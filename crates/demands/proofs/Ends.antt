@@ -118,6 +118,6 @@ price-ends-with-a-read r froms tos rows answer out says fills accepts some =
     (demand2-price r froms tos rows answer out says fills accepts .walk) some
 
 pub plan-ends-with-a-read : PlanEndsWithARead
-plan-ends-with-a-read r rule before answer after plans accepts some =
-    ends-with-a-read r (run-accepted r rule before answer after plans accepts) (listIn answer after) (readsIn after) answer
-    (demand2-walk r rule before answer after plans accepts) some
+plan-ends-with-a-read r before answer after plans accepts some =
+    ends-with-a-read r (run-accepted r before answer after plans accepts) (listIn answer after) (readsIn after) answer
+    (demand2-walk r before answer after plans accepts) some

@@ -9,10 +9,9 @@ use lib.ListN.{length, take, replicate, length-replicate}
 use native.Mathlib.Nat.{le-refl}
 use borrow.Author.Tests.{le-ltb}
 use lib.Dec.{eqb}
-use Rattle.refusals.specs.declared.Refusal.the-variants.{Accepted, BadEntry, BadLine, ShortRoom}
+use Rattle.refusals.specs.declared.Refusal.the-variants.{Accepted, BadEntry, BadLine, RetiredRule, ShortRoom}
 use Rattle.walk.specs.declared.Answer.{Answer}
 use Rattle.walk.specs.declared.Leg.{Leg}
-use Rattle.runs.specs.declared.Rule.the-variants.{Sweep, Least}
 use Rattle.refusals.specs.Refusals.{isRefusal, firstWhere}
 use Rattle.runs.specs.Run.{Run, runOf, goesOn, firstMember, lastWithin, wantStops, joinTo, joined, stopsOf, stopAt, rightEnd}
 use Rattle.runs.specs.Judging.{judgeOf}
@@ -28,9 +27,9 @@ use Rattle.planner.specs.Plan.{Rows, rowsOf, Plans, planVerdict}
 use Rattle.boundary.specs.Boundary.{codeOf, sumsWith, priceCall, priceReads, priceSums, planCall, PlanCalled}
 use Rattle.texts.specs.Text.{bytes, allOf, isNumber, isName, valueFrom, startsWith, has, before, behind}
 use Rattle.sheets.specs.declared.Reading.{Reading}
-use Rattle.sheets.specs.Lines.{lineOf, afterLines, isTapeLine, isNumberLine, isCountLine, isTurnLine, isRuleLine, isPair, isPairLine, isTripleLine}
-use Rattle.sheets.specs.Sheet.{sheetFiles, fileText, wantsText, sheetWants, wantText, endText, firstBadOf, firstBadTop, firstBadBelow, firstBadLine, sheetRun}
-use Rattle.sheets.specs.Reading.{sheetVerdict, readVerdict, readAnswer, readRow, RunRows, runRows, rowsVerdict}
+use Rattle.sheets.specs.Lines.{lineOf, afterLines, isTapeLine, isNumberLine, isCountLine, isTurnLine, isRuleLine, namesSweep, isPair, isPairLine, isTripleLine}
+use Rattle.sheets.specs.Sheet.{saysSweep, sheetFiles, fileText, wantsText, sheetWants, wantText, endText, firstBadOf, firstBadTop, firstBadBelow, firstBadLine, sheetRun, sheetName}
+use Rattle.sheets.specs.Reading.{sheetVerdict, ruleVerdict, readVerdict, readAnswer, readRow, RunRows, runRows, rowsVerdict, readName}
 use Rattle.writers.specs.declared.Written.{Written}
 use Rattle.writers.specs.Writing.{sheetText, rowVerdict, writeVerdict, writtenAnswer, writtenRow}
 use Rattle.turns.specs.Rewriting.{priceIsEmpty, bytesBefore, rewritten, rewriteVerdict}
@@ -39,41 +38,37 @@ use Rattle.demands.specs.Lines.{LineIsBad, linesDue}
 use Rattle.demands.specs.Sheets.{GivesBack, ComesBack}
 use Rattle.demands.specs.Turns.{Rewrites}
 use Rattle.demands.specs.Formed.{ObeysTheRules}
-use Rattle.demands.specs.Demand2.{listIn, IsTheWalk, IsPriceOf, IsLeast}
+use Rattle.demands.specs.Demand2.{IsTheWalk, IsPriceOf, IsLeast}
 use Rattle.demands.specs.Demand3.{AsksNoLess}
 use Rattle.demands.specs.Calls.{PriceCallWalks, PlanCallWalks}
 use Rattle.demands.specs.Cases.{exampleRun, fourFiles}
 use Rattle.demands.proofs.Formed.{formed-by-the-rules}
 use Rattle.demands.proofs.Demand1.{demand1-price, demand1-plan}
-use Rattle.demands.proofs.Demand2.{demand2-price, demand2-walk, demand2-least, demand2-sweep}
+use Rattle.demands.proofs.Demand2.{demand2-price, demand2-walk, demand2-least}
 use Rattle.demands.proofs.Demand3.{demand3, demand3-same}
 use Rattle.demands.proofs.Called.{demand2-price-call, demand2-plan-call, demand3-plan-call}
 use Rattle.demands.proofs.FirstLine.{lines-by-the-table}
 use Rattle.demands.proofs.Sheets.{demand1-read}
 use Rattle.demands.proofs.WriteRead.{demand2-round-trip, write-then-read}
 use Rattle.demands.proofs.Turns.{rewritten-bytes}
-use Rattle.demands.proofs.Fits.{ruleList, planAnswer, planRows, plans-for-every-input}
+use Rattle.demands.proofs.Fits.{planAnswer, planRows, plans-for-every-input}
 
 -- The sheet's run with rows and room that just suffice: the planner accepts, and reports 367.
 abbrev pub sheetRows : ℕ → Rows
 sheetRows words = rowsOf (7 ∷ 7 ∷ []) (7 ∷ 7 ∷ []) (7 ∷ 7 ∷ 7 ∷ []) (7 ∷ 7 ∷ 7 ∷ []) (replicate words 7)
 
 abbrev pub sheetAnswer : ℕ → Answer
-sheetAnswer words = planAnswer exampleRun Least (sheetRows words)
+sheetAnswer words = planAnswer exampleRun (sheetRows words)
 
 abbrev pub sheetAfter : ℕ → Rows
-sheetAfter words = planRows exampleRun Least (sheetRows words)
+sheetAfter words = planRows exampleRun (sheetRows words)
 
 pub sheet-accepted : sheetAnswer 54 .refusal ≡ Accepted
 unfolding planAnswer planVerdict judgeOf firstWhere goesOn firstMember lastWithin wantStops joinTo joined rightEnd pricedAnswer
 sheet-accepted = refl
 
-sweep-accepted : planAnswer exampleRun Sweep (sheetRows 54) .refusal ≡ Accepted
-unfolding planAnswer planVerdict judgeOf firstWhere goesOn firstMember lastWithin wantStops joinTo joined rightEnd pricedAnswer
-sweep-accepted = refl
-
 pub sheet-reports : sheetAnswer 54 .sum ≡ 367
-unfolding planAnswer ruleList planVerdict judgeOf firstWhere goesOn firstMember lastWithin wantStops joinTo joined rightEnd pricedAnswer startOf endOf served unreadEnd sweepEnd lastSweep legsOf timeOf sumOf leastList planDetours W lowest scan filledTo filled candidate next value choice built nextPlan best
+unfolding planAnswer planVerdict judgeOf firstWhere goesOn firstMember lastWithin wantStops joinTo joined rightEnd pricedAnswer startOf endOf served unreadEnd sweepEnd lastSweep legsOf timeOf sumOf leastList planDetours W lowest scan filledTo filled candidate next value choice built nextPlan best
 sheet-reports = refl
 
 -- Rows for the times and legs of four wants, and of three.
@@ -160,12 +155,12 @@ wanderings-no-list list e =
     none-ends-there (to .index) (ap lastRight e ∙ last-right-joined detours (record { left = 0; right = sweepEnd detours (stopsOf moreAsked) }) ∙ to .is)
 
 -- So each demand speaks of something.
-sheet-plans : (words : ℕ) → Plans exampleRun Least (sheetRows words) (sheetAnswer words) (sheetAfter words)
-sheet-plans words = plans-for-every-input exampleRun Least (sheetRows words)
+sheet-plans : (words : ℕ) → Plans exampleRun (sheetRows words) (sheetAnswer words) (sheetAfter words)
+sheet-plans words = plans-for-every-input exampleRun (sheetRows words)
 
 pub short-room-keeps-rows : sheetAfter 53 ≡ sheetRows 53
 short-room-keeps-rows =
-    demand1-plan exampleRun Least (sheetRows 53) (sheetAnswer 53) (sheetAfter 53) (sheet-plans 53) .kept
+    demand1-plan exampleRun (sheetRows 53) (sheetAnswer 53) (sheetAfter 53) (sheet-plans 53) .kept
     (λ e. true≢false (ap isRefusal (sym short-room-refused ∙ e))) .1
 
 pub crossing-list-keeps-row : priceRows fourFiles (3 ∷ 2 ∷ []) (4 ∷ 4 ∷ []) zeros ≡ zeros
@@ -186,12 +181,7 @@ detour-is-priced =
     (priceRows exampleRun (2 ∷ []) (2 ∷ []) threes) refl refl detour-accepted
 
 pub sheet-is-the-walk : IsTheWalk exampleRun (sheetAnswer 54) (sheetAfter 54)
-sheet-is-the-walk = demand2-walk exampleRun Least (sheetRows 54) (sheetAnswer 54) (sheetAfter 54) (sheet-plans 54) sheet-accepted
-
-pub sheet-swept : listIn (planAnswer exampleRun Sweep (sheetRows 54)) (planRows exampleRun Sweep (sheetRows 54)) ≡ []
-sheet-swept =
-    demand2-sweep exampleRun (sheetRows 54) (planAnswer exampleRun Sweep (sheetRows 54)) (planRows exampleRun Sweep (sheetRows 54))
-    (plans-for-every-input exampleRun Sweep (sheetRows 54)) sweep-accepted
+sheet-is-the-walk = demand2-walk exampleRun (sheetRows 54) (sheetAnswer 54) (sheetAfter 54) (sheet-plans 54) sheet-accepted
 
 pub sheet-is-least : IsLeast exampleRun (sheetAnswer 54) (sheetAfter 54)
 sheet-is-least = demand2-least exampleRun (sheetRows 54) (sheetAnswer 54) (sheetAfter 54) (sheet-plans 54) sheet-accepted
@@ -240,30 +230,35 @@ sheet-called =
       planned = λ e. record { says = refl; answer = sheetAnswer 54; planned = sheet-plans 54 .planned plan-passes; sumsAre = refl };
     }
 
-pub sheet-call-walks : PlanCallWalks exampleRun 1 (sheetAfter 54) (sumsWith (sheetAnswer 54) fiveWords)
+-- With rule 0 in the place of 1 it is refused.
+pub rule-zero-refused : codeOf (planCall exampleRun 0 (sheetRows 54) fiveWords) ≡ 14
+unfolding planCall judgeOf firstWhere goesOn firstMember lastWithin wantStops joinTo joined rightEnd
+rule-zero-refused = refl
+
+pub sheet-call-walks : PlanCallWalks exampleRun (sheetAfter 54) (sumsWith (sheetAnswer 54) fiveWords)
 sheet-call-walks = demand2-plan-call exampleRun 1 (sheetRows 54) fiveWords 0 (sheetAfter 54) (sumsWith (sheetAnswer 54) fiveWords) sheet-called refl
 
 pub wanderings-beat-no-call : 367 ≤ sumOf (moreAsked .turn) (headAt (moreAsked .head)) wanderings (stopsOf moreAsked)
 wanderings-beat-no-call =
     rw
     sheet-reports at
-    (demand3-plan-call moreAsked exampleRun (sheetRows 54) fiveWords 0 (sheetAfter 54) (sumsWith (sheetAnswer 54) fiveWords) more-accepted sheet-called refl more-asks-no-less wanderings (wanderings-move 70 (omega arith)) (wanderings-serve .0))
+    (demand3-plan-call moreAsked exampleRun 1 (sheetRows 54) fiveWords 0 (sheetAfter 54) (sumsWith (sheetAnswer 54) fiveWords) more-accepted sheet-called refl more-asks-no-less wanderings (wanderings-move 70 (omega arith)) (wanderings-serve .0))
 
 -- The sheet's run is written, and read back into rows that are just long enough.
 sheet-judged : refuses (judgeOf exampleRun) ≡ false
 unfolding judgeOf firstWhere goesOn firstMember lastWithin wantStops joinTo joined rightEnd
 sheet-judged = refl
 
-abbrev sheetName : List ℕ
-sheetName = 86 ∷ 88 ∷ 48 ∷ 48 ∷ 52 ∷ 49 ∷ []
+abbrev exampleName : List ℕ
+exampleName = 86 ∷ 88 ∷ 48 ∷ 48 ∷ 52 ∷ 49 ∷ []
 
-sheet-named : isName sheetName ≡ true
+sheet-named : isName exampleName ≡ true
 unfolding isName allOf
 sheet-named = refl
 
-pub sheet-reads-back : GivesBack sheetName Least exampleRun (7 ∷ 7 ∷ 7 ∷ []) (7 ∷ 7 ∷ 7 ∷ []) (7 ∷ 7 ∷ 7 ∷ []) (7 ∷ 7 ∷ 7 ∷ []) (7 ∷ 7 ∷ 7 ∷ [])
+pub sheet-reads-back : GivesBack exampleName exampleRun (7 ∷ 7 ∷ 7 ∷ []) (7 ∷ 7 ∷ 7 ∷ []) (7 ∷ 7 ∷ 7 ∷ []) (7 ∷ 7 ∷ 7 ∷ []) (7 ∷ 7 ∷ 7 ∷ [])
 sheet-reads-back =
-    demand2-round-trip sheetName Least exampleRun sheet-judged (omega arith) sheet-named (7 ∷ 7 ∷ 7 ∷ []) (7 ∷ 7 ∷ 7 ∷ []) (7 ∷ 7 ∷ 7 ∷ []) (7 ∷ 7 ∷ 7 ∷ []) (7 ∷ 7 ∷ 7 ∷ [])
+    demand2-round-trip exampleName exampleRun sheet-judged (omega arith) sheet-named (7 ∷ 7 ∷ 7 ∷ []) (7 ∷ 7 ∷ 7 ∷ []) (7 ∷ 7 ∷ 7 ∷ []) (7 ∷ 7 ∷ 7 ∷ []) (7 ∷ 7 ∷ 7 ∷ [])
     (omega arith) (omega arith) (omega arith) (omega arith) (omega arith)
 
 -- Written into a row that is just long enough, and that row read.
@@ -271,18 +266,18 @@ abbrev sevens : RunRows
 sevens = runRows (7 ∷ 7 ∷ 7 ∷ []) (7 ∷ 7 ∷ 7 ∷ []) (7 ∷ 7 ∷ 7 ∷ []) (7 ∷ 7 ∷ 7 ∷ []) (7 ∷ 7 ∷ 7 ∷ 7 ∷ [])
 
 abbrev sheetRow : List ℕ
-sheetRow = replicate (length (sheetText sheetName Least exampleRun)) 7
+sheetRow = replicate (length (sheetText exampleName exampleRun)) 7
 
 abbrev sheetWritten : Written
-sheetWritten = writtenAnswer (writeVerdict sheetName Least exampleRun sheetRow) (sheetText sheetName Least exampleRun)
+sheetWritten = writtenAnswer (writeVerdict exampleName exampleRun sheetRow) (sheetText exampleName exampleRun)
 
 abbrev sheetOut : List ℕ
-sheetOut = writtenRow (writeVerdict sheetName Least exampleRun sheetRow) (sheetText sheetName Least exampleRun) sheetRow
+sheetOut = writtenRow (writeVerdict exampleName exampleRun sheetRow) (sheetText exampleName exampleRun) sheetRow
 
-write-passes : refuses (writeVerdict sheetName Least exampleRun sheetRow) ≡ false
+write-passes : refuses (writeVerdict exampleName exampleRun sheetRow) ≡ false
 unfolding writeVerdict rowVerdict
 write-passes =
-    let size = length (sheetText sheetName Least exampleRun) in
+    let size = length (sheetText exampleName exampleRun) in
     rw (sheet-judged, sheet-named, length-replicate {A = ℕ} size 7, le-ltb size size (le-refl size))
 
 write-accepted : sheetWritten .refusal ≡ Accepted
@@ -298,11 +293,11 @@ rowsBack sheet =
     let run = sheetRun sheet in
     runRows (readRow v (run .starts) (sevens .starts)) (readRow v (run .lengths) (sevens .lengths)) (readRow v (run .aggregates) (sevens .aggregates)) (readRow v (run .numbers) (sevens .numbers)) (readRow v (run .counts) (sevens .counts))
 
-pub written-comes-back : ComesBack sheetName Least exampleRun (take (sheetWritten .bytes) sheetOut) (readBack (take (sheetWritten .bytes) sheetOut)) (rowsBack (take (sheetWritten .bytes) sheetOut))
+pub written-comes-back : ComesBack exampleName exampleRun (take (sheetWritten .bytes) sheetOut) (readBack (take (sheetWritten .bytes) sheetOut)) (rowsBack (take (sheetWritten .bytes) sheetOut))
 unfolding readAnswer sheetRun
 written-comes-back =
     let sheet = take (sheetWritten .bytes) sheetOut in
-    write-then-read sheetName Least exampleRun sheetRow sheetWritten sheetOut (record { answer = refl; left = refl }) write-accepted sevens (readBack sheet) (rowsBack sheet)
+    write-then-read exampleName exampleRun sheetRow sheetWritten sheetOut (record { answer = refl; left = refl }) write-accepted sevens (readBack sheet) (rowsBack sheet)
     (record { starts = omega arith; lengths = omega arith; aggregates = omega arith; numbers = omega arith; counts = omega arith })
     (record { answer = refl; starts = refl; lengths = refl; aggregates = refl; numbers = refl; counts = refl })
 
@@ -327,6 +322,18 @@ second-line-found = refl
 
 pub second-line-bad : FirstBad (LineIsBad letterForHead) (linesDue letterForHead) 2
 second-line-bad = lines-by-the-table letterForHead 1 .0 second-line-found
+
+-- A sheet that names the retired rule is refused with 19 at its fourth line, and its name is handed on.
+abbrev sweepSheet : List ℕ
+sweepSheet = bytes "tape=A\nhead=0\nturn=0\nrule=sweep\nfiles=0\nwants=0\n"
+
+pub sweep-refused : (readBack sweepSheet .refusal ≡ RetiredRule) × (readBack sweepSheet .place ≡ 4)
+unfolding readAnswer readVerdict sheetVerdict ruleVerdict saysSweep namesSweep firstBadLine firstBadTop firstBadBelow firstBadOf firstWhere endText wantText sheetWants wantsText fileText sheetFiles isPairLine isPair isRuleLine isTurnLine isCountLine isNumberLine isTapeLine afterLines lineOf isName isNumber valueFrom allOf startsWith behind before has
+sweep-refused = (refl, refl)
+
+pub sweep-named : readName sweepSheet ≡ bytes "A"
+unfolding readName sheetName sheetVerdict firstBadLine firstBadTop firstBadBelow firstBadOf firstWhere endText wantText sheetWants wantsText fileText sheetFiles isPairLine isPair isRuleLine isTurnLine isCountLine isNumberLine isTapeLine afterLines lineOf isName isNumber valueFrom allOf startsWith behind before has
+sweep-named = refl
 
 -- An old sheet whose run is refused by 4: it is rewritten all the same.
 abbrev oldSheet : List ℕ

@@ -132,5 +132,5 @@ price-tells-legs r froms tos rows answer out says fills accepts =
     told r (price-run-accepted r froms tos rows answer says accepts) (listOf froms tos) out answer (demand2-price r froms tos rows answer out says fills accepts .walk)
 
 pub plan-tells-legs : PlanTellsLegs
-plan-tells-legs r rule before answer after plans accepts =
-    told r (run-accepted r rule before answer after plans accepts) (listIn answer after) (readsIn after) answer (demand2-walk r rule before answer after plans accepts)
+plan-tells-legs r before answer after plans accepts =
+    told r (run-accepted r before answer after plans accepts) (listIn answer after) (readsIn after) answer (demand2-walk r before answer after plans accepts)

@@ -10,6 +10,7 @@ pub mod Calls
 pub mod Planned
 pub mod Demand2
 pub mod Demand3
+pub mod Offices
 pub mod Stops
 pub mod Ends
 pub mod Legs
@@ -24,3 +25,4 @@ pub mod Turns
 pub mod Tapes
 pub mod Fits
 pub mod Instances
+pub mod Sharing

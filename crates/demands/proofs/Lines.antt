@@ -2,7 +2,7 @@
 use Prim.Native.Nat.{ℕ, suc, _^_, _<_}
 use mathlib.Core.Path.{_≡_, refl, sym, ap, _∙_}
 use mathlib.Core.Bool.{Bool, true, false, not, _&&_, _||_, true≢false}
-use mathlib.Core.Logic.{inl, inr}
+use mathlib.Core.Logic.{inl, inr, ⊎-elim}
 use mathlib.Core.List.{List, [], _∷_, _++_, append-assoc}
 use native.Mathlib.Omega.{arith}
 use lib.ListN.{length}
@@ -13,9 +13,9 @@ use Rattle.texts.specs.Text.{lineFeed, comma, isEmpty, has, before, behind, sta
 use Rattle.texts.proofs.Bytes.{and-true-both, short-text}
 use Rattle.texts.proofs.Decimals.{has-append, has-none}
 use Rattle.texts.proofs.Split.{before-here, behind-here, split-at, key-split, whole-key}
-use Rattle.sheets.specs.Lines.{lineOf, afterLines, lineAfter, valueText, isTapeLine, isNumberLine, isCountLine, isTurnLine, isRuleLine, isPair, isPairLine, isTriple, isTripleLine, tapeKey, turnKey, ruleKey, sweepText, leastText}
+use Rattle.sheets.specs.Lines.{lineOf, afterLines, lineAfter, valueText, isTapeLine, isNumberLine, isCountLine, isTurnLine, isRuleLine, namesSweep, isPair, isPairLine, isTriple, isTripleLine, tapeKey, turnKey, ruleKey, sweepText, leastText}
 use Rattle.writers.proofs.Reread.{line-first, key-begins, key-value}
-use Rattle.demands.specs.Lines.{Stands, Name, Number, NumberOrNothing, RuleName, UpTo, NumberAnd, Pair, Triple}
+use Rattle.demands.specs.Lines.{Stands, Name, Number, NumberOrNothing, RuleName, UpTo, NumberAnd, Pair, Triple, Ruled}
 use Rattle.demands.proofs.Tests.{Tells, tells-true, tells-holds, tells-at-most, tells-either, tells-both}
 
 -- A byte that a text has not has nothing behind it.
@@ -186,3 +186,17 @@ module _ (sheet : List ℕ) (i : ℕ) where
 
   pub tells-end : Tells (isEmpty (afterLines i sheet)) (afterLines i sheet ≡ [])
   tells-end = tells-empty (afterLines i sheet)
+
+-- The fourth line names the retired rule; and where it is a rule's line and does not, it names the least.
+module _ (sheet : List ℕ) where
+  pub tells-sweep : Tells (namesSweep (lineAfter 3 sheet)) (Ruled sweepText sheet)
+  unfolding namesSweep has
+  tells-sweep =
+      tells-stands ruleKey (omega arith) refl (λ text. text ≡ sweepText) (isText sweepText) (tells-text sweepText)
+      (λ text e. rule-flat text (inl e)) sheet 3
+
+  pub names-least : isRuleLine (lineAfter 3 sheet) ≡ true → namesSweep (lineAfter 3 sheet) ≡ false → Ruled leastText sheet
+  names-least line other =
+      let s = tells-rule sheet 3 .when-true line in
+      ⊎-elim (λ e. absurd (tells-sweep .when-false other (record { value = s .value; rest = s .rest; is = s .is; kind = e })))
+      (λ e. record { value = s .value; rest = s .rest; is = s .is; kind = e }) (s .kind)

@@ -1,4 +1,4 @@
--- What an accepted answer of the planner says: the run is accepted, there is a list by the rule, and it is the one in the rows.
+-- What an accepted answer of the planner says: the run is accepted, there is a least list, and it is the one in the rows.
 use mathlib.Core.Path.{_≡_, refl, sym, ap, ap₂, _∙_}
 use mathlib.Core.Bool.{Bool, true, false}
 use mathlib.Core.List.{List, [], _∷_, map}
@@ -7,7 +7,6 @@ use lib.Seq.{take-at}
 use lib.Dec.{ltb}
 use Rattle.refusals.specs.declared.Refusal.the-variants.{Accepted, ShortRow, ShortRoom}
 use Rattle.walk.specs.declared.Answer.{Answer}
-use Rattle.runs.specs.declared.Rule.{Rule}
 use Rattle.refusals.specs.Refusals.{isRefusal, refuseIf}
 use Rattle.runs.specs.Run.{Run, stopsOf}
 use Rattle.runs.specs.Judging.{judgeOf}
@@ -45,7 +44,7 @@ unfolding planVerdict
 verdict-accepts-run r rows e =
     all-accept (judgeOf r ∷ refuseIf (shortRows (length (r .numbers)) (length (stopsOf r)) rows) ShortRow ∷ refuseIf (ltb (length (rows .room)) (roomFor r)) ShortRoom ∷ []) e .0
 
-module _ (r : Run) (rule : Rule) (before : Rows) (answer : Answer) (after : Rows) (plans : Plans r rule before answer after) (accepts : answer .refusal ≡ Accepted) where
+module _ (r : Run) (before : Rows) (answer : Answer) (after : Rows) (plans : Plans r before answer after) (accepts : answer .refusal ≡ Accepted) where
   pub not-refused : refuses (planVerdict r before) ≡ false
   not-refused = go (refuses (planVerdict r before)) refl
     where
@@ -53,7 +52,7 @@ module _ (r : Run) (rule : Rule) (before : Rows) (answer : Answer) (after : Rows
       go true e = ap isRefusal (sym (ap (λ a. a .refusal) (plans .refused e .says)) ∙ accepts)
       go false e = e
 
-  pub plan-in-rows : Planned r rule before answer after
+  pub plan-in-rows : Planned r before answer after
   plan-in-rows = plans .planned not-refused
 
   pub run-accepted : refuses (judgeOf r) ≡ false

@@ -1,34 +1,36 @@
 -- The sheets' share of demand 1: the reader's and the writers' verdicts are the first of the table that applies, and a refusal changes nothing.
 use Prim.Native.Nat.{ℕ, _≤_, _<_}
 use mathlib.Core.Path.{_≡_, refl, sym, ap, ap₂, _∙_}
-use mathlib.Core.Bool.{Bool, true, false, not, _||_}
+use mathlib.Core.Bool.{Bool, true, false, cond, not, _||_, true≢false}
 use mathlib.Core.Logic.{_⊎_, inl, inr, ⊎-elim}
 use mathlib.Core.List.{List, [], _∷_}
 use native.Mathlib.Omega.{arith}
 use lib.ListN.{length}
 use lib.Dec.{ltb}
 use Rattle.refusals.specs.declared.Refusal.{Refusal}
-use Rattle.refusals.specs.declared.Refusal.the-variants.{Accepted, BadEntry, BadName, BadLine, LongSheet, ShortRow}
-use Rattle.runs.specs.declared.Rule.{Rule}
+use Rattle.refusals.specs.declared.Refusal.the-variants.{Accepted, BadEntry, BadName, BadLine, LongSheet, ShortRow, RetiredRule}
 use Rattle.refusals.specs.declared.Verdict.{Verdict}
-use Rattle.refusals.specs.Refusals.{numberOf, accepted, refuseIf, refuseAt, firstOf}
+use Rattle.refusals.specs.Refusals.{numberOf, isRefusal, accepted, refuseIf, refuseAt, firstOf}
 use Rattle.runs.specs.Run.{Run, stopsOf}
 use Rattle.runs.specs.Judging.{judgeOf}
 use Rattle.runs.specs.Lists.{listVerdict}
-use Rattle.refusals.proofs.Verdicts.{none-refuses, refuses}
+use Rattle.refusals.proofs.Verdicts.{none-refuses, refuses, all-accept, accepts-at}
 use Rattle.runs.proofs.Judged.{accepted-run}
 use Rattle.texts.specs.Text.{isName}
-use Rattle.sheets.specs.Sheet.{longestSheet, mostSheetFiles, firstBadLine, sheetFiles, sheetWants}
-use Rattle.sheets.specs.Reading.{sheetVerdict, shortPairRows, shortTripleRows, readVerdict, refusedReading, readAnswer, readRow, RunRows, runRows, rowsVerdict, SheetRead}
+use Rattle.sheets.specs.Lines.{sweepText, leastText}
+use Rattle.sheets.specs.Sheet.{longestSheet, mostSheetFiles, saysSweep, firstBadLine, sheetFiles, sheetWants}
+use Rattle.sheets.specs.Reading.{sheetVerdict, ruleVerdict, shortPairRows, shortTripleRows, readVerdict, refusedReading, readAnswer, readRow, RunRows, runRows, rowsVerdict, SheetRead}
 use Rattle.sheets.specs.declared.Reading.{Reading}
+use Rattle.sheets.proofs.Good.{good-lines}
 use Rattle.writers.specs.declared.Written.{Written}
 use Rattle.writers.specs.Writing.{refusedWriting, sheetText, rowVerdict, writeVerdict, writtenAnswer, writtenRow, Handed}
 use Rattle.writers.specs.PlanSheet.{planText, planSheetVerdict}
 use Rattle.demands.specs.Table.{FirstBad, RunApplies, ListIsBad}
-use Rattle.demands.specs.Lines.{LineIsBad, linesDue}
-use Rattle.demands.specs.Sheets.{readOrder, ReadApplies, ReadAnswers, writeOrder, planSheetOrder, WriteApplies, PlanSheetApplies, WriteAnswers, Demand1Read, Demand1Write, Demand1PlanSheet}
+use Rattle.demands.specs.Lines.{LineIsBad, linesDue, Ruled}
+use Rattle.demands.specs.Sheets.{readOrder, ReadApplies, ReadAnswers, OneRule, writeOrder, planSheetOrder, WriteApplies, PlanSheetApplies, WriteAnswers, Demand1Read, Demand1Write, Demand1PlanSheet}
 use Rattle.demands.proofs.Tests.{tells-false, Tells, tells-below, tells-either}
-use Rattle.demands.proofs.Checks.{decides-if, decides-reworded, Finds, finds-none, finds-first, first-of-joined}
+use Rattle.demands.proofs.Checks.{decides-if, decides-there, decides-reworded, Finds, finds-none, finds-first, first-of-joined}
+use Rattle.demands.proofs.Lines.{tells-sweep, names-least}
 use Rattle.demands.proofs.FirstLine.{decides-line}
 use Rattle.demands.proofs.Judged.{run-finds, run-small}
 use Rattle.demands.proofs.Listed.{decides-list}
@@ -50,6 +52,9 @@ module _ (sheet : List ℕ) (rows : RunRows) where
 
   bad-line : (p : ℕ) → Applies BadLine p → FirstBad (LineIsBad sheet) (linesDue sheet) p
   bad-line p (ReadApplies.bad-line h) = h
+
+  retired-rule : (p : ℕ) → Applies RetiredRule p → (p ≡ 4) × Ruled sweepText sheet
+  retired-rule p (ReadApplies.retired-rule h) = (refl, h)
 
   abbrev IsShort : Type 0
   IsShort =
@@ -74,28 +79,42 @@ module _ (sheet : List ℕ) (rows : RunRows) where
   short = shortTripleRows (sheetFiles sheet) (rows .starts) (rows .lengths) (rows .aggregates) || shortPairRows (sheetWants sheet) (rows .numbers) (rows .counts)
 
   read-finds : Finds Applies readOrder (rowsVerdict sheet rows)
-  unfolding readVerdict sheetVerdict short
+  unfolding readVerdict sheetVerdict ruleVerdict saysSweep short
   read-finds =
       let long = refuseIf (ltb longestSheet (length sheet)) LongSheet in
       let line = refuseAt (firstBadLine sheet) BadLine in
+      let rule = refuseAt (cond (saysSweep sheet) 4 0) RetiredRule in
       let row = refuseIf short ShortRow in
       rw
-      (first-of-joined (long ∷ line ∷ []) (row ∷ []))
-      (finds-first Applies (line ∷ row ∷ []) refl
+      (first-of-joined (long ∷ line ∷ []) (rule ∷ row ∷ []))
+      (finds-first Applies (line ∷ rule ∷ row ∷ []) refl
       (decides-reworded (λ p h. rw (h .0) (ReadApplies.too-long (h .1))) too-long (decides-if _ LongSheet (tells-below longestSheet (length sheet))))
-      (λ a. finds-first Applies (row ∷ []) refl (decides-reworded (λ p. ReadApplies.bad-line) bad-line (decides-line sheet))
-      (λ b. finds-first Applies [] refl
+      (λ a. finds-first Applies (rule ∷ row ∷ []) refl (decides-reworded (λ p. ReadApplies.bad-line) bad-line (decides-line sheet))
+      (λ b. finds-first Applies (row ∷ []) refl
+      (decides-reworded (λ p h. rw (h .0) (ReadApplies.retired-rule (h .1))) retired-rule (decides-there _ 3 RetiredRule (tells-sweep sheet)))
+      (λ c. finds-first Applies [] refl
       (decides-reworded short-row row-short
       (decides-if short ShortRow
       (tells-either (shortTripleRows (sheetFiles sheet) (rows .starts) (rows .lengths) (rows .aggregates)) (shortPairRows (sheetWants sheet) (rows .numbers) (rows .counts))
       (tells-either (shortPairRows (sheetFiles sheet) (rows .starts) (rows .lengths)) (ltb (length (rows .aggregates)) (sheetFiles sheet))
       (tells-short (sheetFiles sheet) (rows .starts) (rows .lengths)) (tells-below (length (rows .aggregates)) (sheetFiles sheet)))
       (tells-short (sheetWants sheet) (rows .numbers) (rows .counts)))))
-      (λ c. finds-none Applies))))
+      (λ d. finds-none Applies)))))
 
   read-accepted : refuses (rowsVerdict sheet rows) ≡ false → rowsVerdict sheet rows ≡ accepted
   unfolding readVerdict short
-  read-accepted e = none-refuses (sheetVerdict sheet ∷ refuseIf short ShortRow ∷ []) e
+  read-accepted e = none-refuses (sheetVerdict sheet ∷ ruleVerdict sheet ∷ refuseIf short ShortRow ∷ []) e
+
+  -- A sheet that is accepted names the least rule.
+  accepted-ruled : refuses (rowsVerdict sheet rows) ≡ false → Ruled leastText sheet
+  unfolding readVerdict ruleVerdict saysSweep short
+  accepted-ruled e =
+      let all = all-accept (sheetVerdict sheet ∷ ruleVerdict sheet ∷ refuseIf short ShortRow ∷ []) e in
+      names-least sheet (good-lines sheet (all .0) .rule) (not-there (saysSweep sheet) (accepts-at (cond (saysSweep sheet) 4 0) RetiredRule refl (all .1 .0)))
+    where
+      not-there : (b : Bool) → _≡_ {A = ℕ} (cond b 4 0) 0 → b ≡ false
+      not-there true h = absurd (omega (arith, h))
+      not-there false h = refl
 
   module _ (answer : Reading) (after : RunRows) (read : SheetRead sheet rows answer after) where
     read-kept : refuses (rowsVerdict sheet rows) ≡ true → after ≡ rows
@@ -106,7 +125,7 @@ module _ (sheet : List ℕ) (rows : RunRows) where
     unfolding readAnswer
     read-says true e =
         let is : answer ≡ refusedReading (rowsVerdict sheet rows) = rw e at (read .answer) in
-        record { first = rw is read-finds; kept = λ n. (rw is (record { head = refl; turn = refl; rule = refl; files = refl; wants = refl }), read-kept e) }
+        record { first = rw is read-finds; kept = λ n. (rw is (record { head = refl; turn = refl; files = refl; wants = refl }), read-kept e) }
     read-says false e =
         let kind : answer .refusal ≡ Accepted = rw (read .answer, e) in
         let place : answer .place ≡ 0 = rw (read .answer, e) in
@@ -114,6 +133,16 @@ module _ (sheet : List ℕ) (rows : RunRows) where
 
 pub demand1-read : Demand1Read
 demand1-read sheet before answer after read = read-says sheet before answer after read (refuses (rowsVerdict sheet before)) refl
+
+pub one-rule : OneRule
+unfolding readAnswer
+one-rule sheet before answer after read accepts = go (refuses (rowsVerdict sheet before)) refl
+  where
+    go : (b : Bool) → refuses (rowsVerdict sheet before) ≡ b → Ruled leastText sheet
+    go true e =
+        let is : answer ≡ refusedReading (rowsVerdict sheet before) = read .answer ∙ rw e in
+        absurd (true≢false (sym e ∙ ap isRefusal (sym (ap (λ (x : Reading). x .refusal) is) ∙ accepts)))
+    go false e = accepted-ruled sheet before e
 
 -- What a writer's answer has of its verdict: kind and place; and a refusal has no bytes and keeps the row.
 module _ (vs : List Verdict) (text row : List ℕ) (answer : Written) (out : List ℕ) (says : Handed (firstOf vs) text row answer out) where
@@ -146,46 +175,46 @@ module _ (applies : Refusal → ℕ → Type 0) (order : List Refusal) (vs : Lis
       record { first = rw (tells .kind, tells .place) finds; kept = tells .kept }
 
 -- The run sheet writer.
-module _ (name : List ℕ) (rule : Rule) (r : Run) (row : List ℕ) where
-  write-of-run : (k : Refusal) (p : ℕ) → numberOf k ≤ 7 → WriteApplies name rule r row k p → RunApplies r k p
+module _ (name : List ℕ) (r : Run) (row : List ℕ) where
+  write-of-run : (k : Refusal) (p : ℕ) → numberOf k ≤ 7 → WriteApplies name r row k p → RunApplies r k p
   write-of-run k p l (WriteApplies.run h) = h
   write-of-run k p l (WriteApplies.many-files h) = absurd (omega arith)
   write-of-run k p l (WriteApplies.bad-name h) = absurd (omega arith)
   write-of-run k p l (WriteApplies.short-row h) = absurd (omega arith)
 
-  bad-name : (p : ℕ) → WriteApplies name rule r row BadName p → (p ≡ 0) × ((mostSheetFiles < length (r .starts)) ⊎ (isName name ≡ false))
+  bad-name : (p : ℕ) → WriteApplies name r row BadName p → (p ≡ 0) × ((mostSheetFiles < length (r .starts)) ⊎ (isName name ≡ false))
   bad-name p (WriteApplies.run h) = absurd (omega (arith, run-small r h))
   bad-name p (WriteApplies.many-files h) = (refl, inl h)
   bad-name p (WriteApplies.bad-name h) = (refl, inr h)
 
-  write-row : (p : ℕ) → WriteApplies name rule r row ShortRow p → (p ≡ 0) × (length row < length (sheetText name rule r))
+  write-row : (p : ℕ) → WriteApplies name r row ShortRow p → (p ≡ 0) × (length row < length (sheetText name r))
   write-row p (WriteApplies.run h) = absurd (omega (arith, run-small r h))
   write-row p (WriteApplies.short-row h) = (refl, h)
 
-  write-finds : Finds (WriteApplies name rule r row) writeOrder (writeVerdict name rule r row)
+  write-finds : Finds (WriteApplies name r row) writeOrder (writeVerdict name r row)
   unfolding writeVerdict rowVerdict
   write-finds =
       let named = refuseIf (ltb mostSheetFiles (length (r .starts)) || not (isName name)) BadName in
-      let short = refuseIf (ltb (length row) (length (sheetText name rule r))) ShortRow in
-      run-finds r (WriteApplies name rule r row) (λ k p. WriteApplies.run) write-of-run (BadName ∷ ShortRow ∷ []) (named ∷ short ∷ [])
-      (λ a. finds-first (WriteApplies name rule r row) (short ∷ []) refl
+      let short = refuseIf (ltb (length row) (length (sheetText name r))) ShortRow in
+      run-finds r (WriteApplies name r row) (λ k p. WriteApplies.run) write-of-run (BadName ∷ ShortRow ∷ []) (named ∷ short ∷ [])
+      (λ a. finds-first (WriteApplies name r row) (short ∷ []) refl
       (decides-reworded (λ p h. rw (h .0) (⊎-elim WriteApplies.many-files WriteApplies.bad-name (h .1))) bad-name
       (decides-if _ BadName
       (tells-either (ltb mostSheetFiles (length (r .starts))) (not (isName name)) (tells-below mostSheetFiles (length (r .starts))) (tells-false (isName name)))))
-      (λ b. finds-first (WriteApplies name rule r row) [] refl
-      (decides-reworded (λ p h. rw (h .0) (WriteApplies.short-row (h .1))) write-row (decides-if _ ShortRow (tells-below (length row) (length (sheetText name rule r)))))
-      (λ c. finds-none (WriteApplies name rule r row))))
+      (λ b. finds-first (WriteApplies name r row) [] refl
+      (decides-reworded (λ p h. rw (h .0) (WriteApplies.short-row (h .1))) write-row (decides-if _ ShortRow (tells-below (length row) (length (sheetText name r)))))
+      (λ c. finds-none (WriteApplies name r row))))
 
-  pub write-says : WriteAnswers (WriteApplies name rule r row) writeOrder row
-      (writtenAnswer (writeVerdict name rule r row) (sheetText name rule r)) (writtenRow (writeVerdict name rule r row) (sheetText name rule r) row)
+  pub write-says : WriteAnswers (WriteApplies name r row) writeOrder row
+      (writtenAnswer (writeVerdict name r row) (sheetText name r)) (writtenRow (writeVerdict name r row) (sheetText name r) row)
   unfolding writeVerdict
   write-says =
-      writer-says (WriteApplies name rule r row) writeOrder
-      (judgeOf r ∷ refuseIf (ltb mostSheetFiles (length (r .starts)) || not (isName name)) BadName ∷ rowVerdict (sheetText name rule r) row ∷ [])
-      (sheetText name rule r) row write-finds
+      writer-says (WriteApplies name r row) writeOrder
+      (judgeOf r ∷ refuseIf (ltb mostSheetFiles (length (r .starts)) || not (isName name)) BadName ∷ rowVerdict (sheetText name r) row ∷ [])
+      (sheetText name r) row write-finds
 
 pub demand1-write : Demand1Write
-demand1-write name rule r row answer out says fills = rw (says, fills) (write-says name rule r row)
+demand1-write name r row answer out says fills = rw (says, fills) (write-says name r row)
 
 -- The plan sheet writer.
 module _ (name : List ℕ) (r : Run) (froms tos row : List ℕ) where

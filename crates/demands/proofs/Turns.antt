@@ -16,8 +16,8 @@ use Rattle.refusals.proofs.Verdicts.{refuses, first-refuses, first-passes, all-
 use Rattle.texts.specs.Text.{lineFeed, has, isEmpty, isText, startsWith}
 use Rattle.sheets.specs.declared.Reading.{Reading}
 use Rattle.sheets.specs.Lines.{lineAfter, afterLines, turnKey, turnWith}
-use Rattle.sheets.specs.Sheet.{longestSheet, firstBadLine, sheetFiles, sheetWants, sheetTurnWith}
-use Rattle.sheets.specs.Reading.{sheetVerdict, readVerdict, refusedReading, readRow, RunRows, rowsVerdict, ReadWith, readName}
+use Rattle.sheets.specs.Sheet.{longestSheet, firstBadLine, saysSweep, sheetFiles, sheetWants, sheetTurnWith}
+use Rattle.sheets.specs.Reading.{sheetVerdict, ruleVerdict, readVerdict, refusedReading, readRow, RunRows, rowsVerdict, ReadWith, readName}
 use Rattle.sheets.proofs.Good.{short-sheet, accepted-sheet, good-lines}
 use Rattle.writers.specs.declared.Written.{Written}
 use Rattle.writers.specs.Writing.{rowVerdict, writtenAnswer, writtenRow}
@@ -143,10 +143,10 @@ rewritten-bytes sheet row answer out says accepts =
     }
 
 -- Two sheets that hold the same, each to its reader.
-module _ (e : ℕ) (old new : List ℕ) (rows : RunRows) (old-good : sheetVerdict old ≡ accepted) (new-good : sheetVerdict new ≡ accepted) (files : sheetFiles new ≡ sheetFiles old) (wants : sheetWants new ≡ sheetWants old) where
+module _ (e : ℕ) (old new : List ℕ) (rows : RunRows) (old-good : sheetVerdict old ≡ accepted) (new-good : sheetVerdict new ≡ accepted) (rule : saysSweep new ≡ saysSweep old) (files : sheetFiles new ≡ sheetFiles old) (wants : sheetWants new ≡ sheetWants old) where
   same-verdict : rowsVerdict new rows ≡ rowsVerdict old rows
-  unfolding readVerdict
-  same-verdict = rw (old-good, new-good, files, wants)
+  unfolding readVerdict ruleVerdict
+  same-verdict = rw (old-good, new-good, rule, files, wants)
 
 pub rewritten-means : RewrittenMeans
 unfolding readRow
@@ -155,10 +155,10 @@ rewritten-means sheet row written out says accepts e rows old new oldRows newRow
     let text = text-is sheet row written out says accepts in
     let kept = keeps sheet readable in
     let run = kept .run e in
-    let verdict = same-verdict e sheet (rewritten sheet) rows (accepted-sheet sheet readable) (result-good sheet row written out says accepts) (kept .files) (kept .wants) in
+    let verdict = same-verdict e sheet (rewritten sheet) rows (accepted-sheet sheet readable) (result-good sheet row written out says accepts) (kept .rule) (kept .files) (kept .wants) in
     let read : ReadWith e (rewritten sheet) rows new newRows = rw text at new-read in
     record {
-      answers = read .answer ∙ rw (verdict, ap (λ r. r .head) run, ap (λ r. r .turn) run, kept .rule, kept .files, kept .wants) (sym (old-read .answer));
+      answers = read .answer ∙ rw (verdict, ap (λ r. r .head) run, ap (λ r. r .turn) run, kept .files, kept .wants) (sym (old-read .answer));
       rows = same-rows newRows oldRows
           (read .starts ∙ rw (verdict, ap (λ r. r .starts) run) (sym (old-read .starts)))
           (read .lengths ∙ rw (verdict, ap (λ r. r .lengths) run) (sym (old-read .lengths)))

@@ -1,4 +1,4 @@
--- What the run sheet writer writes reads back (demand 2): the bytes are the sheet, and the reader gives the run, the rule and the name.
+-- What the run sheet writer writes reads back (demand 2): the bytes are the sheet, and the reader gives the run and the name.
 use Prim.Native.Nat.{ℕ, _≤_}
 use mathlib.Core.Path.{_≡_, refl, sym, ap, _∙_}
 use mathlib.Core.Bool.{Bool, true, false, not, _||_, true≢false}
@@ -8,7 +8,6 @@ use lib.Seq.{take-append-seam, take-at}
 use lib.Dec.{ltb}
 use borrow.Author.Tests.{le-ltb, ltb-false, not-false}
 use Rattle.refusals.specs.declared.Refusal.the-variants.{Accepted, BadName}
-use Rattle.runs.specs.declared.Rule.{Rule}
 use Rattle.refusals.specs.declared.Verdict.{Verdict}
 use Rattle.refusals.specs.Refusals.{isRefusal, accepted, refuseIf, firstOf}
 use Rattle.runs.specs.Run.{Run, stopsOf, rightEnd}
@@ -18,12 +17,13 @@ use Rattle.runs.proofs.Search.{or-false-both}
 use Rattle.runs.proofs.Judged.{accepted-run}
 use Rattle.texts.specs.Text.{isName}
 use Rattle.sheets.specs.Sheet.{mostSheetFiles, sheetFiles, sheetWants, sheetHead, sheetTurn, sheetRun}
-use Rattle.sheets.specs.Reading.{sheetVerdict, readVerdict, readAnswer, readRow, RunRows, SheetRead}
+use Rattle.sheets.specs.Reading.{sheetVerdict, ruleVerdict, readVerdict, readAnswer, readRow, RunRows, SheetRead}
 use Rattle.sheets.specs.declared.Reading.{Reading}
 use Rattle.writers.specs.declared.Written.{Written}
 use Rattle.writers.specs.Writing.{refusedWriting, sheetText, rowVerdict, writeVerdict, writtenAnswer, writtenRow}
 use Rattle.sheets.proofs.Rows.{length-each}
 use Rattle.writers.proofs.RoundTrip.{round-trip}
+use Rattle.demands.proofs.Sheets.{one-rule}
 use Rattle.demands.specs.Sheets.{Demand2Written, GivesBack, Demand2RoundTrip, runRead, ComesBack, WriteThenRead}
 
 -- An accepted run's verdict is acceptance, place 0 included.
@@ -49,13 +49,13 @@ turn-in : (sheet : List ℕ) → sheetTurn sheet ≡ sheetRun sheet .turn
 unfolding sheetRun
 turn-in sheet = refl
 
--- A sheet that is as described is read wherever the five rows are long enough.
-reads-sheet : (sheet starts lengths aggregates numbers counts : List ℕ) → sheetVerdict sheet ≡ accepted
+-- A sheet that is as described and names no retired rule is read wherever the five rows are long enough.
+reads-sheet : (sheet starts lengths aggregates numbers counts : List ℕ) → sheetVerdict sheet ≡ accepted → ruleVerdict sheet ≡ accepted
     → sheetFiles sheet ≤ length starts → sheetFiles sheet ≤ length lengths → sheetFiles sheet ≤ length aggregates → sheetWants sheet ≤ length numbers → sheetWants sheet ≤ length counts
     → readVerdict sheet starts lengths aggregates numbers counts ≡ accepted
 unfolding readVerdict
-reads-sheet sheet starts lengths aggregates numbers counts e a b g c d =
-    rw (e, le-ltb (length starts) (sheetFiles sheet) a, le-ltb (length lengths) (sheetFiles sheet) b, le-ltb (length aggregates) (sheetFiles sheet) g, le-ltb (length numbers) (sheetWants sheet) c, le-ltb (length counts) (sheetWants sheet) d)
+reads-sheet sheet starts lengths aggregates numbers counts e f a b g c d =
+    rw (e, f, le-ltb (length starts) (sheetFiles sheet) a, le-ltb (length lengths) (sheetFiles sheet) b, le-ltb (length aggregates) (sheetFiles sheet) g, le-ltb (length numbers) (sheetWants sheet) c, le-ltb (length counts) (sheetWants sheet) d)
 
 -- An accepted writing has an accepted verdict.
 pub written-passes : (v : Verdict) (text : List ℕ) (answer : Written) → answer ≡ writtenAnswer v text → answer .refusal ≡ Accepted → refuses v ≡ false
@@ -70,27 +70,27 @@ written-passes v text answer a e = by-test (refuses v) refl
 
 pub demand2-written : Demand2Written
 unfolding writtenAnswer writtenRow
-demand2-written name rule r row answer out a o e =
-    let h = written-passes (writeVerdict name rule r row) (sheetText name rule r) answer a e in
-    let is : answer ≡ record { refusal = Accepted; place = 0; bytes = length (sheetText name rule r) } = a ∙ rw h in
-    rw (is, o, h) (take-append-seam (sheetText name rule r) (drop (length (sheetText name rule r)) row))
+demand2-written name r row answer out a o e =
+    let h = written-passes (writeVerdict name r row) (sheetText name r) answer a e in
+    let is : answer ≡ record { refusal = Accepted; place = 0; bytes = length (sheetText name r) } = a ∙ rw h in
+    rw (is, o, h) (take-append-seam (sheetText name r) (drop (length (sheetText name r)) row))
 
 pub demand2-round-trip : Demand2RoundTrip
 unfolding readAnswer readRow
-demand2-round-trip name rule r e few named starts lengths aggregates numbers counts a b g c d =
-    let sheet = sheetText name rule r in
-    let back = round-trip name rule r (judged-accepted r e) few named in
+demand2-round-trip name r e few named starts lengths aggregates numbers counts a b g c d =
+    let sheet = sheetText name r in
+    let back = round-trip name r (judged-accepted r e) few named in
     let good = accepted-run r e in
     let files : sheetFiles sheet ≡ length (r .starts) = files-in sheet ∙ ap (λ run. length (run .starts)) (back .same-run) in
     let wants : sheetWants sheet ≡ length (r .numbers) = wants-in sheet ∙ ap (λ run. length (run .numbers)) (back .same-run) in
     let even : length (r .starts) ≡ length (r .lengths) = good .files .table .equal in
     let numbered : length (r .starts) ≡ length (r .aggregates) = good .files .rows in
     let pairs : length (r .numbers) ≡ length (r .counts) = good .wants .equal in
-    let reads = reads-sheet sheet starts lengths aggregates numbers counts (back .accepts) (rw files a) (rw (files, even) b) (rw (files, numbered) g) (rw wants c) (rw (wants, pairs) d) in
+    let reads = reads-sheet sheet starts lengths aggregates numbers counts (back .accepts) (back .ruled) (rw files a) (rw (files, even) b) (rw (files, numbered) g) (rw wants c) (rw (wants, pairs) d) in
     let head : sheetHead sheet ≡ r .head = head-in sheet ∙ ap (λ run. run .head) (back .same-run) in
     let turn : sheetTurn sheet ≡ r .turn = turn-in sheet ∙ ap (λ run. run .turn) (back .same-run) in
     record {
-      answer = rw (reads, head, turn, back .same-rule, files, wants);
+      answer = rw (reads, head, turn, files, wants);
       startsAre = rw (reads, back .same-run);
       lengthsAre = rw (reads, back .same-run);
       aggregatesAre = rw (reads, back .same-run);
@@ -100,19 +100,19 @@ demand2-round-trip name rule r e few named starts lengths aggregates numbers cou
     }
 
 -- What an accepted verdict of the writer says.
-write-needs : (name : List ℕ) (rule : Rule) (r : Run) (row : List ℕ) → refuses (writeVerdict name rule r row) ≡ false
+write-needs : (name : List ℕ) (r : Run) (row : List ℕ) → refuses (writeVerdict name r row) ≡ false
     → (refuses (judgeOf r) ≡ false) × (length (r .starts) ≤ mostSheetFiles) × (isName name ≡ true)
 unfolding writeVerdict
-write-needs name rule r row e =
+write-needs name r row e =
     let many = ltb mostSheetFiles (length (r .starts)) in
-    let all = all-accept (judgeOf r ∷ refuseIf (many || not (isName name)) BadName ∷ rowVerdict (sheetText name rule r) row ∷ []) e in
+    let all = all-accept (judgeOf r ∷ refuseIf (many || not (isName name)) BadName ∷ rowVerdict (sheetText name r) row ∷ []) e in
     let both = or-false-both many (not (isName name)) (accepts-if _ BadName refl (all .1 .0)) in
     (all .0, ltb-false mostSheetFiles (length (r .starts)) (both .0), not-false (isName name) (both .1))
 
 -- The sheet, read into rows that are long enough.
-module _ (name : List ℕ) (rule : Rule) (r : Run) (before : RunRows) (answer : Reading) (after : RunRows) (files : length (r .lengths) ≡ length (r .starts)) (members : length (r .aggregates) ≡ length (r .starts)) (wants : length (r .counts) ≡ length (r .numbers))
-    (read : SheetRead (sheetText name rule r) before answer after) (back : GivesBack name rule r (before .starts) (before .lengths) (before .aggregates) (before .numbers) (before .counts)) where
-  is-back : answer ≡ record { refusal = Accepted; place = 0; head = r .head; turn = r .turn; rule = rule; files = length (r .starts); wants = length (r .numbers) }
+module _ (name : List ℕ) (r : Run) (before : RunRows) (answer : Reading) (after : RunRows) (files : length (r .lengths) ≡ length (r .starts)) (members : length (r .aggregates) ≡ length (r .starts)) (wants : length (r .counts) ≡ length (r .numbers))
+    (read : SheetRead (sheetText name r) before answer after) (back : GivesBack name r (before .starts) (before .lengths) (before .aggregates) (before .numbers) (before .counts)) where
+  is-back : answer ≡ record { refusal = Accepted; place = 0; head = r .head; turn = r .turn; files = length (r .starts); wants = length (r .numbers) }
   unfolding readAnswer
   is-back = read .answer ∙ back .answer
 
@@ -129,13 +129,13 @@ module _ (name : List ℕ) (rule : Rule) (r : Run) (before : RunRows) (answer : 
         take-at (r .counts) (drop (length (r .counts)) (before .counts)) (length (r .numbers)) wants,
       ))
 
-  comes-back : ComesBack name rule r (sheetText name rule r) answer after
-  comes-back = record { accepted = rw is-back; run = run-back; ruled = rw is-back; named = back .nameIs }
+  comes-back : ComesBack name r (sheetText name r) answer after
+  comes-back = record { accepted = rw is-back; run = run-back; ruled = one-rule (sheetText name r) before answer after read (rw is-back); named = back .nameIs }
 
 pub write-then-read : WriteThenRead
-write-then-read name rule r row written out writes accepts before answer after long read =
-    let text = demand2-written name rule r row written out (writes .answer) (writes .left) accepts in
-    let needs = write-needs name rule r row (written-passes (writeVerdict name rule r row) (sheetText name rule r) written (writes .answer) accepts) in
+write-then-read name r row written out writes accepts before answer after long read =
+    let text = demand2-written name r row written out (writes .answer) (writes .left) accepts in
+    let needs = write-needs name r row (written-passes (writeVerdict name r row) (sheetText name r) written (writes .answer) accepts) in
     let good = accepted-run r (needs .0) in
-    let back = demand2-round-trip name rule r (needs .0) (needs .1) (needs .2) (before .starts) (before .lengths) (before .aggregates) (before .numbers) (before .counts) (long .starts) (long .lengths) (long .aggregates) (long .numbers) (long .counts) in
-    rw text (comes-back name rule r before answer after (sym (good .files .table .equal)) (sym (good .files .rows)) (sym (good .wants .equal)) (rw text at read) back)
+    let back = demand2-round-trip name r (needs .0) (needs .1) (needs .2) (before .starts) (before .lengths) (before .aggregates) (before .numbers) (before .counts) (long .starts) (long .lengths) (long .aggregates) (long .numbers) (long .counts) in
+    rw text (comes-back name r before answer after (sym (good .files .table .equal)) (sym (good .files .rows)) (sym (good .wants .equal)) (rw text at read) back)

@@ -1,9 +1,10 @@
 -- The demands at the C boundary. A call gives back 0, or the refusal's number plus 256 times its place. The refusal is the first of the table
 -- that applies, and every row that was lent then holds what it held (demand 1). Where it gives back 0, four words of the row of sums hold
--- sum, finish, end and number of detours of the walk of the list (demand 2), and under rule 1 no movement beats the first (demand 3).
+-- sum, finish, end and number of detours of the walk of the list (demand 2), and no movement beats the first (demand 3).
 use Prim.Native.Nat.{ℕ, _+_, _*_, _≤_, _<_}
 use mathlib.Core.Path.{_≡_}
 use mathlib.Core.Bool.{false}
+use mathlib.Core.Logic.{_↔_}
 use mathlib.Core.List.{List, [], _∷_}
 use lib.ListN.{length, getD}
 use Rattle.refusals.specs.declared.Refusal.{Refusal}
@@ -17,9 +18,9 @@ use Rattle.walk.specs.Walk.{headAt, Moves, ServesAll, sumOf}
 use Rattle.walk.specs.Price.{ReadRows}
 use Rattle.planner.specs.Plan.{Rows}
 use Rattle.boundary.specs.Boundary.{PriceCalled, PlanCalled}
-use Rattle.demands.specs.Table.{FirstThatApplies}
+use Rattle.demands.specs.Table.{RunApplies, runOrder, FirstThatApplies, SomeApplies}
 use Rattle.demands.specs.Demand1.{PriceApplies, priceOrder, PlanApplies}
-use Rattle.demands.specs.Demand2.{listIn, IsTheWalk, IsPriceOf, IsLeast}
+use Rattle.demands.specs.Demand2.{IsTheWalk, IsPriceOf, IsLeast}
 use Rattle.demands.specs.Demand3.{AsksNoLess}
 
 -- The pricer's call: what the pricer is refused for, in its order; 8 also for a row of sums below 4 words.
@@ -45,10 +46,10 @@ Demand1PriceCall =
 abbrev pub planCallOrder : List Refusal
 planCallOrder = FileRows ∷ BadFile ∷ WantRows ∷ BadWant ∷ TooManyReads ∷ TurnPrice ∷ HeadPlace ∷ BadRule ∷ ShortRow ∷ ShortRoom ∷ []
 
--- 14: a rule number that is neither 0 nor 1. 8 also for a row of sums below 4 words.
+-- 14: a rule number other than 1. 8 also for a row of sums below 4 words.
 pub data PlanCallApplies (r : Run) (rule : ℕ) (rows : Rows) (sums : List ℕ) : Refusal → ℕ → Type 0 where
   plan : {kind : Refusal} {place : ℕ} → PlanApplies r rows kind place → PlanCallApplies r rule rows sums kind place
-  bad-rule : (rule ≡ 0 → ⊥) → (rule ≡ 1 → ⊥) → PlanCallApplies r rule rows sums BadRule 0
+  bad-rule : (rule ≡ 1 → ⊥) → PlanCallApplies r rule rows sums BadRule 0
   short-sums : length sums < 4 → PlanCallApplies r rule rows sums ShortRow 0
 
 pub record PlanCallAnswers (r : Run) (rule : ℕ) (before : Rows) (sums : List ℕ) (code : ℕ) (after : Rows) (out : List ℕ) : Type 0 where
@@ -63,6 +64,17 @@ Demand1PlanCall =
     (r : Run) (rule : ℕ) (before : Rows) (sums : List ℕ) (code : ℕ) (after : Rows) (out : List ℕ)
     → PlanCalled r rule before sums code after out
     → PlanCallAnswers r rule before sums code after out
+
+-- So 14 comes back exactly where nothing of 1 to 7 applies and the rule number is not 1, whatever rows were lent.
+pub record RuleAlone (r : Run) (rule : ℕ) : Type 0 where
+  pub good-run : SomeApplies (RunApplies r) runOrder → ⊥
+  pub bad-rule : rule ≡ 1 → ⊥
+
+abbrev pub RefusedForItsRule : Type 0
+RefusedForItsRule =
+    (r : Run) (rule : ℕ) (before : Rows) (sums : List ℕ) (code : ℕ) (after : Rows) (out : List ℕ)
+    → PlanCalled r rule before sums code after out
+    → (code ≡ 14) ↔ RuleAlone r rule
 
 -- The numbers that a row of sums holds: sum, finish, end and number of detours, in this order.
 abbrev pub inSums : List ℕ → Answer
@@ -80,26 +92,25 @@ Demand2PriceCall =
     → code ≡ 0
     → PriceCallWalks r froms tos rowsOut sumsOut
 
--- The planner's call leaves the walk of the list in the rows: the least under rule 1, the empty one under rule 0.
-pub record PlanCallWalks (r : Run) (rule : ℕ) (after : Rows) (out : List ℕ) : Type 0 where
+-- The planner's call leaves the walk of the list in the rows, which is the least.
+pub record PlanCallWalks (r : Run) (after : Rows) (out : List ℕ) : Type 0 where
   pub four : 4 ≤ length out
   pub walk : IsTheWalk r (inSums out) after
-  pub least : rule ≡ 1 → IsLeast r (inSums out) after
-  pub swept : rule ≡ 0 → listIn (inSums out) after ≡ []
+  pub least : IsLeast r (inSums out) after
 
 abbrev pub Demand2PlanCall : Type 0
 Demand2PlanCall =
     (r : Run) (rule : ℕ) (before : Rows) (sums : List ℕ) (code : ℕ) (after : Rows) (out : List ℕ)
     → PlanCalled r rule before sums code after out
     → code ≡ 0
-    → PlanCallWalks r rule after out
+    → PlanCallWalks r after out
 
--- Demand 3 of the first word of the row of sums, under rule 1.
+-- Demand 3 of the first word of the row of sums.
 abbrev pub Demand3PlanCall : Type 0
 Demand3PlanCall =
-    (first second : Run) (before : Rows) (sums : List ℕ) (code : ℕ) (after : Rows) (out : List ℕ)
+    (first second : Run) (rule : ℕ) (before : Rows) (sums : List ℕ) (code : ℕ) (after : Rows) (out : List ℕ)
     → isRefusal (judgeOf first .refusal) ≡ false
-    → PlanCalled second 1 before sums code after out
+    → PlanCalled second rule before sums code after out
     → code ≡ 0
     → AsksNoLess first second
     → (gs : List Leg)

@@ -13,7 +13,7 @@ use Rattle.walk.specs.Detours.{legsOf}
 use Rattle.least.specs.Least.{LeastForRun}
 
 -- A run and a detour list, the sum, the times and the legs (one for each want) of its walk, the clock and the place at its end, and whether the list
--- is the least rule's answer.
+-- is the least.
 pub record Case : Type 0 where
   pub run : Run
   pub list : List Detour

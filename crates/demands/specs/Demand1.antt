@@ -7,7 +7,6 @@ use lib.ListN.{length}
 use Rattle.refusals.specs.declared.Refusal.{Refusal}
 use Rattle.refusals.specs.declared.Refusal.the-variants.{Accepted, FileRows, BadFile, WantRows, BadWant, TooManyReads, TurnPrice, HeadPlace, ShortRow, ShortRoom, BadEntry}
 use Rattle.walk.specs.declared.Answer.{Answer}
-use Rattle.runs.specs.declared.Rule.{Rule}
 use Rattle.runs.specs.Run.{Run, stopsOf}
 use Rattle.walk.specs.Price.{ReadRows, priceAnswer, priceRows}
 use Rattle.planner.specs.Plan.{Rows, roomFor, Plans}
@@ -49,7 +48,7 @@ Demand1PriceIff =
     → answer ≡ priceAnswer r froms tos rows
     → (answer .refusal ≡ Accepted → ⊥) ↔ SomeApplies (PriceApplies r froms tos rows) priceOrder
 
--- The planner: 1 to 7, then 8, then 9, under either rule.
+-- The planner: 1 to 7, then 8, then 9.
 abbrev pub planOrder : List Refusal
 planOrder = FileRows ∷ BadFile ∷ WantRows ∷ BadWant ∷ TooManyReads ∷ TurnPrice ∷ HeadPlace ∷ ShortRow ∷ ShortRoom ∷ []
 
@@ -67,10 +66,10 @@ pub record PlanAnswers (r : Run) (before : Rows) (answer : Answer) (after : Rows
 
 abbrev pub Demand1Plan : Type 0
 Demand1Plan =
-    (r : Run) (rule : Rule) (before : Rows) (answer : Answer) (after : Rows) → Plans r rule before answer after → PlanAnswers r before answer after
+    (r : Run) (before : Rows) (answer : Answer) (after : Rows) → Plans r before answer after → PlanAnswers r before answer after
 
 abbrev pub Demand1PlanIff : Type 0
 Demand1PlanIff =
-    (r : Run) (rule : Rule) (before : Rows) (answer : Answer) (after : Rows)
-    → Plans r rule before answer after
+    (r : Run) (before : Rows) (answer : Answer) (after : Rows)
+    → Plans r before answer after
     → (answer .refusal ≡ Accepted → ⊥) ↔ SomeApplies (PlanApplies r before) planOrder

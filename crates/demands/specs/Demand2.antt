@@ -1,15 +1,13 @@
--- Demand 2: times, legs and sum are the walk's, of the list in the rows and of a list handed in; under the least rule no well-formed list has a smaller sum than the one in the rows, ties by
--- the fixed rule; and two answers that fit are equal.
+-- Demand 2: times, legs and sum are the walk's, of the list in the rows and of a list handed in; no well-formed list has a smaller sum than the one that the planner
+-- leaves in the rows, ties by the fixed rule; and two answers that fit are equal.
 -- A run's turn price is a number. Of a run that was read from a sheet it is the one that the reader gives, 12,000 where nothing stands after `turn=` (Turns).
 use Prim.Native.Nat.{ℕ, _≤_}
 use mathlib.Core.Path.{_≡_}
 use mathlib.Core.Logic.{_⊎_}
-use mathlib.Core.List.{List, []}
+use mathlib.Core.List.{List}
 use lib.ListN.{length, take}
 use Rattle.refusals.specs.declared.Refusal.the-variants.{Accepted}
 use Rattle.walk.specs.declared.Answer.{Answer}
-use Rattle.runs.specs.declared.Rule.{Rule}
-use Rattle.runs.specs.declared.Rule.the-variants.{Sweep, Least}
 use Rattle.runs.specs.Run.{Run, stopsOf, wantStopsOf}
 use Rattle.walk.specs.Walk.{headAt, walked, timesOf, legsFor, sumOf}
 use Rattle.runs.specs.Lists.{Detour, WellFormed, listOf}
@@ -51,7 +49,7 @@ Demand2Price =
     → answer .refusal ≡ Accepted
     → IsPriceOf r froms tos out answer
 
--- Under the least rule no well-formed list is cheaper, and one of the same sum is the same list or comes later by the tie rule.
+-- No well-formed list is cheaper, and one of the same sum is the same list or comes later by the tie rule.
 pub record IsLeast (r : Run) (answer : Answer) (after : Rows) : Type 0 where
   pub smallest : (other : List Detour) → WellFormed (stopsOf r) other → answer .sum ≤ listSum (r .turn) (r .head) (stopsOf r) other
   pub first : (other : List Detour) → WellFormed (stopsOf r) other → listSum (r .turn) (r .head) (stopsOf r) other ≡ answer .sum
@@ -59,30 +57,22 @@ pub record IsLeast (r : Run) (answer : Answer) (after : Rows) : Type 0 where
 
 abbrev pub Demand2Walk : Type 0
 Demand2Walk =
-    (r : Run) (rule : Rule) (before : Rows) (answer : Answer) (after : Rows)
-    → Plans r rule before answer after
+    (r : Run) (before : Rows) (answer : Answer) (after : Rows)
+    → Plans r before answer after
     → answer .refusal ≡ Accepted
     → IsTheWalk r answer after
 
 abbrev pub Demand2Least : Type 0
 Demand2Least =
     (r : Run) (before : Rows) (answer : Answer) (after : Rows)
-    → Plans r Least before answer after
+    → Plans r before answer after
     → answer .refusal ≡ Accepted
     → IsLeast r answer after
-
--- The sweep rule returns the empty list.
-abbrev pub Demand2Sweep : Type 0
-Demand2Sweep =
-    (r : Run) (before : Rows) (answer : Answer) (after : Rows)
-    → Plans r Sweep before answer after
-    → answer .refusal ≡ Accepted
-    → listIn answer after ≡ []
 
 -- The contract determines the answer and every row.
 abbrev pub Demand2One : Type 0
 Demand2One =
-    (r : Run) (rule : Rule) (before : Rows) (answer answer′ : Answer) (after after′ : Rows)
-    → Plans r rule before answer after
-    → Plans r rule before answer′ after′
+    (r : Run) (before : Rows) (answer answer′ : Answer) (after after′ : Rows)
+    → Plans r before answer after
+    → Plans r before answer′ after′
     → (answer ≡ answer′) × (after ≡ after′)

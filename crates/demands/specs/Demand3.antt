@@ -7,7 +7,6 @@ use mathlib.Core.List.{List}
 use Rattle.refusals.specs.declared.Refusal.the-variants.{Accepted}
 use Rattle.walk.specs.declared.Answer.{Answer}
 use Rattle.walk.specs.declared.Leg.{Leg}
-use Rattle.runs.specs.declared.Rule.the-variants.{Least}
 use Rattle.refusals.specs.Refusals.{isRefusal}
 use Rattle.runs.specs.Run.{Run, stopsOf}
 use Rattle.runs.specs.Judging.{judgeOf}
@@ -30,7 +29,7 @@ abbrev pub Demand3 : Type 0
 Demand3 =
     (first second : Run) (before : Rows) (answer : Answer) (after : Rows)
     → isRefusal (judgeOf first .refusal) ≡ false
-    → Plans second Least before answer after
+    → Plans second before answer after
     → answer .refusal ≡ Accepted
     → AsksNoLess first second
     → (gs : List Leg)
@@ -42,7 +41,7 @@ Demand3 =
 abbrev pub Demand3Same : Type 0
 Demand3Same =
     (r : Run) (before : Rows) (answer : Answer) (after : Rows)
-    → Plans r Least before answer after
+    → Plans r before answer after
     → answer .refusal ≡ Accepted
     → (gs : List Leg)
     → Moves (r .head) gs

@@ -7,7 +7,6 @@ use lib.ListN.{length, getD}
 use Rattle.refusals.specs.declared.Refusal.the-variants.{Accepted}
 use Rattle.refusals.specs.Refusals.{isRefusal}
 use Rattle.walk.specs.declared.Answer.{Answer}
-use Rattle.runs.specs.declared.Rule.{Rule}
 use Rattle.runs.specs.Run.{Run, stopsOf, wantStopsOf}
 use Rattle.runs.specs.Judging.{judgeOf}
 use Rattle.runs.specs.Lists.{Detour}
@@ -41,8 +40,8 @@ PriceEndsWithARead =
 
 abbrev pub PlanEndsWithARead : Type 0
 PlanEndsWithARead =
-    (r : Run) (rule : Rule) (before : Rows) (answer : Answer) (after : Rows)
-    → Plans r rule before answer after
+    (r : Run) (before : Rows) (answer : Answer) (after : Rows)
+    → Plans r before answer after
     → answer .refusal ≡ Accepted
     → 0 < length (r .numbers)
     → EndsWithARead r (after .times) answer

@@ -8,7 +8,6 @@ use Rattle.refusals.specs.declared.Refusal.the-variants.{Accepted}
 use Rattle.walk.specs.declared.Answer.{Answer}
 use Rattle.walk.specs.declared.Head.{Head}
 use Rattle.walk.specs.declared.Leg.{Leg}
-use Rattle.runs.specs.declared.Rule.{Rule}
 use Rattle.runs.specs.Run.{Run, Stop, stopsOf, wantStopsOf, stopAt}
 use Rattle.runs.specs.Lists.{Detour, listOf}
 use Rattle.walk.specs.Walk.{headAt, setOff, runRight, walked, reads}
@@ -50,7 +49,7 @@ PriceTellsLegs =
 
 abbrev pub PlanTellsLegs : Type 0
 PlanTellsLegs =
-    (r : Run) (rule : Rule) (before : Rows) (answer : Answer) (after : Rows)
-    → Plans r rule before answer after
+    (r : Run) (before : Rows) (answer : Answer) (after : Rows)
+    → Plans r before answer after
     → answer .refusal ≡ Accepted
     → LegsTold r (listIn answer after) (readsIn after)

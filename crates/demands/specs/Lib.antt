@@ -6,6 +6,7 @@ pub mod Demand2
 pub mod Demand3
 pub mod Ends
 pub mod Legs
+pub mod Offices
 pub mod Calls
 pub mod Cases
 pub mod Alone

@@ -18,7 +18,7 @@ pub record Stands (key : List ℕ) (Kind : List ℕ → Type 0) (sheet : List �
   pub is : afterLines i sheet ≡ key ++ value ++ (lineFeed ∷ rest)
   pub kind : Kind value
 
--- The kinds of values: a tape name; a number; a number, or nothing; a rule; a number up to a limit.
+-- The kinds of values: a tape name; a number; a number, or nothing; a rule, the retired one or the least; a number up to a limit.
 abbrev pub Name : List ℕ → Type 0
 Name text = isName text ≡ true
 
@@ -59,6 +59,10 @@ pub data LineIsBad (sheet : List ℕ) (i : ℕ) : Type 0 where
   wants : i ≡ 5 + sheetFiles sheet → (Stands wantsKey (UpTo mostWants) sheet i → ⊥) → LineIsBad sheet i
   want : 6 + sheetFiles sheet ≤ i → i < 6 + sheetFiles sheet + sheetWants sheet → (Stands wantKey Pair sheet i → ⊥) → LineIsBad sheet i
   beyond : i ≡ 6 + sheetFiles sheet + sheetWants sheet → (afterLines i sheet ≡ [] → ⊥) → LineIsBad sheet i
+
+-- The fourth line names this rule and no other.
+abbrev pub Ruled : List ℕ → List ℕ → Type 0
+Ruled text sheet = Stands ruleKey (λ value. value ≡ text) sheet 3
 
 -- The lines that are looked at, and one more for text behind the last.
 abbrev pub linesDue : List ℕ → ℕ

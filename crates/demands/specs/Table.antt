@@ -107,6 +107,10 @@ pub data RunApplies (r : Run) : Refusal → ℕ → Type 0 where
   turn-price : highestTurn < r .turn → RunApplies r TurnPrice 0
   head-place : (lastPlace < r .head) ⊎ WantedBeyond r → RunApplies r HeadPlace 0
 
+-- Their order.
+abbrev pub runOrder : List Refusal
+runOrder = FileRows ∷ BadFile ∷ WantRows ∷ BadWant ∷ TooManyReads ∷ TurnPrice ∷ HeadPlace ∷ []
+
 -- The first of an order of checks that applies, with its place; `Accepted` and place 0 where none does.
 pub data FirstThatApplies (applies : Refusal → ℕ → Type 0) : List Refusal → Refusal → ℕ → Type 0 where
   none : FirstThatApplies applies [] Accepted 0

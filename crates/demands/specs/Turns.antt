@@ -62,7 +62,7 @@ RewrittenBytes =
     → Rewrites sheet row answer out
 
 -- Whatever nothing means to the reader of the new sheet: it answers, and leaves in rows of any lengths, what the old reader, to whom nothing meant 0,
--- answered and left for the old sheet: head, price, rule, files and wants, or the refusal. The name is the same.
+-- answered and left for the old sheet: head, price, files and wants, or the refusal, 19 among them. The name is the same.
 pub record ReadsAsBefore (old new : Reading) (oldRows newRows : RunRows) (oldName newName : List ℕ) : Type 0 where
   pub answers : new ≡ old
   pub rows : newRows ≡ oldRows
@@ -89,7 +89,7 @@ RewrittenOnce =
     → SheetRewritten (take (written .bytes) out) more again outAgain
     → (again ≡ written) × (take (again .bytes) outAgain ≡ take (written .bytes) out)
 
--- The refusals: 12 and 11 of the sheet, as the reader gives them; then 12 and 8 of the result. Nothing else: the run is not judged.
+-- The refusals: 12 and 11 of the sheet, as the reader gives them; then 12 and 8 of the result. Nothing else: neither the rule nor the run is judged.
 pub data UnreadApplies (sheet : List ℕ) : Refusal → ℕ → Type 0 where
   too-long : longestSheet < length sheet → UnreadApplies sheet LongSheet 0
   bad-line : {place : ℕ} → FirstBad (LineIsBad sheet) (linesDue sheet) place → UnreadApplies sheet BadLine place

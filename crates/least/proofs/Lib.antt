@@ -1,4 +1,4 @@
--- Laws of plans, for the crates above: Scan, Value, Bounds and Best for a table engine, LeastList, Unbeaten and Sweeps as the final theorems.
+-- Laws of plans, for the crates above: Scan, Value, Bounds and Best for a table engine, LeastList, Unbeaten, Sweeps, Offices and Scaled as the final theorems.
 pub mod Plan
 pub mod Rising
 pub mod Sums
@@ -21,3 +21,5 @@ pub mod Lists
 pub mod LeastList
 pub mod Unbeaten
 pub mod Wanted
+pub mod Offices
+pub mod Scaled

@@ -2,8 +2,8 @@
 -- Each with its step, its split and its congruence.
 use Prim.Native.Nat.{ℕ, zero, suc, _+_, _*_, _≤_, _<_}
 use native.Mathlib.Omega.{arith}
-use native.Mathlib.Decide.{decLe}
-use mathlib.Core.Path.{_≡_, refl}
+use native.Mathlib.Decide.{decLe, decLt}
+use mathlib.Core.Path.{_≡_, refl, ap}
 use mathlib.Core.Bool.{cond}
 use mathlib.Core.Logic.{by-cases}
 use lib.Dec.{leb}
@@ -33,6 +33,26 @@ pub W-below : (f g : ℕ → ℕ) (n : ℕ) → ((i : ℕ) → i < n → f i ≤
 unfolding W
 W-below f g zero h = omega arith
 W-below f g (suc n) h = omega (arith, W-below f g n (λ i l. h i (omega arith)), h n (omega arith))
+
+-- Two sums added, and sums of which no term counts, or one.
+pub W-add : (f g : ℕ → ℕ) (n : ℕ) → W (λ i. f i + g i) n ≡ W f n + W g n
+W-add f g zero = omega (arith, W-zero (λ i. f i + g i), W-zero f, W-zero g)
+W-add f g (suc n) = omega (arith, W-suc (λ i. f i + g i) n, W-suc f n, W-suc g n, W-add f g n)
+
+pub W-none : (f : ℕ → ℕ) (n : ℕ) → ((i : ℕ) → i < n → f i ≡ 0) → W f n ≡ 0
+W-none f zero h = W-zero f
+W-none f (suc n) h = omega (arith, W-suc f n, W-none f n (λ i l. h i (omega arith)), h n (omega arith))
+
+pub W-one : (f : ℕ → ℕ) (m n : ℕ) → m < n → ((i : ℕ) → (i ≡ m → ⊥) → f i ≡ 0) → W f n ≡ f m
+W-one f m zero l h = absurd (omega arith)
+W-one f m (suc n) l h =
+    let before = W-one f m n in
+    by-cases
+    (decLt m n)
+    (λ k. omega (arith, W-suc f n, before k h, h n (λ e. omega arith)))
+    (λ k.
+    let e : n ≡ m = omega arith in
+    omega (arith, W-suc f n, W-none f n (λ i b. h i (λ q. omega arith)), ap f e))
 
 unfoldable pub win : (ℕ → ℕ) → ℕ → ℕ → ℕ
 win f a zero = 0

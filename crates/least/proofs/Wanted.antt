@@ -1,8 +1,8 @@
 -- The reads of a stop are those of its files as they are handed in. So a run that wants each file no more often wants each aggregate no more
 -- often.
-use Prim.Native.Nat.{ℕ, zero, suc, _+_, _≤_, _<_}
+use Prim.Native.Nat.{ℕ, suc, _+_, _≤_, _<_}
 use native.Mathlib.Omega.{arith}
-use native.Mathlib.Decide.{decLt, ℕ-discrete}
+use native.Mathlib.Decide.{ℕ-discrete}
 use mathlib.Core.Path.{_≡_, refl, sym, ap, _∙_}
 use mathlib.Core.Bool.{Bool, true, false, cond}
 use mathlib.Core.Logic.{by-cases}
@@ -16,7 +16,7 @@ use Rattle.runs.proofs.Joined.{Neighbours, Apart, by-name, join-none, join-same
 use Rattle.runs.proofs.Stops.{run-strict}
 use Rattle.least.specs.Wants.{readsOf, readsOfFile}
 use Rattle.least.specs.Recurrence.{W}
-use Rattle.least.proofs.Sums.{W-zero, W-suc, W-same, W-below}
+use Rattle.least.proofs.Sums.{W-same, W-below, W-add, W-none, W-one}
 
 -- The counts of the stops of one name, added: joining leaves them.
 unfoldable added : List Stop → ℕ → ℕ
@@ -61,26 +61,6 @@ reads-added (s ∷ ss) g a =
     (ℕ-discrete (s .file) g)
     (λ e. rw (eq-eqb (s .file) g e) (omega (arith, none-later s ss g a (omega arith))))
     (λ n. rw (ne-eqb (s .file) g n) (omega (arith, rest)))
-
--- Sums over the numbers of files.
-W-add : (f g : ℕ → ℕ) (n : ℕ) → W (λ i. f i + g i) n ≡ W f n + W g n
-W-add f g zero = omega (arith, W-zero (λ i. f i + g i), W-zero f, W-zero g)
-W-add f g (suc n) = omega (arith, W-suc (λ i. f i + g i) n, W-suc f n, W-suc g n, W-add f g n)
-
-W-none : (f : ℕ → ℕ) (n : ℕ) → ((i : ℕ) → i < n → f i ≡ 0) → W f n ≡ 0
-W-none f zero h = W-zero f
-W-none f (suc n) h = omega (arith, W-suc f n, W-none f n (λ i l. h i (omega arith)), h n (omega arith))
-
-W-one : (f : ℕ → ℕ) (m n : ℕ) → m < n → ((i : ℕ) → (i ≡ m → ⊥) → f i ≡ 0) → W f n ≡ f m
-W-one f m zero l h = absurd (omega arith)
-W-one f m (suc n) l h =
-    let before = W-one f m n in
-    by-cases
-    (decLt m n)
-    (λ k. omega (arith, W-suc f n, before k h, h n (λ e. omega arith)))
-    (λ k.
-    let e : n ≡ m = omega arith in
-    omega (arith, W-suc f n, W-none f n (λ i b. h i (λ q. omega arith)), ap f e))
 
 module _ (aggregates : List ℕ) (g : ℕ) where
   -- What a file's reads bring to the stop of a name.

@@ -5,8 +5,6 @@ use mathlib.Core.Bool.{cond}
 use mathlib.Core.Logic.{_⊎_}
 use mathlib.Core.List.{List, [], _∷_}
 use lib.Dec.{eqb}
-use Rattle.runs.specs.declared.Rule.{Rule}
-use Rattle.runs.specs.declared.Rule.the-variants as Rule
 use Rattle.runs.specs.Run.{Run, Stop, stopsOf}
 use Rattle.walk.specs.Walk.{headAt, sumOf}
 use Rattle.runs.specs.Lists.{Detour, WellFormed}
@@ -39,8 +37,3 @@ pub record LeastFor (price m : ℕ) (stops : List Stop) (list : List Detour) : T
 
 abbrev pub LeastForRun : Run → List Detour → Type 0
 LeastForRun r list = LeastFor (r .turn) (r .head) (stopsOf r) list
-
--- The list that a rule asks for: the empty one, or the least.
-abbrev pub ByRule : Rule → Run → List Detour → Type 0
-ByRule Rule.Sweep r list = list ≡ []
-ByRule Rule.Least r list = LeastForRun r list

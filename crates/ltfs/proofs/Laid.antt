@@ -9,8 +9,6 @@ use lib.Seq.{take-nil}
 use lib.Dec.{ltb}
 use borrow.Author.Tests.{ltb-false, le-ltb, ne-eqb, not-false}
 use Rattle.refusals.specs.declared.Refusal.the-variants.{BadName, BadText, ManyExtents, Overlap, FarFile, ShortRow}
-use Rattle.runs.specs.declared.Rule.{Rule}
-use Rattle.runs.specs.declared.Rule.the-variants.{Least}
 use Rattle.refusals.specs.declared.Verdict.{Verdict}
 use Rattle.refusals.specs.Refusals.{accepted, refuseIf, firstOf}
 use Rattle.refusals.proofs.Verdicts.{refuses, all-accept, accepts-if}
@@ -36,20 +34,20 @@ use Rattle.ltfs.proofs.Tallies.{field-good, field-value, number-form, l
 use Rattle.ltfs.proofs.Neighbours.{isVoid, isBeyond, same-overlap, none-void, ends-fit, passes}
 
 -- A sheet has bytes.
-text-some : (name : List ℕ) (run : Run) → length (sheetText name Least run) ≡ 0 → ⊥
+text-some : (name : List ℕ) (run : Run) → length (sheetText name run) ≡ 0 → ⊥
 unfolding sheetText topText
 text-some name run e = omega arith
 
 -- Where the run passes and the name is one, the sheet writer checks only the row.
-write-checks : (name : List ℕ) (rule : Rule) (run : Run) (row : List ℕ) → isName name ≡ true → judgeOf run ≡ accepted → length (run .starts) ≤ 256
-    → writeVerdict name rule run row ≡ refuseIf (ltb (length row) (length (sheetText name rule run))) ShortRow
+write-checks : (name : List ℕ) (run : Run) (row : List ℕ) → isName name ≡ true → judgeOf run ≡ accepted → length (run .starts) ≤ 256
+    → writeVerdict name run row ≡ refuseIf (ltb (length row) (length (sheetText name run))) ShortRow
 unfolding writeVerdict rowVerdict
-write-checks name rule run row n j l = rw (j, le-ltb 256 (length (run .starts)) l, n) (first-row (ltb (length row) (length (sheetText name rule run))))
+write-checks name run row n j l = rw (j, le-ltb 256 (length (run .starts)) l, n) (first-row (ltb (length row) (length (sheetText name run))))
 
 -- What the sheet writer wrote with a row of zeros is the sheet of files that lie in no aggregate.
 pub table-written : (name starts lengths aggregates : List ℕ) (head : ℕ) (row : List ℕ) (w : Written) (row' : List ℕ) → aggregates ≡ zeros (length starts)
-    → SheetWritten name Least (runOf starts lengths aggregates [] [] head 0) row w row' → SheetWritten name Least (aloneOf starts lengths [] [] head 0) row w row'
-table-written name starts lengths aggregates head row w row' e written = subst (λ zs. SheetWritten name Least (runOf starts lengths zs [] [] head 0) row w row') e written
+    → SheetWritten name (runOf starts lengths aggregates [] [] head 0) row w row' → SheetWritten name (aloneOf starts lengths [] [] head 0) row w row'
+table-written name starts lengths aggregates head row w row' e written = subst (λ zs. SheetWritten name (runOf starts lengths zs [] [] head 0) row w row') e written
 
 pub kept-few : (kept most : ℕ) (row : List ℕ) → kept ≤ most → length (take kept row) ≤ most
 kept-few kept most [] l = rw (take-nil kept) (omega arith)
@@ -141,29 +139,29 @@ module _ (name : List ℕ) (size partition : ℕ) (files : List (List Forest)) (
             rw (held .start, held .bytes, last)
 
         report-is : (b : Bool) → tableVerdict name size partition files row ≡ refuseIf b ShortRow
-            → reportOf (writtenAnswer (refuseIf b ShortRow) (sheetText name Least (runOfTable (tableFor size partition files)))) tally ≡ tableReport name size partition files row
+            → reportOf (writtenAnswer (refuseIf b ShortRow) (sheetText name (runOfTable (tableFor size partition files)))) tally ≡ tableReport name size partition files row
         unfolding reportOf writtenAnswer tableReport tableSheet
         report-is true v = rw v
         report-is false v =
-            rw (v, ne-eqb (length (sheetText name Least (runOfTable (tableFor size partition files)))) 0 (text-some name (runOfTable (tableFor size partition files))), h .counted g .empty, h .counted g .other)
+            rw (v, ne-eqb (length (sheetText name (runOfTable (tableFor size partition files)))) 0 (text-some name (runOfTable (tableFor size partition files))), h .counted g .empty, h .counted g .other)
 
         -- The sheet is written, or the row is too short.
         pub laid-out : isName name ≡ true → false ≡ neighbourOverlap (rangesFrom (take (tally .kept) starts) (take (tally .kept) lengths))
             → (head : ℕ) → head ≡ lastEnd (rangesFrom (take (tally .kept) starts) (take (tally .kept) lengths)) → (w : Written) (row' : List ℕ)
-            → SheetWritten name Least (aloneOf (take (tally .kept) starts) (take (tally .kept) lengths) [] [] head 0) row w row'
+            → SheetWritten name (aloneOf (take (tally .kept) starts) (take (tally .kept) lengths) [] [] head 0) row w row'
             → (reportOf w tally ≡ tableReport name size partition files row) × (row' ≡ tableRow name size partition files row)
         unfolding tableRow tableSheet
         laid-out n e head l w row' written =
             let run = laid-run head l in
             let far : areFar (rangesOf size partition files) ≡ false = sym far-is ∙ f in
             let apart = overlap-seen false e in
-            let wv = write-checks name Least (runOfTable (tableFor size partition files)) row n (table-passes size partition files far apart) (table-few size partition files far) in
+            let wv = write-checks name (runOfTable (tableFor size partition files)) row n (table-passes size partition files far apart) (table-few size partition files far) in
             let tv = row-table (sym (h .good) ∙ g) (sym (h .several) ∙ s) far apart in
-            let we' : w ≡ writtenAnswer (refuseIf (ltb (length row) (length (sheetText name Least (runOfTable (tableFor size partition files))))) ShortRow) (sheetText name Least (runOfTable (tableFor size partition files))) =
-            written .answer ∙ ap (λ (r : Run). writtenAnswer (writeVerdict name Least r row) (sheetText name Least r)) run ∙ ap (λ (v : Verdict). writtenAnswer v (sheetText name Least (runOfTable (tableFor size partition files)))) wv in (
-              ap (λ (x : Written). reportOf x tally) we' ∙ report-is (ltb (length row) (length (sheetText name Least (runOfTable (tableFor size partition files))))) tv,
-              written .left ∙ ap (λ (r : Run). writtenRow (writeVerdict name Least r row) (sheetText name Least r) row) run
-                  ∙ ap (λ (v : Verdict). writtenRow v (sheetText name Least (runOfTable (tableFor size partition files))) row) (wv ∙ sym tv),
+            let we' : w ≡ writtenAnswer (refuseIf (ltb (length row) (length (sheetText name (runOfTable (tableFor size partition files))))) ShortRow) (sheetText name (runOfTable (tableFor size partition files))) =
+            written .answer ∙ ap (λ (r : Run). writtenAnswer (writeVerdict name r row) (sheetText name r)) run ∙ ap (λ (v : Verdict). writtenAnswer v (sheetText name (runOfTable (tableFor size partition files)))) wv in (
+              ap (λ (x : Written). reportOf x tally) we' ∙ report-is (ltb (length row) (length (sheetText name (runOfTable (tableFor size partition files))))) tv,
+              written .left ∙ ap (λ (r : Run). writtenRow (writeVerdict name r row) (sheetText name r) row) run
+                  ∙ ap (λ (v : Verdict). writtenRow v (sheetText name (runOfTable (tableFor size partition files))) row) (wv ∙ sym tv),
             )
 
     -- A check refuses: that is the verdict.

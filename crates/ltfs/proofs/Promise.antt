@@ -8,7 +8,6 @@ use lib.ListN.{length, length-map}
 use lib.Dec.{eqb}
 use borrow.Author.Tests.{not-false}
 use Rattle.refusals.specs.declared.Refusal.the-variants.{BadName, BadText, ManyExtents, Overlap, FarFile}
-use Rattle.runs.specs.declared.Rule.the-variants.{Least}
 use Rattle.refusals.specs.Refusals.{refuseIf}
 use Rattle.runs.specs.Run.{Run, zeros}
 use Rattle.runs.specs.Judging.{judgeOf}
@@ -82,11 +81,11 @@ sheet-reads-back name label index row e =
     let far = accepts-if (areFar (rangesIn label index)) FarFile refl (all .1 .1 .1 .0) in
     let apart = accepts-if (someOverlap (tableIn label index)) Overlap refl (all .1 .1 .1 .1 .0) in
     let judged = table-passes size partition files far apart in
-    let back = round-trip name Least (runOfTable (tableIn label index)) judged (table-few size partition files far) named in
+    let back = round-trip name (runOfTable (tableIn label index)) judged (table-few size partition files far) named in
     record {
       reads = back .accepts;
       name = back .same-name;
-      rule = back .same-rule;
+      rule = back .ruled;
       starts = ap (λ (r : Run). r .starts) (back .same-run);
       lengths = ap (λ (r : Run). r .lengths) (back .same-run);
       aggregates = ap (λ (r : Run). r .aggregates) (back .same-run) ∙ ap zeros (length-map (tableIn label index) (λ range. range .start));

@@ -5,7 +5,6 @@ ghost use mathlib.Core.List.{[]};
 ghost use Prim.Native.Nat.{_≤_};
 ghost use lib.ListN.{length, take};
 ghost use Rattle.refusals.specs.Refusals.{firstOf};
-ghost use Rattle.runs.specs.declared.Rule.the-variants.{Least};
 ghost use Rattle.runs.specs.Run.{aloneOf};
 ghost use Rattle.texts.specs.Text.{isName};
 ghost use Rattle.writers.specs.Writing.{SheetWritten};
@@ -29,7 +28,6 @@ use refusals::Refusal;
 use refusals::Verdict;
 use refusals::refuse_if;
 use refusals::refused;
-use runs::Rule;
 use writers::Written;
 
 // The answer of a refusal: its kind and place, and every other number 0.
@@ -59,10 +57,10 @@ fn last_end(starts: &[u64], lengths: &[u64], kept: usize) -> u64
     starts[kept - 1] + lengths[kept - 1]
 }
 
-// The sheet of a table: no aggregates, no wants, turn price 0, the rule least.
+// The sheet of a table: no aggregates, no wants, turn price 0.
 fn write_table(name: &[u8], starts: &[u64], lengths: &[u64], head: u64, out: &mut [u8]) -> Written
     requires { ⌜ length (now starts) ≤ 256 ⌝ }
-    ensures { λ r. ⌜ SheetWritten (now (name .entry)) Least (aloneOf (now (starts .entry)) (now (lengths .entry)) [] [] head 0) (now (out .entry)) r (now (out .exit)) ⌝ }
+    ensures { λ r. ⌜ SheetWritten (now (name .entry)) (aloneOf (now (starts .entry)) (now (lengths .entry)) [] [] head 0) (now (out .entry)) r (now (out .exit)) ⌝ }
 {
     let zeros = [0u64; 256];
     let files = starts.len();
@@ -70,7 +68,6 @@ fn write_table(name: &[u8], starts: &[u64], lengths: &[u64], head: u64, out: &mu
     let wants = &none[..0];
     writers::write_sheet(
         name,
-        Rule::Least,
         starts,
         lengths,
         &zeros[..files],

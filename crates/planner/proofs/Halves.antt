@@ -1,4 +1,4 @@
--- A list as two rows, one of starts and one of ends: what its first entries are, and that the list of a rule is well formed.
+-- A list as two rows, one of starts and one of ends: what its first entries are, and that rows of a well-formed list are accepted.
 use Prim.Native.Nat.{ℕ, _≤_, _<_}
 use mathlib.Core.Path.{_≡_, refl, sym, ap, _∙_}
 use mathlib.Core.Bool.{false}
@@ -7,20 +7,11 @@ use native.Mathlib.Omega.{arith}
 use lib.ListN.{length, getD, take, drop, length-map, length-append, List·getD-append, List·getD-map}
 use lib.Seq.{take-at, drop-at}
 use borrow.Author.Tests.{eq-eqb}
-use Rattle.refusals.specs.Refusals.{firstWhere}
 use Rattle.refusals.proofs.Verdicts.{refuses}
-use Rattle.runs.specs.declared.Rule.{Rule}
-use Rattle.runs.specs.declared.Rule.the-variants.{Sweep, Least}
-use Rattle.runs.specs.Run.{Run, Stop, stopsOf}
-use Rattle.runs.specs.Lists.{Detour, listOf, listVerdict, entryOf, firstBadEntry, WellFormed}
-use Rattle.least.specs.Least.{ByRule}
+use Rattle.runs.specs.Run.{Stop}
+use Rattle.runs.specs.Lists.{Detour, listOf, listVerdict, entryOf, WellFormed}
 
--- The list of a rule is well formed, and its rows are accepted.
-pub rule-formed : (r : Run) (rule : Rule) (list : List Detour) → ByRule rule r list → WellFormed (stopsOf r) list
-unfolding firstBadEntry firstWhere
-rule-formed r Sweep list is = rw is
-rule-formed r Least list is = is .formed
-
+-- The rows of a well-formed list are accepted.
 pub list-accepted : (stops : List Stop) (froms tos : List ℕ) → length froms ≡ length tos → WellFormed stops (listOf froms tos) → refuses (listVerdict stops froms tos) ≡ false
 unfolding listVerdict
 list-accepted stops froms tos e w = rw (eq-eqb (length froms) (length tos) e, w)

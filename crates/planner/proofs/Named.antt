@@ -1,13 +1,11 @@
--- The list of the joined table, its stops named by their first files, is the list of the run.
+-- The least list of the joined table, its stops named by their first files, is the least list of the run.
 use Prim.Native.Nat.{ℕ, zero, suc, _-_, _<_}
 use mathlib.Core.Path.{_≡_, refl, sym, ap, _∙_, subst, fun-ext}
-use mathlib.Core.List.{List, [], _∷_, _++_, map, map-append}
+use mathlib.Core.List.{List, [], _∷_, _++_, map-append}
 use mathlib.Core.Bool.{false}
 use native.Mathlib.Omega.{arith}
 use lib.ListN.{length}
 use Rattle.refusals.proofs.Verdicts.{refuses}
-use Rattle.runs.specs.declared.Rule.{Rule}
-use Rattle.runs.specs.declared.Rule.the-variants.{Sweep, Least}
 use Rattle.runs.specs.Run.{Run, Stop, stopsOf, stopAt}
 use Rattle.runs.specs.Judging.{judgeOf}
 use Rattle.runs.specs.Lists.{Detour}
@@ -15,7 +13,7 @@ use Rattle.runs.proofs.Sound.{Sound}
 use Rattle.runs.proofs.Stops.{accepted-sound}
 use Rattle.joins.specs.Table.{joinedTable, renumbered, entryNamed, listNamed}
 use Rattle.joins.proofs.Table.{joined-stops, joined-accepted, renumbered-at, renumbered-length}
-use Rattle.least.specs.Least.{LeastFor, ByRule}
+use Rattle.least.specs.Least.{LeastFor, LeastForRun}
 use Rattle.least.specs.Recurrence.{Plan, empty, skip, detour, planDetours, fileAt, leftAt, rightAt, countAt, best, bestPlan, leastList}
 use Rattle.least.proofs.Plan.{Over}
 use Rattle.least.proofs.Best.{best-over}
@@ -74,17 +72,12 @@ named-least price (s ∷ ss) =
     ∙ ap (λ p. listNamed (s ∷ ss) (planDetours (fileAt (renumbered 1 (s ∷ ss))) p (length ss))) (sym (same-plan (s ∷ ss) price (length ss)))
     ∙ ap (λ n. listNamed (s ∷ ss) (planDetours (fileAt (renumbered 1 (s ∷ ss))) (bestPlan price (renumbered 1 (s ∷ ss)) n) n)) (sym size)
 
--- The list of a rule.
 module _ (r : Run) (accepts : refuses (judgeOf r) ≡ false) where
   numbered-sound : Sound (renumbered 1 (stopsOf r)) (r .head)
   numbered-sound = subst (λ ss. Sound ss (r .head)) (joined-stops r accepts) (accepted-sound (joinedTable r) (joined-accepted r accepts))
 
-  least-named : (list : List Detour) → LeastFor (r .turn) (r .head) (renumbered 1 (stopsOf r)) list → LeastFor (r .turn) (r .head) (stopsOf r) (listNamed (stopsOf r) list)
+  pub least-named : (list : List Detour) → LeastForRun (joinedTable r) list → LeastForRun r (listNamed (stopsOf r) list)
   least-named list least =
-      let one = least-unique (r .turn) (r .head) (renumbered 1 (stopsOf r)) list (leastList (r .turn) (renumbered 1 (stopsOf r))) least (least-list (r .turn) (r .head) (renumbered 1 (stopsOf r)) numbered-sound) in
+      let numbered = subst (λ ss. LeastFor (r .turn) (r .head) ss list) (joined-stops r accepts) least in
+      let one = least-unique (r .turn) (r .head) (renumbered 1 (stopsOf r)) list (leastList (r .turn) (renumbered 1 (stopsOf r))) numbered (least-list (r .turn) (r .head) (renumbered 1 (stopsOf r)) numbered-sound) in
       subst (LeastFor (r .turn) (r .head) (stopsOf r)) (named-least (r .turn) (stopsOf r) ∙ ap (listNamed (stopsOf r)) (sym one)) (least-list (r .turn) (r .head) (stopsOf r) (accepted-sound r accepts))
-
-  pub rule-named : (rule : Rule) (list : List Detour) → ByRule rule (joinedTable r) list → ByRule rule r (listNamed (stopsOf r) list)
-  unfolding listNamed
-  rule-named Sweep list e = ap (map (entryNamed (stopsOf r))) e
-  rule-named Least list least = least-named list (subst (λ ss. LeastFor (r .turn) (r .head) ss list) (joined-stops r accepts) least)

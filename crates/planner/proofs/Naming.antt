@@ -10,7 +10,6 @@ use Rattle.refusals.specs.declared.Refusal.the-variants.{ShortRow, ShortRoom}
 use Rattle.refusals.specs.declared.Verdict.{Verdict}
 use Rattle.refusals.specs.Refusals.{accepted, refuseIf, firstOf}
 use Rattle.refusals.proofs.Verdicts.{refuses, first-passes}
-use Rattle.runs.specs.declared.Rule.{Rule}
 use Rattle.runs.specs.Run.{Run, Stop, aloneOf, stopsOf, total}
 use Rattle.runs.specs.Judging.{judgeOf}
 use Rattle.runs.specs.Lists.{Detour, entryOf}
@@ -23,9 +22,9 @@ use Rattle.tables.specs.declared.Listed.{Listed}
 use Rattle.tables.specs.Listing.{ListRows, listRows, Lists, IsListed, NotListed, listingVerdict, shortListRows, roomSize}
 use Rattle.planner.specs.Plan.{roomFor}
 use Rattle.planner.specs.Private.{Holds, nameIn, stopsVerdict, ListsNamed}
-use Rattle.planner.proofs.Halves.{rule-formed, front, behind, holds-front, entry-in}
+use Rattle.planner.proofs.Halves.{front, behind, holds-front, entry-in}
 use Rattle.planner.proofs.Joined.{few-stops}
-use Rattle.planner.proofs.Named.{rule-named}
+use Rattle.planner.proofs.Named.{least-named}
 
 -- An answer that says a verdict where that refuses, and accepts where it does not, refuses where the verdict does.
 pub told : (v w : Verdict) → (refuses v ≡ true → w ≡ v) → (refuses v ≡ false → w ≡ accepted) → refuses w ≡ refuses v
@@ -84,22 +83,22 @@ module _ (r : Run) (firsts lefts spans reads : List ℕ) (head turn : ℕ) (h : 
   pub stops-fit : length firsts ≤ 64
   stops-fit = omega (arith, size, few-stops r (h .accepts))
 
-  module _ (rule : Rule) (before mid : ListRows) (l : Listed) (numbers : List ℕ) (counted : numbers ≡ countUp 1 (length firsts)) (engine : Lists (aloneOf lefts spans numbers reads head turn) rule before l mid) where
+  module _ (before mid : ListRows) (l : Listed) (numbers : List ℕ) (counted : numbers ≡ countUp 1 (length firsts)) (engine : Lists (aloneOf lefts spans numbers reads head turn) before l mid) where
     table-is : aloneOf lefts spans numbers reads head turn ≡ joinedTable r
     table-is = same-table (h .starts) (h .lengths) (counted ∙ ap (countUp 1) size) (h .counts) (h .at-head) (h .at-price)
       where
         same-table : {a a′ b b′ c c′ d d′ : List ℕ} {m m′ u u′ : ℕ} → a ≡ a′ → b ≡ b′ → c ≡ c′ → d ≡ d′ → m ≡ m′ → u ≡ u′ → aloneOf a b c d m u ≡ aloneOf a′ b′ c′ d′ m′ u′
         same-table p q s t x y = rw (p, q, s, t, x, y) refl
 
-    lists : Lists (joinedTable r) rule before l mid
-    lists = subst (λ t. Lists t rule before l mid) table-is engine
+    lists : Lists (joinedTable r) before l mid
+    lists = subst (λ t. Lists t before l mid) table-is engine
 
     answers : refuses (l .verdict) ≡ refuses (stopsVerdict r before)
     answers =
         told (listingVerdict (joinedTable r) before) (l .verdict) (λ e. ap (λ x. x .verdict) (lists .refused e .says)) (λ e. ap (λ x. x .verdict) (lists .listed e .says))
         ∙ ap refuses (verdict-same r (h .accepts) before)
 
-    pub named-refused : refuses (l .verdict) ≡ true → ListsNamed r rule before l mid
+    pub named-refused : refuses (l .verdict) ≡ true → ListsNamed r before l mid
     named-refused e =
         record {
           refused = λ q. subst (λ v. NotListed v before l mid) (verdict-same r (h .accepts) before) (lists .refused (ap refuses (verdict-same r (h .accepts) before) ∙ q));
@@ -107,7 +106,7 @@ module _ (r : Run) (firsts lefts spans reads : List ℕ) (head turn : ℕ) (h : 
         }
 
     module _ (passes : refuses (l .verdict) ≡ false) where
-      is-listed : IsListed (joinedTable r) rule before l mid
+      is-listed : IsListed (joinedTable r) before l mid
       is-listed = lists .listed (ap refuses (verdict-same r (h .accepts) before) ∙ sym answers ∙ passes)
 
       n-is : l .detours ≡ length (is-listed .list)
@@ -120,7 +119,7 @@ module _ (r : Run) (firsts lefts spans reads : List ℕ) (head turn : ℕ) (h : 
       within : (i : ℕ) → i < l .detours → InTable (stopsOf r) (r .head) sound (entryOf (is-listed .list) i)
       within i b =
           formed-within (stopsOf r) (r .head) sound (is-listed .list)
-          (rw (joined-stops r (h .accepts)) at (rule-formed (joinedTable r) rule (is-listed .list) (is-listed .by-rule))) i (omega (arith, n-is))
+          (rw (joined-stops r (h .accepts)) at (is-listed .least .formed)) i (omega (arith, n-is))
 
       pub record Nameable (row : List ℕ) : Type 0 where
         pub long : l .detours ≤ length row
@@ -142,14 +141,14 @@ module _ (r : Run) (firsts lefts spans reads : List ℕ) (head turn : ℕ) (h : 
       tos-nameable = nameable (λ d. d .to) refl (λ i b. within i b .to) (before .tos) (mid .tos) (ap (λ x. x .tos) (is-listed .rows))
 
       pub named-listed : (froms tos : List ℕ) → froms ≡ map (nameIn firsts) (take (l .detours) (mid .froms)) ++ drop (l .detours) (mid .froms)
-          → tos ≡ map (nameIn firsts) (take (l .detours) (mid .tos)) ++ drop (l .detours) (mid .tos) → ListsNamed r rule before l (listRows froms tos (mid .room))
+          → tos ≡ map (nameIn firsts) (take (l .detours) (mid .tos)) ++ drop (l .detours) (mid .tos) → ListsNamed r before l (listRows froms tos (mid .room))
       named-listed froms tos froms-are tos-are =
           record {
             refused = λ q. absurd (true≢false (sym q ∙ sym answers ∙ passes));
             listed = λ q.
                 record {
                   list = listNamed (stopsOf r) (is-listed .list);
-                  by-rule = rule-named r (h .accepts) rule (is-listed .list) (is-listed .by-rule);
+                  least = least-named r (h .accepts) (is-listed .list) (is-listed .least);
                   says = is-listed .says ∙ ap (λ n. record { verdict = accepted; detours = n }) (sym (named-length (stopsOf r) (is-listed .list)));
                   rows = rows-are (half (λ d. d .from) (λ d. refl) (before .froms) (mid .froms) froms froms-are (ap (λ x. x .froms) (is-listed .rows))) (half (λ d. d .to) (λ d. refl) (before .tos) (mid .tos) tos tos-are (ap (λ x. x .tos) (is-listed .rows))) room-is;
                 };

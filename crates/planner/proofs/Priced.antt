@@ -7,7 +7,6 @@ use lib.ListN.{length, take, drop}
 use borrow.Author.Tests.{le-ltb}
 use Rattle.refusals.specs.Refusals.{isRefusal}
 use Rattle.refusals.proofs.Verdicts.{refuses}
-use Rattle.runs.specs.declared.Rule.{Rule}
 use Rattle.runs.specs.Run.{Run, stopsOf}
 use Rattle.runs.specs.Judging.{judgeOf}
 use Rattle.runs.specs.Lists.{listOf, WellFormed}
@@ -17,7 +16,7 @@ use Rattle.tables.specs.declared.Listed.{Listed}
 use Rattle.tables.specs.Listing.{listRows}
 use Rattle.planner.specs.Plan.{Rows, rowsOf, readsIn, Planned}
 use Rattle.planner.specs.Private.{IsNamed}
-use Rattle.planner.proofs.Halves.{rule-formed, list-accepted, list-of-halves, halves-even, front, holds-front}
+use Rattle.planner.proofs.Halves.{list-accepted, list-of-halves, halves-even, front, holds-front}
 use Rattle.planner.proofs.Refusals.{engineRows}
 
 price-accepted : (r : Run) (froms tos : List ℕ) (rows : ReadRows) → isRefusal (judgeOf r .refusal) ≡ false → length froms ≡ length tos → WellFormed (stopsOf r) (listOf froms tos)
@@ -26,8 +25,8 @@ unfolding priceVerdict
 price-accepted r froms tos rows a e w l k =
     rw (a, list-accepted (stopsOf r) froms tos e w, le-ltb (length (rows .times)) (length (r .numbers)) l, le-ltb (length (rows .legs)) (length (r .numbers)) k)
 
-module _ (r : Run) (rule : Rule) (rows : Rows) (accepts : isRefusal (judgeOf r .refusal) ≡ false) (long : length (r .numbers) ≤ length (rows .times))
-    (long-legs : length (r .numbers) ≤ length (rows .legs)) (l : Listed) (froms′ tos′ room′ : List ℕ) (listed : IsNamed r rule (engineRows rows) l (listRows froms′ tos′ room′)) where
+module _ (r : Run) (rows : Rows) (accepts : isRefusal (judgeOf r .refusal) ≡ false) (long : length (r .numbers) ≤ length (rows .times))
+    (long-legs : length (r .numbers) ≤ length (rows .legs)) (l : Listed) (froms′ tos′ room′ : List ℕ) (listed : IsNamed r (engineRows rows) l (listRows froms′ tos′ room′)) where
   n-is : l .detours ≡ length (listed .list)
   n-is = ap (λ x. x .detours) (listed .says)
 
@@ -59,18 +58,18 @@ module _ (r : Run) (rule : Rule) (rows : Rows) (accepts : isRefusal (judgeOf r .
   priced =
       price-accepted r (take (l .detours) froms′) (take (l .detours) tos′) (readsIn rows) accepts
       (rw (froms-front, tos-front) (halves-even (λ d. d .from) (λ d. d .to) (listed .list)))
-      (rw priced-list (rule-formed r rule (listed .list) (listed .by-rule))) long long-legs
+      (rw priced-list (listed .least .formed)) long long-legs
 
   -- The pricer's answer for the list is the planner's.
   pub planned-so : (answer : Answer) (times′ legs′ : List ℕ) → answer ≡ priceAnswer r (take (l .detours) froms′) (take (l .detours) tos′) (readsIn rows)
       → readRows times′ legs′ ≡ priceRows r (take (l .detours) froms′) (take (l .detours) tos′) (readsIn rows)
-      → Planned r rule rows answer (rowsOf froms′ tos′ times′ legs′ room′)
+      → Planned r rows answer (rowsOf froms′ tos′ times′ legs′ room′)
   unfolding priceAnswer priceRows
   planned-so answer times′ legs′ a t =
       let reads = rw (priced, priced-list) at t in
       record {
         list = listed .list;
-        by-rule = listed .by-rule;
+        least = listed .least;
         says = rw (priced, priced-list) at a;
         rows = rows-are froms-are tos-are (ap (λ x. x .times) reads) (ap (λ x. x .legs) reads) (ap (λ x. x .room) (listed .rows));
       }

@@ -10,7 +10,6 @@ use Rattle.refusals.specs.declared.Refusal.the-variants.{ShortRow, ShortRoom}
 use Rattle.refusals.specs.declared.Verdict.{Verdict}
 use Rattle.refusals.specs.Refusals.{isRefusal, refuseIf, firstOf}
 use Rattle.refusals.proofs.Verdicts.{refuses, first-refuses, first-passes, test-says}
-use Rattle.runs.specs.declared.Rule.{Rule}
 use Rattle.runs.specs.Run.{Run, stopsOf}
 use Rattle.runs.specs.Judging.{judgeOf}
 use Rattle.walk.specs.declared.Answer.{Answer}
@@ -25,8 +24,8 @@ use Rattle.planner.proofs.Naming.{told}
 abbrev pub engineRows : Rows → ListRows
 engineRows rows = listRows (rows .froms) (rows .tos) (rows .room)
 
-module _ (r : Run) (rule : Rule) (rows : Rows) where
-  refused-so : (v : Verdict) → v ≡ planVerdict r rows → refuses v ≡ true → (a : Answer) → a ≡ refusalAnswer v → (after : Rows) → after ≡ rows → Plans r rule rows a after
+module _ (r : Run) (rows : Rows) where
+  refused-so : (v : Verdict) → v ≡ planVerdict r rows → refuses v ≡ true → (a : Answer) → a ≡ refusalAnswer v → (after : Rows) → after ≡ rows → Plans r rows a after
   refused-so v e h a s after kept =
       record {
         refused = λ q. record { says = rw e at s; kept = kept };
@@ -37,7 +36,7 @@ module _ (r : Run) (rule : Rule) (rows : Rows) where
   later = refuseIf (shortRows (length (r .numbers)) (length (stopsOf r)) rows) ShortRow ∷ refuseIf (ltb (length (rows .room)) (roomFor r)) ShortRoom ∷ []
 
   module _ (v : Verdict) (f : Bool) (v-is : v ≡ judgeOf r) (f-is : f ≡ isRefusal (v .refusal)) where
-    pub run-refused : f ≡ true → (a : Answer) → a ≡ refusalAnswer v → Plans r rule rows a rows
+    pub run-refused : f ≡ true → (a : Answer) → a ≡ refusalAnswer v → Plans r rows a rows
     unfolding planVerdict later
     run-refused e a s = refused-so v (v-is ∙ first-refuses (judgeOf r) later (test-says v-is f-is e)) (sym f-is ∙ e) a s rows refl
 
@@ -48,14 +47,14 @@ module _ (r : Run) (rule : Rule) (rows : Rows) where
     unfolding planVerdict later
     passes-run e = first-passes (judgeOf r) later (test-says v-is f-is e)
 
-    reads-refused : f ≡ false → shortReadRows (length (r .numbers)) (readsIn rows) ≡ true → (a : Answer) → a ≡ refusalAnswer (record { refusal = ShortRow; place = 0 }) → Plans r rule rows a rows
+    reads-refused : f ≡ false → shortReadRows (length (r .numbers)) (readsIn rows) ≡ true → (a : Answer) → a ≡ refusalAnswer (record { refusal = ShortRow; place = 0 }) → Plans r rows a rows
     unfolding later
     reads-refused e short a s = refused-so (record { refusal = ShortRow; place = 0 }) (sym (passes-run e ∙ rw short)) refl a s rows refl
 
-    pub times-refused : f ≡ false → length (rows .times) < length (r .numbers) → (a : Answer) → a ≡ refusalAnswer (record { refusal = ShortRow; place = 0 }) → Plans r rule rows a rows
+    pub times-refused : f ≡ false → length (rows .times) < length (r .numbers) → (a : Answer) → a ≡ refusalAnswer (record { refusal = ShortRow; place = 0 }) → Plans r rows a rows
     times-refused e short a s = reads-refused e (rw (lt-ltb (length (rows .times)) (length (r .numbers)) short)) a s
 
-    pub legs-refused : f ≡ false → length (rows .legs) < length (r .numbers) → (a : Answer) → a ≡ refusalAnswer (record { refusal = ShortRow; place = 0 }) → Plans r rule rows a rows
+    pub legs-refused : f ≡ false → length (rows .legs) < length (r .numbers) → (a : Answer) → a ≡ refusalAnswer (record { refusal = ShortRow; place = 0 }) → Plans r rows a rows
     legs-refused e short a s = reads-refused e (rw (lt-ltb (length (rows .legs)) (length (r .numbers)) short, or-true)) a s
 
     module _ (passed : f ≡ false) (long : length (r .numbers) ≤ length (rows .times)) (long-legs : length (r .numbers) ≤ length (rows .legs)) where
@@ -64,7 +63,7 @@ module _ (r : Run) (rule : Rule) (rows : Rows) where
       unfolding later
       engine-decides = rw (le-ltb (length (rows .times)) (length (r .numbers)) long, le-ltb (length (rows .legs)) (length (r .numbers)) long-legs) at (sym (passes-run passed))
 
-      module _ (l : Listed) (after : ListRows) (lists : ListsNamed r rule (engineRows rows) l after) (g : Bool) (g-is : g ≡ isRefusal (l .verdict .refusal)) where
+      module _ (l : Listed) (after : ListRows) (lists : ListsNamed r (engineRows rows) l after) (g : Bool) (g-is : g ≡ isRefusal (l .verdict .refusal)) where
         -- The engine's answer refuses just where its verdict does.
         answers : g ≡ refuses (stopsVerdict r (engineRows rows))
         answers =
@@ -72,7 +71,7 @@ module _ (r : Run) (rule : Rule) (rows : Rows) where
             ∙ told (stopsVerdict r (engineRows rows)) (l .verdict) (λ e. ap (λ x. x .verdict) (lists .refused e .says)) (λ e. ap (λ x. x .verdict) (lists .listed e .says))
 
         pub engine-refused : g ≡ true → (a : Answer) → a ≡ refusalAnswer (l .verdict) → (froms tos room : List ℕ) → after ≡ listRows froms tos room
-            → Plans r rule rows a (rowsOf froms tos (rows .times) (rows .legs) room)
+            → Plans r rows a (rowsOf froms tos (rows .times) (rows .legs) room)
         engine-refused e a s froms tos room is =
             let no = lists .refused (sym answers ∙ e) in
             let v-says = ap (λ x. x .verdict) (no .says) ∙ engine-decides in
@@ -83,10 +82,10 @@ module _ (r : Run) (rule : Rule) (rows : Rows) where
             rows-are : {x y z : List ℕ} → x ≡ rows .froms → y ≡ rows .tos → z ≡ rows .room → rowsOf x y (rows .times) (rows .legs) z ≡ rows
             rows-are e f g = rw (e, f, g)
 
-        pub engine-listed : g ≡ false → IsNamed r rule (engineRows rows) l after
+        pub engine-listed : g ≡ false → IsNamed r (engineRows rows) l after
         engine-listed e = lists .listed (sym answers ∙ e)
 
-        pub run-planned : g ≡ false → (a : Answer) (end : Rows) → Planned r rule rows a end → Plans r rule rows a end
+        pub run-planned : g ≡ false → (a : Answer) (end : Rows) → Planned r rows a end → Plans r rows a end
         run-planned e a end p =
             let accepts : refuses (planVerdict r rows) ≡ false = ap refuses (sym engine-decides) ∙ sym answers ∙ e in
             record { refused = λ q. absurd (true≢false (sym q ∙ accepts)); planned = λ q. p }

@@ -1,4 +1,4 @@
--- What the planner answers, for every input: the first refusal that applies and nothing changed, or the list of the rule with its walk's numbers, and every row afterwards.
+-- What the planner answers, for every input: the first refusal that applies and nothing changed, or the least list with its walk's numbers, and every row afterwards.
 use Prim.Native.Nat.{ℕ, _+_, _-_, _*_}
 use mathlib.Core.Path.{_≡_}
 use mathlib.Core.Bool.{Bool, true, false, _||_}
@@ -14,8 +14,7 @@ use Rattle.runs.specs.Run.{Run, Row, total, stopsOf}
 use Rattle.runs.specs.Judging.{judgeOf}
 use Rattle.runs.specs.Lists.{Detour}
 use Rattle.walk.specs.Price.{refusalAnswer, pricedAnswer, pricedTimes, pricedLegs, ReadRows, readRows, shortReadRows}
-use Rattle.least.specs.Least.{ByRule}
-use Rattle.runs.specs.declared.Rule.{Rule}
+use Rattle.least.specs.Least.{LeastForRun}
 
 -- The lent rows: for starts, ends, times and legs, and the working room.
 pub record Rows : Type 0 where
@@ -47,7 +46,7 @@ roomFor r = length (stopsOf r) * length (stopsOf r) * (total (r .counts) + 1)
 abbrev pub shortRows : ℕ → ℕ → Rows → Bool
 shortRows wants stops rows = shortReadRows wants (readsIn rows) || ltb (length (rows .froms)) (stops - 1) || ltb (length (rows .tos)) (stops - 1)
 
--- The planner's refusals, under either rule: 1 to 7, then 8, then 9.
+-- The planner's refusals: 1 to 7, then 8, then 9.
 unfoldable pub planVerdict : Run → Rows → Verdict
 planVerdict r rows =
     firstOf
@@ -72,12 +71,12 @@ pub record Refused (v : Verdict) (before : Rows) (answer : Answer) (after : Rows
   pub says : answer ≡ refusalAnswer v
   pub kept : after ≡ before
 
-pub record Planned (r : Run) (rule : Rule) (before : Rows) (answer : Answer) (after : Rows) : Type 0 where
+pub record Planned (r : Run) (before : Rows) (answer : Answer) (after : Rows) : Type 0 where
   pub list : List Detour
-  pub by-rule : ByRule rule r list
+  pub least : LeastForRun r list
   pub says : answer ≡ pricedAnswer r list
   pub rows : after ≡ rowsWith r list before
 
-pub record Plans (r : Run) (rule : Rule) (before : Rows) (answer : Answer) (after : Rows) : Type 0 where
+pub record Plans (r : Run) (before : Rows) (answer : Answer) (after : Rows) : Type 0 where
   pub refused : isRefusal (planVerdict r before .refusal) ≡ true → Refused (planVerdict r before) before answer after
-  pub planned : isRefusal (planVerdict r before .refusal) ≡ false → Planned r rule before answer after
+  pub planned : isRefusal (planVerdict r before .refusal) ≡ false → Planned r before answer after

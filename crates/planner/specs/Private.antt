@@ -8,12 +8,11 @@ use lib.Dec.{ltb}
 use Rattle.refusals.specs.declared.Refusal.the-variants.{ShortRow, ShortRoom}
 use Rattle.refusals.specs.declared.Verdict.{Verdict}
 use Rattle.refusals.specs.Refusals.{isRefusal, accepted, refuseIf, firstOf}
-use Rattle.runs.specs.declared.Rule.{Rule}
 use Rattle.runs.specs.Run.{Run, stopsOf}
 use Rattle.runs.specs.Judging.{judgeOf}
 use Rattle.runs.specs.Lists.{Detour}
 use Rattle.joins.specs.Joining.{lengthOf}
-use Rattle.least.specs.Least.{ByRule}
+use Rattle.least.specs.Least.{LeastForRun}
 use Rattle.tables.specs.declared.Listed.{Listed}
 use Rattle.tables.specs.Listing.{ListRows, shortListRows, NotListed}
 use Rattle.planner.specs.Plan.{roomFor}
@@ -49,13 +48,13 @@ namedRows r list rows =
       room = replicate (roomFor r) 0 ++ drop (roomFor r) (rows .room);
     }
 
-pub record IsNamed (r : Run) (rule : Rule) (before : ListRows) (answer : Listed) (after : ListRows) : Type 0 where
+pub record IsNamed (r : Run) (before : ListRows) (answer : Listed) (after : ListRows) : Type 0 where
   pub list : List Detour
-  pub by-rule : ByRule rule r list
+  pub least : LeastForRun r list
   pub says : answer ≡ record { verdict = accepted; detours = length list }
   pub rows : after ≡ namedRows r list before
 
--- The list by first files: a refusal and nothing changed, or the list of the rule.
-pub record ListsNamed (r : Run) (rule : Rule) (before : ListRows) (answer : Listed) (after : ListRows) : Type 0 where
+-- The list by first files: a refusal and nothing changed, or the least list.
+pub record ListsNamed (r : Run) (before : ListRows) (answer : Listed) (after : ListRows) : Type 0 where
   pub refused : isRefusal (stopsVerdict r before .refusal) ≡ true → NotListed (stopsVerdict r before) before answer after
-  pub listed : isRefusal (stopsVerdict r before .refusal) ≡ false → IsNamed r rule before answer after
+  pub listed : isRefusal (stopsVerdict r before .refusal) ≡ false → IsNamed r before answer after

@@ -1,4 +1,4 @@
-// planner: the plan of a run. It stands on the promises of the joining, of the table engine and of the pricer: the list of the rule over the
+// planner: the plan of a run. It stands on the promises of the joining, of the table engine and of the pricer: the least list over the
 // run's stops, then that list's own price. All is judged before the first write.
 ghost use mathlib.Core.Path.{_≡_};
 ghost use mathlib.Core.List.{map, _++_};
@@ -12,7 +12,6 @@ ghost use Rattle.planner.specs.Private.{Holds, HoldsSome, nameIn, ListsN
 use refusals::Refusal;
 use refusals::Verdict;
 use refusals::refused;
-use runs::Rule;
 use tables::Listed;
 use walk::Answer;
 
@@ -41,7 +40,7 @@ fn name_files(firsts: &[u64], row: &mut [u64], entries: usize)
     }
 }
 
-// The list of a run whose stops four rows hold: that of the joined table, by first files.
+// The least list of a run whose stops four rows hold: that of the joined table, by first files.
 fn list_named(
     firsts: &[u64],
     lefts: &[u64],
@@ -49,13 +48,12 @@ fn list_named(
     reads: &[u64],
     head: u64,
     turn: u64,
-    rule: Rule,
     froms: &mut [u64],
     tos: &mut [u64],
     room: &mut [u64],
 ) -> Listed
     requires { ⌜ HoldsSome (now firsts) (now lefts) (now spans) (now reads) head turn ⌝ }
-    ensures { λ l. ⌜ ((r : Run) → Holds r (now (firsts .entry)) (now (lefts .entry)) (now (spans .entry)) (now (reads .entry)) head turn → ListsNamed r rule (listRowsBefore froms tos room) l (listRowsAfter froms tos room)) ⌝ }
+    ensures { λ l. ⌜ ((r : Run) → Holds r (now (firsts .entry)) (now (lefts .entry)) (now (spans .entry)) (now (reads .entry)) head turn → ListsNamed r (listRowsBefore froms tos room) l (listRowsAfter froms tos room)) ⌝ }
 {
     let mut numbers = [0u64; 64];
     count_up(&mut numbers);
@@ -67,7 +65,6 @@ fn list_named(
         reads,
         head,
         turn,
-        rule,
         froms,
         tos,
         room,
@@ -91,14 +88,13 @@ pub fn plan(
     counts: &[u64],
     head: u64,
     turn: u64,
-    rule: Rule,
     froms: &mut [u64],
     tos: &mut [u64],
     times: &mut [u64],
     legs: &mut [u64],
     room: &mut [u64],
 ) -> Answer
-    ensures { λ r. ⌜ Plans (runAt starts lengths aggregates numbers counts head turn) rule (rowsBefore froms tos times legs room) r (rowsAfter froms tos times legs room) ⌝ }
+    ensures { λ r. ⌜ Plans (runAt starts lengths aggregates numbers counts head turn) (rowsBefore froms tos times legs room) r (rowsAfter froms tos times legs room) ⌝ }
 {
     let mut firsts = [0u64; 64];
     let mut lefts = [0u64; 64];
@@ -141,7 +137,6 @@ pub fn plan(
         &reads[..k],
         head,
         turn,
-        rule,
         froms,
         tos,
         room,

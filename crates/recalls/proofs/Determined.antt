@@ -5,32 +5,31 @@ use mathlib.Core.Bool.{Bool, true, false}
 use mathlib.Core.List.{List, map}
 use Rattle.refusals.specs.declared.Verdict.{Verdict}
 use Rattle.refusals.specs.Refusals.{isRefusal}
-use Rattle.runs.specs.declared.Rule.{Rule}
-use Rattle.runs.specs.Run.{Run}
-use Rattle.tables.proofs.Determined.{rule-unique}
+use Rattle.runs.specs.Run.{Run, stopsOf}
+use Rattle.least.proofs.LeastList.{least-unique}
 use Rattle.writers.specs.PlanSheet.{planText}
 use Rattle.recalls.specs.Recall.{PlanOf, Answers, Recalled, SheetRecalled, bytesPut, rowPut}
 
-module _ (v : Verdict) (name : List ℕ) (run : Run) (rule : Rule) where
-  plan-once : (text text′ : List ℕ) → PlanOf name run rule text → PlanOf name run rule text′ → text ≡ text′
+module _ (v : Verdict) (name : List ℕ) (run : Run) where
+  plan-once : (text text′ : List ℕ) → PlanOf name run text → PlanOf name run text′ → text ≡ text′
   plan-once text text′ p q =
       p .says
-      ∙ ap (λ l. planText name run (map (λ d. d .from) l) (map (λ d. d .to) l)) (rule-unique rule run (p .list) (q .list) (p .by-rule) (q .by-rule))
+      ∙ ap (λ l. planText name run (map (λ d. d .from) l) (map (λ d. d .to) l)) (least-unique (run .turn) (run .head) (stopsOf run) (p .list) (q .list) (p .least) (q .least))
       ∙ sym (q .says)
 
   -- One text answers.
-  pub answer-once : (text text′ : List ℕ) → Answers v name run rule text → Answers v name run rule text′ → text ≡ text′
+  pub answer-once : (text text′ : List ℕ) → Answers v name run text → Answers v name run text′ → text ≡ text′
   answer-once text text′ p q = go (isRefusal (v .refusal)) refl
     where
       go : (b : Bool) → isRefusal (v .refusal) ≡ b → text ≡ text′
       go true e = p .refused e ∙ sym (q .refused e)
       go false e = plan-once text text′ (p .planned e) (q .planned e)
 
-  pub recalled-once : (row : List ℕ) (n n′ : ℕ) (row′ row″ : List ℕ) → Recalled v name run rule row n row′ → Recalled v name run rule row n′ row″ → (n ≡ n′) × (row′ ≡ row″)
+  pub recalled-once : (row : List ℕ) (n n′ : ℕ) (row′ row″ : List ℕ) → Recalled v name run row n row′ → Recalled v name run row n′ row″ → (n ≡ n′) × (row′ ≡ row″)
   recalled-once row n n′ row′ row″ p q =
       let e = answer-once (p .text) (q .text) (p .answers) (q .answers) in
       (p .bytes ∙ ap (λ t. bytesPut t row) e ∙ sym (q .bytes), p .left ∙ ap (λ t. rowPut t row) e ∙ sym (q .left))
 
 -- Two results that fit the contract are equal.
 pub recall-determined : (sheet row : List ℕ) (n n′ : ℕ) (row′ row″ : List ℕ) → SheetRecalled sheet row n row′ → SheetRecalled sheet row n′ row″ → (n ≡ n′) × (row′ ≡ row″)
-recall-determined sheet row n n′ row′ row″ p q = recalled-once _ _ _ _ row n n′ row′ row″ p q
+recall-determined sheet row n n′ row′ row″ p q = recalled-once _ _ _ row n n′ row′ row″ p q

@@ -11,7 +11,6 @@ use Rattle.refusals.specs.declared.Refusal.the-variants.{ShortRow, ShortRoom, B
 use Rattle.refusals.specs.declared.Verdict.{Verdict}
 use Rattle.refusals.specs.Refusals.{isRefusal, accepted, refuseIf, firstOf}
 use Rattle.refusals.proofs.Verdicts.{refuses, AllAccept, all-accept, none-refuses}
-use Rattle.runs.specs.declared.Rule.{Rule}
 use Rattle.runs.specs.Run.{Run, stopsOf}
 use Rattle.runs.specs.Judging.{judgeOf}
 use Rattle.runs.specs.Lists.{Detour, listOf, listVerdict}
@@ -20,7 +19,7 @@ use Rattle.runs.proofs.Stops.{stops-few}
 use Rattle.walk.specs.declared.Answer.{Answer}
 use Rattle.walk.specs.Price.{refusalAnswer, pricedAnswer}
 use Rattle.planner.specs.Plan.{Rows, rowsOf, Plans, Planned, planVerdict}
-use Rattle.planner.proofs.Halves.{rule-formed, list-accepted, list-of-halves, halves-even, front, holds-front}
+use Rattle.planner.proofs.Halves.{list-accepted, list-of-halves, halves-even, front, holds-front}
 use Rattle.texts.specs.Text.{isName}
 use Rattle.writers.specs.declared.Written.{Written}
 use Rattle.writers.specs.Writing.{Handed, rowVerdict, writtenAnswer, writtenRow}
@@ -47,14 +46,14 @@ module _ (text row : List ℕ) (w : Written) (row′ : List ℕ) (h : Handed (ro
       go true e = rw e
       go false e = rw e
 
-  pub handed-out : (v : Verdict) (name : List ℕ) (run : Run) (rule : Rule) → Answers v name run rule text → Recalled v name run rule row (w .bytes) row′
-  handed-out v name run rule a = record { text = text; answers = a; bytes = handed-bytes; left = handed-row }
+  pub handed-out : (v : Verdict) (name : List ℕ) (run : Run) → Answers v name run text → Recalled v name run row (w .bytes) row′
+  handed-out v name run a = record { text = text; answers = a; bytes = handed-bytes; left = handed-row }
 
 -- The lines of a verdict that refuses.
-pub refused-out : (v w : Verdict) → w ≡ v → refuses w ≡ true → (name : List ℕ) (run : Run) (rule : Rule) (row : List ℕ) (out : Written) (row′ : List ℕ)
-    → Handed (rowVerdict (refusalText w) row) (refusalText w) row out row′ → Recalled v name run rule row (out .bytes) row′
-refused-out v w e r name run rule row out row′ h =
-    handed-out (refusalText w) row out row′ h v name run rule
+pub refused-out : (v w : Verdict) → w ≡ v → refuses w ≡ true → (name : List ℕ) (run : Run) (row : List ℕ) (out : Written) (row′ : List ℕ)
+    → Handed (rowVerdict (refusalText w) row) (refusalText w) row out row′ → Recalled v name run row (out .bytes) row′
+refused-out v w e r name run row out row′ h =
+    handed-out (refusalText w) row out row′ h v name run
     (record { refused = λ q. ap refusalText e; planned = λ q. absurd (true≢false (sym r ∙ ap refuses e ∙ q)) })
 
 -- The program's rows.
@@ -65,7 +64,7 @@ pub record Lent (rows : Rows) : Type 0 where
   pub legs : length (rows .legs) ≡ 64
   pub room : length (rows .room) ≡ roomWords
 
-module _ (run : Run) (rule : Rule) (rows : Rows) (lent : Lent rows) where
+module _ (run : Run) (rows : Rows) (lent : Lent rows) where
   -- No row is too short.
   run-verdict : planVerdict run rows ≡ firstOf (runChecks run)
   unfolding planVerdict
@@ -78,7 +77,7 @@ module _ (run : Run) (rule : Rule) (rows : Rows) (lent : Lent rows) where
           let stops = stops-few run (accepted-run run e) in
           rw (e, le-ltb (length (rows .times)) (length (run .numbers)) (omega (arith, few, lent .times)), le-ltb (length (rows .legs)) (length (run .numbers)) (omega (arith, few, lent .legs)), le-ltb (length (rows .froms)) (length (stopsOf run) - 1) (omega (arith, few, stops, lent .froms)), le-ltb (length (rows .tos)) (length (stopsOf run) - 1) (omega (arith, few, stops, lent .tos)), lent .room)
 
-  module _ (a : Answer) (after : Rows) (plans : Plans run rule rows a after) (f : Bool) (f-is : f ≡ isRefusal (a .refusal)) where
+  module _ (a : Answer) (after : Rows) (plans : Plans run rows a after) (f : Bool) (f-is : f ≡ isRefusal (a .refusal)) where
     -- The planner's answer refuses just where its verdict does.
     says-verdict : (b : Bool) → isRefusal (planVerdict run rows .refusal) ≡ b → f ≡ b
     unfolding pricedAnswer
@@ -89,14 +88,14 @@ module _ (run : Run) (rule : Rule) (rows : Rows) (lent : Lent rows) where
     verdict-says = sym (says-verdict (isRefusal (planVerdict run rows .refusal)) refl)
 
     pub run-refused : f ≡ true → (name row : List ℕ) (w : Verdict) → w ≡ record { refusal = a .refusal; place = a .place } → (out : Written) (row′ : List ℕ)
-        → Handed (rowVerdict (refusalText w) row) (refusalText w) row out row′ → RunRecalled name run rule row (out .bytes) row′
+        → Handed (rowVerdict (refusalText w) row) (refusalText w) row out row′ → RunRecalled name run row (out .bytes) row′
     run-refused e name row w w-is out row′ h =
         let says = plans .refused (verdict-says ∙ e) .says in
         let is : w ≡ firstOf (runChecks run) = w-is ∙ ap (λ x. record { refusal = x .refusal; place = x .place }) says ∙ run-verdict in
-        refused-out (firstOf (runChecks run)) w is (ap refuses w-is ∙ sym f-is ∙ e) name run rule row out row′ h
+        refused-out (firstOf (runChecks run)) w is (ap refuses w-is ∙ sym f-is ∙ e) name run row out row′ h
 
     module _ (passed : f ≡ false) where
-      planned : Planned run rule rows a after
+      planned : Planned run rows a after
       planned = plans .planned (verdict-says ∙ passed)
 
       accepts : refuses (firstOf (runChecks run)) ≡ false
@@ -128,7 +127,7 @@ module _ (run : Run) (rule : Rule) (rows : Rows) (lent : Lent rows) where
       list-passes : refuses (listVerdict (stopsOf run) (map (λ d. d .from) (planned .list)) (map (λ d. d .to) (planned .list))) ≡ false
       list-passes =
           list-accepted (stopsOf run) (map (λ d. d .from) (planned .list)) (map (λ d. d .to) (planned .list)) (halves-even (λ d. d .from) (λ d. d .to) (planned .list))
-          (rw (list-of-halves (planned .list)) (rule-formed run rule (planned .list) (planned .by-rule)))
+          (rw (list-of-halves (planned .list)) (planned .least .formed))
 
       run-passes : refuses (judgeOf run) ≡ false
       run-passes = all-accept (runChecks run) accepts .0
@@ -142,9 +141,9 @@ module _ (run : Run) (rule : Rule) (rows : Rows) (lent : Lent rows) where
 
       pub run-recalled : (name row : List ℕ) → isName name ≡ true → (out : Written) (row′ : List ℕ)
           → Handed (planSheetVerdict name run (take (a .detours) (after .froms)) (take (a .detours) (after .tos)) row) (planText name run (take (a .detours) (after .froms)) (take (a .detours) (after .tos))) row out row′
-          → RunRecalled name run rule row (out .bytes) row′
+          → RunRecalled name run row (out .bytes) row′
       run-recalled name row named out row′ h =
           handed-out (planText name run (map (λ d. d .from) (planned .list)) (map (λ d. d .to) (planned .list))) row out row′
           (rw (listed-froms, listed-tos, row-decides name row named) at h)
-          (firstOf (runChecks run)) name run rule
-          (record { refused = λ q. absurd (true≢false (sym q ∙ accepts)); planned = λ q. record { list = planned .list; by-rule = planned .by-rule; says = refl } })
+          (firstOf (runChecks run)) name run
+          (record { refused = λ q. absurd (true≢false (sym q ∙ accepts)); planned = λ q. record { list = planned .list; least = planned .least; says = refl } })

@@ -2,22 +2,23 @@
 use Prim.Native.Nat.{ℕ, _+_, _≤_}
 use mathlib.Core.Path.{_≡_, refl, sym, ap, _∙_, subst}
 use mathlib.Core.Bool.{Bool, true, false}
-use mathlib.Core.List.{List, _++_}
+use mathlib.Core.List.{List, [], _∷_, _++_}
 use native.Mathlib.Omega.{arith}
 use lib.ListN.{length, take, drop, length-append}
 use lib.Seq.{take-append-seam}
 use borrow.Author.Tests.{le-ltb}
 use Rattle.refusals.specs.declared.Refusal.the-variants.{Accepted}
 use Rattle.refusals.specs.declared.Verdict.{Verdict}
-use Rattle.refusals.specs.Refusals.{isRefusal}
-use Rattle.refusals.proofs.Verdicts.{refuses, first-refuses, first-passes}
+use Rattle.refusals.specs.Refusals.{isRefusal, firstOf}
+use Rattle.refusals.proofs.Verdicts.{refuses, first-refuses, first-passes, all-accept}
 use Rattle.runs.specs.Run.{Run, runOf}
 use Rattle.texts.specs.Text.{isName}
 use Rattle.sheets.specs.declared.Reading.{Reading}
-use Rattle.sheets.specs.Sheet.{sheetHead, sheetTurn, sheetRule, sheetFiles, sheetWants, eachOf, sheetRun, sheetName}
-use Rattle.sheets.specs.Reading.{sheetVerdict, readVerdict, refusedReading, readAnswer, readRow, RunRows, rowsVerdict, SheetRead, readName}
+use Rattle.sheets.specs.Sheet.{sheetHead, sheetTurn, sheetFiles, sheetWants, eachOf, sheetRun, sheetName}
+use Rattle.sheets.specs.Reading.{sheetVerdict, ruleVerdict, readVerdict, refusedReading, readAnswer, readRow, RunRows, rowsVerdict, SheetRead, readName}
 use Rattle.sheets.proofs.Rows.{length-each}
-use Rattle.sheets.proofs.Good.{accepted-sheet, good-name, few-files, few-wants}
+use Rattle.sheets.proofs.Good.{good-name, few-files, few-wants}
+use Rattle.sheets.proofs.Answers.{in-turn}
 use Rattle.writers.specs.declared.Written.{Written}
 use Rattle.writers.specs.Writing.{Handed, rowVerdict}
 use Rattle.writers.specs.RefusalLines.{refusalText}
@@ -41,30 +42,32 @@ module _ (values row row′ : List ℕ) (n : ℕ) (n-is : n ≡ length values) (
   filled-front = rw (n-is, is) (take-append-seam values (drop (length values) row))
 
 module _ (sheet : List ℕ) (rows : RunRows) (wide : Wide rows) where
-  -- No row is too short.
-  sheet-verdict : rowsVerdict sheet rows ≡ sheetVerdict sheet
+  -- What 12, 11 and 19 say; and no row is too short.
+  abbrev early : Verdict
+  early = firstOf (sheetVerdict sheet ∷ ruleVerdict sheet ∷ [])
+
+  sheet-verdict : rowsVerdict sheet rows ≡ early
   unfolding readVerdict
   sheet-verdict = go (refuses (sheetVerdict sheet)) refl
     where
-      go : (b : Bool) → refuses (sheetVerdict sheet) ≡ b → rowsVerdict sheet rows ≡ sheetVerdict sheet
+      go : (b : Bool) → refuses (sheetVerdict sheet) ≡ b → rowsVerdict sheet rows ≡ early
       go true e = rw e
       go false e =
           let files = few-files sheet e in
           let wants = few-wants sheet e in
           rw (e, le-ltb (length (rows .starts)) (sheetFiles sheet) (omega (arith, files, wide .starts)), le-ltb (length (rows .lengths)) (sheetFiles sheet) (omega (arith, files, wide .lengths)), le-ltb (length (rows .aggregates)) (sheetFiles sheet) (omega (arith, files, wide .aggregates)), le-ltb (length (rows .numbers)) (sheetWants sheet) (omega (arith, wants, wide .numbers)), le-ltb (length (rows .counts)) (sheetWants sheet) (omega (arith, wants, wide .counts)))
-          (sym (accepted-sheet sheet e))
 
   module _ (r : Reading) (rows′ : RunRows) (read : SheetRead sheet rows r rows′) (f : Bool) (f-is : f ≡ isRefusal (r .refusal)) where
-    answer-is : r ≡ readAnswer (sheetVerdict sheet) sheet
+    answer-is : r ≡ readAnswer early sheet
     unfolding readAnswer
     answer-is = read .answer ∙ ap (λ v. readAnswer v sheet) sheet-verdict
 
     -- The reader's answer refuses just where its verdict does.
-    verdict-says : refuses (sheetVerdict sheet) ≡ f
+    verdict-says : refuses early ≡ f
     unfolding readAnswer
-    verdict-says = sym (f-is ∙ ap (λ x. isRefusal (x .refusal)) answer-is ∙ go (refuses (sheetVerdict sheet)) refl)
+    verdict-says = sym (f-is ∙ ap (λ x. isRefusal (x .refusal)) answer-is ∙ go (refuses early) refl)
       where
-        go : (b : Bool) → refuses (sheetVerdict sheet) ≡ b → isRefusal (readAnswer (sheetVerdict sheet) sheet .refusal) ≡ refuses (sheetVerdict sheet)
+        go : (b : Bool) → refuses early ≡ b → isRefusal (readAnswer early sheet .refusal) ≡ refuses early
         go true e = rw (e, e)
         go false e = rw e
 
@@ -72,23 +75,26 @@ module _ (sheet : List ℕ) (rows : RunRows) (wide : Wide rows) where
         → Handed (rowVerdict (refusalText w) row) (refusalText w) row out row′ → SheetRecalled sheet row (out .bytes) row′
     unfolding readAnswer recallVerdict
     sheet-refused e row w w-is out row′ h =
-        let refuses-so : refuses (sheetVerdict sheet) ≡ true = verdict-says ∙ e in
-        let read-so : r ≡ refusedReading (sheetVerdict sheet) = rw refuses-so at answer-is in
-        let is : w ≡ sheetVerdict sheet = w-is ∙ ap (λ x. record { refusal = x .refusal; place = x .place }) read-so in
-        refused-out (recallVerdict sheet) w (is ∙ first-refuses (sheetVerdict sheet) (runChecks (sheetRun sheet)) refuses-so) (ap refuses is ∙ refuses-so)
-        (sheetName sheet) (sheetRun sheet) (sheetRule sheet) row out row′ h
+        let refuses-so : refuses early ≡ true = verdict-says ∙ e in
+        let read-so : r ≡ refusedReading early = rw refuses-so at answer-is in
+        let is : w ≡ early = w-is ∙ ap (λ x. record { refusal = x .refusal; place = x .place }) read-so in
+        refused-out (recallVerdict sheet) w (is ∙ first-refuses early (runChecks (sheetRun sheet)) refuses-so ∙ in-turn (sheetVerdict sheet) (ruleVerdict sheet) (runChecks (sheetRun sheet))) (ap refuses is ∙ refuses-so)
+        (sheetName sheet) (sheetRun sheet) row out row′ h
 
     module _ (passed : f ≡ false) where
-      good-sheet : refuses (sheetVerdict sheet) ≡ false
-      good-sheet = verdict-says ∙ passed
+      good-early : refuses early ≡ false
+      good-early = verdict-says ∙ passed
 
-      numbers-are : r ≡ record { refusal = Accepted; place = 0; head = sheetHead sheet; turn = sheetTurn sheet; rule = sheetRule sheet; files = sheetFiles sheet; wants = sheetWants sheet }
+      good-sheet : refuses (sheetVerdict sheet) ≡ false
+      good-sheet = all-accept (sheetVerdict sheet ∷ ruleVerdict sheet ∷ []) good-early .0
+
+      numbers-are : r ≡ record { refusal = Accepted; place = 0; head = sheetHead sheet; turn = sheetTurn sheet; files = sheetFiles sheet; wants = sheetWants sheet }
       unfolding readAnswer
-      numbers-are = rw good-sheet at answer-is
+      numbers-are = rw good-early at answer-is
 
       row-is : (values row row′ : List ℕ) → row′ ≡ readRow (rowsVerdict sheet rows) values row → row′ ≡ values ++ drop (length values) row
       unfolding readRow
-      row-is values row row′ is = rw (sheet-verdict, good-sheet) at is
+      row-is values row row′ is = rw (sheet-verdict, good-early) at is
 
       files-are : (value : ℕ → ℕ) → r .files ≡ length (eachOf value (sheetFiles sheet))
       files-are value = ap (λ x. x .files) numbers-are ∙ sym (length-each value (sheetFiles sheet))
@@ -158,11 +164,12 @@ module _ (sheet : List ℕ) (rows : RunRows) (wide : Wide rows) where
 
       -- The answer to the run that was read is the answer to the sheet.
       pub sheet-recalled : (name : List ℕ) → name ≡ readName sheet → (row : List ℕ) (n : ℕ) (row′ : List ℕ)
-          → RunRecalled name (runOf (take (r .files) (rows′ .starts)) (take (r .files) (rows′ .lengths)) (take (r .files) (rows′ .aggregates)) (take (r .wants) (rows′ .numbers)) (take (r .wants) (rows′ .counts)) (r .head) (r .turn)) (r .rule) row n row′
+          → RunRecalled name (runOf (take (r .files) (rows′ .starts)) (take (r .files) (rows′ .lengths)) (take (r .files) (rows′ .aggregates)) (take (r .wants) (rows′ .numbers)) (take (r .wants) (rows′ .counts)) (r .head) (r .turn)) row n row′
           → SheetRecalled sheet row n row′
       unfolding recallVerdict run-read
       sheet-recalled name e row n row′ h =
-          let by-run : RunRecalled name (sheetRun sheet) (r .rule) row n row′ = subst (λ x. RunRecalled name x (r .rule) row n row′) run-is h in
-          let by-name : RunRecalled (sheetName sheet) (sheetRun sheet) (r .rule) row n row′ = subst (λ x. RunRecalled x (sheetRun sheet) (r .rule) row n row′) (e ∙ name-is) by-run in
-          let by-rule : RunRecalled (sheetName sheet) (sheetRun sheet) (sheetRule sheet) row n row′ = subst (λ x. RunRecalled (sheetName sheet) (sheetRun sheet) x row n row′) (ap (λ x. x .rule) numbers-are) by-name in
-          subst (λ x. Recalled x (sheetName sheet) (sheetRun sheet) (sheetRule sheet) row n row′) (sym (first-passes (sheetVerdict sheet) (runChecks (sheetRun sheet)) good-sheet)) by-rule
+          let by-run : RunRecalled name (sheetRun sheet) row n row′ = subst (λ x. RunRecalled name x row n row′) run-is h in
+          let by-name : RunRecalled (sheetName sheet) (sheetRun sheet) row n row′ = subst (λ x. RunRecalled x (sheetRun sheet) row n row′) (e ∙ name-is) by-run in
+          subst (λ x. Recalled x (sheetName sheet) (sheetRun sheet) row n row′)
+          (sym (first-passes early (runChecks (sheetRun sheet)) good-early) ∙ in-turn (sheetVerdict sheet) (ruleVerdict sheet) (runChecks (sheetRun sheet)))
+          by-name

@@ -1,5 +1,5 @@
--- What is answered to the bytes of a run sheet, whatever they are: the plan sheet of the list that the sheet's rule asks for, or the two lines of the first
--- refusal that applies; and the row that takes the answer.
+-- What is answered to the bytes of a run sheet, whatever they are: the plan sheet of the least list, or the two lines of the first refusal that
+-- applies; and the row that takes the answer.
 use Prim.Native.Nat.{ℕ}
 use mathlib.Core.Path.{_≡_}
 use mathlib.Core.Bool.{true, false, cond}
@@ -9,14 +9,13 @@ use lib.Dec.{ltb}
 use Rattle.refusals.specs.declared.Refusal.the-variants.{ShortRoom}
 use Rattle.refusals.specs.declared.Verdict.{Verdict}
 use Rattle.refusals.specs.Refusals.{isRefusal, refuseIf, firstOf}
-use Rattle.runs.specs.declared.Rule.{Rule}
 use Rattle.runs.specs.Run.{Run}
 use Rattle.runs.specs.Judging.{judgeOf}
 use Rattle.runs.specs.Lists.{Detour}
-use Rattle.least.specs.Least.{ByRule}
+use Rattle.least.specs.Least.{LeastForRun}
 use Rattle.planner.specs.Plan.{roomFor}
-use Rattle.sheets.specs.Sheet.{sheetRun, sheetRule, sheetName}
-use Rattle.sheets.specs.Reading.{sheetVerdict}
+use Rattle.sheets.specs.Sheet.{sheetRun, sheetName}
+use Rattle.sheets.specs.Reading.{sheetVerdict, ruleVerdict}
 use Rattle.writers.specs.PlanSheet.{planText}
 use Rattle.writers.specs.RefusalLines.{refusalText}
 
@@ -28,20 +27,20 @@ roomWords = 5120
 abbrev pub runChecks : Run → List Verdict
 runChecks run = judgeOf run ∷ refuseIf (ltb roomWords (roomFor run)) ShortRoom ∷ []
 
--- 12, then 11 with its line, then 1 to 7, then 9. The rows suffice for every sheet that can be read, so 8 never applies.
+-- 12, then 11 with its line, then 19 with the fourth, then 1 to 7, then 9. The rows suffice for every sheet that can be read, so 8 never applies.
 unfoldable pub recallVerdict : List ℕ → Verdict
-recallVerdict sheet = firstOf (sheetVerdict sheet ∷ runChecks (sheetRun sheet))
+recallVerdict sheet = firstOf (sheetVerdict sheet ∷ ruleVerdict sheet ∷ runChecks (sheetRun sheet))
 
--- The plan sheet of the list that a rule asks for. There is one such list.
-pub record PlanOf (name : List ℕ) (run : Run) (rule : Rule) (text : List ℕ) : Type 0 where
+-- The plan sheet of the least list. There is one such list.
+pub record PlanOf (name : List ℕ) (run : Run) (text : List ℕ) : Type 0 where
   pub list : List Detour
-  pub by-rule : ByRule rule run list
+  pub least : LeastForRun run list
   pub says : text ≡ planText name run (map (λ d. d .from) list) (map (λ d. d .to) list)
 
 -- The text of the answer, under a verdict.
-pub record Answers (v : Verdict) (name : List ℕ) (run : Run) (rule : Rule) (text : List ℕ) : Type 0 where
+pub record Answers (v : Verdict) (name : List ℕ) (run : Run) (text : List ℕ) : Type 0 where
   pub refused : isRefusal (v .refusal) ≡ true → text ≡ refusalText v
-  pub planned : isRefusal (v .refusal) ≡ false → PlanOf name run rule text
+  pub planned : isRefusal (v .refusal) ≡ false → PlanOf name run text
 
 -- A text in the first bytes of a row, the later ones as they were. A row shorter than the text keeps all its bytes, and the number of bytes is then 0.
 unfoldable pub bytesPut : List ℕ → List ℕ → ℕ
@@ -51,16 +50,16 @@ unfoldable pub rowPut : List ℕ → List ℕ → List ℕ
 rowPut text row = cond (ltb (length row) (length text)) row (text ++ drop (length text) row)
 
 -- The number of bytes of the answer, and the row that holds it.
-pub record Recalled (v : Verdict) (name : List ℕ) (run : Run) (rule : Rule) (row : List ℕ) (n : ℕ) (row′ : List ℕ) : Type 0 where
+pub record Recalled (v : Verdict) (name : List ℕ) (run : Run) (row : List ℕ) (n : ℕ) (row′ : List ℕ) : Type 0 where
   pub text : List ℕ
-  pub answers : Answers v name run rule text
+  pub answers : Answers v name run text
   pub bytes : n ≡ bytesPut text row
   pub left : row′ ≡ rowPut text row
 
--- The answer to a run, a rule and a tape name.
-abbrev pub RunRecalled : List ℕ → Run → Rule → List ℕ → ℕ → List ℕ → Type 0
-RunRecalled name run rule row n row′ = Recalled (firstOf (runChecks run)) name run rule row n row′
+-- The answer to a run and a tape name.
+abbrev pub RunRecalled : List ℕ → Run → List ℕ → ℕ → List ℕ → Type 0
+RunRecalled name run row n row′ = Recalled (firstOf (runChecks run)) name run row n row′
 
 -- The answer to a sheet.
 abbrev pub SheetRecalled : List ℕ → List ℕ → ℕ → List ℕ → Type 0
-SheetRecalled sheet row n row′ = Recalled (recallVerdict sheet) (sheetName sheet) (sheetRun sheet) (sheetRule sheet) row n row′
+SheetRecalled sheet row n row′ = Recalled (recallVerdict sheet) (sheetName sheet) (sheetRun sheet) row n row′

@@ -7,7 +7,6 @@ ghost use Rattle.texts.specs.Text.{isName};
 ghost use Rattle.recalls.specs.Recall.{RunRecalled, SheetRecalled};
 use refusals::Verdict;
 use refusals::refused;
-use runs::Rule;
 
 // The answer to a run: its plan, with rows for as many wants as a run can have and 5,120 words of working room, and the plan's text.
 fn recall_run(
@@ -19,11 +18,10 @@ fn recall_run(
     counts: &[u64],
     head: u64,
     turn: u64,
-    rule: Rule,
     out: &mut [u8],
 ) -> u64
     requires { ⌜ isName (now name) ≡ true ⌝ }
-    ensures { λ r. ⌜ RunRecalled (now (name .entry)) (runAt starts lengths aggregates numbers counts head turn) rule (now (out .entry)) r (now (out .exit)) ⌝ }
+    ensures { λ r. ⌜ RunRecalled (now (name .entry)) (runAt starts lengths aggregates numbers counts head turn) (now (out .entry)) r (now (out .exit)) ⌝ }
 {
     let mut froms = [0u64; 63];
     let mut tos = [0u64; 63];
@@ -38,7 +36,6 @@ fn recall_run(
         counts,
         head,
         turn,
-        rule,
         &mut froms,
         &mut tos,
         &mut times,
@@ -101,7 +98,6 @@ pub fn recall(sheet: &[u8], out: &mut [u8]) -> u64
     let wants = read.wants as usize;
     let head = read.head;
     let turn = read.turn;
-    let rule = read.rule;
     recall_run(
         sheets::tape_name(sheet),
         &starts[..files],
@@ -111,7 +107,6 @@ pub fn recall(sheet: &[u8], out: &mut [u8]) -> u64
         &counts[..wants],
         head,
         turn,
-        rule,
         out,
     )
 }

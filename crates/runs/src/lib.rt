@@ -24,9 +24,3 @@ pub const MOST_READS: u64 = 1024;
 pub const LAST_PLACE: u64 = 1_099_511_627_776;
 
 pub const HIGHEST_TURN: u64 = 4_294_967_296;
-
-// Sweep always plans the empty list; Least the well-formed list of smallest sum, ties by the fixed rule.
-pub enum Rule {
-    Sweep,
-    Least,
-}

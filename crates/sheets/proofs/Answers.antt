@@ -1,23 +1,23 @@
 -- What the reader answers and leaves in the rows: the lines of an accepted sheet are filled, and none on a refusal.
 use Prim.Native.Nat.{ℕ, _-_, _≤_}
 use mathlib.Core.Path.{_≡_, refl, ap, sym, _∙_}
-use mathlib.Core.Bool.{Bool, true, false, _||_}
+use mathlib.Core.Bool.{Bool, true, false, cond, _||_}
 use mathlib.Core.List.{List, [], _∷_, _++_}
 use native.Mathlib.Omega.{arith}
 use native.Mathlib.Nat.{zero-add}
 use lib.ListN.{length, take, drop}
 use lib.Dec.{ltb}
 use borrow.Author.Tests.{ltb-false}
-use Rattle.refusals.specs.declared.Refusal.the-variants.{ShortRow}
+use Rattle.refusals.specs.declared.Refusal.the-variants.{ShortRow, RetiredRule}
 use Rattle.refusals.specs.declared.Verdict.{Verdict}
-use Rattle.refusals.specs.Refusals.{isRefusal, refuseIf, firstOf, firstWhere}
+use Rattle.refusals.specs.Refusals.{isRefusal, refuseIf, refuseAt, firstOf, firstWhere}
 use Rattle.refusals.proofs.Verdicts.{first-refuses, all-accept, accepts-if}
 use Rattle.runs.proofs.Search.{or-false-both}
 use Rattle.sheets.specs.declared.Reading.{Reading}
 use Rattle.sheets.specs.declared.reader.Judged.{Judged}
 use Rattle.sheets.specs.Lines.{fileKey, wantKey, firstIn, secondIn, middleIn, thirdIn, isPairLine, isTripleLine, afterLines}
 use Rattle.sheets.specs.Sheet.{firstBadOf, eachOf, sheetName}
-use Rattle.sheets.specs.Reading.{sheetVerdict, readVerdict, readAnswer, readRow, RunRows, runRows, SheetRead, readName, readFrom, placeOn, shortPairRows, shortTripleRows}
+use Rattle.sheets.specs.Reading.{sheetVerdict, ruleVerdict, readVerdict, readAnswer, readRow, RunRows, runRows, SheetRead, readName, readFrom, placeOn, shortPairRows, shortTripleRows}
 use Rattle.sheets.specs.Private.{JudgedGood, JudgedFound, PairsReady, TriplesReady, filledRow, linesFilled, readingOf, NamePart}
 use Rattle.sheets.proofs.Rows.{length-each}
 
@@ -29,6 +29,15 @@ both-judged w a b = go (isRefusal (w .refusal)) refl a
     go true e a = rw (e, e)
     go false e true = rw e
     go false e false = rw e
+
+-- Two checks, then the others, are all of them in turn.
+pub in-turn : (w x : Verdict) (others : List Verdict) → firstOf (firstOf (w ∷ x ∷ []) ∷ others) ≡ firstOf (w ∷ x ∷ others)
+in-turn w x others = go (isRefusal (w .refusal)) refl (isRefusal (x .refusal)) refl
+  where
+    go : (f : Bool) → isRefusal (w .refusal) ≡ f → (g : Bool) → isRefusal (x .refusal) ≡ g → firstOf (firstOf (w ∷ x ∷ []) ∷ others) ≡ firstOf (w ∷ x ∷ others)
+    go true e g h = rw (e, e)
+    go false e true h = rw (e, h, h)
+    go false e false h = rw (e, h)
 
 -- Lines that are filled: all are as described and a row has room, or there are none.
 module _ (v : Verdict) (count n : ℕ) (n-is : n ≡ linesFilled v count) where
@@ -57,9 +66,10 @@ row-read v count n n-is value values row said = go (isRefusal (v .refusal)) refl
     go true e = let none : n ≡ 0 = n-is ∙ rw e in rw (e, none)
     go false e = let all : n ≡ count = n-is ∙ rw e in rw (e, all, said e, length-each value count)
 
--- u is the verdict after the files' rows of starts and lengths, t after that of aggregates, v after all; m and n are how many lines are filled.
-module _ (sheet : List ℕ) (judged : Judged) (found : JudgedFound sheet judged) (starts lengths aggregates numbers counts : List ℕ) (u t v : Verdict)
-    (u-is : u ≡ firstOf (judged .verdict ∷ refuseIf (shortPairRows (judged .top .files) starts lengths) ShortRow ∷ []))
+-- k is the verdict with 19, u after the files' rows of starts and lengths, t after that of aggregates, v after all; m and n are how many lines are filled.
+module _ (sheet : List ℕ) (judged : Judged) (found : JudgedFound sheet judged) (starts lengths aggregates numbers counts : List ℕ) (k u t v : Verdict)
+    (k-is : k ≡ firstOf (judged .verdict ∷ refuseAt (cond (judged .top .sweep) 4 0) RetiredRule ∷ []))
+    (u-is : u ≡ firstOf (k ∷ refuseIf (shortPairRows (judged .top .files) starts lengths) ShortRow ∷ []))
     (t-is : t ≡ firstOf (u ∷ refuseIf (ltb (length aggregates) (judged .top .files)) ShortRow ∷ []))
     (v-is : v ≡ firstOf (t ∷ refuseIf (shortPairRows (judged .wants) numbers counts) ShortRow ∷ [])) where
   abbrev short-files : Bool
@@ -68,22 +78,27 @@ module _ (sheet : List ℕ) (judged : Judged) (found : JudgedFound sheet judged)
   abbrev short-wants : Bool
   short-wants = shortPairRows (judged .wants) numbers counts
 
-  files-judged : t ≡ firstOf (judged .verdict ∷ refuseIf short-files ShortRow ∷ [])
+  files-judged : t ≡ firstOf (k ∷ refuseIf short-files ShortRow ∷ [])
   files-judged =
       t-is ∙ ap (λ x. firstOf (x ∷ refuseIf (ltb (length aggregates) (judged .top .files)) ShortRow ∷ [])) u-is
-      ∙ both-judged (judged .verdict) (shortPairRows (judged .top .files) starts lengths) (ltb (length aggregates) (judged .top .files))
+      ∙ both-judged k (shortPairRows (judged .top .files) starts lengths) (ltb (length aggregates) (judged .top .files))
+
+  abbrev retired : Verdict
+  retired = refuseAt (cond (judged .top .sweep) 4 0) RetiredRule
 
   read-verdict : v ≡ readVerdict sheet starts lengths aggregates numbers counts
-  unfolding readVerdict
+  unfolding readVerdict ruleVerdict
   read-verdict =
       v-is ∙ ap (λ x. firstOf (x ∷ refuseIf short-wants ShortRow ∷ [])) files-judged
-      ∙ both-judged (judged .verdict) short-files short-wants
+      ∙ both-judged k short-files short-wants
+      ∙ ap (λ x. firstOf (x ∷ refuseIf (short-files || short-wants) ShortRow ∷ [])) k-is
+      ∙ in-turn (judged .verdict) retired (refuseIf (short-files || short-wants) ShortRow ∷ [])
       ∙ go (isRefusal (judged .verdict .refusal)) refl
     where
       go : (f : Bool) → isRefusal (judged .verdict .refusal) ≡ f
-          → firstOf (judged .verdict ∷ refuseIf (short-files || short-wants) ShortRow ∷ []) ≡ readVerdict sheet starts lengths aggregates numbers counts
+          → firstOf (judged .verdict ∷ retired ∷ refuseIf (short-files || short-wants) ShortRow ∷ []) ≡ readVerdict sheet starts lengths aggregates numbers counts
       go true e = rw (← found .verdict, e)
-      go false e = let p = found .out e in rw (← found .verdict, ← p .upper .files, ← p .below .count)
+      go false e = let p = found .out e in rw (← found .verdict, ← p .upper .sweep, ← p .upper .files, ← p .below .count)
 
   module _ (e : isRefusal (v .refusal) ≡ false) where
     wants-pass : (isRefusal (t .refusal) ≡ false) × (short-wants ≡ false)
@@ -91,13 +106,13 @@ module _ (sheet : List ℕ) (judged : Judged) (found : JudgedFound sheet judged)
         let all = all-accept (t ∷ refuseIf short-wants ShortRow ∷ []) (rw (← v-is) e) in
         (all .0, accepts-if short-wants ShortRow refl (all .1 .0))
 
-    files-pass : (isRefusal (judged .verdict .refusal) ≡ false) × (short-files ≡ false)
+    files-pass : (isRefusal (k .refusal) ≡ false) × (short-files ≡ false)
     files-pass =
-        let all = all-accept (judged .verdict ∷ refuseIf short-files ShortRow ∷ []) (rw (← files-judged) (wants-pass .0)) in
+        let all = all-accept (k ∷ refuseIf short-files ShortRow ∷ []) (rw (← files-judged) (wants-pass .0)) in
         (all .0, accepts-if short-files ShortRow refl (all .1 .0))
 
     parts : JudgedGood sheet judged
-    parts = found .out (files-pass .0)
+    parts = found .out (all-accept (judged .verdict ∷ retired ∷ []) (rw (← k-is) (files-pass .0)) .0)
 
     -- Each row has room for its lines.
     wants-room : (ltb (length numbers) (judged .wants) ≡ false) × (ltb (length counts) (judged .wants) ≡ false)
@@ -138,7 +153,7 @@ module _ (sheet : List ℕ) (judged : Judged) (found : JudgedFound sheet judged)
         where
           go : (f : Bool) → isRefusal (v .refusal) ≡ f → readingOf v (judged .top) (judged .wants) ≡ readAnswer v sheet
           go true e = rw e
-          go false e = let p = parts e in rw (e, ← p .upper .head, ← p .upper .turn, ← p .upper .rule, ← p .upper .files, ← p .below .count)
+          go false e = let p = parts e in rw (e, ← p .upper .head, ← p .upper .turn, ← p .upper .files, ← p .below .count)
 
       abbrev file-lines : List ℕ
       file-lines = drop (judged .top .next) sheet

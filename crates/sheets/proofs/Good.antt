@@ -36,6 +36,7 @@ pub record GoodLines (sheet : List ℕ) : Type 0 where
   pub tape : isTapeLine (lineAfter 0 sheet) ≡ true
   pub head : isNumberLine headKey (lineAfter 1 sheet) ≡ true
   pub turn : isTurnLine (lineAfter 2 sheet) ≡ true
+  pub rule : isRuleLine (lineAfter 3 sheet) ≡ true
   pub files : isCountLine filesKey mostSheetFiles (lineAfter 4 sheet) ≡ true
   pub wants : isCountLine wantsKey mostWants (lineOf (wantsText sheet)) ≡ true
 
@@ -91,6 +92,7 @@ module _ (sheet : List ℕ) (good : refuses (sheetVerdict sheet) ≡ false) wher
         tape = line-good (isTapeLine (lineAfter 0 sheet)) 1 (λ e. omega (arith, e)) (after₁ .0);
         head = line-good (isNumberLine headKey (lineAfter 1 sheet)) 2 (λ e. omega (arith, e)) (after₂ .0);
         turn = line-good (isTurnLine (lineAfter 2 sheet)) 3 (λ e. omega (arith, e)) (after₃ .0);
+        rule = line-good (isRuleLine (lineAfter 3 sheet)) 4 (λ e. omega (arith, e)) (after₄ .0);
         files = line-good (isCountLine filesKey mostSheetFiles (lineAfter 4 sheet)) 5 (λ e. omega (arith, e)) (after₅ .0);
         wants = line-good (isCountLine wantsKey mostWants (lineOf (wantsText sheet))) (sheetFiles sheet + 6) (λ e. omega (arith, e)) (after₇ .0);
       }

@@ -13,7 +13,6 @@ use Rattle.refusals.specs.declared.Verdict.{Verdict}
 use Rattle.refusals.specs.Refusals.{isRefusal, refuseIf, refuseAt}
 use Rattle.refusals.proofs.Verdicts.{refuse-at, test-says, last-at, accepts-if}
 use Rattle.runs.specs.Run.{mostWants}
-use Rattle.runs.specs.declared.Rule.{Rule}
 use Rattle.sheets.specs.declared.lines.NameLine.{NameLine}
 use Rattle.sheets.specs.declared.lines.NumberLine.{NumberLine}
 use Rattle.sheets.specs.declared.lines.RuleLine.{RuleLine}
@@ -22,8 +21,8 @@ use Rattle.sheets.specs.declared.reader.TopRead.{TopRead}
 use Rattle.sheets.specs.declared.reader.BelowRead.{BelowRead}
 use Rattle.sheets.specs.declared.reader.Judged.{Judged}
 use Rattle.texts.specs.Text.{lineFeed, behind, isEmpty}
-use Rattle.sheets.specs.Lines.{lineOf, afterLines, lineAfter, headKey, filesKey, fileKey, wantsKey, wantKey, isTapeLine, isNumberLine, numberBehind, isCountLine, isTurnLine, turnIn, isRuleLine, ruleIn, isPairLine, isTripleLine}
-use Rattle.sheets.specs.Sheet.{longestSheet, mostSheetFiles, sheetHead, sheetTurnWith, sheetRule, sheetFiles, fileText, wantsText, sheetWants, wantText, endText, shifted, firstSome, firstBadOf, firstBadTop, firstBadBelow, firstBadLine}
+use Rattle.sheets.specs.Lines.{lineOf, afterLines, lineAfter, headKey, filesKey, fileKey, wantsKey, wantKey, isTapeLine, isNumberLine, numberBehind, isCountLine, isTurnLine, turnIn, isRuleLine, namesSweep, isPairLine, isTripleLine}
+use Rattle.sheets.specs.Sheet.{longestSheet, mostSheetFiles, sheetHead, sheetTurnWith, saysSweep, sheetFiles, fileText, wantsText, sheetWants, wantText, endText, shifted, firstSome, firstBadOf, firstBadTop, firstBadBelow, firstBadLine}
 use Rattle.sheets.specs.Reading.{sheetVerdict}
 use Rattle.sheets.specs.Private.{Passed, NamePart, NameLineFound, NumberLineFound, RuleLineFound, LinesPassed, LineBad, TopIs, TopBad, TopFound, FilesAt, WantsAt, BelowIs, BelowBad, BelowFound, Unread, JudgedFound}
 use Rattle.texts.proofs.Bytes.{and-true-both}
@@ -107,8 +106,8 @@ module _ (sheet : List ℕ) (r₁ : NameLine) (f₁ : NameLineFound sheet r₁) 
                   let bad = fails sheet 3 at₃ at-rule isRuleLine (subst (λ r. RuleLineFound sheet at₃ r) e f₄) in
                   record { first = rw (test₁, test₂, test₃, bad); some = omega arith }
 
-              module _ (rule : Rule) (at₄ : ℕ) (e₄ : r₄ ≡ RuleLine.Value rule at₄) where
-                rule-read : Passed isRuleLine sheet at₃ at₄ × (rule ≡ ruleIn (lineOf (drop at₃ sheet)))
+              module _ (sweep : Bool) (at₄ : ℕ) (e₄ : r₄ ≡ RuleLine.Value sweep at₄) where
+                rule-read : Passed isRuleLine sheet at₃ at₄ × (sweep ≡ namesSweep (lineOf (drop at₃ sheet)))
                 rule-read = subst (λ r. RuleLineFound sheet at₃ r) e₄ f₄
 
                 test₄ : isRuleLine (lineAfter 3 sheet) ≡ true
@@ -125,8 +124,8 @@ module _ (sheet : List ℕ) (r₁ : NameLine) (f₁ : NameLineFound sheet r₁) 
                       record { first = rw (test₁, test₂, test₃, test₄, bad); some = omega arith }
 
                   pub top-good : (files at₅ : ℕ) → r₅ ≡ NumberLine.Value files at₅
-                      → TopIs sheet (record { end = end; head = head; turn = turn; rule = rule; files = files; next = at₅ })
-                  unfolding firstBadTop sheetHead sheetTurnWith sheetRule sheetFiles fileText
+                      → TopIs sheet (record { end = end; head = head; turn = turn; sweep = sweep; files = files; next = at₅ })
+                  unfolding firstBadTop sheetHead sheetTurnWith saysSweep sheetFiles fileText
                   top-good files at₅ e₅ =
                       let read : Passed (isCountLine filesKey mostSheetFiles) sheet at₄ at₅ × (files ≡ numberBehind filesKey (lineOf (drop at₄ sheet))) = subst (λ r. NumberLineFound (isCountLine filesKey mostSheetFiles) (numberBehind filesKey) sheet at₄ r) e₅ f₅ in
                       let test₅ = passes sheet 4 at₄ at-files (isCountLine filesKey mostSheetFiles) at₅ (read .0) in
@@ -137,7 +136,7 @@ module _ (sheet : List ℕ) (r₁ : NameLine) (f₁ : NameLineFound sheet r₁) 
                         name = named .1;
                         head = head-read .1 ∙ ap (λ t. numberBehind headKey (lineOf t)) (at-head .rest);
                         turn = turn-read .1 ∙ ap (λ t. turnIn (lineOf t)) (at-turn .rest);
-                        rule = rule-read .1 ∙ ap (λ t. ruleIn (lineOf t)) (at-rule .rest);
+                        sweep = rule-read .1 ∙ ap (λ t. namesSweep (lineOf t)) (at-rule .rest);
                         files = count;
                         few = rw count (count-small filesKey mostSheetFiles (lineAfter 4 sheet) test₅);
                         within = past .within;

@@ -9,7 +9,6 @@ use lib.Dec.{eqb}
 use lib.ListN.{length, take, drop, length-drop}
 use lib.Seq.{take-all, drop-drop, length-take-le, drop-nil, take-nil}
 use borrow.Author.Tests.{le-leb, lt-leb, not-false}
-use Rattle.runs.specs.declared.Rule.{Rule}
 use Rattle.texts.specs.declared.Found.{Found}
 use Rattle.texts.specs.declared.Number.{Number}
 use Rattle.sheets.specs.declared.lines.Keyed.{Keyed}
@@ -22,7 +21,7 @@ use Rattle.sheets.specs.declared.lines.Lines.{Lines}
 use Rattle.refusals.specs.Refusals.{firstWhere}
 use Rattle.runs.proofs.Search.{first-more, first-here, first-zero, or-false-both}
 use Rattle.texts.specs.Text.{lineFeed, comma, isEmpty, has, before, behind, startsWith, isText, isNumber, isName}
-use Rattle.sheets.specs.Lines.{lineOf, afterLines, lineAfter, tapeKey, turnKey, ruleKey, leastText, sweepText, valueText, isTapeLine, isNumberLine, numberBehind, isCountLine, isTurnLine, turnWith, emptyTurn, turnIn, isRuleLine, ruleIn, isPair, isPairLine, isTriple, isTripleLine}
+use Rattle.sheets.specs.Lines.{lineOf, afterLines, lineAfter, tapeKey, turnKey, ruleKey, leastText, sweepText, valueText, isTapeLine, isNumberLine, numberBehind, isCountLine, isTurnLine, turnWith, emptyTurn, turnIn, isRuleLine, namesSweep, isPair, isPairLine, isTriple, isTripleLine}
 use Rattle.sheets.specs.Sheet.{firstBadOf}
 use Rattle.texts.specs.Found.{FirstAt, FoundIn, NumberIs, NumberFound}
 use Rattle.sheets.specs.Private.{ValueAt, ValueFound, Passed, NamePart, NumberLineFound, PairIs, PairFound, PairAt, PairLineFound, TripleIs, TripleFound, TripleAt, TripleLineFound, LinesPassed, LineBad, LinesFound}
@@ -177,7 +176,7 @@ module _ (sheet : List ℕ) (at : ℕ) (r : Keyed) (found : ValueFound turnKey s
           rw text (is .value),
         )
 
--- `rule=` with one of the two rules: s and l say whether it is the sweep or the least rule.
+-- `rule=` with one of the two rules: s and l say whether it is the retired one or the least rule.
 module _ (sheet : List ℕ) (at : ℕ) (r : Keyed) (found : ValueFound ruleKey sheet at r) (from end : ℕ) (e : r ≡ Keyed.Text from end)
     (s : Bool) (sweeps : s ≡ isText sweepText (take (end - from) (drop from sheet))) where
   rule-begun : startsWith ruleKey (lineOf (drop at sheet)) ≡ true
@@ -186,19 +185,19 @@ module _ (sheet : List ℕ) (at : ℕ) (r : Keyed) (found : ValueFound ruleKey s
   sweep-is : isText sweepText (valueText ruleKey (lineOf (drop at sheet))) ≡ s
   sweep-is = ap (isText sweepText) (sym (value-at ruleKey sheet at r found from end e .text)) ∙ sym sweeps
 
-  pub rule-line-sweep : s ≡ true → Passed isRuleLine sheet at (end + 1) × (Rule.Sweep ≡ ruleIn (lineOf (drop at sheet)))
-  unfolding isRuleLine ruleIn
+  pub rule-line-sweep : s ≡ true → Passed isRuleLine sheet at (end + 1) × (true ≡ namesSweep (lineOf (drop at sheet)))
+  unfolding isRuleLine namesSweep
   rule-line-sweep f =
-      (line-passed ruleKey sheet at r found from end e isRuleLine (rw (sweep-is ∙ f, rule-begun)), rw (sweep-is ∙ f))
+      (line-passed ruleKey sheet at r found from end e isRuleLine (rw (sweep-is ∙ f, rule-begun)), rw (rule-begun, sweep-is ∙ f))
 
   module _ (l : Bool) (leasts : l ≡ isText leastText (take (end - from) (drop from sheet))) where
     least-is : isText leastText (valueText ruleKey (lineOf (drop at sheet))) ≡ l
     least-is = ap (isText leastText) (sym (value-at ruleKey sheet at r found from end e .text)) ∙ sym leasts
 
-    pub rule-line-least : s ≡ false → l ≡ true → Passed isRuleLine sheet at (end + 1) × (Rule.Least ≡ ruleIn (lineOf (drop at sheet)))
-    unfolding isRuleLine ruleIn
+    pub rule-line-least : s ≡ false → l ≡ true → Passed isRuleLine sheet at (end + 1) × (false ≡ namesSweep (lineOf (drop at sheet)))
+    unfolding isRuleLine namesSweep
     rule-line-least f g =
-        (line-passed ruleKey sheet at r found from end e isRuleLine (rw (sweep-is ∙ f, least-is ∙ g, rule-begun)), rw (sweep-is ∙ f))
+        (line-passed ruleKey sheet at r found from end e isRuleLine (rw (sweep-is ∙ f, least-is ∙ g, rule-begun)), rw (rule-begun, sweep-is ∙ f))
 
     pub rule-line-bad : s ≡ false → l ≡ false → isRuleLine (lineOf (drop at sheet)) ≡ false
     unfolding isRuleLine

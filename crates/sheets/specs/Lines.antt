@@ -4,8 +4,6 @@ use mathlib.Core.Bool.{Bool, cond, _&&_, _||_}
 use mathlib.Core.List.{List, [], _∷_}
 use lib.ListN.{length, drop}
 use lib.Dec.{leb}
-use Rattle.runs.specs.declared.Rule.{Rule}
-use Rattle.runs.specs.declared.Rule.the-variants.{Sweep, Least}
 use Rattle.texts.specs.Text.{bytes, lineFeed, comma, isEmpty, has, before, behind, startsWith, isText, isNumber, isName, valueOf}
 
 -- The first line of a text. Where no LF ends it there is none, and the empty line that stands for it is as described nowhere:
@@ -21,7 +19,7 @@ afterLines (suc n) text = behind lineFeed (afterLines n text)
 abbrev pub lineAfter : ℕ → List ℕ → List ℕ
 lineAfter n text = lineOf (afterLines n text)
 
--- The keys, and the names of the two rules.
+-- The keys, the name of the rule and that of the one that is retired.
 abbrev pub tapeKey : List ℕ
 tapeKey = bytes "tape="
 
@@ -51,10 +49,6 @@ leastText = bytes "least"
 
 abbrev pub sweepText : List ℕ
 sweepText = bytes "sweep"
-
-abbrev pub ruleText : Rule → List ℕ
-ruleText Sweep = sweepText
-ruleText Least = leastText
 
 -- What stands behind a key.
 abbrev pub valueText : List ℕ → List ℕ → List ℕ
@@ -89,13 +83,14 @@ emptyTurn = 12000
 abbrev pub turnIn : List ℕ → ℕ
 turnIn line = turnWith emptyTurn line
 
--- `rule=least` or `rule=sweep`.
+-- `rule=least`, or `rule=sweep`, which is still a sheet's line.
 unfoldable pub isRuleLine : List ℕ → Bool
 isRuleLine line =
     startsWith ruleKey line && (isText sweepText (valueText ruleKey line) || isText leastText (valueText ruleKey line))
 
-unfoldable pub ruleIn : List ℕ → Rule
-ruleIn line = cond (isText sweepText (valueText ruleKey line)) Sweep Least
+-- Whether a line is `rule=sweep`, which names the retired rule.
+unfoldable pub namesSweep : List ℕ → Bool
+namesSweep line = startsWith ruleKey line && isText sweepText (valueText ruleKey line)
 
 -- Two numbers with a comma between them.
 unfoldable pub isPair : List ℕ → Bool

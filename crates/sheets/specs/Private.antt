@@ -22,8 +22,8 @@ use Rattle.sheets.specs.declared.reader.TopRead.{TopRead}
 use Rattle.sheets.specs.declared.reader.BelowRead.{BelowRead}
 use Rattle.sheets.specs.declared.reader.Judged.{Judged}
 use Rattle.texts.specs.Text.{lineFeed, comma, before, behind, startsWith, valueOf}
-use Rattle.sheets.specs.Lines.{lineOf, afterLines, lineAfter, tapeKey, fileKey, wantKey, valueText, isTapeLine, isRuleLine, ruleIn, isPair, isPairLine, firstIn, secondIn, isTriple, isTripleLine, middleIn, thirdIn}
-use Rattle.sheets.specs.Sheet.{mostSheetFiles, sheetHead, sheetTurn, sheetRule, sheetFiles, fileText, wantsText, sheetWants, wantText, firstBadOf, firstBadTop, firstBadBelow, eachOf}
+use Rattle.sheets.specs.Lines.{lineOf, afterLines, lineAfter, tapeKey, fileKey, wantKey, valueText, isTapeLine, isRuleLine, namesSweep, isPair, isPairLine, firstIn, secondIn, isTriple, isTripleLine, middleIn, thirdIn}
+use Rattle.sheets.specs.Sheet.{mostSheetFiles, sheetHead, sheetTurn, saysSweep, sheetFiles, fileText, wantsText, sheetWants, wantText, firstBadOf, firstBadTop, firstBadBelow, eachOf}
 use Rattle.sheets.specs.Reading.{sheetVerdict, refusedReading}
 
 -- A line that begins with a key: where its value starts and its LF stands.
@@ -60,7 +60,7 @@ NumberLineFound test value sheet at (NumberLine.Value n next) = Passed test shee
 NumberLineFound test value sheet at NumberLine.Bad = test (lineOf (drop at sheet)) ≡ false
 
 abbrev pub RuleLineFound : List ℕ → ℕ → RuleLine → Type 0
-RuleLineFound sheet at (RuleLine.Value r next) = Passed isRuleLine sheet at next × (r ≡ ruleIn (lineOf (drop at sheet)))
+RuleLineFound sheet at (RuleLine.Value r next) = Passed isRuleLine sheet at next × (r ≡ namesSweep (lineOf (drop at sheet)))
 RuleLineFound sheet at RuleLine.Bad = isRuleLine (lineOf (drop at sheet)) ≡ false
 
 -- A text that is a pair of numbers, and which.
@@ -124,7 +124,7 @@ pub record TopIs (sheet : List ℕ) (top : Top) : Type 0 where
   pub name : NamePart sheet (top .end)
   pub head : top .head ≡ sheetHead sheet
   pub turn : top .turn ≡ sheetTurn sheet
-  pub rule : top .rule ≡ sheetRule sheet
+  pub sweep : top .sweep ≡ saysSweep sheet
   pub files : top .files ≡ sheetFiles sheet
   pub few : top .files ≤ mostSheetFiles
   pub within : top .next ≤ length sheet
@@ -214,4 +214,4 @@ linesFilled v lines = cond (isRefusal (v .refusal)) 0 lines
 abbrev pub readingOf : Verdict → Top → ℕ → Reading
 readingOf v top wants =
     cond (isRefusal (v .refusal)) (refusedReading v)
-    (record { refusal = Accepted; place = 0; head = top .head; turn = top .turn; rule = top .rule; files = top .files; wants = wants })
+    (record { refusal = Accepted; place = 0; head = top .head; turn = top .turn; files = top .files; wants = wants })

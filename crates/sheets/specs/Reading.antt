@@ -5,18 +5,21 @@ use mathlib.Core.Bool.{Bool, cond, _||_}
 use mathlib.Core.List.{List, [], _∷_, _++_}
 use lib.ListN.{length, drop}
 use lib.Dec.{ltb}
-use Rattle.refusals.specs.declared.Refusal.the-variants.{Accepted, BadLine, LongSheet, ShortRow}
+use Rattle.refusals.specs.declared.Refusal.the-variants.{Accepted, BadLine, LongSheet, ShortRow, RetiredRule}
 use Rattle.refusals.specs.declared.Verdict.{Verdict}
 use Rattle.refusals.specs.Refusals.{isRefusal, refuseIf, refuseAt, firstOf}
-use Rattle.runs.specs.declared.Rule.the-variants.{Least}
 use Rattle.sheets.specs.declared.Reading.{Reading}
 use Rattle.sheets.specs.Lines.{tapeKey, emptyTurn}
-use Rattle.sheets.specs.Sheet.{longestSheet, sheetHead, sheetTurnWith, sheetRule, sheetFiles, sheetWants, firstBadLine, sheetRunWith, sheetName}
+use Rattle.sheets.specs.Sheet.{longestSheet, sheetHead, sheetTurnWith, saysSweep, sheetFiles, sheetWants, firstBadLine, sheetRunWith, sheetName}
 
 -- 12, then 11 with its line.
 unfoldable pub sheetVerdict : List ℕ → Verdict
 sheetVerdict sheet =
     firstOf (refuseIf (ltb longestSheet (length sheet)) LongSheet ∷ refuseAt (firstBadLine sheet) BadLine ∷ [])
+
+-- Then 19, with the fourth line, where that names the retired rule.
+unfoldable pub ruleVerdict : List ℕ → Verdict
+ruleVerdict sheet = refuseAt (cond (saysSweep sheet) 4 0) RetiredRule
 
 -- Whether one of two rows is shorter than so many entries.
 abbrev pub shortPairRows : ℕ → List ℕ → List ℕ → Bool
@@ -31,13 +34,14 @@ unfoldable pub readVerdict : List ℕ → List ℕ → List ℕ → List ℕ →
 readVerdict sheet starts lengths aggregates numbers counts =
     firstOf
     (sheetVerdict sheet
+    ∷ ruleVerdict sheet
     ∷ refuseIf (shortTripleRows (sheetFiles sheet) starts lengths aggregates || shortPairRows (sheetWants sheet) numbers counts) ShortRow
     ∷ [])
 
--- A refusal's answer: kind and place, every other number 0 and the rule least.
+-- A refusal's answer: kind and place, every other number 0.
 abbrev pub refusedReading : Verdict → Reading
 refusedReading v =
-    record { refusal = v .refusal; place = v .place; head = 0; turn = 0; rule = Least; files = 0; wants = 0 }
+    record { refusal = v .refusal; place = v .place; head = 0; turn = 0; files = 0; wants = 0 }
 
 -- What a sheet says, where an empty price means e.
 abbrev pub readAnswerWith : ℕ → Verdict → List ℕ → Reading
@@ -48,7 +52,6 @@ readAnswerWith e v sheet =
       place = 0;
       head = sheetHead sheet;
       turn = sheetTurnWith e sheet;
-      rule = sheetRule sheet;
       files = sheetFiles sheet;
       wants = sheetWants sheet;
     })
@@ -88,7 +91,7 @@ pub record ReadWith (e : ℕ) (sheet : List ℕ) (rows : RunRows) (r : Reading) 
 abbrev pub SheetRead : List ℕ → RunRows → Reading → RunRows → Type 0
 SheetRead sheet rows r rows′ = ReadWith emptyTurn sheet rows r rows′
 
--- The name: an empty part where 12 or 11 applies.
+-- The name: an empty part where 12 or 11 applies. With 19 it is handed on.
 unfoldable pub readName : List ℕ → List ℕ
 readName sheet = cond (isRefusal ((sheetVerdict sheet) .refusal)) [] (sheetName sheet)
 

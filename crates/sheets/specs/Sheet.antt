@@ -1,12 +1,11 @@
--- A run sheet: which lines must stand where, the first that is not as described, and the run, the rule and the name that it holds.
+-- A run sheet: which lines must stand where, the first that is not as described, and the run and the name that it holds.
 use Prim.Native.Nat.{ℕ, suc, zero, _+_}
 use mathlib.Core.Bool.{Bool, true, false, not}
 use mathlib.Core.List.{List, [], _∷_, _++_}
 use Rattle.refusals.specs.Refusals.{firstWhere}
 use Rattle.runs.specs.Run.{Run, mostWants}
-use Rattle.runs.specs.declared.Rule.{Rule}
 use Rattle.texts.specs.Text.{isEmpty}
-use Rattle.sheets.specs.Lines.{lineOf, afterLines, lineAfter, tapeKey, headKey, filesKey, fileKey, wantsKey, wantKey, valueText, isTapeLine, isNumberLine, numberBehind, isCountLine, isTurnLine, turnWith, emptyTurn, isRuleLine, ruleIn, isPairLine, isTripleLine, firstIn, secondIn, middleIn, thirdIn}
+use Rattle.sheets.specs.Lines.{lineOf, afterLines, lineAfter, tapeKey, headKey, filesKey, fileKey, wantsKey, wantKey, valueText, isTapeLine, isNumberLine, numberBehind, isCountLine, isTurnLine, turnWith, emptyTurn, isRuleLine, namesSweep, isPairLine, isTripleLine, firstIn, secondIn, middleIn, thirdIn}
 
 -- The limits of a sheet. `wants` is limited as the run is.
 abbrev pub longestSheet : ℕ
@@ -26,8 +25,9 @@ sheetTurnWith e sheet = turnWith e (lineAfter 2 sheet)
 abbrev pub sheetTurn : List ℕ → ℕ
 sheetTurn sheet = sheetTurnWith emptyTurn sheet
 
-unfoldable pub sheetRule : List ℕ → Rule
-sheetRule sheet = ruleIn (lineAfter 3 sheet)
+-- Whether the fourth line names the retired rule.
+unfoldable pub saysSweep : List ℕ → Bool
+saysSweep sheet = namesSweep (lineAfter 3 sheet)
 
 unfoldable pub sheetFiles : List ℕ → ℕ
 sheetFiles sheet = numberBehind filesKey (lineAfter 4 sheet)

@@ -16,13 +16,12 @@ pub const MOST_SHEET_FILES: u64 = 256;
 // `turn=` with nothing after it means the drives' own price.
 pub const EMPTY_TURN: u64 = 12000;
 
-// What the reader answers: on a refusal every number but the place is 0 and the rule is least.
+// What the reader answers: on a refusal every number but the place is 0. There is one rule, so none is answered.
 pub struct Reading {
     pub refusal: refusals::Refusal,
     pub place: u64,
     pub head: u64,
     pub turn: u64,
-    pub rule: runs::Rule,
     pub files: u64,
     pub wants: u64,
 }

@@ -4,7 +4,6 @@ ghost use lib.ListN.{length};
 ghost use Rattle.sheets.specs.Lines.{isNumberLine, numberBehind, isCountLine, isTurnLine, turnIn, isPairLine, isTripleLine};
 ghost use Rattle.sheets.specs.Private.{ValueFound, NameLineFound, NumberLineFound, RuleLineFound, PairFound, PairLineFound, TripleFound, TripleLineFound, LinesFound};
 use crate::EMPTY_TURN;
-use runs::Rule;
 use texts::Found;
 use texts::Number;
 use texts::find;
@@ -29,8 +28,9 @@ pub(crate) enum NumberLine {
     Bad,
 }
 
+// Whether the line names the retired rule.
 pub(crate) enum RuleLine {
-    Value { rule: Rule, next: usize },
+    Value { sweep: bool, next: usize },
     Bad,
 }
 
@@ -165,13 +165,13 @@ pub(crate) fn rule_line(sheet: &[u8], at: usize) -> RuleLine
     };
     if same(&sheet[from..end], b"sweep") {
         return RuleLine::Value {
-            rule: Rule::Sweep,
+            sweep: true,
             next: end + 1,
         };
     }
     if same(&sheet[from..end], b"least") {
         return RuleLine::Value {
-            rule: Rule::Least,
+            sweep: false,
             next: end + 1,
         };
     }

@@ -1,11 +1,11 @@
 // The sheet reader: the whole sheet is judged first, and the rows are written after that.
 ghost use mathlib.Core.Path.{_≡_};
-ghost use mathlib.Core.Bool.{_||_};
+ghost use mathlib.Core.Bool.{cond, _||_};
 ghost use mathlib.Core.List.{[], _∷_};
 ghost use lib.ListN.{drop};
 ghost use lib.Dec.{ltb};
-ghost use Rattle.refusals.specs.declared.Refusal.the-variants.{ShortRow};
-ghost use Rattle.refusals.specs.Refusals.{refuseIf, firstOf};
+ghost use Rattle.refusals.specs.declared.Refusal.the-variants.{ShortRow, RetiredRule};
+ghost use Rattle.refusals.specs.Refusals.{refuseIf, refuseAt, firstOf};
 ghost use Rattle.sheets.specs.Reading.{sheetVerdict, runRows, SheetRead, readName, readFrom, placeOn};
 ghost use Rattle.sheets.specs.Lines.{firstIn, secondIn, middleIn, thirdIn};
 ghost use Rattle.sheets.specs.Private.{TopFound, FilesAt, WantsAt, BelowFound, Unread, JudgedFound, PairsReady, TriplesReady, filledRow, linesFilled, readingOf};
@@ -32,14 +32,13 @@ use refusals::Verdict;
 use refusals::refuse_at;
 use refusals::refuse_if;
 use refusals::refused;
-use runs::Rule;
 
-// The first five lines: their values, where the name ends and where the next line starts.
+// The first five lines: their values, whether the rule is the retired one, where the name ends and where the next line starts.
 struct Top {
     end: usize,
     head: u64,
     turn: u64,
-    rule: Rule,
+    sweep: bool,
     files: u64,
     next: usize,
 }
@@ -76,7 +75,7 @@ fn read_top(sheet: &[u8]) -> TopRead
     let NumberLine::Value { number: turn, next } = turn_line(sheet, next) else {
         return TopRead::Bad(3);
     };
-    let RuleLine::Value { rule, next } = rule_line(sheet, next) else {
+    let RuleLine::Value { sweep, next } = rule_line(sheet, next) else {
         return TopRead::Bad(4);
     };
     let NumberLine::Value {
@@ -90,7 +89,7 @@ fn read_top(sheet: &[u8]) -> TopRead
         end,
         head,
         turn,
-        rule,
+        sweep,
         files,
         next,
     })
@@ -138,7 +137,7 @@ fn unread(verdict: Verdict) -> Judged
             end: 0,
             head: 0,
             turn: 0,
-            rule: Rule::Least,
+            sweep: false,
             files: 0,
             next: 0,
         },
@@ -236,6 +235,19 @@ fn fill_triple(
     }
 }
 
+// 19 where the rule's line names the retired rule, unless what was judged before refuses.
+fn judge_rule(before: Verdict, sweep: bool) -> Verdict
+    ensures { λ r. ⌜ r ≡ firstOf (before ∷ refuseAt (cond sweep 4 0) RetiredRule ∷ []) ⌝ }
+{
+    if refused(before) {
+        return before;
+    }
+    if sweep {
+        return refuse_at(4, Refusal::RetiredRule);
+    }
+    refuse_at(0, Refusal::RetiredRule)
+}
+
 // 8 for one row of this length, unless what was judged before refuses.
 fn judge_row(before: Verdict, count: u64, row: usize) -> Verdict
     ensures { λ r. ⌜ r ≡ firstOf (before ∷ refuseIf (ltb row count) ShortRow ∷ []) ⌝ }
@@ -279,18 +291,15 @@ fn reading_of(verdict: Verdict, top: Top, wants: u64) -> Reading
             place: verdict.place,
             head: 0,
             turn: 0,
-            rule: Rule::Least,
             files: 0,
             wants: 0,
         };
     }
-    let rule = top.rule;
     Reading {
         refusal: Refusal::Accepted,
         place: 0,
         head: top.head,
         turn: top.turn,
-        rule,
         files: top.files,
         wants,
     }
@@ -308,7 +317,8 @@ pub fn read_sheet(
 {
     let judged = judge_sheet(sheet);
     let top = judged.top;
-    let paired = judge_pair(judged.verdict, top.files, starts.len(), lengths.len());
+    let ruled = judge_rule(judged.verdict, top.sweep);
+    let paired = judge_pair(ruled, top.files, starts.len(), lengths.len());
     let so_far = judge_row(paired, top.files, aggregates.len());
     let verdict = judge_pair(so_far, judged.wants, numbers.len(), counts.len());
     let file_lines = to_fill(verdict, top.files);
@@ -334,7 +344,7 @@ pub fn judge(sheet: &[u8]) -> Verdict
     judged.verdict
 }
 
-// The part of the sheet that holds the tape name; an empty part where 12 or 11 applies.
+// The part of the sheet that holds the tape name; an empty part where 12 or 11 applies, and with 19 the name.
 pub fn tape_name(sheet: &[u8]) -> &[u8]
     ensures { λ r. ⌜ now r ≡ readName (now (sheet .entry)) ⌝ }
     ensures { λ r. ⌜ r .ptr ≡ placeOn (readFrom (now (sheet .entry))) (sheet .entry .ptr) ⌝ }

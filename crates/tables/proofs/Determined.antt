@@ -4,35 +4,27 @@ use mathlib.Core.Bool.{Bool, true, false}
 use mathlib.Core.List.{List}
 use lib.ListN.{length}
 use Rattle.refusals.specs.Refusals.{isRefusal, accepted}
-use Rattle.runs.specs.declared.Rule.{Rule}
-use Rattle.runs.specs.declared.Rule.the-variants.{Sweep, Least}
 use Rattle.runs.specs.Run.{Run, stopsOf}
 use Rattle.runs.specs.Lists.{Detour}
-use Rattle.least.specs.Least.{ByRule}
 use Rattle.least.proofs.LeastList.{least-unique}
 use Rattle.tables.specs.declared.Listed.{Listed}
 use Rattle.tables.specs.Listing.{ListRows, Lists, IsListed, NotListed, listingVerdict, listRowsWith}
 
--- A rule asks for one list.
-pub rule-unique : (rule : Rule) (r : Run) (l l′ : List Detour) → ByRule rule r l → ByRule rule r l′ → l ≡ l′
-rule-unique Sweep r l l′ h h′ = h ∙ sym h′
-rule-unique Least r l l′ h h′ = least-unique (r .turn) (r .head) (stopsOf r) l l′ h h′
-
-module _ (r : Run) (rule : Rule) (before : ListRows) (a a′ : Listed) (after after′ : ListRows) where
+module _ (r : Run) (before : ListRows) (a a′ : Listed) (after after′ : ListRows) where
   said : List Detour → Listed
   said l = record { verdict = accepted; detours = length l }
 
-  listed-once : IsListed r rule before a after → IsListed r rule before a′ after′ → (a ≡ a′) × (after ≡ after′)
+  listed-once : IsListed r before a after → IsListed r before a′ after′ → (a ≡ a′) × (after ≡ after′)
   unfolding said
   listed-once p q =
-      let e = rule-unique rule r (p .list) (q .list) (p .by-rule) (q .by-rule) in
+      let e = least-unique (r .turn) (r .head) (stopsOf r) (p .list) (q .list) (p .least) (q .least) in
       (p .says ∙ ap said e ∙ sym (q .says), p .rows ∙ ap (λ l. listRowsWith r l before) e ∙ sym (q .rows))
 
   refused-once : NotListed (listingVerdict r before) before a after → NotListed (listingVerdict r before) before a′ after′ → (a ≡ a′) × (after ≡ after′)
   refused-once p q = (p .says ∙ sym (q .says), p .kept ∙ sym (q .kept))
 
   -- Two results that fit the contract are equal.
-  pub lists-determined : Lists r rule before a after → Lists r rule before a′ after′ → (a ≡ a′) × (after ≡ after′)
+  pub lists-determined : Lists r before a after → Lists r before a′ after′ → (a ≡ a′) × (after ≡ after′)
   lists-determined p q = go (isRefusal (listingVerdict r before .refusal)) refl
     where
       go : (b : Bool) → isRefusal (listingVerdict r before .refusal) ≡ b → (a ≡ a′) × (after ≡ after′)

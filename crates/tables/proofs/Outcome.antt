@@ -1,4 +1,4 @@
--- From the list that is written to the engine's answer: the list is the rule's, and each row is what it should be.
+-- From the list that is written to the engine's answer: the list is the least, and each row is what it should be.
 use Prim.Native.Nat.{ℕ, _+_, _-_, _≤_, _<_}
 use mathlib.Core.Path.{_≡_, refl, sym, ap, _∙_}
 use mathlib.Core.Bool.{false}
@@ -17,11 +17,8 @@ use Rattle.runs.proofs.Entries.{length-list}
 use Rattle.runs.proofs.Judged.{accepted-run}
 use Rattle.runs.proofs.Stops.{accepted-sound}
 use Rattle.least.proofs.LeastList.{least-list-none, least-list-some, least-list}
-use Rattle.runs.specs.declared.Rule.{Rule}
-use Rattle.runs.specs.declared.Rule.the-variants.{Sweep, Least}
-use Rattle.least.specs.Least.{ByRule}
 use Rattle.tables.specs.Listing.{IsListed, listRows, roomSize}
-use Rattle.tables.specs.Private.{Judged, Written, Beyond, ListWritten, listAt, ruleList, tableSize}
+use Rattle.tables.specs.Private.{Judged, Written, Beyond, ListWritten, listAt, tableSize}
 use Rattle.tables.proofs.Facts.{stops-length}
 use Rattle.least.specs.Recurrence.{leastList}
 
@@ -46,12 +43,6 @@ module _ (starts lengths numbers counts : List ℕ) (turn reads : ℕ) (j : Judg
   pub least-of-some : (length numbers ≡ 0 → ⊥) → listAt (plainStops starts lengths numbers counts) turn 0 (length numbers - 1) 0 ≡ leastList turn (plainStops starts lengths numbers counts)
   least-of-some n =
       sym (least-list-some turn (length numbers - 1) (plainStops starts lengths numbers counts) (omega (arith, stops-length starts lengths numbers counts turn reads j)))
-
--- The list of a rule is what the rule asks for, and well formed.
-module _ (r : Run) (accepts : isRefusal (judgeOf r .refusal) ≡ false) where
-  pub rule-list : (rule : Rule) → ByRule rule r (ruleList rule (r .turn) (stopsOf r))
-  rule-list Sweep = refl
-  rule-list Least = least-list (r .turn) (r .head) (stopsOf r) (accepted-sound r accepts)
 
 -- A list in two rows has its starts in one and its ends in the other.
 starts-in-row : (xs ys : List ℕ) → length xs ≡ length ys → map (λ d. d .from) (listOf xs ys) ≡ xs
@@ -112,21 +103,21 @@ room-after size xs ys zs h b w = ext-getD 0 zs (replicate size 0 ++ drop size xs
     each i l = by-cases (decLt i size) (λ m. zero-word i m) (λ m. later-word i (omega arith))
 
 -- The list is written and the room is zeroed.
-module _ (r : Run) (reads : ℕ) (rule : Rule) (froms tos room : List ℕ) (accepts : isRefusal (judgeOf r .refusal) ≡ false) (whole : reads ≡ total (r .counts)) where
+module _ (r : Run) (reads : ℕ) (froms tos room : List ℕ) (accepts : isRefusal (judgeOf r .refusal) ≡ false) (whole : reads ≡ total (r .counts)) where
   pub listed-so : (u : Verdict) (n : ℕ) (froms′ tos′ room₁ room′ : List ℕ) → u ≡ accepted → tableSize (length (r .numbers)) reads ≤ length room
-      → ListWritten (ruleList rule (r .turn) (stopsOf r)) n froms tos froms′ tos′
+      → ListWritten (leastList (r .turn) (stopsOf r)) n froms tos froms′ tos′
       → Beyond (tableSize (length (r .numbers)) reads) room room₁ → Written 0 (tableSize (length (r .numbers)) reads) (λ s. 0) room₁ room′
-      → IsListed r rule (listRows froms tos room) (record { verdict = u; detours = n }) (listRows froms′ tos′ room′)
+      → IsListed r (listRows froms tos room) (record { verdict = u; detours = n }) (listRows froms′ tos′ room′)
   listed-so u n froms′ tos′ room₁ room′ ok big w b z =
       record {
         list = list;
-        by-rule = rule-list r accepts rule;
+        least = least-list (r .turn) (r .head) (stopsOf r) (accepted-sound r accepts);
         says = rw (ok, list-long list n froms tos froms′ tos′ w);
         rows = rows-are (froms-after list n froms tos froms′ tos′ w) (tos-after list n froms tos froms′ tos′ w) room-is;
       }
     where
       list : List Detour
-      list = ruleList rule (r .turn) (stopsOf r)
+      list = leastList (r .turn) (stopsOf r)
 
       size-is : tableSize (length (r .numbers)) reads ≡ roomSize r
       size-is = rw whole

@@ -11,7 +11,6 @@ use Rattle.refusals.specs.declared.Refusal.the-variants.{ShortRow, ShortRoom}
 use Rattle.refusals.specs.declared.Verdict.{Verdict}
 use Rattle.refusals.specs.Refusals.{isRefusal, accepted, refuseIf, firstOf}
 use Rattle.refusals.proofs.Verdicts.{refuses, first-refuses, first-passes, test-says, none-refuses}
-use Rattle.runs.specs.declared.Rule.{Rule}
 use Rattle.runs.specs.Run.{Run, total}
 use Rattle.runs.specs.Judging.{judgeOf}
 use Rattle.runs.proofs.Search.{or-false-both}
@@ -28,8 +27,8 @@ both-pass true c e = absurd (true≢false e)
 both-pass false true e = absurd (true≢false e)
 both-pass false false e = (refl, refl)
 
-module _ (r : Run) (rule : Rule) (rows : ListRows) where
-  refused-so : (v : Verdict) → v ≡ listingVerdict r rows → refuses v ≡ true → Lists r rule rows (record { verdict = v; detours = 0 }) rows
+module _ (r : Run) (rows : ListRows) where
+  refused-so : (v : Verdict) → v ≡ listingVerdict r rows → refuses v ≡ true → Lists r rows (record { verdict = v; detours = 0 }) rows
   refused-so v e h =
       record {
         refused = λ q. record { says = rw e; kept = refl };
@@ -40,7 +39,7 @@ module _ (r : Run) (rule : Rule) (rows : ListRows) where
   after-run = refuseIf (shortListRows (length (r .numbers)) rows) ShortRow ∷ refuseIf (ltb (length (rows .room)) (roomSize r)) ShortRoom ∷ []
 
   module _ (v : Verdict) (f : Bool) (v-is : v ≡ judgeOf r) (f-is : f ≡ isRefusal (v .refusal)) where
-    pub run-refused : f ≡ true → Lists r rule rows (record { verdict = v; detours = 0 }) rows
+    pub run-refused : f ≡ true → Lists r rows (record { verdict = v; detours = 0 }) rows
     unfolding listingVerdict after-run
     run-refused e = refused-so v (v-is ∙ first-refuses (judgeOf r) after-run (test-says v-is f-is e)) (sym f-is ∙ e)
 
@@ -56,7 +55,7 @@ module _ (r : Run) (rule : Rule) (rows : ListRows) where
       unfolding after-run listRowsVerdict
       rows-decide = rw (u-is, reads-is) (sym (passes-run passed))
 
-      pub rows-refused : g ≡ true → Lists r rule rows (record { verdict = u; detours = 0 }) rows
+      pub rows-refused : g ≡ true → Lists r rows (record { verdict = u; detours = 0 }) rows
       rows-refused e = refused-so u rows-decide (sym g-is ∙ e)
 
       -- Where the rows pass, the verdict is acceptance.
@@ -83,7 +82,7 @@ module _ (r : Run) (rule : Rule) (rows : ListRows) where
       pub room-big : g ≡ false → tableSize (length (r .numbers)) reads ≤ length (rows .room)
       room-big e = ltb-false (length (rows .room)) (tableSize (length (r .numbers)) reads) (rows-pass e .1)
 
-      pub run-listed : g ≡ false → (a : Listed) (after : ListRows) → IsListed r rule rows a after → Lists r rule rows a after
+      pub run-listed : g ≡ false → (a : Listed) (after : ListRows) → IsListed r rows a after → Lists r rows a after
       run-listed e a after p =
           let accepts : refuses (listingVerdict r rows) ≡ false = rw (← rows-decide, ← g-is) e in
           record { refused = λ q. absurd (true≢false (sym q ∙ accepts)); listed = λ q. p }

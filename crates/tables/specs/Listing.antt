@@ -1,4 +1,4 @@
--- What the table engine answers, for every input: the first refusal that applies and nothing changed, or the list of the rule, and every row afterwards.
+-- What the table engine answers, for every input: the first refusal that applies and nothing changed, or the least list, and every row afterwards.
 use Prim.Native.Nat.{ℕ, _+_, _-_, _*_}
 use mathlib.Core.Path.{_≡_}
 use mathlib.Core.Bool.{Bool, true, false, _||_}
@@ -9,11 +9,10 @@ use denote.Triple.Both.{Both}
 use Rattle.refusals.specs.declared.Refusal.the-variants.{ShortRow, ShortRoom}
 use Rattle.refusals.specs.declared.Verdict.{Verdict}
 use Rattle.refusals.specs.Refusals.{isRefusal, accepted, refuseIf, firstOf}
-use Rattle.runs.specs.declared.Rule.{Rule}
 use Rattle.runs.specs.Run.{Run, Row, total}
 use Rattle.runs.specs.Judging.{judgeOf}
 use Rattle.runs.specs.Lists.{Detour}
-use Rattle.least.specs.Least.{ByRule}
+use Rattle.least.specs.Least.{LeastForRun}
 use Rattle.tables.specs.declared.Listed.{Listed}
 
 -- The lent rows: for starts and ends, and the working room.
@@ -40,7 +39,7 @@ roomSize r = length (r .numbers) * length (r .numbers) * (total (r .counts) + 1)
 abbrev pub shortListRows : ℕ → ListRows → Bool
 shortListRows k rows = ltb (length (rows .froms)) (k - 1) || ltb (length (rows .tos)) (k - 1)
 
--- The engine's refusals, under either rule: 1 to 7, then 8, then 9.
+-- The engine's refusals: 1 to 7, then 8, then 9.
 unfoldable pub listingVerdict : Run → ListRows → Verdict
 listingVerdict r rows =
     firstOf
@@ -63,12 +62,12 @@ pub record NotListed (v : Verdict) (before : ListRows) (answer : Listed) (after 
   pub says : answer ≡ record { verdict = v; detours = 0 }
   pub kept : after ≡ before
 
-pub record IsListed (r : Run) (rule : Rule) (before : ListRows) (answer : Listed) (after : ListRows) : Type 0 where
+pub record IsListed (r : Run) (before : ListRows) (answer : Listed) (after : ListRows) : Type 0 where
   pub list : List Detour
-  pub by-rule : ByRule rule r list
+  pub least : LeastForRun r list
   pub says : answer ≡ record { verdict = accepted; detours = length list }
   pub rows : after ≡ listRowsWith r list before
 
-pub record Lists (r : Run) (rule : Rule) (before : ListRows) (answer : Listed) (after : ListRows) : Type 0 where
+pub record Lists (r : Run) (before : ListRows) (answer : Listed) (after : ListRows) : Type 0 where
   pub refused : isRefusal (listingVerdict r before .refusal) ≡ true → NotListed (listingVerdict r before) before answer after
-  pub listed : isRefusal (listingVerdict r before .refusal) ≡ false → IsListed r rule before answer after
+  pub listed : isRefusal (listingVerdict r before .refusal) ≡ false → IsListed r before answer after

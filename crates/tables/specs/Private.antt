@@ -13,9 +13,7 @@ use Rattle.runs.specs.Run.{Stop, aloneOf, plainStops, total, endAt, lastPlace, 
 use Rattle.runs.specs.Judging.{judgeOf}
 use Rattle.runs.specs.Private.{InTable}
 use Rattle.runs.specs.Lists.{Detour, listOf}
-use Rattle.least.specs.Recurrence.{W, lower, value, candidate, choice, planDetours, best, leastList, fileAt, leftAt, rightAt, countAt}
-use Rattle.runs.specs.declared.Rule.{Rule}
-use Rattle.runs.specs.declared.Rule.the-variants.{Sweep, Least}
+use Rattle.least.specs.Recurrence.{W, lower, value, candidate, choice, planDetours, best, fileAt, leftAt, rightAt, countAt}
 
 -- Rows that the judging accepts with some head, and the number of their reads.
 pub record Judged (starts lengths numbers counts : List ℕ) (turn reads : ℕ) : Type 0 where
@@ -186,11 +184,6 @@ pub record ListWritten (list : List Detour) (n : ℕ) (froms tos froms′ tos′
   pub entries : listOf (take n froms′) (take n tos′) ≡ list
   pub later-from : drop n froms′ ≡ drop n froms
   pub later-to : drop n tos′ ≡ drop n tos
-
--- The list of a rule, as it is read off.
-abbrev pub ruleList : Rule → ℕ → List Stop → List Detour
-ruleList Sweep turn stops = []
-ruleList Least turn stops = leastList turn stops
 
 -- Rows long enough for so many wants.
 pub record LongRows (wants froms tos : ℕ) : Type 0 where

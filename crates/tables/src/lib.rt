@@ -1,4 +1,4 @@
-// tables: the list of a run by its rule, on a table that the caller lends, for files that lie in no aggregate: the planner hands in the stops of a
+// tables: the least list of a run, on a table that the caller lends, for files that lie in no aggregate: the planner hands in the stops of a
 // run as such files. It stands on the judging alone; what "least" means is said in `least`.
 mod filling;
 mod listing;

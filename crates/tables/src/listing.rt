@@ -1,4 +1,4 @@
-// The list of a run: refusals 1 to 7, 8 and 9, before anything is written; then the list of the rule, and the room zeroed.
+// The list of a run: refusals 1 to 7, 8 and 9, before anything is written; then the least list, and the room zeroed.
 ghost use mathlib.Core.Path.{_≡_};
 ghost use mathlib.Core.Bool.{_||_};
 ghost use Prim.Native.Nat.{_+_, _-_, _≤_, _<_};
@@ -7,7 +7,7 @@ ghost use lib.Dec.{ltb};
 ghost use Rattle.least.specs.Recurrence.{leastList};
 ghost use Rattle.runs.specs.Run.{aloneAt, plainStopsAt, mostReads};
 ghost use Rattle.tables.specs.Listing.{Lists, listRowsBefore, listRowsAfter};
-ghost use Rattle.tables.specs.Private.{Judged, ListWritten, Beyond, tableSize, ruleList, listRowsVerdict};
+ghost use Rattle.tables.specs.Private.{Judged, ListWritten, Beyond, tableSize, listRowsVerdict};
 use crate::Listed;
 use crate::filling::clear;
 use crate::filling::fill;
@@ -16,7 +16,6 @@ use refusals::Refusal;
 use refusals::Verdict;
 use refusals::refuse_if;
 use refusals::refused;
-use runs::Rule;
 
 // Whether a row is too short for a list over so many wants: it holds one entry less, and none where nothing is wanted.
 fn short_rows(wants: usize, froms: usize, tos: usize) -> bool
@@ -89,43 +88,7 @@ fn least_list(
     )
 }
 
-// The list of the rule.
-fn list_by(
-    rule: Rule,
-    starts: &[u64],
-    lengths: &[u64],
-    numbers: &[u64],
-    counts: &[u64],
-    turn: u64,
-    reads: usize,
-    froms: &mut [u64],
-    tos: &mut [u64],
-    room: &mut [u64],
-) -> usize
-    requires { ⌜ Judged (now starts) (now lengths) (now numbers) (now counts) turn reads ⌝ }
-    requires { ⌜ length (now numbers) ≤ length (now froms) + 1 ⌝ }
-    requires { ⌜ length (now numbers) ≤ length (now tos) + 1 ⌝ }
-    requires { ⌜ tableSize (length (now numbers)) reads ≤ length (now room) ⌝ }
-    ensures { λ r. ⌜ ListWritten (ruleList rule turn (plainStopsAt starts lengths numbers counts)) r (now (froms .entry)) (now (tos .entry)) (now (froms .exit)) (now (tos .exit)) ⌝ }
-    ensures { λ r. ⌜ Beyond (tableSize (length (now (numbers .entry))) reads) (now (room .entry)) (now (room .exit)) ⌝ }
-{
-    match rule {
-        Rule::Sweep => 0,
-        Rule::Least => least_list(
-            starts,
-            lengths,
-            numbers,
-            counts,
-            turn,
-            reads,
-            froms,
-            tos,
-            room,
-        ),
-    }
-}
-
-// The list of a run of files that lie in no aggregate, by its rule, in the first entries of two rows; and the room zeroed.
+// The least list of a run of files that lie in no aggregate, in the first entries of two rows; and the room zeroed.
 pub fn list(
     starts: &[u64],
     lengths: &[u64],
@@ -133,12 +96,11 @@ pub fn list(
     counts: &[u64],
     head: u64,
     turn: u64,
-    rule: Rule,
     froms: &mut [u64],
     tos: &mut [u64],
     room: &mut [u64],
 ) -> Listed
-    ensures { λ r. ⌜ Lists (aloneAt starts lengths numbers counts head turn) rule (listRowsBefore froms tos room) r (listRowsAfter froms tos room) ⌝ }
+    ensures { λ r. ⌜ Lists (aloneAt starts lengths numbers counts head turn) (listRowsBefore froms tos room) r (listRowsAfter froms tos room) ⌝ }
 {
     let run = runs::judge_alone(starts, lengths, numbers, counts, head, turn);
     if refused(run) {
@@ -156,8 +118,7 @@ pub fn list(
             detours: 0,
         };
     }
-    let n = list_by(
-        rule,
+    let n = least_list(
         starts,
         lengths,
         numbers,

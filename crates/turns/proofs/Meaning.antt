@@ -14,7 +14,7 @@ use Rattle.texts.specs.Text.{lineFeed, has, behind, startsWith, isText, isNumbe
 use Rattle.texts.proofs.Bytes.{and-true-both, begun-long, not-empty}
 use Rattle.texts.proofs.Split.{has-here, before-here, behind-here, whole-key}
 use Rattle.sheets.specs.Lines.{lineOf, afterLines, lineAfter, turnKey, valueText, isTurnLine, turnWith}
-use Rattle.sheets.specs.Sheet.{sheetHead, sheetTurnWith, sheetRule, sheetFiles, fileText, wantsText, sheetWants, wantText, endText, firstBadTop, firstBadBelow, firstBadLine, sheetRunWith, sheetName}
+use Rattle.sheets.specs.Sheet.{sheetHead, sheetTurnWith, saysSweep, sheetFiles, fileText, wantsText, sheetWants, wantText, endText, firstBadTop, firstBadBelow, firstBadLine, sheetRunWith, sheetName}
 use Rattle.sheets.proofs.Good.{turn-begun, no-bad-line}
 use Rattle.turns.specs.Rewriting.{priceIsEmpty, bytesBefore, rewritten}
 use Rattle.turns.specs.Private.{Readable}
@@ -61,8 +61,8 @@ module _ (s t : List ℕ) (same : SameBeside s t) where
   unfolding firstBadLine firstBadTop firstBadBelow
   lines-same = rw (same .tape, same .head, same .turn, same .rest, after₄, files-same, file-text, wants-text, wants-same, want-text, end-text)
 
-  pub rule-same : sheetRule s ≡ sheetRule t
-  unfolding sheetRule
+  pub rule-same : saysSweep s ≡ saysSweep t
+  unfolding saysSweep
   rule-same = rw (same .rest)
 
   pub name-same : sheetName s ≡ sheetName t
@@ -204,7 +204,7 @@ pub record Keeps (sheet : List ℕ) : Type 0 where
   pub files : sheetFiles (rewritten sheet) ≡ sheetFiles sheet
   pub wants : sheetWants (rewritten sheet) ≡ sheetWants sheet
   pub run : (e : ℕ) → sheetRunWith e (rewritten sheet) ≡ sheetRunWith 0 sheet
-  pub rule : sheetRule (rewritten sheet) ≡ sheetRule sheet
+  pub rule : saysSweep (rewritten sheet) ≡ saysSweep sheet
   pub name : sheetName (rewritten sheet) ≡ sheetName sheet
   pub again : rewritten (rewritten sheet) ≡ rewritten sheet
 
@@ -246,7 +246,7 @@ keeps sheet good = go (priceIsEmpty sheet) refl
           files = ap sheetFiles is;
           wants = ap sheetWants is;
           run = λ x. ap (sheetRunWith x) is ∙ run-same sheet sheet (record { tape = refl; head = refl; turn = refl; rest = refl }) x 0 (price-stands sheet good e x);
-          rule = ap sheetRule is;
+          rule = ap saysSweep is;
           name = ap sheetName is;
           again = ap rewritten is;
         }

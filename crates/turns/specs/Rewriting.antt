@@ -31,7 +31,8 @@ zeroAt n sheet = take n sheet ++ (code "0" ∷ drop n sheet)
 unfoldable pub rewritten : List ℕ → List ℕ
 rewritten sheet = cond (priceIsEmpty sheet) (zeroAt (bytesBefore sheet) sheet) sheet
 
--- 12, then 11 with its line, as the reader gives them; then 12 for a result over the limit, then 8. The run is not judged.
+-- 12, then 11 with its line, as the reader gives them; then 12 for a result over the limit, then 8. Neither the run is judged nor the rule: a sheet
+-- with `rule=sweep` is rewritten like any other.
 unfoldable pub rewriteVerdict : List ℕ → List ℕ → Verdict
 rewriteVerdict sheet row =
     firstOf

@@ -1,5 +1,6 @@
 // turns: an old run sheet rewritten so that it goes on meaning what it meant when nothing after `turn=` was 0.
-// For the program, which reads, calls this and writes. The sheet is judged as the reader judges it; the run that it holds is not.
+// For the program, which reads, calls this and writes. The sheet's lines are judged as the reader judges them; neither the rule that it names nor
+// the run that it holds is.
 ghost use Prim.Native.Nat.{_≤_, _<_};
 ghost use mathlib.Core.Path.{_≡_};
 ghost use mathlib.Core.Bool.{true, false};

@@ -10,10 +10,8 @@ use lib.Seq.{paste, paste-zero, paste-suc, length-paste, take-paste, drop-paste,
 use native.Mathlib.Decide.{decLt}
 use borrow.Author.Tests.{lt-ltb, le-ltb}
 use Rattle.io.specs.Digits.{glyph, digits, Fewest}
-use Rattle.runs.specs.declared.Rule.{Rule}
-use Rattle.sheets.specs.Lines.{ruleKey, ruleText}
 use Rattle.texts.specs.Text.{decimal, decimalIn}
-use Rattle.writers.specs.Writing.{line, pairLine, pairLines, tripleLine, tripleLines}
+use Rattle.writers.specs.Writing.{pairLine, pairLines, tripleLine, tripleLines}
 use Rattle.writers.specs.Private.{Wrote}
 
 -- Putting a text byte by byte.
@@ -185,8 +183,3 @@ module _ (key firsts seconds : List ℕ) (equal : length firsts ≡ length secon
     pub triples-over : length firsts ≤ i → tripleLines key (drop i firsts) (drop i seconds) (drop i thirds) ≡ []
     unfolding tripleLines
     triples-over l = rw (drop-of-length-le firsts l)
-
--- The line of a rule, by the rule's case.
-pub wrote-rule : (page : List ℕ) (at : ℕ) (rule case : Rule) (page′ : List ℕ) (next : ℕ) → rule ≡ case
-    → Wrote page at (line ruleKey (ruleText case)) 11 page′ next → Wrote page at (line ruleKey (ruleText rule)) 11 page′ next
-wrote-rule page at rule case page′ next e p = subst (λ r. Wrote page at (line ruleKey (ruleText r)) 11 page′ next) (sym e) p

@@ -1,4 +1,4 @@
--- Reading what the run sheet writer wrote for an accepted run within the sheet's limits gives that run, name and rule included;
+-- Reading what the run sheet writer wrote for an accepted run within the sheet's limits gives that run, the name included;
 -- and that sheet is never too long.
 use Prim.Native.Nat.{ℕ, zero, suc, _+_, _*_, _^_, _≤_, _<_}
 use mathlib.Core.Path.{_≡_, refl, ap, sym, _∙_}
@@ -14,12 +14,10 @@ use Rattle.runs.specs.Judging.{judgeOf, badPlace, badNumber, returns}
 use Rattle.runs.proofs.Search.{first-zero, or-false-both}
 use Rattle.runs.proofs.Accepted.{GoodFile, good-file}
 use Rattle.runs.proofs.Judged.{accepted-run}
-use Rattle.runs.specs.declared.Rule.{Rule}
-use Rattle.runs.specs.declared.Rule.the-variants.{Sweep, Least}
 use Rattle.texts.specs.Text.{lineFeed, has, behind, isName, isNameByte, between, allOf, isEmpty, startsWith, isNumber, decimal}
-use Rattle.sheets.specs.Lines.{lineOf, afterLines, lineAfter, tapeKey, headKey, turnKey, ruleKey, ruleText, filesKey, fileKey, wantsKey, wantKey, valueText, isTapeLine, isNumberLine, numberBehind, isCountLine, isTurnLine, turnWith, emptyTurn, turnIn, isRuleLine, ruleIn, isPairLine, firstIn, secondIn, isTripleLine, middleIn, thirdIn}
-use Rattle.sheets.specs.Sheet.{longestSheet, mostSheetFiles, sheetHead, sheetTurnWith, sheetTurn, sheetRule, sheetFiles, fileText, wantsText, sheetWants, wantText, endText, firstBadOf, firstBadTop, firstBadBelow, firstBadLine, eachOf, sheetRun, sheetName}
-use Rattle.sheets.specs.Reading.{sheetVerdict, readName}
+use Rattle.sheets.specs.Lines.{lineOf, afterLines, lineAfter, tapeKey, headKey, turnKey, ruleKey, leastText, filesKey, fileKey, wantsKey, wantKey, valueText, isTapeLine, isNumberLine, numberBehind, isCountLine, isTurnLine, turnWith, emptyTurn, turnIn, isRuleLine, namesSweep, isPairLine, firstIn, secondIn, isTripleLine, middleIn, thirdIn}
+use Rattle.sheets.specs.Sheet.{longestSheet, mostSheetFiles, sheetHead, sheetTurnWith, sheetTurn, saysSweep, sheetFiles, fileText, wantsText, sheetWants, wantText, endText, firstBadOf, firstBadTop, firstBadBelow, firstBadLine, eachOf, sheetRun, sheetName}
+use Rattle.sheets.specs.Reading.{sheetVerdict, ruleVerdict, readName}
 use Rattle.writers.specs.Writing.{line, numberLine, pairText, pairLine, pairLines, tripleText, tripleLine, tripleLines, topText, sheetText}
 use Rattle.texts.proofs.Bytes.{and-true-both, not-empty}
 use Rattle.writers.proofs.Pages.{decimal-digits, decimal-short}
@@ -124,9 +122,8 @@ regrouped a b c d e f g h = simp append-assoc
 number-length : (key : List ℕ) (n : ℕ) → n < 2 ^ 64 → length (numberLine key n) ≤ length key + 21
 number-length key n l = omega (arith, line-length key (decimal n), decimal-short n l)
 
-rule-length : (r : Rule) → length (line ruleKey (ruleText r)) ≤ 11
-rule-length Sweep = omega arith
-rule-length Least = omega arith
+rule-length : length (line ruleKey leastText) ≤ 11
+rule-length = omega arith
 
 sum-length : (a b c d e f g h : List ℕ) → length a ≤ 22 → length b ≤ 26 → length c ≤ 26 → length d ≤ 11 → length e ≤ 27 → length f ≤ 9728 → length g ≤ 27 → length h ≤ 3136
     → length (a ++ b ++ c ++ d ++ e ++ f ++ g ++ h) ≤ 16384
@@ -143,18 +140,16 @@ price-back key n l = rw (key-begins key (decimal n), key-value key (decimal n), 
 price-value : (key : List ℕ) (n : ℕ) → cond (isEmpty (valueText key (key ++ decimal n))) emptyTurn (numberBehind key (key ++ decimal n)) ≡ n
 price-value key n = rw (key-value key (decimal n), not-empty (decimal n) (decimal-some n n), decimal-value n)
 
-rule-test : (r : Rule) → isRuleLine (ruleKey ++ ruleText r) ≡ true
+rule-test : isRuleLine (ruleKey ++ leastText) ≡ true
 unfolding isRuleLine startsWith
-rule-test Sweep = refl
-rule-test Least = refl
+rule-test = refl
 
-rule-value : (r : Rule) → ruleIn (ruleKey ++ ruleText r) ≡ r
-unfolding ruleIn startsWith
-rule-value Sweep = refl
-rule-value Least = refl
+rule-kept : namesSweep (ruleKey ++ leastText) ≡ false
+unfolding namesSweep startsWith
+rule-kept = refl
 
 -- The sheet of a run, read again.
-module _ (name : List ℕ) (rule : Rule) (run : Run) (named : isName name ≡ true) (small : SmallRun run) where
+module _ (name : List ℕ) (run : Run) (named : isName name ≡ true) (small : SmallRun run) where
   F : ℕ
   F = length (run .starts)
 
@@ -172,7 +167,7 @@ module _ (name : List ℕ) (rule : Rule) (run : Run) (named : isName name ≡ tr
   rest₄ = numberLine filesKey F ++ rest₅
 
   rest₃ : List ℕ
-  rest₃ = line ruleKey (ruleText rule) ++ rest₄
+  rest₃ = line ruleKey leastText ++ rest₄
 
   rest₂ : List ℕ
   rest₂ = numberLine turnKey (run .turn) ++ rest₃
@@ -181,12 +176,12 @@ module _ (name : List ℕ) (rule : Rule) (run : Run) (named : isName name ≡ tr
   rest₁ = numberLine headKey (run .head) ++ rest₂
 
   text : List ℕ
-  text = sheetText name rule run
+  text = sheetText name run
 
   text-is : text ≡ line tapeKey name ++ rest₁
   unfolding text sheetText topText rest₁ rest₂ rest₃ rest₄ rest₅ rest₆ F W
   text-is =
-      regrouped (line tapeKey name) (numberLine headKey (run .head)) (numberLine turnKey (run .turn)) (line ruleKey (ruleText rule))
+      regrouped (line tapeKey name) (numberLine headKey (run .head)) (numberLine turnKey (run .turn)) (line ruleKey leastText)
       (numberLine filesKey F) (tripleLines fileKey (run .starts) (run .lengths) (run .aggregates)) (numberLine wantsKey W) rest₆
 
   -- The lines hold no LF of their own.
@@ -194,10 +189,9 @@ module _ (name : List ℕ) (rule : Rule) (run : Run) (named : isName name ≡ tr
   unfolding isName
   name-flat = has-none isNameByte lineFeed refl name (and-true-both (between 1 16 (length name)) (allOf isNameByte name) named .1)
 
-  rule-flat : (r : Rule) → has lineFeed (ruleText r) ≡ false
+  rule-flat : has lineFeed leastText ≡ false
   unfolding has
-  rule-flat Sweep = refl
-  rule-flat Least = refl
+  rule-flat = refl
 
   number-flat : (n : ℕ) → has lineFeed (decimal n) ≡ false
   number-flat n = decimal-without lineFeed n refl
@@ -217,7 +211,7 @@ module _ (name : List ℕ) (rule : Rule) (run : Run) (named : isName name ≡ tr
 
   after₄ : afterLines 4 text ≡ rest₄
   unfolding afterLines rest₃ has
-  after₄ = ap (behind lineFeed) after₃ ∙ line-behind ruleKey (ruleText rule) rest₄ refl (rule-flat rule)
+  after₄ = ap (behind lineFeed) after₃ ∙ line-behind ruleKey leastText rest₄ refl rule-flat
 
   after₅ : afterLines 5 text ≡ rest₅
   unfolding afterLines rest₄ has
@@ -236,9 +230,9 @@ module _ (name : List ℕ) (rule : Rule) (run : Run) (named : isName name ≡ tr
   unfolding rest₂ has
   line₂ = ap lineOf after₂ ∙ line-first turnKey (decimal (run .turn)) rest₃ refl (number-flat (run .turn))
 
-  line₃ : lineAfter 3 text ≡ ruleKey ++ ruleText rule
+  line₃ : lineAfter 3 text ≡ ruleKey ++ leastText
   unfolding rest₃ has
-  line₃ = ap lineOf after₃ ∙ line-first ruleKey (ruleText rule) rest₄ refl (rule-flat rule)
+  line₃ = ap lineOf after₃ ∙ line-first ruleKey leastText rest₄ refl rule-flat
 
   line₄ : lineAfter 4 text ≡ filesKey ++ decimal F
   unfolding rest₄ has
@@ -304,7 +298,7 @@ module _ (name : List ℕ) (rule : Rule) (run : Run) (named : isName name ≡ tr
   turn-good = ap isTurnLine line₂ ∙ price-back turnKey (run .turn) (small .turn)
 
   rule-good : isRuleLine (lineAfter 3 text) ≡ true
-  rule-good = ap isRuleLine line₃ ∙ rule-test rule
+  rule-good = ap isRuleLine line₃ ∙ rule-test
 
   files-good : isCountLine filesKey mostSheetFiles (lineAfter 4 text) ≡ true
   unfolding F
@@ -344,9 +338,9 @@ module _ (name : List ℕ) (rule : Rule) (run : Run) (named : isName name ≡ tr
   unfolding sheetTurnWith turnWith
   turn-back = ap turnIn line₂ ∙ price-value turnKey (run .turn)
 
-  rule-back : sheetRule text ≡ rule
-  unfolding sheetRule
-  rule-back = ap ruleIn line₃ ∙ rule-value rule
+  rule-stands : saysSweep text ≡ false
+  unfolding saysSweep
+  rule-stands = ap namesSweep line₃ ∙ rule-kept
 
   names-back : sheetName text ≡ name
   unfolding sheetName
@@ -373,36 +367,36 @@ module _ (name : List ℕ) (rule : Rule) (run : Run) (named : isName name ≡ tr
   short-enough : length text ≤ longestSheet
   unfolding text sheetText topText F W
   short-enough =
-      sum-length (line tapeKey name) (numberLine headKey (run .head)) (numberLine turnKey (run .turn)) (line ruleKey (ruleText rule))
+      sum-length (line tapeKey name) (numberLine headKey (run .head)) (numberLine turnKey (run .turn)) (line ruleKey leastText)
       (numberLine filesKey F) (tripleLines fileKey (run .starts) (run .lengths) (run .aggregates)) (numberLine wantsKey W) (pairLines wantKey (run .numbers) (run .counts))
       (omega (arith, line-length tapeKey name, name-length name named))
       (number-length headKey (run .head) (small .head))
       (number-length turnKey (run .turn) (small .turn))
-      (rule-length rule)
+      rule-length
       (number-length filesKey F F-small)
       (omega (arith, triples-length fileKey (run .starts) (run .lengths) (run .aggregates) (omega arith) (small .starts) (small .lengths) (small .aggregates), small .files))
       (number-length wantsKey W W-small)
       (omega (arith, pairs-length wantKey (run .numbers) (run .counts) (omega arith) (small .numbers) (small .counts), small .wants))
 
--- What reading a run's sheet gives: 12 and 11 accept it, and it holds the run, the rule and the name.
-pub record ReadsBack (name : List ℕ) (rule : Rule) (run : Run) : Type 0 where
-  pub short : length (sheetText name rule run) ≤ longestSheet
-  pub accepts : sheetVerdict (sheetText name rule run) ≡ accepted
-  pub same-run : sheetRun (sheetText name rule run) ≡ run
-  pub same-rule : sheetRule (sheetText name rule run) ≡ rule
-  pub same-name : readName (sheetText name rule run) ≡ name
+-- What reading a run's sheet gives: 12, 11 and 19 accept it, and it holds the run and the name.
+pub record ReadsBack (name : List ℕ) (run : Run) : Type 0 where
+  pub short : length (sheetText name run) ≤ longestSheet
+  pub accepts : sheetVerdict (sheetText name run) ≡ accepted
+  pub same-run : sheetRun (sheetText name run) ≡ run
+  pub ruled : ruleVerdict (sheetText name run) ≡ accepted
+  pub same-name : readName (sheetText name run) ≡ name
 
 -- For every accepted run within the sheet's limits.
-pub round-trip : (name : List ℕ) (rule : Rule) (run : Run) → judgeOf run ≡ accepted → length (run .starts) ≤ mostSheetFiles → isName name ≡ true → ReadsBack name rule run
-unfolding text sheetVerdict readName
-round-trip name rule run e few named =
+pub round-trip : (name : List ℕ) (run : Run) → judgeOf run ≡ accepted → length (run .starts) ≤ mostSheetFiles → isName name ≡ true → ReadsBack name run
+unfolding text sheetVerdict ruleVerdict readName
+round-trip name run e few named =
     let small = small-run run (ap (λ v. isRefusal (v .refusal)) e) few in
-    let long = short-enough name rule run named small in
-    let good : sheetVerdict (sheetText name rule run) ≡ accepted = rw (le-ltb longestSheet (length (sheetText name rule run)) long, all-described name rule run named small) in
+    let long = short-enough name run named small in
+    let good : sheetVerdict (sheetText name run) ≡ accepted = rw (le-ltb longestSheet (length (sheetText name run)) long, all-described name run named small) in
     record {
       short = long;
       accepts = good;
-      same-run = run-back name rule run named small;
-      same-rule = rule-back name rule run named small;
-      same-name = rw good (names-back name rule run named small);
+      same-run = run-back name run named small;
+      ruled = rw (rule-stands name run named small);
+      same-name = rw good (names-back name run named small);
     }

@@ -15,7 +15,6 @@ use Rattle.runs.specs.Run.{Run}
 use Rattle.runs.specs.Judging.{judgeOf}
 use Rattle.runs.proofs.Judged.{GoodRun, accepted-run}
 use Rattle.runs.proofs.Search.{or-false-both}
-use Rattle.runs.specs.declared.Rule.{Rule}
 use Rattle.refusals.proofs.Verdicts.{test-says, AllAccept, all-accept, accepts-if}
 use Rattle.writers.specs.declared.Written.{Written}
 use Rattle.texts.specs.Text.{isName, isNameByte, allOf, between}
@@ -132,11 +131,11 @@ module _ (name : List ℕ) (run : Run) (over : Bool) (v w : Verdict) (v-is : v �
     name-fits = name-length name (not-false (isName name) (name-passes .1))
 
 -- The run sheet writer.
-module _ (name : List ℕ) (rule : Rule) (run : Run) (row : List ℕ) (v w : Verdict) (v-is : v ≡ judgeOf run)
+module _ (name : List ℕ) (run : Run) (row : List ℕ) (v w : Verdict) (v-is : v ≡ judgeOf run)
     (w-is : w ≡ firstOf (v ∷ refuseIf (ltb mostSheetFiles (length (run .starts)) || not (isName name)) BadName ∷ [])) (f : Bool) (f-is : f ≡ isRefusal (w .refusal)) where
-  pub write-refused : f ≡ true → writeVerdict name rule run row ≡ w
+  pub write-refused : f ≡ true → writeVerdict name run row ≡ w
   unfolding writeVerdict
-  write-refused e = judged-refused name run (ltb mostSheetFiles (length (run .starts))) v w v-is w-is f f-is (rowVerdict (sheetText name rule run) row ∷ []) e
+  write-refused e = judged-refused name run (ltb mostSheetFiles (length (run .starts))) v w v-is w-is f f-is (rowVerdict (sheetText name run) row ∷ []) e
 
   module _ (good : f ≡ false) where
     pub sheet-fits : (page : List ℕ) → sheetMost ≤ length page → SheetFits page name (run .starts) (run .lengths) (run .aggregates) (run .numbers) (run .counts)
@@ -153,11 +152,11 @@ module _ (name : List ℕ) (rule : Rule) (run : Run) (row : List ℕ) (v w : Ver
           pairs = g .wants .equal;
         }
 
-    pub sheet-last : writeVerdict name rule run row ≡ rowVerdict (sheetText name rule run) row
+    pub sheet-last : writeVerdict name run row ≡ rowVerdict (sheetText name run) row
     unfolding writeVerdict
     sheet-last =
-        judged-passes name run (ltb mostSheetFiles (length (run .starts))) v w v-is w-is f f-is good (rowVerdict (sheetText name rule run) row ∷ [])
-        ∙ last-verdict (sheetText name rule run) row
+        judged-passes name run (ltb mostSheetFiles (length (run .starts))) v w v-is w-is f f-is good (rowVerdict (sheetText name run) row ∷ [])
+        ∙ last-verdict (sheetText name run) row
 
 -- A writer's contract determines the answer and the row.
 pub handed-determined : (v : Verdict) (text row : List ℕ) (r s : Written) (row′ row″ : List ℕ) → Handed v text row r row′ → Handed v text row s row″ → (r ≡ s) × (row′ ≡ row″)

@@ -3,7 +3,6 @@
 use Prim.Native.Nat.{ℕ}
 use mathlib.Core.Path.{_≡_, refl}
 use mathlib.Core.List.{List, [], _∷_}
-use Rattle.runs.specs.declared.Rule.the-variants.{Least}
 use Rattle.runs.specs.Run.{Run, runOf, goesOn, firstMember, lastWithin, wantStops, joinTo, joined, rightEnd}
 use Rattle.refusals.specs.Refusals.{firstWhere}
 use Rattle.walk.specs.Walk.{walked, served, timeOf, timesOf, legFrom, legsFor, sumOf}
@@ -32,7 +31,7 @@ name = bytes "VX0041"
 abbrev pub run : Run
 run = runOf (0 ∷ 10 ∷ 20 ∷ []) (10 ∷ 4 ∷ 30 ∷ []) (0 ∷ 0 ∷ 0 ∷ []) (1 ∷ 2 ∷ 3 ∷ []) (1 ∷ 3 ∷ 1 ∷ []) 60 1
 
-pub example-written : sheetText name Least run ≡ sheet
+pub example-written : sheetText name run ≡ sheet
 unfolding sheetText topText pairLines tripleLines decimalIn
 example-written = refl
 
@@ -70,7 +69,7 @@ aggregate-plan = bytes "tape=VX0041\nsum=409\nreads=5\nfinish=133\nend=50\ndetou
 abbrev pub aggregate-run : Run
 aggregate-run = runOf (0 ∷ 10 ∷ 16 ∷ 20 ∷ []) (10 ∷ 4 ∷ 4 ∷ 30 ∷ []) (0 ∷ 7 ∷ 7 ∷ 0 ∷ []) (1 ∷ 3 ∷ 4 ∷ []) (1 ∷ 3 ∷ 1 ∷ []) 60 1
 
-pub aggregate-written : sheetText name Least aggregate-run ≡ aggregate-sheet
+pub aggregate-written : sheetText name aggregate-run ≡ aggregate-sheet
 unfolding sheetText topText pairLines tripleLines decimalIn
 aggregate-written = refl
 

@@ -10,10 +10,9 @@ use Rattle.refusals.specs.declared.Verdict.{Verdict}
 use Rattle.refusals.specs.Refusals.{isRefusal, refuseIf, firstOf}
 use Rattle.runs.specs.Run.{Run}
 use Rattle.runs.specs.Judging.{judgeOf}
-use Rattle.runs.specs.declared.Rule.{Rule}
 use Rattle.writers.specs.declared.Written.{Written}
 use Rattle.texts.specs.Text.{lineFeed, comma, isName, decimal}
-use Rattle.sheets.specs.Lines.{tapeKey, headKey, turnKey, ruleKey, ruleText, filesKey, fileKey, wantsKey, wantKey}
+use Rattle.sheets.specs.Lines.{tapeKey, headKey, turnKey, ruleKey, leastText, filesKey, fileKey, wantsKey, wantKey}
 use Rattle.sheets.specs.Sheet.{mostSheetFiles}
 
 -- A line with its LF: a key and a text, a key and a number, a key and two or three numbers.
@@ -47,18 +46,18 @@ tripleLines key (a ∷ firsts) [] thirds = []
 tripleLines key (a ∷ firsts) (b ∷ seconds) [] = []
 tripleLines key (a ∷ firsts) (b ∷ seconds) (c ∷ thirds) = tripleLine key a b c ++ tripleLines key firsts seconds thirds
 
--- The first five lines, and the whole sheet. A number always stands after `turn=`.
-unfoldable pub topText : List ℕ → ℕ → ℕ → Rule → ℕ → List ℕ
-topText name head turn rule files =
+-- The first five lines, and the whole sheet. A number always stands after `turn=`, and the rule is least.
+unfoldable pub topText : List ℕ → ℕ → ℕ → ℕ → List ℕ
+topText name head turn files =
     line tapeKey name
     ++ numberLine headKey head
     ++ numberLine turnKey turn
-    ++ line ruleKey (ruleText rule)
+    ++ line ruleKey leastText
     ++ numberLine filesKey files
 
-unfoldable pub sheetText : List ℕ → Rule → Run → List ℕ
-sheetText name rule run =
-    topText name (run .head) (run .turn) rule (length (run .starts))
+unfoldable pub sheetText : List ℕ → Run → List ℕ
+sheetText name run =
+    topText name (run .head) (run .turn) (length (run .starts))
     ++ tripleLines fileKey (run .starts) (run .lengths) (run .aggregates)
     ++ numberLine wantsKey (length (run .numbers))
     ++ pairLines wantKey (run .numbers) (run .counts)
@@ -68,12 +67,12 @@ unfoldable pub rowVerdict : List ℕ → List ℕ → Verdict
 rowVerdict text row = refuseIf (ltb (length row) (length text)) ShortRow
 
 -- 1 to 7, then 13, then 8.
-unfoldable pub writeVerdict : List ℕ → Rule → Run → List ℕ → Verdict
-writeVerdict name rule run row =
+unfoldable pub writeVerdict : List ℕ → Run → List ℕ → Verdict
+writeVerdict name run row =
     firstOf
     (judgeOf run
     ∷ refuseIf (ltb mostSheetFiles (length (run .starts)) || not (isName name)) BadName
-    ∷ rowVerdict (sheetText name rule run) row
+    ∷ rowVerdict (sheetText name run) row
     ∷ [])
 
 -- A refusal's answer: kind and place, and 0 bytes.
@@ -95,5 +94,5 @@ pub record Handed (v : Verdict) (text row : List ℕ) (r : Written) (row′ : Li
   pub left : row′ ≡ writtenRow v text row
 
 -- The run sheet writer.
-abbrev pub SheetWritten : List ℕ → Rule → Run → List ℕ → Written → List ℕ → Type 0
-SheetWritten name rule run row r row′ = Handed (writeVerdict name rule run row) (sheetText name rule run) row r row′
+abbrev pub SheetWritten : List ℕ → Run → List ℕ → Written → List ℕ → Type 0
+SheetWritten name run row r row′ = Handed (writeVerdict name run row) (sheetText name run) row r row′

@@ -1,9 +1,8 @@
 // The run sheet writer.
-ghost use Prim.Native.Nat.{_+_, _≤_};
+ghost use Prim.Native.Nat.{_≤_};
 ghost use lib.ListN.{length};
 ghost use Rattle.runs.specs.Run.{runAt};
-ghost use Rattle.sheets.specs.Lines.{ruleKey, ruleText};
-ghost use Rattle.writers.specs.Writing.{line, topText, sheetText, SheetWritten};
+ghost use Rattle.writers.specs.Writing.{topText, sheetText, SheetWritten};
 ghost use Rattle.writers.specs.Private.{Wrote, sheetMost, SheetFits};
 use crate::Written;
 use crate::page::hand_out;
@@ -14,35 +13,23 @@ use crate::page::put_pairs;
 use crate::page::put_triples;
 use crate::page::written;
 use refusals::refused;
-use runs::Rule;
 use sheets::MOST_SHEET_FILES;
 
-fn put_rule(page: &mut [u8], at: usize, rule: Rule) -> usize
-    requires { ⌜ at + 11 ≤ length (now page) ⌝ }
-    ensures { λ r. ⌜ Wrote (now (page .entry)) at (line ruleKey (ruleText rule)) 11 (now (page .exit)) r ⌝ }
-{
-    match rule {
-        Rule::Sweep => put_line(page, at, b"rule=", b"sweep"),
-        Rule::Least => put_line(page, at, b"rule=", b"least"),
-    }
-}
-
-fn put_top(page: &mut [u8], name: &[u8], head: u64, turn: u64, rule: Rule, files: u64) -> usize
+fn put_top(page: &mut [u8], name: &[u8], head: u64, turn: u64, files: u64) -> usize
     requires { ⌜ length (now name) ≤ 16 ⌝ }
     requires { ⌜ 112 ≤ length (now page) ⌝ }
-    ensures { λ r. ⌜ Wrote (now (page .entry)) 0 (topText (now (name .entry)) head turn rule files) 112 (now (page .exit)) r ⌝ }
+    ensures { λ r. ⌜ Wrote (now (page .entry)) 0 (topText (now (name .entry)) head turn files) 112 (now (page .exit)) r ⌝ }
 {
     let head_at = put_line(page, 0, b"tape=", name);
     let turn_at = put_number_line(page, head_at, b"head=", head);
     let rule_at = put_number_line(page, turn_at, b"turn=", turn);
-    let files_at = put_rule(page, rule_at, rule);
+    let files_at = put_line(page, rule_at, b"rule=", b"least");
     put_number_line(page, files_at, b"files=", files)
 }
 
 fn put_sheet(
     page: &mut [u8],
     name: &[u8],
-    rule: Rule,
     starts: &[u64],
     lengths: &[u64],
     aggregates: &[u64],
@@ -52,9 +39,9 @@ fn put_sheet(
     turn: u64,
 ) -> usize
     requires { ⌜ SheetFits (now page) (now name) (now starts) (now lengths) (now aggregates) (now numbers) (now counts) ⌝ }
-    ensures { λ r. ⌜ Wrote (now (page .entry)) 0 (sheetText (now (name .entry)) rule (runAt starts lengths aggregates numbers counts head turn)) sheetMost (now (page .exit)) r ⌝ }
+    ensures { λ r. ⌜ Wrote (now (page .entry)) 0 (sheetText (now (name .entry)) (runAt starts lengths aggregates numbers counts head turn)) sheetMost (now (page .exit)) r ⌝ }
 {
-    let file_at = put_top(page, name, head, turn, rule, starts.len() as u64);
+    let file_at = put_top(page, name, head, turn, starts.len() as u64);
     let wants_at = put_triples(page, file_at, b"file=", starts, lengths, aggregates);
     let want_at = put_number_line(page, wants_at, b"wants=", numbers.len() as u64);
     put_pairs(page, want_at, b"want=", numbers, counts)
@@ -62,7 +49,6 @@ fn put_sheet(
 
 pub fn write_sheet(
     name: &[u8],
-    rule: Rule,
     starts: &[u64],
     lengths: &[u64],
     aggregates: &[u64],
@@ -72,7 +58,7 @@ pub fn write_sheet(
     turn: u64,
     out: &mut [u8],
 ) -> Written
-    ensures { λ r. ⌜ SheetWritten (now (name .entry)) rule (runAt starts lengths aggregates numbers counts head turn) (now (out .entry)) r (now (out .exit)) ⌝ }
+    ensures { λ r. ⌜ SheetWritten (now (name .entry)) (runAt starts lengths aggregates numbers counts head turn) (now (out .entry)) r (now (out .exit)) ⌝ }
 {
     let run = runs::judge(starts, lengths, aggregates, numbers, counts, head, turn);
     let verdict = judge_name(run, MOST_SHEET_FILES < starts.len() as u64, name);
@@ -83,7 +69,6 @@ pub fn write_sheet(
     let bytes = put_sheet(
         &mut page,
         name,
-        rule,
         starts,
         lengths,
         aggregates,

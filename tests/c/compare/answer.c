@@ -94,10 +94,10 @@ static void find_list(struct list *list)
     list->length = 0;
     if (!call.plan) {
         take_up_list(expected(DETOUR_STARTS), expected(DETOUR_ENDS), call.length[DETOUR_STARTS], list);
-    } else if (call.rule == 1 && run.k <= MOST_SEARCHED) {
+    } else if (run.k <= MOST_SEARCHED) {
         search_all_lists(&run, list);
         plans_searched++;
-    } else if (call.rule == 1) {
+    } else {
         examine_list_given(list);
     }
 }

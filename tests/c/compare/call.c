@@ -16,7 +16,7 @@ _Static_assert(VIOLSTREAM_FILE_ROWS == 1 && VIOLSTREAM_BAD_FILE == 2 && VIOLSTRE
                && VIOLSTREAM_TOO_MANY_READS == 5 && VIOLSTREAM_TURN_PRICE == 6 && VIOLSTREAM_HEAD_PLACE == 7
                && VIOLSTREAM_SHORT_ROW == 8 && VIOLSTREAM_SHORT_ROOM == 9 && VIOLSTREAM_BAD_ENTRY == 10
                && VIOLSTREAM_BAD_RULE == 14, "refusal numbers");
-_Static_assert(VIOLSTREAM_SWEEP == 0 && VIOLSTREAM_LEAST == 1, "rule numbers");
+_Static_assert(VIOLSTREAM_LEAST == 1, "rule number");
 
 const char *const row_names[ROWS] = {
     "starts", "lengths", "aggregates", "numbers", "counts", "detour_starts", "detour_ends", "times", "legs", "sums", "room",

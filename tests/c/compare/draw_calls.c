@@ -86,7 +86,7 @@ static void lend_edge(enum row r, size_t needed, bool over)
 
 static uint64_t odd_rule(void)
 {
-    static const uint64_t odd[] = {2, 3, 255, 256, 257, 4294967296u, 4294967297u, (uint64_t)1 << 63, UINT64_MAX};
+    static const uint64_t odd[] = {0, 0, 2, 3, 255, 256, 257, 4294967296u, 4294967297u, (uint64_t)1 << 63, UINT64_MAX};
     return odd[below(sizeof odd / sizeof *odd)];
 }
 
@@ -163,7 +163,7 @@ static void numbers_at_edge(bool over)
         return_number();
         call.head = LIMIT_POSITION;
         break;
-    default: call.rule = over ? odd_rule() : below(2);
+    default: call.rule = over ? odd_rule() : 1;
     }
     if (!call.plan)
         call.length[DETOUR_STARTS] = call.length[DETOUR_ENDS] = 0;

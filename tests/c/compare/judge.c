@@ -162,7 +162,7 @@ uint64_t judge(void)
     if (refusal != 0)
         return refusal;
     take_up_run();
-    if (call.plan && call.rule != 0 && call.rule != 1)
+    if (call.plan && call.rule != 1)
         return refuse(14, 0);
     if (!call.plan)
         refusal = judge_list(expected(DETOUR_STARTS), call.length[DETOUR_STARTS],

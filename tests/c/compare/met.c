@@ -12,8 +12,8 @@ enum met {
     END_OVER_LIMIT, TURN_AT_LIMIT, TURN_OVER_LIMIT, HEAD_AT_LIMIT, HEAD_OVER_LIMIT, HEAD_AT_END, HEAD_LEFT_OF_END,
     HEAD_AT_LAST_WANT, WANTS_JOINED, FIRST_NOT_WANTED, LATER_WANTED, LATER_NOT_WANTED, ROWS_FOR_STOPS, ROOM_FOR_STOPS,
     TIMES_FOR_STOPS,
-    RULE_2, RULE_255, RULE_256, RULE_LARGEST, UNEQUAL_HALVES, ROWS_JUST_ENOUGH, TIMES_SHORT, LEGS_SHORT,
-    SUMS_SHORT, DETOUR_STARTS_SHORT, DETOUR_ENDS_SHORT, ROOM_SHORT_SWEEP, ROOM_SHORT_LEAST, NULL_ROWS, METS
+    RULE_0, RULE_0_SHORT_ROWS, RULE_2, RULE_255, RULE_256, RULE_LARGEST, UNEQUAL_HALVES, ROWS_JUST_ENOUGH, TIMES_SHORT, LEGS_SHORT,
+    SUMS_SHORT, DETOUR_STARTS_SHORT, DETOUR_ENDS_SHORT, ROOM_SHORT, NULL_ROWS, METS
 };
 
 static const char *const met_names[METS] = {
@@ -30,11 +30,12 @@ static const char *const met_names[METS] = {
     "accepted: a plan whose list names a file that is not wanted", "refused: a list that names a wanted file which is not the first",
     "refused: a list that names an unwanted file of a wanted aggregate", "accepted: rows for detours by the stops and not by the wants",
     "accepted: room by the stops and not by the wants", "refused: times for the stops and not for the wants",
-    "refused: rule 2", "refused: rule 255", "refused: rule 256", "refused: rule 2^64 - 1",
+    "refused: rule 0", "refused: rule 0, before a short row or room", "refused: rule 2", "refused: rule 255",
+    "refused: rule 256", "refused: rule 2^64 - 1",
     "refused: halves of a list of unequal number", "accepted: rows and room of just the words needed",
     "refused: times one word short", "refused: legs one word short", "refused: sums one word short",
     "refused: detour starts one word short", "refused: detour ends one word short",
-    "refused: room one word short, sweep", "refused: room one word short, least",
+    "refused: room one word short",
     "accepted: a plan with every empty row a null pointer",
 };
 
@@ -107,7 +108,7 @@ static void note_sizes(uint64_t result)
 {
     size_t files = call.length[STARTS], wants = call.length[NUMBERS];
     bool largest = result == 0 && run.k == LIMIT_WANTS && run.reads == LIMIT_READS;
-    note(LARGEST_PLAN, largest && call.plan && call.rule == 1);
+    note(LARGEST_PLAN, largest && call.plan);
     note(LARGEST_PRICE, largest && !call.plan);
     note(FILES_4096, result == 0 && files == LIMIT_FILES);
     note(FILES_4097, result == 1 && files == LIMIT_FILES + 1 && call.length[LENGTHS] == files && call.length[AGGREGATES] == files);
@@ -137,6 +138,8 @@ static void note_places(uint64_t result)
 
 static void note_rules(uint64_t result)
 {
+    note(RULE_0, result == 14 && call.rule == 0);
+    note(RULE_0_SHORT_ROWS, result == 14 && call.rule == 0 && (call.length[SUMS] < 4 || call.length[ROOM] < room_words()));
     note(RULE_2, result == 14 && call.rule == 2);
     note(RULE_255, result == 14 && call.rule == 255);
     note(RULE_256, result == 14 && call.rule == 256);
@@ -168,8 +171,7 @@ static void note_rows(uint64_t result)
     note(SUMS_SHORT, row_short && length[SUMS] == 3 && both_for_wants);
     note(DETOUR_STARTS_SHORT, row_short && call.plan && length[DETOUR_STARTS] + 2 == run.k && both_for_wants);
     note(DETOUR_ENDS_SHORT, row_short && call.plan && length[DETOUR_ENDS] + 2 == run.k && both_for_wants);
-    note(ROOM_SHORT_SWEEP, room_short && call.rule == 0);
-    note(ROOM_SHORT_LEAST, room_short && call.rule == 1);
+    note(ROOM_SHORT, room_short);
     note(NULL_ROWS, result == 0 && call.plan && k == 0 && length[ROOM] == 0 && all_empty_rows_are_null());
 }
 

@@ -102,6 +102,8 @@ pub const TO_MEET: &[(&str, fn(&Call, u64) -> bool)] = &[
     ("head over the limit", |c, r| r == 7 && c.head == POSITION + 1),
     ("head at the rightmost wanted end", |c, r| r == 0 && c.len(NUMBERS) > 0 && c.head == last_wanted_end(c)),
     ("head one left of it", |c, r| r == 7 && c.head.wrapping_add(1) == last_wanted_end(c)),
+    ("rule 0", |c, r| r == 14 && c.rule == 0),
+    ("rule 0, before a short room", |c, r| r == 14 && c.rule == 0 && c.len(ROOM) < room_needed(c)),
     ("rule 2", |c, r| r == 14 && c.rule == 2),
     ("rule 255", |c, r| r == 14 && c.rule == 255),
     ("rule 256", |c, r| r == 14 && c.rule == 256),
@@ -112,8 +114,7 @@ pub const TO_MEET: &[(&str, fn(&Call, u64) -> bool)] = &[
     ("sums one short", |c, r| r == 8 && one_short(c, SUMS)),
     ("detour starts one short", |c, r| r == 8 && one_short(c, FROM)),
     ("detour ends one short", |c, r| r == 8 && one_short(c, TO)),
-    ("room one short, sweep", |c, r| r == 9 && c.rule == 0 && c.len(ROOM) + 1 == room_needed(c)),
-    ("room one short, least", |c, r| r == 9 && c.rule == 1 && c.len(ROOM) + 1 == room_needed(c)),
+    ("room one short", |c, r| r == 9 && c.len(ROOM) + 1 == room_needed(c)),
     ("room just enough", |c, r| r == 0 && c.plan && c.len(NUMBERS) > 1 && c.len(ROOM) == room_needed(c)),
     ("no wants and null rows", |c, r| r == 0 && c.plan && c.len(NUMBERS) == 0 && c.len(ROOM) == 0 && c.nulls[ROOM]),
 ];
@@ -157,11 +158,7 @@ impl Checker {
                 (number + 256 * place as u64, Written::default())
             }
             Ok((run, list)) => {
-                let list = match (call.plan, call.rule) {
-                    (false, _) => by_position(&run, &list),
-                    (true, 0) => Vec::new(),
-                    (true, _) => self.least(&run),
-                };
+                let list = if call.plan { self.least(&run) } else { by_position(&run, &list) };
                 (0, written(call, &run, &list))
             }
         }

@@ -106,7 +106,7 @@ pub fn draw_run(random: &mut Random, k: usize) -> Call {
     let most_head = random.pick(&[least_head, least_head, POSITION.min(least_head + 50), POSITION]);
     call.head = random.within(least_head, most_head);
     call.turn = Upto::any_of(random, &[0, 0, 0, 1, 3, 20, 1 << 20, TURN]).draw(random, 0);
-    call.rule = if random.chance(90) { 1 } else { 0 };
+    call.rule = 1;
     call
 }
 

@@ -114,7 +114,7 @@ fn a_row_is_short(run: &Run, call: &Call) -> bool {
 /// The run and, for the pricer, its list; or the refusal.
 pub fn judge(call: &Call) -> Result<(Run, Vec<Detour>), Refusal> {
     let run = judge_run(call)?;
-    if call.plan && call.rule > 1 {
+    if call.plan && call.rule != 1 {
         return Err((14, 0));
     }
     let list = if call.plan { Vec::new() } else { judge_list(&run, call)? };

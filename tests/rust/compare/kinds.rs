@@ -91,7 +91,6 @@ fn largest_plan(random: &mut Random, reads: u64) -> Call {
         call.rows[AGGREGATES].fill(0);
     }
     call.plan = true;
-    call.rule = 1;
     set_reads(random, &mut call, reads);
     lend_rows(random, &mut call);
     call
@@ -148,7 +147,7 @@ fn run_at_a_limit(random: &mut Random, call: &mut Call, over: u64) {
             draw_aggregates(random, call, AGGREGATE + over);
             call.head = POSITION;
         }
-        6 => call.rule = if over == 0 { random.below(2) } else { random.pick(&[2, 255, 256, 257, 1 << 32, u64::MAX]) },
+        6 => call.rule = if over == 0 { 1 } else { random.pick(&[0, 2, 255, 256, 257, 1 << 32, u64::MAX]) },
         _ => {
             push_to_the_end(call);
             if let Some(length) = call.rows[LENGTHS].last_mut() {

@@ -1,5 +1,6 @@
 -- `boundary::violstream_plan` meets its contract: 1 to 7, then 14, then 8 for the row of sums, and else the planner's own answer.
 -- Assumes nothing.
+use native.Mathlib.Omega.{arith}
 use Rattle.runs.specs.Run.{Run, runOf}
 use Rattle.planner.specs.Plan.{Rows, rowsOf}
 use Rattle.boundary.proofs.Plans.{rule-refused, sums-refused, plan-placed, plan-refused, plan-filled}
@@ -24,7 +25,7 @@ returns : tie.Need-returns
 returns c =
     let t = c .before in
     let s = t .before .before .before .before .before .before .before .before .before .before .before .before in
-    rule-refused (run s) (s .args .rule) (rows s) (s .args .sums .now) (t .if1 .taken) _ (c .refused-code .ensures)
+    rule-refused (run s) (s .args .rule) (rows s) (s .args .sums .now) (λ e. omega (arith, e, t .if1 .taken)) _ (c .refused-code .ensures)
 
 refused-code-requires-2 : tie.Need-refused-code-requires-2
 refused-code-requires-2 c κs = search needs
@@ -35,19 +36,16 @@ returns-2 c =
     let s = start e in
     sums-refused (run s) (s .args .rule) (rows s) (s .args .sums .now) (e .if1 .left) (c .before .if2 .taken) _ (c .refused-code2 .ensures)
 
-rule-numbered-requires : tie.Need-rule-numbered-requires
-rule-numbered-requires c κs = search needs
-
 plan-requires : tie.Need-plan-requires
 plan-requires c κs = search needs
 
 code-requires : tie.Need-code-requires
 code-requires c κs =
     let p = c .before .before .before .before .before .before .before .before .before .before in
-    let g = p .before .before .before .before .before .before .before in
+    let g = p .before .before .before .before .before .before in
     let e = g .before in
     let s = start e in
-    plan-placed (run s) (s .args .rule) (rows s) (s .args .sums .now) (e .if1 .left) (g .if2 .left) _ _ (rw (p .before .before .before .before .before .before .rule-numbered .ensures) at (p .plan .ensures))
+    plan-placed (run s) (s .args .rule) (rows s) (s .args .sums .now) (e .if1 .left) (g .if2 .left) _ _ (p .plan .ensures)
 
 same-length : tie.Need-same-length
 same-length c = search needs
@@ -67,10 +65,10 @@ same-length-5 c = search needs
 returns-3 : tie.Need-returns-3
 returns-3 c =
     let p = c .before .before .before .before .before .before .before .before .before .before .before .before in
-    let g = p .before .before .before .before .before .before .before in
+    let g = p .before .before .before .before .before .before in
     let e = g .before in
     let s = start e in
-    plan-refused (run s) (s .args .rule) (rows s) (s .args .sums .now) (e .if1 .left) (g .if2 .left) _ _ (rw (p .before .before .before .before .before .before .rule-numbered .ensures) at (p .plan .ensures))
+    plan-refused (run s) (s .args .rule) (rows s) (s .args .sums .now) (e .if1 .left) (g .if2 .left) _ _ (p .plan .ensures)
     _ (c .before .code .ensures) (c .if3 .taken)
 
 fill-sums-requires : tie.Need-fill-sums-requires
@@ -98,10 +96,10 @@ returns-4 : tie.Need-returns-4
 returns-4 c =
     let d = c .before .before .before .before in
     let p = d .before .before .before .before .before .before .before .before .before .before .before .before in
-    let g = p .before .before .before .before .before .before .before in
+    let g = p .before .before .before .before .before .before in
     let e = g .before in
     let s = start e in
-    plan-filled (run s) (s .args .rule) (rows s) (s .args .sums .now) (e .if1 .left) (g .if2 .left) _ _ (rw (p .before .before .before .before .before .before .rule-numbered .ensures) at (p .plan .ensures))
+    plan-filled (run s) (s .args .rule) (rows s) (s .args .sums .now) (e .if1 .left) (g .if2 .left) _ _ (p .plan .ensures)
     _ (d .before .code .ensures) (d .if3 .left) _ (c .before .before .fill-sums .ensures)
 
 pub violstream-plan-spec : {M : Type 1} → statement M
@@ -112,7 +110,6 @@ violstream-plan-spec =
     returns
     refused-code-requires-2
     returns-2
-    rule-numbered-requires
     plan-requires
     code-requires
     same-length

@@ -6,7 +6,6 @@ use mathlib.Core.List.{List, [], _∷_, _++_, map}
 use lib.ListN.{length, take, getD}
 use lib.Dec.{eqb}
 use Rattle.refusals.specs.declared.Refusal.the-variants.{Accepted, BadName, BadText, ManyExtents, Overlap, FarFile}
-use Rattle.runs.specs.declared.Rule.the-variants.{Least}
 use Rattle.refusals.specs.declared.Verdict.{Verdict}
 use Rattle.refusals.specs.Refusals.{isRefusal, refuseIf, firstOf}
 use Rattle.runs.specs.Run.{lastPlace}
@@ -92,7 +91,7 @@ reportOf written tally =
 
 -- The answer and the row for an index, a block size and a data partition, where name, balance, label and root are as they should be.
 unfoldable pub tableSheet : List ℕ → ℕ → ℕ → List (List Forest) → List ℕ
-tableSheet name size partition files = sheetText name Least (runOfTable (inTapeOrder (rangesOf size partition files)))
+tableSheet name size partition files = sheetText name (runOfTable (inTapeOrder (rangesOf size partition files)))
 
 unfoldable pub tableVerdict : List ℕ → ℕ → ℕ → List (List Forest) → List ℕ → Verdict
 tableVerdict name size partition files row =

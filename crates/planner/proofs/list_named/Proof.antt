@@ -63,7 +63,7 @@ counted f =
 returns : tie.Need-returns
 returns c =
     let f = c .before in
-    λ r h. named-refused r _ _ _ _ _ _ h _ _ _ _ _ (counted f) (engine f .list .ensures) (sym (f .refused .ensures) ∙ c .if1 .taken)
+    λ r h. named-refused r _ _ _ _ _ _ h _ _ _ _ (counted f) (engine f .list .ensures) (sym (f .refused .ensures) ∙ c .if1 .taken)
 
 -- Where the engine has listed.
 passes : (e : tie.Else1) → refuses (engine (e .before) .list .result .verdict) ≡ false
@@ -73,14 +73,14 @@ name-files-requires : tie.Need-name-files-requires
 name-files-requires c κs =
     let e = c .before in
     let f = e .before in
-    let n = froms-nameable _ _ _ _ _ _ _ (start (numbering f) .pre .holds) _ _ _ _ _ (counted f) (engine f .list .ensures) (passes e) in
+    let n = froms-nameable _ _ _ _ _ _ _ (start (numbering f) .pre .holds) _ _ _ _ (counted f) (engine f .list .ensures) (passes e) in
     (omega (arith, n .long), λ i b. n .each i (omega (arith, b)))
 
 name-files-requires-2 : tie.Need-name-files-requires-2
 name-files-requires-2 c κs =
     let e = c .before .before .before .before .before in
     let f = e .before in
-    let n = tos-nameable _ _ _ _ _ _ _ (start (numbering f) .pre .holds) _ _ _ _ _ (counted f) (engine f .list .ensures) (passes e) in
+    let n = tos-nameable _ _ _ _ _ _ _ (start (numbering f) .pre .holds) _ _ _ _ (counted f) (engine f .list .ensures) (passes e) in
     (omega (arith, n .long), λ i b. n .each i (omega (arith, b)))
 
 same-length-4 : tie.Need-same-length-4
@@ -98,7 +98,7 @@ returns-2 c =
     let froms = tos .before .before .before .before in
     let e = froms .before .before in
     let f = e .before in
-    λ r h. named-listed r _ _ _ _ _ _ h _ _ _ _ _ (counted f) (engine f .list .ensures) (passes e) _ _ (froms .name-files .ensures) (tos .name-files2 .ensures)
+    λ r h. named-listed r _ _ _ _ _ _ h _ _ _ _ (counted f) (engine f .list .ensures) (passes e) _ _ (froms .name-files .ensures) (tos .name-files2 .ensures)
 
 pub list-named-spec : {M : Type 1} → statement M
 list-named-spec =

@@ -61,14 +61,14 @@ returns : tie.Need-returns
 returns c =
     let f = c .before .before in
     let j = joining f in
-    run-refused (run j) (start j .args .rule) (rows j) _ _ (judged j) (f .refused .ensures) (c .before .if1 .taken) _ (c .refuse .ensures)
+    run-refused (run j) (rows j) _ _ (judged j) (f .refused .ensures) (c .before .if1 .taken) _ (c .refuse .ensures)
 
 -- Where the run has passed.
 abbrev joined : tie.Else1 → tie.After-join
 joined e = joining (e .before)
 
 passed : (e : tie.Else1) → refuses (judgeOf (run (joined e))) ≡ false
-passed e = let j = joined e in run-accepted (run j) (start j .args .rule) (rows j) _ _ (judged j) (e .before .refused .ensures) (e .if1 .left)
+passed e = let j = joined e in run-accepted (run j) (rows j) _ _ (judged j) (e .before .refused .ensures) (e .if1 .left)
 
 refuse-requires-2 : tie.Need-refuse-requires-2
 refuse-requires-2 c κs = search needs
@@ -77,7 +77,7 @@ returns-2 : tie.Need-returns-2
 returns-2 c =
     let e = c .before .before in
     let j = joined e in
-    times-refused (run j) (start j .args .rule) (rows j) _ _ (judged j) (e .before .refused .ensures) (e .if1 .left) (c .before .if2 .taken) _ (c .refuse2 .ensures)
+    times-refused (run j) (rows j) _ _ (judged j) (e .before .refused .ensures) (e .if1 .left) (c .before .if2 .taken) _ (c .refuse2 .ensures)
 
 refuse-requires-3 : tie.Need-refuse-requires-3
 refuse-requires-3 c κs = search needs
@@ -86,7 +86,7 @@ returns-3 : tie.Need-returns-3
 returns-3 c =
     let e = c .before .before .before in
     let j = joined e in
-    legs-refused (run j) (start j .args .rule) (rows j) _ _ (judged j) (e .before .refused .ensures) (e .if1 .left) (c .before .if3 .taken) _ (c .refuse3 .ensures)
+    legs-refused (run j) (rows j) _ _ (judged j) (e .before .refused .ensures) (e .if1 .left) (c .before .if3 .taken) _ (c .refuse3 .ensures)
 
 -- Where the rows for times and legs have passed too: the four rows hold the run's stops.
 abbrev first : tie.Else3 → tie.Else1
@@ -151,9 +151,9 @@ abbrev listing : tie.After-refused2 → tie.After-list-named
 listing g = g .before .before .before .before .before .before .before .before
 
 abbrev listed : tie.After-list-named → ListRows
-listed m = let l = m .list-named .last .1 .1 .1 .1 .1 .1 .1 in listRows (l .0) (l .1 .0) (l .1 .1 .0)
+listed m = let l = m .list-named .last .1 .1 .1 .1 .1 .1 in listRows (l .0) (l .1 .0) (l .1 .1 .0)
 
-named : (m : tie.After-list-named) → let j = joined (first (third m)) in ListsNamed (run j) (start j .args .rule) (engineRows (rows j)) (m .list-named .result) (listed m)
+named : (m : tie.After-list-named) → let j = joined (first (third m)) in ListsNamed (run j) (engineRows (rows j)) (m .list-named .result) (listed m)
 named m = m .list-named .ensures (run (joined (first (third m)))) (holds (third m))
 
 returns-4 : tie.Need-returns-4
@@ -162,16 +162,16 @@ returns-4 c =
     let d = third (listing g) in
     let e = first d in
     let j = joined e in
-    engine-refused (run j) (start j .args .rule) (rows j) _ _ (judged j) (e .before .refused .ensures) (e .if1 .left) (d .before .if2 .left) (d .if3 .left)
+    engine-refused (run j) (rows j) _ _ (judged j) (e .before .refused .ensures) (e .if1 .left) (d .before .if2 .left) (d .if3 .left)
     _ _ (named (listing g)) _ (g .refused2 .ensures) (c .before .if4 .taken) _ (c .refuse4 .ensures) _ _ _ refl
 
-is-named : (x : tie.Else4) → let m = listing (x .before) in let j = joined (first (third m)) in IsNamed (run j) (start j .args .rule) (engineRows (rows j)) (m .list-named .result) (listed m)
+is-named : (x : tie.Else4) → let m = listing (x .before) in let j = joined (first (third m)) in IsNamed (run j) (engineRows (rows j)) (m .list-named .result) (listed m)
 is-named x =
     let m = listing (x .before) in
     let d = third m in
     let e = first d in
     let j = joined e in
-    engine-listed (run j) (start j .args .rule) (rows j) _ _ (judged j) (e .before .refused .ensures) (e .if1 .left) (d .before .if2 .left) (d .if3 .left)
+    engine-listed (run j) (rows j) _ _ (judged j) (e .before .refused .ensures) (e .if1 .left) (d .before .if2 .left) (d .if3 .left)
     _ _ (named m) _ (x .before .refused2 .ensures) (x .if4 .left)
 
 -- Both rows hold so many entries.
@@ -181,8 +181,8 @@ in-rows x =
     let d = third m in
     let j = joined (first d) in
     let l = m .list-named .result in (
-      in-froms (run j) (start j .args .rule) (rows j) (passed (first d)) (d .before .if2 .left) (d .if3 .left) l _ _ _ (is-named x),
-      in-tos (run j) (start j .args .rule) (rows j) (passed (first d)) (d .before .if2 .left) (d .if3 .left) l _ _ _ (is-named x),
+      in-froms (run j) (rows j) (passed (first d)) (d .before .if2 .left) (d .if3 .left) l _ _ _ (is-named x),
+      in-tos (run j) (rows j) (passed (first d)) (d .before .if2 .left) (d .if3 .left) l _ _ _ (is-named x),
     )
 
 slice-reshare-prefix-price : tie.Need-slice-reshare-prefix-price
@@ -223,8 +223,8 @@ returns-5 c =
     let d = third m in
     let e = first d in
     let j = joined e in
-    run-planned (run j) (start j .args .rule) (rows j) _ _ (judged j) (e .before .refused .ensures) (e .if1 .left) (d .before .if2 .left) (d .if3 .left) _ _ (named m) _ (x .before .refused2 .ensures) (x .if4 .left) _ _
-    (planned-so (run j) (start j .args .rule) (rows j) (passed e) (d .before .if2 .left) (d .if3 .left) (m .list-named .result) _ _ _ (is-named x) _ _ _ (p .price .ensures .0) (p .price .ensures .1))
+    run-planned (run j) (rows j) _ _ (judged j) (e .before .refused .ensures) (e .if1 .left) (d .before .if2 .left) (d .if3 .left) _ _ (named m) _ (x .before .refused2 .ensures) (x .if4 .left) _ _
+    (planned-so (run j) (rows j) (passed e) (d .before .if2 .left) (d .if3 .left) (m .list-named .result) _ _ _ (is-named x) _ _ _ (p .price .ensures .0) (p .price .ensures .1))
 
 pub plan-spec : {M : Type 1} → statement M
 plan-spec =

@@ -38,12 +38,12 @@ returns : tie.Need-returns
 returns c =
     let c5 = c .before .before .before .before .before in
     let c11 = c5 .before .before .before .before .before .before in
-    run-refused _ _ _ (record { froms = search needs; tos = search needs; times = search needs; legs = search needs; room = search needs }) (c11 .plan .result) _ (c11 .plan .ensures) _ (c5 .refused .ensures) (c .before .before .before .before .if1 .taken) _ _ _ refl _ _ (c .before .before .write-refusal .ensures)
+    run-refused _ _ (record { froms = search needs; tos = search needs; times = search needs; legs = search needs; room = search needs }) (c11 .plan .result) _ (c11 .plan .ensures) _ (c5 .refused .ensures) (c .before .before .before .before .if1 .taken) _ _ _ refl _ _ (c .before .before .write-refusal .ensures)
 
 array-share-prefix-froms : tie.Need-array-share-prefix-froms
 array-share-prefix-froms c =
     let c7 = c .before .before .before .before .before .before .before in
-    in-froms _ _ _ (record { froms = search needs; tos = search needs; times = search needs; legs = search needs; room = search needs }) (c7 .plan .result) _ (c7 .plan .ensures) _ (c .before .refused .ensures) (c .if1 .left)
+    in-froms _ _ (record { froms = search needs; tos = search needs; times = search needs; legs = search needs; room = search needs }) (c7 .plan .result) _ (c7 .plan .ensures) _ (c .before .refused .ensures) (c .if1 .left)
 
 slice-aggregate-write-plan : tie.Need-slice-aggregate-write-plan
 slice-aggregate-write-plan c = sym (length-take-le _ _ (array-share-prefix-froms (c .before)))
@@ -51,7 +51,7 @@ slice-aggregate-write-plan c = sym (length-take-le _ _ (array-share-prefix-froms
 array-share-prefix-tos : tie.Need-array-share-prefix-tos
 array-share-prefix-tos c =
     let c8 = c .before .before .before .before .before .before .before .before in
-    in-tos _ _ _ (record { froms = search needs; tos = search needs; times = search needs; legs = search needs; room = search needs }) (c8 .plan .result) _ (c8 .plan .ensures) _ (c .before .before .refused .ensures) (c .before .if1 .left)
+    in-tos _ _ (record { froms = search needs; tos = search needs; times = search needs; legs = search needs; room = search needs }) (c8 .plan .result) _ (c8 .plan .ensures) _ (c .before .before .refused .ensures) (c .before .if1 .left)
 
 slice-aggregate-write-plan-2 : tie.Need-slice-aggregate-write-plan-2
 slice-aggregate-write-plan-2 c = sym (length-take-le _ _ (array-share-prefix-tos (c .before)))
@@ -67,7 +67,7 @@ returns-2 c =
     let c6 = c .before .before .before .before .before .before in
     let c13 = c6 .before .before .before .before .before .before .before in
     let c19 = c13 .before .before .before .before .before .before in
-    run-recalled _ _ _ (record { froms = search needs; tos = search needs; times = search needs; legs = search needs; room = search needs }) (c13 .plan .result) _ (c13 .plan .ensures) _ (c6 .before .refused .ensures) (c6 .if1 .left) _ _ (c19 .before .before .before .before .before .before .before .pre) _ _ (c .before .before .write-plan .ensures)
+    run-recalled _ _ (record { froms = search needs; tos = search needs; times = search needs; legs = search needs; room = search needs }) (c13 .plan .result) _ (c13 .plan .ensures) _ (c6 .before .refused .ensures) (c6 .if1 .left) _ _ (c19 .before .before .before .before .before .before .before .pre) _ _ (c .before .before .write-plan .ensures)
 
 pub recall-run-spec : {M : Type 1} → statement M
 recall-run-spec =

@@ -37,8 +37,8 @@ slice-aggregate-same c = search needs
 same-requires : tie.Need-same-requires
 same-requires c κs = search needs
 
-add-t19 : tie.Need-add-t19
-add-t19 c = let v = value-at ruleKey _ _ _ (c .before .before .before .before .before .before .before .find-value .ensures) _ _ (c .before .before .before .before .before .from .given .1) in omega (arith, v .within)
+add-t18 : tie.Need-add-t18
+add-t18 c = let v = value-at ruleKey _ _ _ (c .before .before .before .before .before .before .before .find-value .ensures) _ _ (c .before .before .before .before .before .from .given .1) in omega (arith, v .within)
 
 returns-2 : tie.Need-returns-2
 returns-2 c = rule-line-sweep _ _ _ (c .before .before .before .before .before .before .before .find-value .ensures) _ _ (c .before .before .before .before .before .from .given .1) _ (c .before .same .ensures) (c .if1 .taken)
@@ -58,8 +58,8 @@ slice-aggregate-same-2 c = search needs
 same-requires-2 : tie.Need-same-requires-2
 same-requires-2 c κs = search needs
 
-add-t27 : tie.Need-add-t27
-add-t27 c = let v = value-at ruleKey _ _ _ (c .before .before .before .before .before .before .before .before .before .before .before .find-value .ensures) _ _ (c .before .before .before .before .before .before .before .before .before .from .given .1) in omega (arith, v .within)
+add-t25 : tie.Need-add-t25
+add-t25 c = let v = value-at ruleKey _ _ _ (c .before .before .before .before .before .before .before .before .before .before .before .find-value .ensures) _ _ (c .before .before .before .before .before .before .before .before .before .from .given .1) in omega (arith, v .within)
 
 returns-3 : tie.Need-returns-3
 returns-3 c = rule-line-least _ _ _ (c .before .before .before .before .before .before .before .before .before .before .before .find-value .ensures) _ _ (c .before .before .before .before .before .before .before .before .before .from .given .1) _ (c .before .before .before .before .before .same .ensures) _ (c .before .same2 .ensures) (c .before .before .before .before .if1 .left) (c .if2 .taken)
@@ -81,13 +81,13 @@ rule-line-spec =
     part-same-end
     slice-aggregate-same
     same-requires
-    add-t19
+    add-t18
     returns-2
     sub-same-2
     part-same-start-2
     part-same-end-2
     slice-aggregate-same-2
     same-requires-2
-    add-t27
+    add-t25
     returns-3
     returns-4)

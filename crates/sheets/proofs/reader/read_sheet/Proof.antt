@@ -1,4 +1,4 @@
--- `sheets::reader::read_sheet` meets its contract: 12 and 11, then 8, then the rows and the answer.
+-- `sheets::reader::read_sheet` meets its contract: 12 and 11, then 19, then 8, then the rows and the answer.
 -- Assumes nothing.
 use Rattle.sheets.proofs.Answers.{files-ready, wants-ready, sheet-read}
 use borrow.Author.Needs.{needs}
@@ -16,15 +16,18 @@ returns c =
     let c24 = c20 .before .before .before .before in
     let c28 = c24 .before .before .before .before in
     let c32 = c28 .before .before .before .before in
-    let a = c32 .before .args in
+    let a = c32 .before .before .args in
     sheet-read _ _
-    (c24 .before .before .judge-sheet .ensures)
-    (a .starts .now) (a .lengths .now) (a .aggregates .now) (a .numbers .now) (a .counts .now) _ _ _
-    (c24 .judge-pair .ensures) (c20 .before .before .before .judge-row .ensures) (c20 .before .before .judge-pair2 .ensures) _ (c20 .before .to-fill .ensures) _ (c20 .to-fill2 .ensures)
+    (c24 .before .before .before .judge-sheet .ensures)
+    (a .starts .now) (a .lengths .now) (a .aggregates .now) (a .numbers .now) (a .counts .now) _ _ _ _
+    (c24 .before .judge-rule .ensures) (c24 .judge-pair .ensures) (c20 .before .before .before .judge-row .ensures) (c20 .before .before .judge-pair2 .ensures) _ (c20 .before .to-fill .ensures) _ (c20 .to-fill2 .ensures)
     _ _ _ _ _ _ (c .reading-of .ensures) (c12 .before .before .before .fill-triple .ensures) (c4 .before .fill-pair .ensures)
 
 judge-sheet-requires : tie.Need-judge-sheet-requires
 judge-sheet-requires c κs = search needs
+
+judge-rule-requires : tie.Need-judge-rule-requires
+judge-rule-requires c κs = search needs
 
 judge-pair-requires : tie.Need-judge-pair-requires
 judge-pair-requires c κs = search needs
@@ -50,11 +53,11 @@ fill-triple-requires c κs =
     let c8 = c4 .before .before .before .before in
     let c12 = c8 .before .before .before .before in
     let c16 = c12 .before .before .before .before in
-    let a = c16 .before .args in
+    let a = c16 .before .before .args in
     files-ready _ _
-    (c8 .before .before .judge-sheet .ensures)
-    (a .starts .now) (a .lengths .now) (a .aggregates .now) (a .numbers .now) (a .counts .now) _ _ _
-    (c8 .judge-pair .ensures) (c4 .before .before .before .judge-row .ensures) (c4 .before .before .judge-pair2 .ensures) _ (c4 .before .to-fill .ensures)
+    (c8 .before .before .before .judge-sheet .ensures)
+    (a .starts .now) (a .lengths .now) (a .aggregates .now) (a .numbers .now) (a .counts .now) _ _ _ _
+    (c8 .before .judge-rule .ensures) (c8 .judge-pair .ensures) (c4 .before .before .before .judge-row .ensures) (c4 .before .before .judge-pair2 .ensures) _ (c4 .before .to-fill .ensures)
 
 slice-aggregate-fill-pair : tie.Need-slice-aggregate-fill-pair
 slice-aggregate-fill-pair c = search needs
@@ -67,11 +70,11 @@ fill-pair-requires c κs =
     let c16 = c12 .before .before .before .before in
     let c20 = c16 .before .before .before .before in
     let c24 = c20 .before .before .before .before in
-    let a = c24 .before .before .before .args in
+    let a = c24 .before .before .before .before .args in
     wants-ready _ _
-    (c20 .judge-sheet .ensures)
-    (a .starts .now) (a .lengths .now) (a .aggregates .now) (a .numbers .now) (a .counts .now) _ _ _
-    (c16 .before .before .judge-pair .ensures) (c16 .before .judge-row .ensures) (c16 .judge-pair2 .ensures) _ (c12 .before .before .before .to-fill .ensures) _ (c12 .before .before .to-fill2 .ensures)
+    (c20 .before .judge-sheet .ensures)
+    (a .starts .now) (a .lengths .now) (a .aggregates .now) (a .numbers .now) (a .counts .now) _ _ _ _
+    (c16 .before .before .before .judge-rule .ensures) (c16 .before .before .judge-pair .ensures) (c16 .before .judge-row .ensures) (c16 .judge-pair2 .ensures) _ (c12 .before .before .before .to-fill .ensures) _ (c12 .before .before .to-fill2 .ensures)
 
 reading-of-requires : tie.Need-reading-of-requires
 reading-of-requires c κs = search needs
@@ -96,6 +99,7 @@ read-sheet-spec =
     tie.close
     (tie.spec
     judge-sheet-requires
+    judge-rule-requires
     judge-pair-requires
     judge-row-requires
     judge-pair-requires-2

@@ -55,8 +55,8 @@ rule-line-requires c κs =
     let c12 = c8 .before .before .before .before in
     at-rule _ _ (c12 .tape-line .ensures) _ _ (c8 .before .before .end .given .1) _ (c4 .before .before .before .number-line .ensures) _ _ (c4 .before .head .given .1) _ (c .before .before .before .turn-line .ensures) _ _ (c .before .turn .given .1) .within
 
-enum-known-rule : tie.Need-enum-known-rule
-enum-known-rule c = search needs
+enum-known-sweep : tie.Need-enum-known-sweep
+enum-known-sweep c = search needs
 
 enum-told-4 : tie.Need-enum-told-4
 enum-told-4 c = search needs
@@ -79,7 +79,7 @@ count-line-requires c κs =
     let c12 = c8 .before .before .before .before in
     let c16 = c12 .before .before .before .before in (
       at-files _ _ (c16 .before .tape-line .ensures) _ _ (c12 .before .before .before .end .given .1) _ (c12 .number-line .ensures) _ _ (c8 .before .before .head .given .1) _ (c8 .turn-line .ensures) _ _ (c4 .before .before .turn .given .1)
-          _ (c4 .rule-line .ensures) _ _ (c .before .before .rule .given .1) .within,
+          _ (c4 .rule-line .ensures) _ _ (c .before .before .sweep .given .1) .within,
       omega arith,
     )
 
@@ -97,7 +97,7 @@ returns-5 c =
     let c16 = c12 .before .before .before .before in
     let c20 = c16 .before .before .before .before in
     files-bad _ _ (c20 .tape-line .ensures) _ _ (c16 .before .before .end .given .1) _ (c12 .before .before .before .number-line .ensures) _ _ (c12 .before .head .given .1) _ (c8 .before .before .before .turn-line .ensures) _ _ (c8 .before .turn .given .1)
-    _ (c4 .before .before .before .rule-line .ensures) _ _ (c4 .before .rule .given .1) _ (c .before .before .count-line .ensures) (c .enum-told5 .given .1)
+    _ (c4 .before .before .before .rule-line .ensures) _ _ (c4 .before .sweep .given .1) _ (c .before .before .count-line .ensures) (c .enum-told5 .given .1)
 
 returns-6 : tie.Need-returns-6
 returns-6 c =
@@ -107,7 +107,7 @@ returns-6 c =
     let c16 = c12 .before .before .before .before in
     let c20 = c16 .before .before .before .before in
     top-good _ _ (c20 .before .tape-line .ensures) _ _ (c16 .before .before .before .end .given .1) _ (c16 .number-line .ensures) _ _ (c12 .before .before .head .given .1) _ (c12 .turn-line .ensures) _ _ (c8 .before .before .turn .given .1)
-    _ (c8 .rule-line .ensures) _ _ (c4 .before .before .rule .given .1) _ (c .before .before .before .count-line .ensures) _ _ (c .before .files .given .1)
+    _ (c8 .rule-line .ensures) _ _ (c4 .before .before .sweep .given .1) _ (c .before .before .before .count-line .ensures) _ _ (c .before .files .given .1)
 
 pub read-top-spec : {M : Type 1} → statement M
 read-top-spec =
@@ -127,7 +127,7 @@ read-top-spec =
     enum-told-3
     returns-3
     rule-line-requires
-    enum-known-rule
+    enum-known-sweep
     enum-told-4
     returns-4
     slice-aggregate-count-line

@@ -8,10 +8,11 @@ use lib.ListN.{length}
 use Rattle.refusals.specs.Refusals.{isRefusal}
 use Rattle.runs.specs.Run.{Run, aloneOf, plainStops, stopsOf, total}
 use Rattle.runs.specs.Judging.{judgeOf}
+use Rattle.least.specs.Recurrence.{leastList}
 use Rattle.runs.proofs.Judged.{accepted-run}
 use Rattle.runs.proofs.Alone.{alone-stops}
 use Rattle.tables.specs.Listing.{ListRows, listRows}
-use Rattle.tables.specs.Private.{LongRows, ruleList, tableSize}
+use Rattle.tables.specs.Private.{LongRows, tableSize}
 use Rattle.runs.proofs.Accepted.{counted-exact}
 use Rattle.tables.proofs.Outcome.{reads-small, list-same-written, still-fits, listed-so}
 use Rattle.tables.proofs.Refusals.{run-refused, run-accepted, rows-refused, rows-accepted, rows-long, room-big, run-listed}
@@ -26,7 +27,7 @@ refused-requires : tie.Need-refused-requires
 refused-requires c κs = search needs
 
 returns : tie.Need-returns
-returns c = run-refused _ _ _ _ _ (c .before .before .judge-alone .ensures) (c .before .refused .ensures) (c .if1 .taken)
+returns c = run-refused _ _ _ _ (c .before .before .judge-alone .ensures) (c .before .refused .ensures) (c .if1 .taken)
 
 -- The run and the rows that were handed in, where the run has passed.
 abbrev start : tie.Else1 → tie.Start
@@ -39,7 +40,7 @@ abbrev rows : tie.Else1 → ListRows
 rows e = let a = start e .args in listRows (a .froms .now) (a .tos .now) (a .room .now)
 
 passed : (e : tie.Else1) → isRefusal (judgeOf (run e) .refusal) ≡ false
-passed e = run-accepted (run e) (start e .args .rule) (rows e) _ _ (e .before .before .judge-alone .ensures) (e .before .refused .ensures) (e .if1 .left)
+passed e = run-accepted (run e) (rows e) _ _ (e .before .before .judge-alone .ensures) (e .before .refused .ensures) (e .if1 .left)
 
 count-reads-requires : tie.Need-count-reads-requires
 count-reads-requires c κs = search needs
@@ -65,7 +66,7 @@ returns-2 : tie.Need-returns-2
 returns-2 c =
     let n = c .before .before .before in
     let e = n .before in
-    rows-refused (run e) (start e .args .rule) (rows e) _ _ (e .before .before .judge-alone .ensures) (e .before .refused .ensures)
+    rows-refused (run e) (rows e) _ _ (e .before .before .judge-alone .ensures) (e .before .refused .ensures)
     _ (reads-are n) _ (c .before .before .judge-rows .ensures) _ (c .before .refused2 .ensures) (e .if1 .left) (c .if2 .taken)
 
 -- Past the second check the rows are long enough and the room is big enough.
@@ -76,18 +77,18 @@ long : (d : tie.Else2) → LongRows (length (run (first d) .numbers)) (length (r
 long d =
     let n = d .before .before .before in
     let e = n .before in
-    rows-long (run e) (start e .args .rule) (rows e) _ _ (e .before .before .judge-alone .ensures) (e .before .refused .ensures)
+    rows-long (run e) (rows e) _ _ (e .before .before .judge-alone .ensures) (e .before .refused .ensures)
     _ (reads-are n) _ (d .before .before .judge-rows .ensures) _ (d .before .refused2 .ensures) (e .if1 .left) (d .if2 .left)
 
 big : (d : tie.Else2) → tableSize (length (run (first d) .numbers)) (d .before .before .before .count-reads .result) ≤ length (rows (first d) .room)
 big d =
     let n = d .before .before .before in
     let e = n .before in
-    room-big (run e) (start e .args .rule) (rows e) _ _ (e .before .before .judge-alone .ensures) (e .before .refused .ensures)
+    room-big (run e) (rows e) _ _ (e .before .before .judge-alone .ensures) (e .before .refused .ensures)
     _ (reads-are n) _ (d .before .before .judge-rows .ensures) _ (d .before .refused2 .ensures) (e .if1 .left) (d .if2 .left)
 
-list-by-requires : tie.Need-list-by-requires
-list-by-requires c κs =
+least-list-requires : tie.Need-least-list-requires
+least-list-requires c κs =
     let d = c .before .before .before in
     let e = first d in
     (record { head = start e .args .head; accepts = passed e; whole = reads-are (d .before .before .before) }, (long d .for-starts, (long d .for-ends, big d)))
@@ -100,7 +101,7 @@ table-words-requires c κs =
 clear-requires : tie.Need-clear-requires
 clear-requires c κs =
     let d = c .before .before .before .before .before .before .before .before .before .before .before .before in
-    still-fits _ _ _ _ (c .table-words .ensures) (c .before .before .before .before .before .before .before .before .list-by .ensures .1) (big d)
+    still-fits _ _ _ _ (c .table-words .ensures) (c .before .before .before .before .before .before .before .before .least-list .ensures .1) (big d)
 
 same-length : tie.Need-same-length
 same-length c = search needs
@@ -119,15 +120,15 @@ returns-3 c =
     let n = d .before .before .before in
     let e = n .before in
     let a = start e .args in
-    let listed = l .list-by .ensures in
-    let written = list-same-written _ _ _ _ _ _ _ (ap (ruleList (a .rule) (a .turn)) (sym (stops-are e))) (listed .0) in
+    let listed = l .least-list .ensures in
+    let written = list-same-written _ _ _ _ _ _ _ (ap (leastList (a .turn)) (sym (stops-are e))) (listed .0) in
     let zeroed = rw (w .table-words .ensures) at (c .before .before .clear .ensures) in
-    let u-is = rows-accepted (run e) (a .rule) (rows e) _ _ (e .before .before .judge-alone .ensures) (e .before .refused .ensures) _ (reads-are n) _ (d .before .before .judge-rows .ensures) _ (d .before .refused2 .ensures) (e .if1 .left) (d .if2 .left) in
-    run-listed (run e) (a .rule) (rows e) _ _ (e .before .before .judge-alone .ensures) (e .before .refused .ensures)
+    let u-is = rows-accepted (run e) (rows e) _ _ (e .before .before .judge-alone .ensures) (e .before .refused .ensures) _ (reads-are n) _ (d .before .before .judge-rows .ensures) _ (d .before .refused2 .ensures) (e .if1 .left) (d .if2 .left) in
+    run-listed (run e) (rows e) _ _ (e .before .before .judge-alone .ensures) (e .before .refused .ensures)
     _ (reads-are n) _ (d .before .before .judge-rows .ensures) _ (d .before .refused2 .ensures) (e .if1 .left) (d .if2 .left) _ _
-    (listed-so (run e) _ (a .rule) (a .froms .now) (a .tos .now) (a .room .now) (passed e) (reads-are n) _ _ _ _ _ _ u-is (big d) written (listed .1) zeroed)
+    (listed-so (run e) _ (a .froms .now) (a .tos .now) (a .room .now) (passed e) (reads-are n) _ _ _ _ _ _ u-is (big d) written (listed .1) zeroed)
 
 pub list-spec : {M : Type 1} → statement M
 list-spec =
     tie.close
-    (tie.spec judge-alone-requires refused-requires returns count-reads-requires judge-rows-requires refused-requires-2 returns-2 list-by-requires table-words-requires clear-requires same-length same-length-2 same-length-3 returns-3)
+    (tie.spec judge-alone-requires refused-requires returns count-reads-requires judge-rows-requires refused-requires-2 returns-2 least-list-requires table-words-requires clear-requires same-length same-length-2 same-length-3 returns-3)

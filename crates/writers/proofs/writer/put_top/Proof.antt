@@ -25,8 +25,14 @@ slice-aggregate-put-number-line-2 c = search needs
 put-number-line-requires-2 : tie.Need-put-number-line-requires-2
 put-number-line-requires-2 c κs = search needs
 
-put-rule-requires : tie.Need-put-rule-requires
-put-rule-requires c κs = search needs
+slice-aggregate-put-line-2 : tie.Need-slice-aggregate-put-line-2
+slice-aggregate-put-line-2 c = search needs
+
+slice-aggregate-put-line-3 : tie.Need-slice-aggregate-put-line-3
+slice-aggregate-put-line-3 c = search needs
+
+put-line-requires-2 : tie.Need-put-line-requires-2
+put-line-requires-2 c κs = search needs
 
 slice-aggregate-put-number-line-3 : tie.Need-slice-aggregate-put-number-line-3
 slice-aggregate-put-number-line-3 c = search needs
@@ -40,10 +46,16 @@ same-length c = search needs
 returns : tie.Need-returns
 unfolding topText
 returns c =
-    let two = wrote-both _ _ _ _ _ _ _ _ _ _ (c .before .before .before .before .before .before .before .before .before .before .before .before .before .before .before .before .before .before .before .before .before .put-line .ensures) (c .before .before .before .before .before .before .before .before .before .before .before .before .before .before .before .before .put-number-line .ensures) in
-    let three = wrote-both _ _ _ _ _ _ _ _ _ _ two (c .before .before .before .before .before .before .before .before .before .before .before .put-number-line2 .ensures) in
-    let four = wrote-both _ _ _ _ _ _ _ _ _ _ three (c .before .before .before .before .before .before .before .put-rule .ensures) in
-    wrote-within _ _ _ _ _ _ _ (omega (arith, c .before .before .before .before .before .before .before .before .before .before .before .before .before .before .before .before .before .before .before .before .before .before .before .before .before .before .pre .0)) (wrote-both _ _ _ _ _ _ _ _ _ _ four (c .before .before .put-number-line3 .ensures))
+    let c4 = c .before .before .before .before in
+    let c8 = c4 .before .before .before .before in
+    let c12 = c8 .before .before .before .before in
+    let c16 = c12 .before .before .before .before in
+    let c20 = c16 .before .before .before .before in
+    let c24 = c20 .before .before .before .before in
+    let two = wrote-both _ _ _ _ _ _ _ _ _ _ (c20 .before .before .before .put-line .ensures) (c16 .before .before .put-number-line .ensures) in
+    let three = wrote-both _ _ _ _ _ _ _ _ _ _ two (c12 .before .put-number-line2 .ensures) in
+    let four = wrote-both _ _ _ _ _ _ _ _ _ _ three (c4 .before .before .before .put-line2 .ensures) in
+    wrote-within _ _ _ _ _ _ _ (omega (arith, c24 .before .before .before .before .pre .0)) (wrote-both _ _ _ _ _ _ _ _ _ _ four (c .before .before .put-number-line3 .ensures))
 
 pub put-top-spec : {M : Type 1} → statement M
 put-top-spec =
@@ -55,7 +67,9 @@ put-top-spec =
     put-number-line-requires
     slice-aggregate-put-number-line-2
     put-number-line-requires-2
-    put-rule-requires
+    slice-aggregate-put-line-2
+    slice-aggregate-put-line-3
+    put-line-requires-2
     slice-aggregate-put-number-line-3
     put-number-line-requires-3
     same-length

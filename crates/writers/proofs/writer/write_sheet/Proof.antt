@@ -25,7 +25,7 @@ returns c =
     let c8 = c4 .before .before .before .before in
     let a = c8 .before .before .before .before .args in
     let run = runOf (a .starts .now) (a .lengths .now) (a .aggregates .now) (a .numbers .now) (a .counts .now) (a .head) (a .turn) in
-    refused-handed _ _ _ _ _ _ (write-refused (a .name .now) (a .rule) run (a .out .now) _ _ (c4 .judge .ensures) (c .before .before .before .judge-name .ensures) _ (c .before .before .refused .ensures) (c .before .if1 .taken)) (sym (c .before .before .refused .ensures) ∙ c .before .if1 .taken) (c .written .ensures)
+    refused-handed _ _ _ _ _ _ (write-refused (a .name .now) run (a .out .now) _ _ (c4 .judge .ensures) (c .before .before .before .judge-name .ensures) _ (c .before .before .refused .ensures) (c .before .if1 .taken)) (sym (c .before .before .refused .ensures) ∙ c .before .if1 .taken) (c .written .ensures)
 
 slice-aggregate-put-sheet : tie.Need-slice-aggregate-put-sheet
 slice-aggregate-put-sheet c = search needs
@@ -36,7 +36,7 @@ put-sheet-requires c κs =
     let c8 = c4 .before .before .before .before in
     let a = c8 .before .before .before .before .args in
     let run = runOf (a .starts .now) (a .lengths .now) (a .aggregates .now) (a .numbers .now) (a .counts .now) (a .head) (a .turn) in
-    sheet-fits (a .name .now) (a .rule) run (a .out .now) _ _ (c4 .judge .ensures) (c .before .before .before .judge-name .ensures) _ (c .before .before .refused .ensures) (c .before .if1 .left) _ (search needs)
+    sheet-fits (a .name .now) run (a .out .now) _ _ (c4 .judge .ensures) (c .before .before .before .judge-name .ensures) _ (c .before .before .refused .ensures) (c .before .if1 .left) _ (search needs)
 
 array-share-prefix-page : tie.Need-array-share-prefix-page
 array-share-prefix-page c = search needs
@@ -58,7 +58,7 @@ returns-2 c =
     let c16 = c12 .before .before .before .before in
     let a = c16 .before .before .before .args in
     let run = runOf (a .starts .now) (a .lengths .now) (a .aggregates .now) (a .numbers .now) (a .counts .now) (a .head) (a .turn) in
-    page-handed _ _ _ _ _ (c4 .before .before .put-sheet .ensures) _ _ (sheet-last (a .name .now) (a .rule) run (a .out .now) _ _ (c8 .before .before .before .judge .ensures) (c8 .before .before .judge-name .ensures) _ (c8 .before .refused .ensures) (c8 .if1 .left)) _ _ (c .before .before .hand-out .ensures)
+    page-handed _ _ _ _ _ (c4 .before .before .put-sheet .ensures) _ _ (sheet-last (a .name .now) run (a .out .now) _ _ (c8 .before .before .before .judge .ensures) (c8 .before .before .judge-name .ensures) _ (c8 .before .refused .ensures) (c8 .if1 .left)) _ _ (c .before .before .hand-out .ensures)
 
 pub write-sheet-spec : {M : Type 1} → statement M
 write-sheet-spec =
