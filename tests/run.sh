@@ -124,6 +124,10 @@ command_installed() {
     path=$(printf '%s' "$PATH" | tr ':' '\n' | while IFS= read -r folder; do [ -x "$folder/rt" ] || printf '%s:' "$folder"; done)
     step "the installed command" env -u RATTLE_HOME PATH="${path%:}" "$prefix/bin/violstream" plan - < "$here/examples/VX0041.run" > "$out/plan.is"
     same "the installed command" "$here/examples/VX0041.plan" "$out/plan.is"
+    step "the installed command's plain engine" env -u RATTLE_HOME PATH="${path%:}" "$prefix/bin/violstream" field - < "$here/examples/VX0041.run" > "$out/field.is"
+    same "the installed command's plain engine" "$here/examples/VX0041.plan" "$out/field.is"
+    step "the installed command's figures" env -u RATTLE_HOME PATH="${path%:}" "$prefix/bin/violstream" buys "$here/examples/VX0041.run" > "$out/buys.is"
+    same "the installed command's figures" "$here/crates/cmd_buys/stdout" "$out/buys.is"
     sed 's/^turn=$/turn=0/' "$here/examples/no-wants.run" > "$out/sheet.must"
     step "the installed command's rewriting" env -u RATTLE_HOME PATH="${path%:}" "$prefix/bin/violstream" rewrite "$here/examples/no-wants.run" > "$out/sheet.is"
     same "the installed command's rewriting" "$out/sheet.must" "$out/sheet.is"
@@ -189,7 +193,7 @@ bench() {
 
 # Every shell script, those that others read among them.
 scripts() {
-    for script in "$here"/violstream "$here"/install.sh "$here"/.ci/run "$here"/bench/*.sh "$here"/tests/*.sh "$here"/tools/*.sh; do
+    for script in "$here"/violstream "$here"/install.sh "$here"/.ci/run "$here"/bench/*.sh "$here"/bench/rules/*.sh "$here"/tests/*.sh "$here"/tools/*.sh; do
         step "shellcheck of $script" shellcheck -x -P "$here" "$script"
     done
     printf 'scripts: shellcheck finds nothing\n'
@@ -238,12 +242,17 @@ run installed
 run c/threads
 run c/stack
 run bench
-run c/compare ${calls:+--calls "$calls"}
-run rust/compare ${calls:+--calls "$calls"}
+run c/rules
+run c/compare ${calls:+--calls "$calls"} --sheets "$out/c.sheets"
+run rust/compare ${calls:+--calls "$calls"} --sheets "$out/rust.sheets"
 run python/plan
+run python/field
+[ -n "$only" ] || run python/field --sheets "$out/c.sheets" --sheets "$out/rust.sheets"
+run python/buys
 run python/rewrite
 run python/ltfs --cases 2000
 run python/prices
+run python/figures
 run python/pricer_rows
 run python/command
 

@@ -49,7 +49,7 @@ class Checkout:
             (shutil.copytree if os.path.isdir(source) else shutil.copy2)(source, to)
         os.makedirs(os.path.join(self.root, "crates/refusals"))
         os.makedirs(os.path.join(self.root, "target/bin"))
-        for name in ("cmd_plan", "cmd_rewrite", "cmd_ltfs"):
+        for name in ("cmd_plan", "cmd_field", "cmd_buys", "cmd_rewrite", "cmd_ltfs"):
             source = os.path.join(programs.ROOT, "target/bin", name)
             if not os.path.exists(source):
                 sys.exit(f"command.py: no program {source}; 'rt check {name}' makes it")
@@ -117,6 +117,18 @@ def answers(at):
     at.must("cd / && \"$OLDPWD/violstream\" plan \"$OLDPWD/examples/VX0041.run\"", 0, PLAN, silent=True)
 
 
+def figures(at):
+    """What each detour of a plan buys. Files, statuses and words as for plan."""
+    bought = b"tape=VX0041\nsum=367\ndetours=1\nbuys=2,2,40\n"
+    at.must("./violstream buys examples/VX0041.run", 0, bought, silent=True)
+    at.must("./violstream buys < examples/VX0041.run", 0, bought, silent=True)
+    at.must("./violstream buys - < examples/no-wants.run", 0, b"tape=VX0042\nsum=0\ndetours=0\n", silent=True)
+    at.must("./violstream buys examples/head-too-far-left.run", 3, refusal(7), ["refused (7)"])
+    at.must("./violstream buys examples/VX0041.run no-such examples/VX0041.plan", 1,
+            b"sheet=examples/VX0041.run\n" + bought + b"sheet=examples/VX0041.plan\n" + refusal(11, 2), ["cannot read no-such", "examples/VX0041.plan: refused (11)"])
+    at.must("./violstream buys examples/VX0041.run > /dev/full", 1, b"", ["cannot write to standard output"])
+
+
 def rewriting(at):
     """An old sheet comes back with turn=0 where nothing stood; any other as it is. Files, statuses and words as for plan."""
     old, new = changed(3, b"turn="), changed(3, b"turn=0")
@@ -135,6 +147,19 @@ def rewriting(at):
     at.must("./violstream rewrite old.run > /dev/full", 1, b"", ["cannot write to standard output"])
 
 
+def fielding(at):
+    """The plain engine prints what plan prints, up to eight wants, and refuses more. Files, statuses and words as for plan."""
+    at.must("./violstream field examples/VX0041.run", 0, PLAN, silent=True)
+    at.must("./violstream field", 0, PLAN, data=RUN, silent=True)
+    at.must("./violstream field - < examples/VX0041.run", 0, PLAN, silent=True)
+    at.must("./violstream field examples/aggregate.run", 0, contents("examples/aggregate.plan"), silent=True)
+    at.must("./violstream field examples/nine-wants.run", 3, refusal(24), ["refused (24): the sheet has 9 wants; this engine plans at most 8"])
+    at.must("./violstream field", 3, refusal(4, 2), ["want 2"], data=changed(11, b"want=2,0"))
+    at.must("./violstream field", 3, refusal(11, 3), ['line 3: expected turn=NUMBER; found "turn=x"'], data=changed(3, b"turn=x"))
+    both = b"sheet=examples/nine-wants.run\n" + refusal(24) + b"sheet=examples/VX0041.run\n" + PLAN
+    at.must("./violstream field examples/nine-wants.run no-such examples/VX0041.run", 1, both, ["cannot read no-such"])
+
+
 def statuses(at):
     at.must("./violstream plan examples/head-too-far-left.run", 3, refusal(7))
     at.must("./violstream plan", 3, refusal(11, 1))
@@ -142,7 +167,7 @@ def statuses(at):
     at.must(f"./violstream ltfs vx0041 {LABEL} {INDEX}", 3, refusal(13))
     at.must(f"set -o pipefail; ./violstream ltfs VX0041 {INDEX} {INDEX} | ./violstream plan", 3, refusal(11, 1))
     at.must("./violstream help", 0, silent=True)
-    for line in ("nothing", "plan -x", "plan - -", "rewrite -x", "rewrite - -", "ltfs", "ltfs A B", "ltfs A B C D", "ltfs A - -", "ltfs -A B C", "install a", "install /a /b",
+    for line in ("nothing", "plan -x", "plan - -", "field -x", "field - -", "buys -x", "buys - -", "rewrite -x", "rewrite - -", "ltfs", "ltfs A B", "ltfs A B C D", "ltfs A - -", "ltfs -A B C", "install a", "install /a /b",
                  "uninstall a", "install -x", "build x", "test x"):
         at.must(f"./violstream {line}", 2, b"", ["violstream: ", "\nusage: ./violstream "])
         said = at.shell(f"./violstream {line}")[1]
@@ -158,7 +183,7 @@ def help_and_version(at):
     text = at.shell("./violstream help")[0]
     if not text.startswith(b"usage: ./violstream plan"):
         raise Wrong(f"./violstream help prints {text!r}")
-    for line in ("--help", "-h", "", "plan --help", "rewrite --help", "ltfs -h", "build --help", "test --help", "install --help", "version --help"):
+    for line in ("--help", "-h", "", "plan --help", "field --help", "buys --help", "rewrite --help", "ltfs -h", "build --help", "test --help", "install --help", "version --help"):
         at.must(f"./violstream {line}", 0, text, silent=True)
     version = at.shell("./violstream --version")[0]
     if re.fullmatch(rb"violstream [0-9]+\.[0-9]+\.[0-9]+ \(rattle-kit-\S+ logic [0-9a-f]{16}\)\n", version) is None:
@@ -480,12 +505,12 @@ def building(at):
         raise Wrong(f"rt was called so: {called(at)}")
     at.must(f"./violstream ltfs VX0041 {LABEL} {INDEX}", 0, SHEET, ["building cmd_ltfs"])
     at.must("rm target/bin/cmd_plan && ./violstream plan examples/VX0041.run", 0, PLAN, ["building cmd_plan"])
-    at.must("./violstream build", 0, b"", ["building cmd_rewrite", "building libboundary.a"])
-    at.must("touch -d '+1 minute' crates/refusals/newer && ./violstream build", 0, b"", ["cmd_plan", "cmd_rewrite", "cmd_ltfs", "libboundary.a"])
+    at.must("./violstream build", 0, b"", ["building cmd_field", "building cmd_buys", "building cmd_rewrite", "building libboundary.a"])
+    at.must("touch -d '+1 minute' crates/refusals/newer && ./violstream build", 0, b"", ["cmd_plan", "cmd_field", "cmd_buys", "cmd_rewrite", "cmd_ltfs", "libboundary.a"])
     at.must("rm crates/refusals/newer && ./violstream build", 0, b"", ["violstream: built"])
     at.must("./violstream build more", 2, b"")
-    every = ["check cmd_plan", "check cmd_rewrite", "check cmd_ltfs", "staticlib boundary"]
-    if called(at) != ["check cmd_plan", "check cmd_ltfs", "check cmd_plan", "check cmd_rewrite", "staticlib boundary"] + every:
+    every = ["check cmd_plan", "check cmd_field", "check cmd_buys", "check cmd_rewrite", "check cmd_ltfs", "staticlib boundary"]
+    if called(at) != ["check cmd_plan", "check cmd_ltfs", "check cmd_plan", "check cmd_field", "check cmd_buys", "check cmd_rewrite", "staticlib boundary"] + every:
         raise Wrong(f"rt was called so: {called(at)}")
 
 
@@ -541,7 +566,7 @@ def until(true, otherwise):
     raise Wrong(otherwise)
 
 
-TESTS = (answers, rewriting, statuses, help_and_version, nothing_lost, broken_program, several, ltfs_inputs, words_of_sheets, words_of_damaged_sheets,
+TESTS = (answers, fielding, figures, rewriting, statuses, help_and_version, nothing_lost, broken_program, several, ltfs_inputs, words_of_sheets, words_of_damaged_sheets,
          words_of_tapes, keyboard, transcripts, manual, interrupted, building, building_fails, building_twice, building_interrupted)
 
 

@@ -29,14 +29,18 @@ def answer(sheet):
             raise Refused(9)
     except Refused as refusal:
         return refusal.args[0]
+    return None if len(files) > 10 else sheet_of_plan(name, head, turn, table, asked)
+
+
+def sheet_of_plan(name, head, turn, table, asked):
+    """The plan sheet of a run that is accepted, by a search over all lists."""
+    files = [first for first, _ in stops(table, asked)]
     def total(detours):
         times = walk(head, turn, table, asked, detours)[0]
         return sum(count * times[number] for number, count in asked)
-    if len(files) > 10:
-        return None
     best = min(lists(files), key=lambda d: (total(d), order(files, d)))
     times, legs, clock, place = walk(head, turn, table, asked, best)
-    lines = [b"tape=" + name, b"sum=%d" % total(best), b"reads=%d" % reads, b"finish=%d" % clock, b"end=%d" % place,
+    lines = [b"tape=" + name, b"sum=%d" % total(best), b"reads=%d" % sum(count for _, count in asked), b"finish=%d" % clock, b"end=%d" % place,
              b"detours=%d" % len(best)]
     lines += [b"detour=%d,%d" % d for d in best] + [b"time=%d,%d,%d" % (n, times[n], legs[n]) for n, _ in asked]
     return b"\n".join(lines) + b"\n"

@@ -31,13 +31,16 @@ def stops(table, asked):
     return sorted(counts.items())
 
 
-def judge(head, turn, table, asked):
+def judge(head, turn, table, asked, most=64):
+    """Raises the first refusal of 2, 24 where the wants are over so many, 4, 5, 6 and 7."""
     before = 0
     for i, (start, length, aggregate) in enumerate(table):
         again = aggregate != 0 and any(entry[2] == aggregate for entry in table[:i]) and table[i - 1][2] != aggregate
         if length == 0 or start < before or start + length > 2**40 or aggregate > 4096 or again:
             raise Refused(2, i + 1)
         before = start + length
+    if len(asked) > most:
+        raise Refused(24)
     last = 0
     for i, (number, count) in enumerate(asked):
         if number > len(table) or number <= last or count == 0:

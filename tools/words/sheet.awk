@@ -207,6 +207,8 @@ function words_for(number, place) {
         return "the turn price (" stands(3) ") is above 4294967296 (2^32)"
     if (number == 7)
         return bad_head()
+    if (number == 24)
+        return "the sheet has " wants " wants; this engine plans at most 8"
     if (number == 9)
         return wants " wants" (stops() == wants ? "" : " at " stops() " stops") " with " reads() " reads in all ask for " \
             stops() " * " stops() " * " (reads() + 1) " = " stops() * stops() * (reads() + 1) \

@@ -29,7 +29,7 @@ use Rattle.demands.proofs.Judged.{run-finds, run-small}
 use Rattle.demands.proofs.Listed.{decides-list}
 
 -- A refusal's answer.
-refusal-only-place : (v : Verdict) → OnlyPlace (refusalAnswer v)
+pub refusal-only-place : (v : Verdict) → OnlyPlace (refusalAnswer v)
 refusal-only-place v = record { sum = refl; finish = refl; end = refl; detours = refl }
 
 -- A row for times or legs that is short.

@@ -1,4 +1,4 @@
--- For every input some answer and rows fit the planner's contract: the refusal and the rows as they were, or the numbers of the least list.
+-- For every input some answer and rows fit the planner's contract, and the plain engine's: the refusal and the rows as they were, or the numbers of the least list.
 -- So nothing that is proved of all that fits is proved of nothing.
 use mathlib.Core.Bool.{cond}
 use mathlib.Core.List.{List}
@@ -10,7 +10,9 @@ use Rattle.refusals.proofs.Verdicts.{refuses}
 use Rattle.runs.proofs.Stops.{accepted-sound}
 use Rattle.least.proofs.LeastList.{least-list}
 use Rattle.planner.specs.Plan.{Rows, rowsWith, Plans, planVerdict}
+use Rattle.plain.specs.Plain.{PlainRows, plainRowsWith, PlainPlans, plainVerdict}
 use Rattle.demands.proofs.Planned.{verdict-accepts-run}
+use Rattle.demands.proofs.Plain.{plain-accepts-run}
 use Rattle.least.specs.Recurrence.{leastList}
 
 abbrev planList : Run → List Detour
@@ -28,4 +30,18 @@ plans-for-every-input r before =
     record {
       refused = λ e. record { says = rw e; kept = rw e };
       planned = λ e. record { list = planList r; least = least-list (r .turn) (r .head) (stopsOf r) (accepted-sound r (verdict-accepts-run r before e)); says = rw e; rows = rw e };
+    }
+
+unfoldable pub plainAnswer : Run → PlainRows → Answer
+plainAnswer r before = cond (refuses (plainVerdict r before)) (refusalAnswer (plainVerdict r before)) (pricedAnswer r (planList r))
+
+unfoldable pub plainAfter : Run → PlainRows → PlainRows
+plainAfter r before = cond (refuses (plainVerdict r before)) before (plainRowsWith r (planList r) before)
+
+pub plain-for-every-input : (r : Run) (before : PlainRows) → PlainPlans r before (plainAnswer r before) (plainAfter r before)
+unfolding plainAnswer plainAfter
+plain-for-every-input r before =
+    record {
+      refused = λ e. record { says = rw e; kept = rw e };
+      planned = λ e. record { list = planList r; least = least-list (r .turn) (r .head) (stopsOf r) (accepted-sound r (plain-accepts-run r before e)); says = rw e; rows = rw e };
     }

@@ -99,7 +99,7 @@ module _ (stops : List Stop) (list : List Detour) where
       not-left i j m less h = by-cases (decLt i j) (λ k. omega (arith, against j m i k .0)) (λ k. let same : i ≡ j = omega arith in omega (arith, rw same at less))
 
   module _ (rules : ObeysTheRules stops list) where
-    falls : (i j : ℕ) → j < i → i < length list → entryOf list i .from < entryOf list j .from
+    pub falls : (i j : ℕ) → j < i → i < length list → entryOf list i .from < entryOf list j .from
     falls zero j h l = absurd (omega arith)
     falls (suc i) j h l = by-cases (decLt j i) (λ k. omega (arith, falls i j k (omega arith), rules .fall i l)) (λ k. let same : j ≡ i = omega arith in rw same (rules .fall i l))
 

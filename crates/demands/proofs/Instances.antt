@@ -24,6 +24,7 @@ use Rattle.walk.proofs.Sweeps.{sweeps-to}
 use Rattle.least.specs.Wants.{readsOfFile}
 use Rattle.least.specs.Recurrence.{planDetours, W, lowest, scan, filledTo, filled, candidate, next, value, choice, built, nextPlan, best, leastList}
 use Rattle.planner.specs.Plan.{Rows, rowsOf, Plans, planVerdict}
+use Rattle.plain.specs.Plain.{PlainRows, plainRows, plainVerdict}
 use Rattle.boundary.specs.Boundary.{codeOf, sumsWith, priceCall, priceReads, priceSums, planCall, PlanCalled}
 use Rattle.texts.specs.Text.{bytes, allOf, isNumber, isName, valueFrom, startsWith, has, before, behind}
 use Rattle.sheets.specs.declared.Reading.{Reading}
@@ -40,6 +41,7 @@ use Rattle.demands.specs.Turns.{Rewrites}
 use Rattle.demands.specs.Formed.{ObeysTheRules}
 use Rattle.demands.specs.Demand2.{IsTheWalk, IsPriceOf, IsLeast}
 use Rattle.demands.specs.Demand3.{AsksNoLess}
+use Rattle.demands.specs.Plain.{SameAnswer}
 use Rattle.demands.specs.Calls.{PriceCallWalks, PlanCallWalks}
 use Rattle.demands.specs.Cases.{exampleRun, fourFiles}
 use Rattle.demands.proofs.Formed.{formed-by-the-rules}
@@ -51,7 +53,8 @@ use Rattle.demands.proofs.FirstLine.{lines-by-the-table}
 use Rattle.demands.proofs.Sheets.{demand1-read}
 use Rattle.demands.proofs.WriteRead.{demand2-round-trip, write-then-read}
 use Rattle.demands.proofs.Turns.{rewritten-bytes}
-use Rattle.demands.proofs.Fits.{planAnswer, planRows, plans-for-every-input}
+use Rattle.demands.proofs.Plain.{plain-as-planned}
+use Rattle.demands.proofs.Fits.{planAnswer, planRows, plans-for-every-input, plainAnswer, plainAfter, plain-for-every-input}
 
 -- The sheet's run with rows and room that just suffice: the planner accepts, and reports 367.
 abbrev pub sheetRows : ℕ → Rows
@@ -70,6 +73,19 @@ sheet-accepted = refl
 pub sheet-reports : sheetAnswer 54 .sum ≡ 367
 unfolding planAnswer planVerdict judgeOf firstWhere goesOn firstMember lastWithin wantStops joinTo joined rightEnd pricedAnswer startOf endOf served unreadEnd sweepEnd lastSweep legsOf timeOf sumOf leastList planDetours W lowest scan filledTo filled candidate next value choice built nextPlan best
 sheet-reports = refl
+
+-- The plain engine accepts it too, and answers what the planner answers.
+abbrev pub plainSheetRows : PlainRows
+plainSheetRows = plainRows (7 ∷ 7 ∷ []) (7 ∷ 7 ∷ []) (7 ∷ 7 ∷ 7 ∷ []) (7 ∷ 7 ∷ 7 ∷ [])
+
+plain-sheet-accepted : plainAnswer exampleRun plainSheetRows .refusal ≡ Accepted
+unfolding plainAnswer plainVerdict judgeOf firstWhere goesOn firstMember lastWithin wantStops joinTo joined rightEnd pricedAnswer
+plain-sheet-accepted = refl
+
+pub plain-sheet-planned : SameAnswer exampleRun (plainAnswer exampleRun plainSheetRows) (plainAfter exampleRun plainSheetRows) (sheetAnswer 54) (sheetAfter 54)
+plain-sheet-planned =
+    plain-as-planned exampleRun plainSheetRows (plainAnswer exampleRun plainSheetRows) (plainAfter exampleRun plainSheetRows) (sheetRows 54) (sheetAnswer 54) (sheetAfter 54)
+    (plain-for-every-input exampleRun plainSheetRows) plain-sheet-accepted (plans-for-every-input exampleRun (sheetRows 54)) sheet-accepted
 
 -- Rows for the times and legs of four wants, and of three.
 abbrev zeros : ReadRows

@@ -29,7 +29,7 @@ module _ (r : Run) where
   bad-file-only : (p : ℕ) → RunApplies r BadFile p → FirstBad (FileIsBad r) (length (r .starts)) p
   bad-file-only p (RunApplies.bad-file h) = h
 
-  want-rows-only : (p : ℕ) → RunApplies r WantRows p → (p ≡ 0) × ((mostWants < length (r .numbers)) ⊎ (length (r .numbers) ≡ length (r .counts) → ⊥))
+  pub want-rows-only : (p : ℕ) → RunApplies r WantRows p → (p ≡ 0) × ((mostWants < length (r .numbers)) ⊎ (length (r .numbers) ≡ length (r .counts) → ⊥))
   want-rows-only p (RunApplies.want-rows h) = (refl, h)
 
   bad-want-only : (p : ℕ) → RunApplies r BadWant p → FirstBad (WantIsBad r) (length (r .numbers)) p
@@ -61,7 +61,7 @@ module _ (r : Run) (applies : Refusal → ℕ → Type 0) (there : (k : Refusal)
       → Decides k A v → Decides k (applies k) v
   of-run k l on off d = decides-reworded (λ p h. there k p (on p h)) (λ p h. off p (back k p l h)) d
 
-  table-finds : (rest : List Refusal) (vs : List Verdict) → (refuses (firstOf (tableChecks (r .starts) (r .lengths) (r .aggregates))) ≡ false → Finds applies rest (firstOf vs))
+  pub table-finds : (rest : List Refusal) (vs : List Verdict) → (refuses (firstOf (tableChecks (r .starts) (r .lengths) (r .aggregates))) ≡ false → Finds applies rest (firstOf vs))
       → Finds applies (FileRows ∷ BadFile ∷ rest) (firstOf (firstOf (tableChecks (r .starts) (r .lengths) (r .aggregates)) ∷ vs))
   table-finds rest vs others =
       let first = refuseIf (ltb mostFiles (length (r .starts)) || not (eqb (length (r .starts)) (length (r .lengths))) || not (eqb (length (r .starts)) (length (r .aggregates)))) FileRows in

@@ -11,12 +11,14 @@ pub mod Planned
 pub mod Demand2
 pub mod Demand3
 pub mod Offices
+pub mod Plain
 pub mod Stops
 pub mod Ends
 pub mod Legs
 pub mod Called
 pub mod Cases
 pub mod Alone
+pub mod Buys
 pub mod Lines
 pub mod FirstLine
 pub mod Sheets

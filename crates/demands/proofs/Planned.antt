@@ -2,7 +2,7 @@
 use mathlib.Core.Path.{_≡_, refl, sym, ap, ap₂, _∙_}
 use mathlib.Core.Bool.{Bool, true, false}
 use mathlib.Core.List.{List, [], _∷_, map}
-use lib.ListN.{length, drop, length-map}
+use lib.ListN.{length, take, drop, length-map}
 use lib.Seq.{take-at}
 use lib.Dec.{ltb}
 use Rattle.refusals.specs.declared.Refusal.the-variants.{Accepted, ShortRow, ShortRoom}
@@ -18,21 +18,23 @@ use Rattle.planner.specs.Plan.{Rows, roomFor, Plans, Planned, planVerdict, shor
 use Rattle.demands.specs.Demand2.{listIn}
 
 -- The list in two rows that hold its starts and its ends.
-list-of-rows : (list : List Detour) → listOf (map (λ d. d .from) list) (map (λ d. d .to) list) ≡ list
+pub list-of-rows : (list : List Detour) → listOf (map (λ d. d .from) list) (map (λ d. d .to) list) ≡ list
 unfolding listOf
 list-of-rows [] = refl
 list-of-rows (d ∷ list) = ap (λ l. d ∷ l) (list-of-rows list)
 
-pub list-in-rows : (r : Run) (list : List Detour) (before : Rows) (answer : Answer) (after : Rows) → answer ≡ pricedAnswer r list → after ≡ rowsWith r list before
-    → listIn answer after ≡ list
-unfolding pricedAnswer
-list-in-rows r list before answer after says rows =
-    rw
-    (says, rows)
-    (ap₂ listOf
-    (take-at (map (λ d. d .from) list) (drop (length list) (before .froms)) (length list) (length-map list (λ d. d .from)))
-    (take-at (map (λ d. d .to) list) (drop (length list) (before .tos)) (length list) (length-map list (λ d. d .to)))
-    ∙ list-of-rows list)
+-- The rows of an accepted plan hold its list's starts and ends.
+module _ (r : Run) (list : List Detour) (before : Rows) (answer : Answer) (after : Rows) (says : answer ≡ pricedAnswer r list) (rows : after ≡ rowsWith r list before) where
+  pub starts-in-rows : take (answer .detours) (after .froms) ≡ map (λ d. d .from) list
+  unfolding pricedAnswer
+  starts-in-rows = rw (says, rows) (take-at (map (λ d. d .from) list) (drop (length list) (before .froms)) (length list) (length-map list (λ d. d .from)))
+
+  pub ends-in-rows : take (answer .detours) (after .tos) ≡ map (λ d. d .to) list
+  unfolding pricedAnswer
+  ends-in-rows = rw (says, rows) (take-at (map (λ d. d .to) list) (drop (length list) (before .tos)) (length list) (length-map list (λ d. d .to)))
+
+  pub list-in-rows : listIn answer after ≡ list
+  list-in-rows = ap₂ listOf starts-in-rows ends-in-rows ∙ list-of-rows list
 
 pub reported-sum : (r : Run) (list : List Detour) (answer : Answer) → answer ≡ pricedAnswer r list → answer .sum ≡ listSum (r .turn) (r .head) (stopsOf r) list
 unfolding pricedAnswer

@@ -25,9 +25,10 @@ use Rattle.sheets.proofs.Good.{good-lines}
 use Rattle.writers.specs.declared.Written.{Written}
 use Rattle.writers.specs.Writing.{refusedWriting, sheetText, rowVerdict, writeVerdict, writtenAnswer, writtenRow, Handed}
 use Rattle.writers.specs.PlanSheet.{planText, planSheetVerdict}
+use Rattle.writers.specs.FigureSheet.{figureText, figureSheetVerdict}
 use Rattle.demands.specs.Table.{FirstBad, RunApplies, ListIsBad}
 use Rattle.demands.specs.Lines.{LineIsBad, linesDue, Ruled}
-use Rattle.demands.specs.Sheets.{readOrder, ReadApplies, ReadAnswers, OneRule, writeOrder, planSheetOrder, WriteApplies, PlanSheetApplies, WriteAnswers, Demand1Read, Demand1Write, Demand1PlanSheet}
+use Rattle.demands.specs.Sheets.{readOrder, ReadApplies, ReadAnswers, OneRule, writeOrder, listSheetOrder, WriteApplies, ListSheetApplies, WriteAnswers, Demand1Read, Demand1Write, Demand1PlanSheet, Demand1FigureSheet}
 use Rattle.demands.proofs.Tests.{tells-false, Tells, tells-below, tells-either}
 use Rattle.demands.proofs.Checks.{decides-if, decides-there, decides-reworded, Finds, finds-none, finds-first, first-of-joined}
 use Rattle.demands.proofs.Lines.{tells-sweep, names-least}
@@ -216,51 +217,56 @@ module _ (name : List ℕ) (r : Run) (row : List ℕ) where
 pub demand1-write : Demand1Write
 demand1-write name r row answer out says fills = rw (says, fills) (write-says name r row)
 
--- The plan sheet writer.
-module _ (name : List ℕ) (r : Run) (froms tos row : List ℕ) where
-  abbrev PlanSheet : Refusal → ℕ → Type 0
-  PlanSheet = PlanSheetApplies name r froms tos row
+-- The writers of a list's sheets, of whatever text.
+module _ (name : List ℕ) (r : Run) (froms tos text row : List ℕ) where
+  abbrev ListSheet : Refusal → ℕ → Type 0
+  ListSheet = ListSheetApplies name r froms tos text row
 
-  sheet-of-run : (k : Refusal) (p : ℕ) → numberOf k ≤ 7 → PlanSheet k p → RunApplies r k p
-  sheet-of-run k p l (PlanSheetApplies.run h) = h
-  sheet-of-run k p l (PlanSheetApplies.bad-name h) = absurd (omega arith)
-  sheet-of-run k p l (PlanSheetApplies.bad-list h) = absurd (omega arith)
-  sheet-of-run k p l (PlanSheetApplies.short-row h) = absurd (omega arith)
+  sheet-of-run : (k : Refusal) (p : ℕ) → numberOf k ≤ 7 → ListSheet k p → RunApplies r k p
+  sheet-of-run k p l (ListSheetApplies.run h) = h
+  sheet-of-run k p l (ListSheetApplies.bad-name h) = absurd (omega arith)
+  sheet-of-run k p l (ListSheetApplies.bad-list h) = absurd (omega arith)
+  sheet-of-run k p l (ListSheetApplies.short-row h) = absurd (omega arith)
 
-  sheet-name : (p : ℕ) → PlanSheet BadName p → (p ≡ 0) × (isName name ≡ false)
-  sheet-name p (PlanSheetApplies.run h) = absurd (omega (arith, run-small r h))
-  sheet-name p (PlanSheetApplies.bad-name h) = (refl, h)
+  sheet-name : (p : ℕ) → ListSheet BadName p → (p ≡ 0) × (isName name ≡ false)
+  sheet-name p (ListSheetApplies.run h) = absurd (omega (arith, run-small r h))
+  sheet-name p (ListSheetApplies.bad-name h) = (refl, h)
 
-  sheet-list : (p : ℕ) → PlanSheet BadEntry p → ListIsBad r froms tos p
-  sheet-list p (PlanSheetApplies.run h) = absurd (omega (arith, run-small r h))
-  sheet-list p (PlanSheetApplies.bad-list h) = h
+  sheet-list : (p : ℕ) → ListSheet BadEntry p → ListIsBad r froms tos p
+  sheet-list p (ListSheetApplies.run h) = absurd (omega (arith, run-small r h))
+  sheet-list p (ListSheetApplies.bad-list h) = h
 
-  sheet-row : (p : ℕ) → PlanSheet ShortRow p → (p ≡ 0) × (length row < length (planText name r froms tos))
-  sheet-row p (PlanSheetApplies.run h) = absurd (omega (arith, run-small r h))
-  sheet-row p (PlanSheetApplies.short-row h) = (refl, h)
+  sheet-row : (p : ℕ) → ListSheet ShortRow p → (p ≡ 0) × (length row < length text)
+  sheet-row p (ListSheetApplies.run h) = absurd (omega (arith, run-small r h))
+  sheet-row p (ListSheetApplies.short-row h) = (refl, h)
 
-  sheet-finds : Finds PlanSheet planSheetOrder (planSheetVerdict name r froms tos row)
-  unfolding planSheetVerdict rowVerdict
+  abbrev sheet-verdict : Verdict
+  sheet-verdict = firstOf (judgeOf r ∷ refuseIf (not (isName name)) BadName ∷ listVerdict (stopsOf r) froms tos ∷ rowVerdict text row ∷ [])
+
+  sheet-finds : Finds ListSheet listSheetOrder sheet-verdict
+  unfolding rowVerdict
   sheet-finds =
       let named = refuseIf (not (isName name)) BadName in
       let list = listVerdict (stopsOf r) froms tos in
-      let short = refuseIf (ltb (length row) (length (planText name r froms tos))) ShortRow in
-      run-finds r PlanSheet (λ k p. PlanSheetApplies.run) sheet-of-run (BadName ∷ BadEntry ∷ ShortRow ∷ []) (named ∷ list ∷ short ∷ [])
-      (λ a. finds-first PlanSheet (list ∷ short ∷ []) refl
-      (decides-reworded (λ p h. rw (h .0) (PlanSheetApplies.bad-name (h .1))) sheet-name (decides-if _ BadName (tells-false (isName name))))
-      (λ b. finds-first PlanSheet (short ∷ []) refl
-      (decides-reworded (λ p. PlanSheetApplies.bad-list) sheet-list (decides-list r (accepted-run r a) froms tos (sym (accepted-run r a .wants .equal))))
-      (λ c. finds-first PlanSheet [] refl
-      (decides-reworded (λ p h. rw (h .0) (PlanSheetApplies.short-row (h .1))) sheet-row (decides-if _ ShortRow (tells-below (length row) (length (planText name r froms tos)))))
-      (λ d. finds-none PlanSheet))))
+      let short = refuseIf (ltb (length row) (length text)) ShortRow in
+      run-finds r ListSheet (λ k p. ListSheetApplies.run) sheet-of-run (BadName ∷ BadEntry ∷ ShortRow ∷ []) (named ∷ list ∷ short ∷ [])
+      (λ a. finds-first ListSheet (list ∷ short ∷ []) refl
+      (decides-reworded (λ p h. rw (h .0) (ListSheetApplies.bad-name (h .1))) sheet-name (decides-if _ BadName (tells-false (isName name))))
+      (λ b. finds-first ListSheet (short ∷ []) refl
+      (decides-reworded (λ p. ListSheetApplies.bad-list) sheet-list (decides-list r (accepted-run r a) froms tos (sym (accepted-run r a .wants .equal))))
+      (λ c. finds-first ListSheet [] refl
+      (decides-reworded (λ p h. rw (h .0) (ListSheetApplies.short-row (h .1))) sheet-row (decides-if _ ShortRow (tells-below (length row) (length text))))
+      (λ d. finds-none ListSheet))))
 
-  pub sheet-says : WriteAnswers PlanSheet planSheetOrder row
-      (writtenAnswer (planSheetVerdict name r froms tos row) (planText name r froms tos)) (writtenRow (planSheetVerdict name r froms tos row) (planText name r froms tos) row)
-  unfolding planSheetVerdict
+  pub sheet-says : WriteAnswers ListSheet listSheetOrder row (writtenAnswer sheet-verdict text) (writtenRow sheet-verdict text row)
   sheet-says =
-      writer-says PlanSheet planSheetOrder
-      (judgeOf r ∷ refuseIf (not (isName name)) BadName ∷ listVerdict (stopsOf r) froms tos ∷ rowVerdict (planText name r froms tos) row ∷ [])
-      (planText name r froms tos) row sheet-finds
+      writer-says ListSheet listSheetOrder
+      (judgeOf r ∷ refuseIf (not (isName name)) BadName ∷ listVerdict (stopsOf r) froms tos ∷ rowVerdict text row ∷ []) text row sheet-finds
 
 pub demand1-plan-sheet : Demand1PlanSheet
-demand1-plan-sheet name r froms tos row answer out says fills = rw (says, fills) (sheet-says name r froms tos row)
+unfolding planSheetVerdict
+demand1-plan-sheet name r froms tos row answer out says fills = rw (says, fills) (sheet-says name r froms tos (planText name r froms tos) row)
+
+pub demand1-figure-sheet : Demand1FigureSheet
+unfolding figureSheetVerdict
+demand1-figure-sheet name r froms tos row answer out says fills = rw (says, fills) (sheet-says name r froms tos (figureText name r froms tos) row)

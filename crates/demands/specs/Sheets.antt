@@ -18,6 +18,7 @@ use Rattle.sheets.specs.Sheet.{longestSheet, mostSheetFiles, sheetFiles, sheetW
 use Rattle.sheets.specs.Reading.{readVerdict, readAnswer, readRow, RunRows, SheetRead, readName}
 use Rattle.writers.specs.Writing.{sheetText, writeVerdict, writtenAnswer, writtenRow, SheetWritten}
 use Rattle.writers.specs.PlanSheet.{planText, planSheetVerdict}
+use Rattle.writers.specs.FigureSheet.{figureText, figureSheetVerdict}
 use Rattle.demands.specs.Table.{FirstBad, RunApplies, ListIsBad, FirstThatApplies}
 use Rattle.demands.specs.Lines.{LineIsBad, linesDue, Ruled}
 
@@ -57,12 +58,12 @@ OneRule =
     → reading .refusal ≡ Accepted
     → Ruled leastText sheet
 
--- The run sheet writer: 1 to 7, then 13, then 8. The plan sheet writer: 1 to 7, then 13, then 10, then 8.
+-- The run sheet writer: 1 to 7, then 13, then 8. The writers of a list's sheets, plan sheet and figure sheet: 1 to 7, then 13, then 10, then 8.
 abbrev pub writeOrder : List Refusal
 writeOrder = FileRows ∷ BadFile ∷ WantRows ∷ BadWant ∷ TooManyReads ∷ TurnPrice ∷ HeadPlace ∷ BadName ∷ ShortRow ∷ []
 
-abbrev pub planSheetOrder : List Refusal
-planSheetOrder = FileRows ∷ BadFile ∷ WantRows ∷ BadWant ∷ TooManyReads ∷ TurnPrice ∷ HeadPlace ∷ BadName ∷ BadEntry ∷ ShortRow ∷ []
+abbrev pub listSheetOrder : List Refusal
+listSheetOrder = FileRows ∷ BadFile ∷ WantRows ∷ BadWant ∷ TooManyReads ∷ TurnPrice ∷ HeadPlace ∷ BadName ∷ BadEntry ∷ ShortRow ∷ []
 
 pub data WriteApplies (name : List ℕ) (r : Run) (row : List ℕ) : Refusal → ℕ → Type 0 where
   run : {kind : Refusal} {place : ℕ} → RunApplies r kind place → WriteApplies name r row kind place
@@ -70,11 +71,11 @@ pub data WriteApplies (name : List ℕ) (r : Run) (row : List ℕ) : Refusal →
   bad-name : isName name ≡ false → WriteApplies name r row BadName 0
   short-row : length row < length (sheetText name r) → WriteApplies name r row ShortRow 0
 
-pub data PlanSheetApplies (name : List ℕ) (r : Run) (froms tos row : List ℕ) : Refusal → ℕ → Type 0 where
-  run : {kind : Refusal} {place : ℕ} → RunApplies r kind place → PlanSheetApplies name r froms tos row kind place
-  bad-name : isName name ≡ false → PlanSheetApplies name r froms tos row BadName 0
-  bad-list : {place : ℕ} → ListIsBad r froms tos place → PlanSheetApplies name r froms tos row BadEntry place
-  short-row : length row < length (planText name r froms tos) → PlanSheetApplies name r froms tos row ShortRow 0
+pub data ListSheetApplies (name : List ℕ) (r : Run) (froms tos text row : List ℕ) : Refusal → ℕ → Type 0 where
+  run : {kind : Refusal} {place : ℕ} → RunApplies r kind place → ListSheetApplies name r froms tos text row kind place
+  bad-name : isName name ≡ false → ListSheetApplies name r froms tos text row BadName 0
+  bad-list : {place : ℕ} → ListIsBad r froms tos place → ListSheetApplies name r froms tos text row BadEntry place
+  short-row : length row < length text → ListSheetApplies name r froms tos text row ShortRow 0
 
 -- A writer's refusal: no bytes, and the row as it was.
 pub record WriteAnswers (applies : Refusal → ℕ → Type 0) (order : List Refusal) (row : List ℕ) (answer : Written) (out : List ℕ) : Type 0 where
@@ -93,7 +94,14 @@ Demand1PlanSheet =
     (name : List ℕ) (r : Run) (froms tos row : List ℕ) (answer : Written) (out : List ℕ)
     → answer ≡ writtenAnswer (planSheetVerdict name r froms tos row) (planText name r froms tos)
     → out ≡ writtenRow (planSheetVerdict name r froms tos row) (planText name r froms tos) row
-    → WriteAnswers (PlanSheetApplies name r froms tos row) planSheetOrder row answer out
+    → WriteAnswers (ListSheetApplies name r froms tos (planText name r froms tos) row) listSheetOrder row answer out
+
+abbrev pub Demand1FigureSheet : Type 0
+Demand1FigureSheet =
+    (name : List ℕ) (r : Run) (froms tos row : List ℕ) (answer : Written) (out : List ℕ)
+    → answer ≡ writtenAnswer (figureSheetVerdict name r froms tos row) (figureText name r froms tos)
+    → out ≡ writtenRow (figureSheetVerdict name r froms tos row) (figureText name r froms tos) row
+    → WriteAnswers (ListSheetApplies name r froms tos (figureText name r froms tos) row) listSheetOrder row answer out
 
 -- What the writer wrote, where it accepts: as many bytes as it says, and they are the sheet.
 abbrev pub Demand2Written : Type 0

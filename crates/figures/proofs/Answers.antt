@@ -32,7 +32,7 @@ pub list-accepted : (stops : List Stop) (froms tos : List ℕ) → length froms 
 unfolding listVerdict
 list-accepted stops froms tos e w = rw (eq-eqb (length froms) (length tos) e, w)
 
-list-formed : (stops : List Stop) (froms tos : List ℕ) → refuses (listVerdict stops froms tos) ≡ false → WellFormed stops (listOf froms tos)
+pub list-formed : (stops : List Stop) (froms tos : List ℕ) → refuses (listVerdict stops froms tos) ≡ false → WellFormed stops (listOf froms tos)
 unfolding listVerdict
 list-formed stops froms tos e =
     accepts-at _ BadEntry refl (all-accept (refuseIf (not (eqb (length froms) (length tos))) BadEntry ∷ refuseAt (firstBadEntry stops (listOf froms tos)) BadEntry ∷ []) e .1 .0)

@@ -4,3 +4,5 @@ mod Filling
 mod Answers
 pub mod Table
 pub mod Renamed
+pub mod Held
+pub mod Halves

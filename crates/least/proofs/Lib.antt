@@ -1,4 +1,5 @@
--- Laws of plans, for the crates above: Scan, Value, Bounds and Best for a table engine, LeastList, Unbeaten, Sweeps, Offices and Scaled as the final theorems.
+-- Laws of plans, for the crates above: Scan, Value, Bounds, Best and Priced for the engines, LeastList, Unbeaten, Sweeps, Offices and Scaled as the final
+-- theorems.
 pub mod Plan
 pub mod Rising
 pub mod Sums
@@ -21,5 +22,6 @@ pub mod Lists
 pub mod LeastList
 pub mod Unbeaten
 pub mod Wanted
+pub mod Priced
 pub mod Offices
 pub mod Scaled

@@ -1,10 +1,12 @@
 -- Plans: the tree behind a well-formed list. Stops are numbered 0, 1, 2, … from the left; stop i starts at L i and ends at R i.
 -- A plan over the window (a, b] is walked from the right, with a leg that starts at a and passes b still to come.
 use Prim.Native.Nat.{ℕ, zero, suc, _+_, _-_, _*_, _≤_}
+use native.Mathlib.Omega.{arith}
 use mathlib.Core.Bool.{cond}
 use mathlib.Core.List.{List, [], _∷_, _++_}
+use lib.ListN.{length, length-append}
 use lib.Dec.{leb}
-use Rattle.least.specs.Recurrence.{Plan, empty, skip, detour, trip}
+use Rattle.least.specs.Recurrence.{Plan, empty, skip, detour, trip, planDetours}
 
 -- The plan fits the window (a, b].
 abbrev pub Over : Plan → ℕ → ℕ → Type 0
@@ -13,6 +15,16 @@ Over (skip p) a zero = ⊥
 Over (skip p) a (suc b) = (a ≤ b) × Over p a b
 Over (detour d inner rest) a zero = ⊥
 Over (detour d inner rest) a (suc b) = (a ≤ d) × (d ≤ b) × Over inner (suc d) b × Over rest a d
+
+-- A plan over (a, b] lists at most b - a detours.
+pub listed-few : (F : ℕ → ℕ) (p : Plan) (a b : ℕ) → Over p a b → length (planDetours F p b) ≤ b - a
+unfolding planDetours
+listed-few F empty a b o = omega arith
+listed-few F (skip p) a zero o = absurd o
+listed-few F (skip p) a (suc b) o = omega (arith, listed-few F p a b (o .1))
+listed-few F (detour d inner rest) a zero o = absurd o
+listed-few F (detour d inner rest) a (suc b) o =
+    omega (arith, length-append (planDetours F inner b) (record { from = F (suc d); to = F (suc b) } ∷ planDetours F rest d), listed-few F inner (suc d) b (o .2), listed-few F rest a d (o .3), o .0, o .1)
 
 -- The start, as a stop, of the plan's detour that ends at stop j; 0 where none does.
 unfoldable pub startIn : Plan → ℕ → ℕ → ℕ

@@ -1,6 +1,6 @@
 -- A scan over the choices 0, c, c - 1, …, a + 1 of a window, f giving each choice its value: the lowest value and the first choice that has it.
 -- `lowest` and `scan` are the turns still to come of a loop that goes c, c - 1, …, a + 1 and keeps what is lowest so far with a strict <.
-use Prim.Native.Nat.{ℕ, zero, suc, _≤_, _<_}
+use Prim.Native.Nat.{ℕ, zero, suc, _-_, _≤_, _<_}
 use native.Mathlib.Omega.{arith}
 use native.Mathlib.Decide.{decLe, decLt}
 use native.Mathlib.Nat.{le-refl}
@@ -38,6 +38,16 @@ scan-lower f a d k h l = rw (le-leb a d h, lt-ltb (f (suc d)) (f k) l)
 pub scan-stay : (f : ℕ → ℕ) (a d k : ℕ) → a ≤ d → f k ≤ f (suc d) → scan f a (suc d) k ≡ scan f a d k
 unfolding scan
 scan-stay f a d k h l = rw (le-leb a d h, le-ltb (f (suc d)) (f k) l)
+
+-- One choice more, as a loop that goes down to a + 1 takes it.
+pub lowest-one-more : (f : ℕ → ℕ) (a c x : ℕ) → a < c → lowest f a c x ≡ lowest f a (c - 1) (lower x (f c))
+lowest-one-more f a zero x h = absurd (omega arith)
+lowest-one-more f a (suc d) x h = let e : suc d - 1 ≡ d = omega arith in rw e (lowest-turn f a d x (omega arith))
+
+pub scan-one-more : (f : ℕ → ℕ) (a c k : ℕ) → a < c → scan f a c k ≡ scan f a (c - 1) (cond (ltb (f c) (f k)) c k)
+unfolding scan
+scan-one-more f a zero k h = absurd (omega arith)
+scan-one-more f a (suc d) k h = let e : suc d - 1 ≡ d = omega arith in rw (e, le-leb a d (omega arith))
 
 -- Among the choices 0, c, c - 1, …, a + 1, the choice k has the lowest value, and it is the first that has it.
 pub record First (f : ℕ → ℕ) (a c k : ℕ) : Type 0 where

@@ -1,5 +1,4 @@
--- Laws that this crate's proofs share; Halves, Joined and Determined also for the crates above.
-pub mod Halves
+-- Laws that this crate's proofs share; Joined and Determined also for the crates above.
 pub mod Filling
 pub mod Joined
 pub mod Named

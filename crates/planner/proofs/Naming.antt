@@ -22,7 +22,7 @@ use Rattle.tables.specs.declared.Listed.{Listed}
 use Rattle.tables.specs.Listing.{ListRows, listRows, Lists, IsListed, NotListed, listingVerdict, shortListRows, roomSize}
 use Rattle.planner.specs.Plan.{roomFor}
 use Rattle.planner.specs.Private.{Holds, nameIn, stopsVerdict, ListsNamed}
-use Rattle.planner.proofs.Halves.{front, behind, holds-front, entry-in}
+use Rattle.joins.proofs.Halves.{front, behind, holds-front, entry-in}
 use Rattle.planner.proofs.Joined.{few-stops}
 use Rattle.planner.proofs.Named.{least-named}
 

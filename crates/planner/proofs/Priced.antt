@@ -4,26 +4,20 @@ use mathlib.Core.Path.{_≡_, ap}
 use mathlib.Core.Bool.{false}
 use mathlib.Core.List.{List, _++_, map}
 use lib.ListN.{length, take, drop}
-use borrow.Author.Tests.{le-ltb}
 use Rattle.refusals.specs.Refusals.{isRefusal}
 use Rattle.refusals.proofs.Verdicts.{refuses}
 use Rattle.runs.specs.Run.{Run, stopsOf}
 use Rattle.runs.specs.Judging.{judgeOf}
-use Rattle.runs.specs.Lists.{listOf, WellFormed}
+use Rattle.runs.specs.Lists.{listOf}
 use Rattle.walk.specs.declared.Answer.{Answer}
-use Rattle.walk.specs.Price.{ReadRows, readRows, priceVerdict, priceAnswer, priceRows}
+use Rattle.walk.specs.Price.{readRows, priceVerdict, priceAnswer, priceRows}
 use Rattle.tables.specs.declared.Listed.{Listed}
 use Rattle.tables.specs.Listing.{listRows}
 use Rattle.planner.specs.Plan.{Rows, rowsOf, readsIn, Planned}
 use Rattle.planner.specs.Private.{IsNamed}
-use Rattle.planner.proofs.Halves.{list-accepted, list-of-halves, halves-even, front, holds-front}
+use Rattle.joins.proofs.Halves.{list-of-halves, halves-even, front, holds-front}
+use Rattle.least.proofs.Priced.{price-accepted}
 use Rattle.planner.proofs.Refusals.{engineRows}
-
-price-accepted : (r : Run) (froms tos : List ℕ) (rows : ReadRows) → isRefusal (judgeOf r .refusal) ≡ false → length froms ≡ length tos → WellFormed (stopsOf r) (listOf froms tos)
-    → length (r .numbers) ≤ length (rows .times) → length (r .numbers) ≤ length (rows .legs) → refuses (priceVerdict r froms tos rows) ≡ false
-unfolding priceVerdict
-price-accepted r froms tos rows a e w l k =
-    rw (a, list-accepted (stopsOf r) froms tos e w, le-ltb (length (rows .times)) (length (r .numbers)) l, le-ltb (length (rows .legs)) (length (r .numbers)) k)
 
 module _ (r : Run) (rows : Rows) (accepts : isRefusal (judgeOf r .refusal) ≡ false) (long : length (r .numbers) ≤ length (rows .times))
     (long-legs : length (r .numbers) ≤ length (rows .legs)) (l : Listed) (froms′ tos′ room′ : List ℕ) (listed : IsNamed r (engineRows rows) l (listRows froms′ tos′ room′)) where

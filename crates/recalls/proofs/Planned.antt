@@ -19,7 +19,7 @@ use Rattle.runs.proofs.Stops.{stops-few}
 use Rattle.walk.specs.declared.Answer.{Answer}
 use Rattle.walk.specs.Price.{refusalAnswer, pricedAnswer}
 use Rattle.planner.specs.Plan.{Rows, rowsOf, Plans, Planned, planVerdict}
-use Rattle.planner.proofs.Halves.{list-accepted, list-of-halves, halves-even, front, holds-front}
+use Rattle.joins.proofs.Halves.{list-accepted, list-of-halves, halves-even, front, holds-front}
 use Rattle.texts.specs.Text.{isName}
 use Rattle.writers.specs.declared.Written.{Written}
 use Rattle.writers.specs.Writing.{Handed, rowVerdict, writtenAnswer, writtenRow}
@@ -30,7 +30,7 @@ use Rattle.recalls.specs.Recall.{roomWords, runChecks, Answers, Recalled
 
 -- A text that is handed out is in the row, where it has the room.
 module _ (text row : List ℕ) (w : Written) (row′ : List ℕ) (h : Handed (rowVerdict text row) text row w row′) where
-  handed-bytes : w .bytes ≡ bytesPut text row
+  pub handed-bytes : w .bytes ≡ bytesPut text row
   unfolding bytesPut rowVerdict writtenAnswer
   handed-bytes = ap (λ x. x .bytes) (h .answer) ∙ go (ltb (length row) (length text)) refl
     where
@@ -38,7 +38,7 @@ module _ (text row : List ℕ) (w : Written) (row′ : List ℕ) (h : Handed (ro
       go true e = rw e
       go false e = rw e
 
-  handed-row : row′ ≡ rowPut text row
+  pub handed-row : row′ ≡ rowPut text row
   unfolding rowPut rowVerdict writtenRow
   handed-row = h .left ∙ go (ltb (length row) (length text)) refl
     where
@@ -87,18 +87,22 @@ module _ (run : Run) (rows : Rows) (lent : Lent rows) where
     verdict-says : isRefusal (planVerdict run rows .refusal) ≡ f
     verdict-says = sym (says-verdict (isRefusal (planVerdict run rows .refusal)) refl)
 
+    pub run-refusal : f ≡ true → (w : Verdict) → w ≡ record { refusal = a .refusal; place = a .place } → (w ≡ firstOf (runChecks run)) × (refuses w ≡ true)
+    run-refusal e w w-is =
+        let says = plans .refused (verdict-says ∙ e) .says in
+        (w-is ∙ ap (λ x. record { refusal = x .refusal; place = x .place }) says ∙ run-verdict, ap refuses w-is ∙ sym f-is ∙ e)
+
     pub run-refused : f ≡ true → (name row : List ℕ) (w : Verdict) → w ≡ record { refusal = a .refusal; place = a .place } → (out : Written) (row′ : List ℕ)
         → Handed (rowVerdict (refusalText w) row) (refusalText w) row out row′ → RunRecalled name run row (out .bytes) row′
     run-refused e name row w w-is out row′ h =
-        let says = plans .refused (verdict-says ∙ e) .says in
-        let is : w ≡ firstOf (runChecks run) = w-is ∙ ap (λ x. record { refusal = x .refusal; place = x .place }) says ∙ run-verdict in
-        refused-out (firstOf (runChecks run)) w is (ap refuses w-is ∙ sym f-is ∙ e) name run row out row′ h
+        let is = run-refusal e w w-is in
+        refused-out (firstOf (runChecks run)) w (is .0) (is .1) name run row out row′ h
 
     module _ (passed : f ≡ false) where
-      planned : Planned run rows a after
+      pub planned : Planned run rows a after
       planned = plans .planned (verdict-says ∙ passed)
 
-      accepts : refuses (firstOf (runChecks run)) ≡ false
+      pub accepts : refuses (firstOf (runChecks run)) ≡ false
       accepts = ap refuses (sym run-verdict) ∙ verdict-says ∙ passed
 
       n-is : a .detours ≡ length (planned .list)
@@ -118,18 +122,18 @@ module _ (run : Run) (rows : Rows) (lent : Lent rows) where
       pub in-tos : a .detours ≤ length (after .tos)
       in-tos = holds-front (λ d. d .to) (planned .list) (a .detours) (rows .tos) (after .tos) n-is tos-are
 
-      listed-froms : take (a .detours) (after .froms) ≡ map (λ d. d .from) (planned .list)
+      pub listed-froms : take (a .detours) (after .froms) ≡ map (λ d. d .from) (planned .list)
       listed-froms = front (λ d. d .from) (planned .list) (a .detours) (rows .froms) (after .froms) n-is froms-are
 
-      listed-tos : take (a .detours) (after .tos) ≡ map (λ d. d .to) (planned .list)
+      pub listed-tos : take (a .detours) (after .tos) ≡ map (λ d. d .to) (planned .list)
       listed-tos = front (λ d. d .to) (planned .list) (a .detours) (rows .tos) (after .tos) n-is tos-are
 
-      list-passes : refuses (listVerdict (stopsOf run) (map (λ d. d .from) (planned .list)) (map (λ d. d .to) (planned .list))) ≡ false
+      pub list-passes : refuses (listVerdict (stopsOf run) (map (λ d. d .from) (planned .list)) (map (λ d. d .to) (planned .list))) ≡ false
       list-passes =
           list-accepted (stopsOf run) (map (λ d. d .from) (planned .list)) (map (λ d. d .to) (planned .list)) (halves-even (λ d. d .from) (λ d. d .to) (planned .list))
           (rw (list-of-halves (planned .list)) (planned .least .formed))
 
-      run-passes : refuses (judgeOf run) ≡ false
+      pub run-passes : refuses (judgeOf run) ≡ false
       run-passes = all-accept (runChecks run) accepts .0
 
       -- Of the writer's checks only that of the row is left.

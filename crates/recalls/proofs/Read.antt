@@ -22,7 +22,7 @@ use Rattle.sheets.proofs.Answers.{in-turn}
 use Rattle.writers.specs.declared.Written.{Written}
 use Rattle.writers.specs.Writing.{Handed, rowVerdict}
 use Rattle.writers.specs.RefusalLines.{refusalText}
-use Rattle.recalls.specs.Recall.{runChecks, recallVerdict, Recalled, RunRecalled, SheetRecalled}
+use Rattle.recalls.specs.Recall.{verdictBy, Recalled, RunRecalledBy, SheetRecalledBy}
 use Rattle.recalls.proofs.Planned.{refused-out}
 
 -- The program's rows.
@@ -41,7 +41,8 @@ module _ (values row row′ : List ℕ) (n : ℕ) (n-is : n ≡ length values) (
   pub filled-front : take n row′ ≡ values
   filled-front = rw (n-is, is) (take-append-seam values (drop (length values) row))
 
-module _ (sheet : List ℕ) (rows : RunRows) (wide : Wide rows) where
+-- Whatever an engine checks of a run.
+module _ (checks : Run → List Verdict) (sheet : List ℕ) (rows : RunRows) (wide : Wide rows) where
   -- What 12, 11 and 19 say; and no row is too short.
   abbrev early : Verdict
   early = firstOf (sheetVerdict sheet ∷ ruleVerdict sheet ∷ [])
@@ -71,24 +72,28 @@ module _ (sheet : List ℕ) (rows : RunRows) (wide : Wide rows) where
         go true e = rw (e, e)
         go false e = rw e
 
-    pub sheet-refused : f ≡ true → (row : List ℕ) (w : Verdict) → w ≡ record { refusal = r .refusal; place = r .place } → (out : Written) (row′ : List ℕ)
-        → Handed (rowVerdict (refusalText w) row) (refusalText w) row out row′ → SheetRecalled sheet row (out .bytes) row′
-    unfolding readAnswer recallVerdict
-    sheet-refused e row w w-is out row′ h =
+    pub sheet-refusal : f ≡ true → (w : Verdict) → w ≡ record { refusal = r .refusal; place = r .place } → (w ≡ verdictBy checks sheet) × (refuses w ≡ true)
+    unfolding readAnswer verdictBy
+    sheet-refusal e w w-is =
         let refuses-so : refuses early ≡ true = verdict-says ∙ e in
         let read-so : r ≡ refusedReading early = rw refuses-so at answer-is in
         let is : w ≡ early = w-is ∙ ap (λ x. record { refusal = x .refusal; place = x .place }) read-so in
-        refused-out (recallVerdict sheet) w (is ∙ first-refuses early (runChecks (sheetRun sheet)) refuses-so ∙ in-turn (sheetVerdict sheet) (ruleVerdict sheet) (runChecks (sheetRun sheet))) (ap refuses is ∙ refuses-so)
-        (sheetName sheet) (sheetRun sheet) row out row′ h
+        (is ∙ first-refuses early (checks (sheetRun sheet)) refuses-so ∙ in-turn (sheetVerdict sheet) (ruleVerdict sheet) (checks (sheetRun sheet)), ap refuses is ∙ refuses-so)
+
+    pub sheet-refused : f ≡ true → (row : List ℕ) (w : Verdict) → w ≡ record { refusal = r .refusal; place = r .place } → (out : Written) (row′ : List ℕ)
+        → Handed (rowVerdict (refusalText w) row) (refusalText w) row out row′ → SheetRecalledBy checks sheet row (out .bytes) row′
+    sheet-refused e row w w-is out row′ h =
+        let is = sheet-refusal e w w-is in
+        refused-out (verdictBy checks sheet) w (is .0) (is .1) (sheetName sheet) (sheetRun sheet) row out row′ h
 
     module _ (passed : f ≡ false) where
-      good-early : refuses early ≡ false
+      pub good-early : refuses early ≡ false
       good-early = verdict-says ∙ passed
 
-      good-sheet : refuses (sheetVerdict sheet) ≡ false
+      pub good-sheet : refuses (sheetVerdict sheet) ≡ false
       good-sheet = all-accept (sheetVerdict sheet ∷ ruleVerdict sheet ∷ []) good-early .0
 
-      numbers-are : r ≡ record { refusal = Accepted; place = 0; head = sheetHead sheet; turn = sheetTurn sheet; files = sheetFiles sheet; wants = sheetWants sheet }
+      pub numbers-are : r ≡ record { refusal = Accepted; place = 0; head = sheetHead sheet; turn = sheetTurn sheet; files = sheetFiles sheet; wants = sheetWants sheet }
       unfolding readAnswer
       numbers-are = rw good-early at answer-is
 
@@ -143,11 +148,11 @@ module _ (sheet : List ℕ) (rows : RunRows) (wide : Wide rows) where
       unfolding sheetRun
       in-counts = filled-long (sheetRun sheet .counts) (rows .counts) (rows′ .counts) (r .wants) counts-long (row-is _ _ _ (read .counts))
 
-      run-read : Run
+      abbrev pub run-read : Run
       run-read = runOf (take (r .files) (rows′ .starts)) (take (r .files) (rows′ .lengths)) (take (r .files) (rows′ .aggregates)) (take (r .wants) (rows′ .numbers)) (take (r .wants) (rows′ .counts)) (r .head) (r .turn)
 
-      run-is : run-read ≡ sheetRun sheet
-      unfolding run-read sheetRun
+      pub run-is : run-read ≡ sheetRun sheet
+      unfolding sheetRun
       run-is =
           rw (filled-front (sheetRun sheet .starts) (rows .starts) (rows′ .starts) (r .files) starts-long (row-is _ _ _ (read .starts)), filled-front (sheetRun sheet .lengths) (rows .lengths) (rows′ .lengths) (r .files) lengths-long (row-is _ _ _ (read .lengths)), filled-front (sheetRun sheet .aggregates) (rows .aggregates) (rows′ .aggregates) (r .files) aggregates-long (row-is _ _ _ (read .aggregates)), filled-front (sheetRun sheet .numbers) (rows .numbers) (rows′ .numbers) (r .wants) numbers-long (row-is _ _ _ (read .numbers)), filled-front (sheetRun sheet .counts) (rows .counts) (rows′ .counts) (r .wants) counts-long (row-is _ _ _ (read .counts)), ap (λ x. x .head) numbers-are, ap (λ x. x .turn) numbers-are)
           whole-run
@@ -155,21 +160,23 @@ module _ (sheet : List ℕ) (rows : RunRows) (wide : Wide rows) where
           whole-run : runOf (sheetRun sheet .starts) (sheetRun sheet .lengths) (sheetRun sheet .aggregates) (sheetRun sheet .numbers) (sheetRun sheet .counts) (sheetHead sheet) (sheetTurn sheet) ≡ sheetRun sheet
           whole-run = refl
 
-      name-is : readName sheet ≡ sheetName sheet
+      pub name-is : readName sheet ≡ sheetName sheet
       unfolding readName
       name-is = rw good-sheet
 
       pub named : (name : List ℕ) → name ≡ readName sheet → isName name ≡ true
       named name e = rw (e, name-is) (good-name sheet good-sheet)
 
+      -- What is left to check is the run that was read.
+      pub run-decides : firstOf (checks (sheetRun sheet)) ≡ verdictBy checks sheet
+      unfolding verdictBy
+      run-decides = sym (first-passes early (checks (sheetRun sheet)) good-early) ∙ in-turn (sheetVerdict sheet) (ruleVerdict sheet) (checks (sheetRun sheet))
+
       -- The answer to the run that was read is the answer to the sheet.
       pub sheet-recalled : (name : List ℕ) → name ≡ readName sheet → (row : List ℕ) (n : ℕ) (row′ : List ℕ)
-          → RunRecalled name (runOf (take (r .files) (rows′ .starts)) (take (r .files) (rows′ .lengths)) (take (r .files) (rows′ .aggregates)) (take (r .wants) (rows′ .numbers)) (take (r .wants) (rows′ .counts)) (r .head) (r .turn)) row n row′
-          → SheetRecalled sheet row n row′
-      unfolding recallVerdict run-read
+          → RunRecalledBy checks name (runOf (take (r .files) (rows′ .starts)) (take (r .files) (rows′ .lengths)) (take (r .files) (rows′ .aggregates)) (take (r .wants) (rows′ .numbers)) (take (r .wants) (rows′ .counts)) (r .head) (r .turn)) row n row′
+          → SheetRecalledBy checks sheet row n row′
       sheet-recalled name e row n row′ h =
-          let by-run : RunRecalled name (sheetRun sheet) row n row′ = subst (λ x. RunRecalled name x row n row′) run-is h in
-          let by-name : RunRecalled (sheetName sheet) (sheetRun sheet) row n row′ = subst (λ x. RunRecalled x (sheetRun sheet) row n row′) (e ∙ name-is) by-run in
-          subst (λ x. Recalled x (sheetName sheet) (sheetRun sheet) row n row′)
-          (sym (first-passes early (runChecks (sheetRun sheet)) good-early) ∙ in-turn (sheetVerdict sheet) (ruleVerdict sheet) (runChecks (sheetRun sheet)))
-          by-name
+          let by-run : RunRecalledBy checks name (sheetRun sheet) row n row′ = subst (λ x. RunRecalledBy checks name x row n row′) run-is h in
+          let by-name : RunRecalledBy checks (sheetName sheet) (sheetRun sheet) row n row′ = subst (λ x. RunRecalledBy checks x (sheetRun sheet) row n row′) (e ∙ name-is) by-run in
+          subst (λ x. Recalled x (sheetName sheet) (sheetRun sheet) row n row′) run-decides by-name

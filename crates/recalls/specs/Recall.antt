@@ -27,9 +27,13 @@ roomWords = 5120
 abbrev pub runChecks : Run → List Verdict
 runChecks run = judgeOf run ∷ refuseIf (ltb roomWords (roomFor run)) ShortRoom ∷ []
 
--- 12, then 11 with its line, then 19 with the fourth, then 1 to 7, then 9. The rows suffice for every sheet that can be read, so 8 never applies.
-unfoldable pub recallVerdict : List ℕ → Verdict
-recallVerdict sheet = firstOf (sheetVerdict sheet ∷ ruleVerdict sheet ∷ runChecks (sheetRun sheet))
+-- 12, then 11 with its line, then 19 with the fourth, then what an engine checks of a run.
+unfoldable pub verdictBy : (Run → List Verdict) → List ℕ → Verdict
+verdictBy checks sheet = firstOf (sheetVerdict sheet ∷ ruleVerdict sheet ∷ checks (sheetRun sheet))
+
+-- 1 to 7, then 9, behind these. The rows suffice for every sheet that can be read, so 8 never applies.
+abbrev pub recallVerdict : List ℕ → Verdict
+recallVerdict sheet = verdictBy runChecks sheet
 
 -- The plan sheet of the least list. There is one such list.
 pub record PlanOf (name : List ℕ) (run : Run) (text : List ℕ) : Type 0 where
@@ -56,10 +60,16 @@ pub record Recalled (v : Verdict) (name : List ℕ) (run : Run) (row : List ℕ)
   pub bytes : n ≡ bytesPut text row
   pub left : row′ ≡ rowPut text row
 
--- The answer to a run and a tape name.
-abbrev pub RunRecalled : List ℕ → Run → List ℕ → ℕ → List ℕ → Type 0
-RunRecalled name run row n row′ = Recalled (firstOf (runChecks run)) name run row n row′
+-- The answer to a run and a tape name, and to a sheet, under an engine's checks.
+abbrev pub RunRecalledBy : (Run → List Verdict) → List ℕ → Run → List ℕ → ℕ → List ℕ → Type 0
+RunRecalledBy checks name run row n row′ = Recalled (firstOf (checks run)) name run row n row′
 
--- The answer to a sheet.
+abbrev pub SheetRecalledBy : (Run → List Verdict) → List ℕ → List ℕ → ℕ → List ℕ → Type 0
+SheetRecalledBy checks sheet row n row′ = Recalled (verdictBy checks sheet) (sheetName sheet) (sheetRun sheet) row n row′
+
+-- Under the planner's.
+abbrev pub RunRecalled : List ℕ → Run → List ℕ → ℕ → List ℕ → Type 0
+RunRecalled name run row n row′ = RunRecalledBy runChecks name run row n row′
+
 abbrev pub SheetRecalled : List ℕ → List ℕ → ℕ → List ℕ → Type 0
-SheetRecalled sheet row n row′ = Recalled (recallVerdict sheet) (sheetName sheet) (sheetRun sheet) row n row′
+SheetRecalled sheet row n row′ = SheetRecalledBy runChecks sheet row n row′

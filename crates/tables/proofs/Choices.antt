@@ -1,14 +1,8 @@
--- The recurrence at stop b + 1, in the terms of the code: what a choice comes to, how the loop over the choices goes on and ends, and the bounds for words.
+-- The recurrence at stop b + 1, in the terms of the code: what a choice comes to.
 use Prim.Native.Nat.{ℕ, zero, suc, _+_, _-_, _<_}
 use mathlib.Core.Path.{_≡_, refl}
 use native.Mathlib.Omega.{arith}
-use Rattle.least.specs.Recurrence.{early, wait, lower, lowest, Table, candidate}
-use Rattle.least.proofs.Scan.{lowest-turn}
-
--- One choice more of a loop that goes down to a + 1.
-pub lowest-one-more : (f : ℕ → ℕ) (a c x : ℕ) → a < c → lowest f a c x ≡ lowest f a (c - 1) (lower x (f c))
-lowest-one-more f a zero x h = absurd (omega arith)
-lowest-one-more f a (suc d) x h = let e : suc d - 1 ≡ d = omega arith in rw e (lowest-turn f a d x (omega arith))
+use Rattle.least.specs.Recurrence.{early, wait, Table, candidate}
 
 module _ (L R C : ℕ → ℕ) (U : ℕ) where
   pub candidate-skip : (E : Table) (a b s : ℕ) → candidate L R C U E a b s 0 ≡ early L C a (suc b) + E a b (s + C (suc b))

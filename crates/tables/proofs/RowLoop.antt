@@ -7,7 +7,7 @@ use native.Mathlib.Numerals.{add-one}
 use native.Mathlib.Nat.{le-refl}
 use lib.ListN.{length, getD}
 use Rattle.runs.specs.Run.{Stop, plainStops}
-use Rattle.least.proofs.Scan.{lowest-end}
+use Rattle.least.proofs.Scan.{lowest-one-more, lowest-end}
 use Rattle.least.proofs.Value.{value-step}
 use Rattle.least.specs.Recurrence.{lower, lowest, leftAt, rightAt, countAt}
 use Rattle.tables.specs.Private.{Kept, Written, SkipFits, RowTask, DetourFrom, rowAt, readsIn, startAt, worth, choiceWorth}
@@ -15,7 +15,7 @@ use Rattle.tables.proofs.Sizes.{reads-more}
 use Rattle.tables.proofs.Words.{kept-none, kept-more, kept-on}
 use Rattle.tables.proofs.Facts.{cheap-turn}
 use Rattle.tables.proofs.Cells.{holds-kept}
-use Rattle.tables.proofs.Choices.{lowest-one-more, candidate-skip}
+use Rattle.tables.proofs.Choices.{candidate-skip}
 use Rattle.tables.proofs.Steps.{inner-word, count-span, room-for, earlier-apart, skipped, early-is, choice-small}
 
 module _ (starts lengths numbers counts : List ℕ) (turn reads : ℕ) (a b n : ℕ) where

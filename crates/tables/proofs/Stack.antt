@@ -4,24 +4,14 @@ use mathlib.Core.Path.{_≡_, refl, sym, _∙_}
 use mathlib.Core.List.{List, [], _∷_, _++_}
 use native.Mathlib.Omega.{arith}
 use native.Mathlib.Numerals.{add-one}
-use lib.ListN.{length, getD, set, take, length-append}
+use lib.ListN.{length, getD, set, take}
 use lib.Seq.{getD-set-other, take-suc-set, length-take-le}
 use Rattle.runs.specs.Run.{Stop}
 use Rattle.runs.specs.Lists.{Detour, listOf}
-use Rattle.least.proofs.Plan.{Over}
+use Rattle.least.proofs.Plan.{listed-few}
 use Rattle.least.proofs.Best.{best-none, best-skip, best-detour, best-over}
-use Rattle.least.specs.Recurrence.{Plan, empty, skip, detour, planDetours, best, fileAt, leftAt, rightAt, countAt}
+use Rattle.least.specs.Recurrence.{planDetours, best, fileAt, leftAt, rightAt, countAt}
 use Rattle.tables.specs.Private.{readsIn, chosen, listAt}
-
--- A plan over (a, b] lists at most b - a detours.
-listed-few : (F : ℕ → ℕ) (p : Plan) (a b : ℕ) → Over p a b → length (planDetours F p b) ≤ b - a
-unfolding planDetours
-listed-few F empty a b o = omega arith
-listed-few F (skip p) a zero o = absurd o
-listed-few F (skip p) a (suc b) o = omega (arith, listed-few F p a b (o .1))
-listed-few F (detour d inner rest) a zero o = absurd o
-listed-few F (detour d inner rest) a (suc b) o =
-    omega (arith, length-append (planDetours F inner b) (record { from = F (suc d); to = F (suc b) } ∷ planDetours F rest d), listed-few F inner (suc d) b (o .2), listed-few F rest a d (o .3), o .0, o .1)
 
 -- One entry more at the end of two rows.
 list-more : (xs ys : List ℕ) (x y : ℕ) → length xs ≡ length ys → listOf (xs ++ (x ∷ [])) (ys ++ (y ∷ [])) ≡ listOf xs ys ++ (record { from = x; to = y } ∷ [])

@@ -2,6 +2,7 @@
 pub mod Pages
 pub mod Sheets
 pub mod Plans
+pub mod Figures
 pub mod Refusals
 pub mod Reread
 pub mod RoundTrip

@@ -4,6 +4,7 @@ use mathlib.Core.Path.{_≡_}
 use mathlib.Core.Bool.{cond}
 use mathlib.Core.List.{List, _++_}
 use lib.ListN.{length, take}
+use lib.IntN.{ℤ}
 use Rattle.refusals.specs.declared.Refusal.the-variants.{Accepted}
 use Rattle.refusals.specs.declared.Verdict.{Verdict}
 use Rattle.refusals.specs.Refusals.{isRefusal}
@@ -46,6 +47,18 @@ pub record PlanFits (page name froms tos numbers times legs : List ℕ) : Type 0
   pub wants : length numbers ≤ mostWants
   pub timed : length numbers ≡ length times
   pub numbered : length numbers ≡ length legs
+
+-- No figure sheet is longer than this: 76 bytes for the first lines and 69 for each of 64 detours.
+abbrev pub figureMost : ℕ
+figureMost = 4492
+
+-- What fits on its page: a name, a list and its figures within the run's limits.
+pub record FigureFits (page name froms tos : List ℕ) (figures : List ℤ) : Type 0 where
+  pub room : figureMost ≤ length page
+  pub short : length name ≤ 16
+  pub few : length froms ≤ mostWants
+  pub even : length froms ≡ length tos
+  pub figured : length froms ≡ length figures
 
 -- The answer to a verdict.
 abbrev pub writtenOf : Verdict → ℕ → Written

@@ -16,7 +16,7 @@ use refusals::refuse_if;
 use refusals::refused;
 use texts::is_name;
 
-fn put(page: &mut [u8], at: usize, text: &[u8]) -> usize
+pub(crate) fn put(page: &mut [u8], at: usize, text: &[u8]) -> usize
     requires { ⌜ at + length (now text) ≤ length (now page) ⌝ }
     ensures { λ r. ⌜ Wrote (now (page .entry)) at (now (text .entry)) (length (now (text .entry))) (now (page .exit)) r ⌝ }
     ensures { λ r. ⌜ drop r (now (page .exit)) ≡ drop r (now (page .entry)) ⌝ }
@@ -56,7 +56,7 @@ pub(crate) fn put_number_line(page: &mut [u8], at: usize, key: &[u8], number: u6
     put(page, end, b"\n")
 }
 
-fn put_pair(page: &mut [u8], at: usize, first: u64, second: u64) -> usize
+pub(crate) fn put_pair(page: &mut [u8], at: usize, first: u64, second: u64) -> usize
     requires { ⌜ at + 41 ≤ length (now page) ⌝ }
     ensures { λ r. ⌜ Wrote (now (page .entry)) at (pairText first second) 41 (now (page .exit)) r ⌝ }
 {

@@ -15,13 +15,15 @@
  * that are only read among them, is compared with what it must be.
  *
  * make -C tests/c compare    (Makefile there says against what)
- * target/tests/compare [--calls N] [--seed S] [--from N] [--apart]     exit status: 0 all agree, 1 a difference, 2 bad usage
+ * target/tests/compare [--calls N] [--seed S] [--from N] [--apart] [--sheets FILE]
+ *                                                 exit status: 0 all agree, 1 a difference, 2 bad usage
  *
+ * --sheets writes down plans of at most 8 wants, as run sheets with the plan sheets that must come of them.
  * --apart lends each row in a block of its own from malloc, so that valgrind sees every word read outside a row:
  * valgrind --error-exitcode=9 target/tests/compare --apart --calls 20000
  *
  * random.c draws numbers, draw_runs.c, draw_lists.c and draw_calls.c the calls; call.c lends the rows and calls; lists.c,
- * walk.c, judge.c and answer.c work out the answer, joined.c the call on stops alone; differ.c says where it is another; met.c counts what was met;
+ * walk.c, judge.c and answer.c work out the answer, joined.c the call on stops alone; sheets.c writes plans down; differ.c says where it is another; met.c counts what was met;
  * worked.c has the cases that are worked by hand. */
 #define _POSIX_C_SOURCE 199309L
 #include <inttypes.h>
@@ -50,8 +52,10 @@ uint64_t check_call(void)
         write_answer();
     answered = must_be == 0;
     compare_every_word();
-    if (answered)
+    if (answered) {
         compare_with_joined();
+        note_sheet();
+    }
     note_call(must_be);
     return must_be;
 }
@@ -108,11 +112,15 @@ static void read_arguments(char **words, uint64_t *calls, uint64_t *from)
             apart = true;
             continue;
         }
+        if (strcmp(*words, "--sheets") == 0) {
+            open_sheets(*++words);
+            continue;
+        }
         uint64_t *number = strcmp(*words, "--calls") == 0 ? calls
                          : strcmp(*words, "--seed") == 0 ? &seed
                          : strcmp(*words, "--from") == 0 ? from : NULL;
         if (number == NULL) {
-            fprintf(stderr, "usage: compare [--calls N] [--seed S] [--from N] [--apart]\n");
+            fprintf(stderr, "usage: compare [--calls N] [--seed S] [--from N] [--apart] [--sheets FILE]\n");
             exit(2);
         }
         *number = number_argument(words[0], words[1]);
@@ -135,6 +143,7 @@ int main(int argc, char **argv)
     check_random_calls(from, calls);
     if (calls >= COVERING_CALLS)
         require_all_met();
+    close_sheets();
     print_summary(calls, seconds() - began);
     return 0;
 }

@@ -33,6 +33,12 @@ extern uint64_t compared_joined;
 
 void compare_with_joined(void);
 
+/* ---- sheets.c ---- */
+
+void open_sheets(const char *path);
+void note_sheet(void);                      /* the call at hand is accepted, and `due` holds its answer */
+void close_sheets(void);
+
 /* ---- met.c ---- */
 
 extern uint64_t results[2][256];            /* by function and number */

@@ -8,6 +8,7 @@ use crate::judge::{judge, read_with};
 use crate::limits::*;
 use crate::lists::{all_lists, Detour};
 use crate::rows::{by_position, compare_rows, difference, written, Difference, Written};
+use crate::sheets::Sheets;
 use crate::walk::{search, Run};
 use crate::windows::plan_by_windows;
 use std::collections::BTreeMap;
@@ -127,6 +128,7 @@ pub struct Checker {
     pub searched: u64,
     pub by_windows: u64,
     pub also_joined: u64,
+    pub sheets: Sheets,
 }
 
 impl Checker {
@@ -135,7 +137,8 @@ impl Checker {
         let numbers: Vec<usize> = lists.iter().map(Vec::len).collect();
         assert_eq!(numbers, [1, 1, 2, 5, 14, 42, 132, 429, 1430, 4862, 16796], "the numbers of well-formed lists");
         let met = vec![0; TO_MEET.len()];
-        Checker { lists, met, results: BTreeMap::new(), broken: BTreeMap::new(), searched: 0, by_windows: 0, also_joined: 0 }
+        let sheets = Sheets::default();
+        Checker { lists, met, results: BTreeMap::new(), broken: BTreeMap::new(), searched: 0, by_windows: 0, also_joined: 0, sheets }
     }
 
     fn least(&mut self, run: &Run) -> Vec<Detour> {
@@ -174,6 +177,9 @@ impl Checker {
             return Err(difference("the result, its number and its place".to_string(), account(must_be), account(is)));
         }
         compare_rows(call, &rows, &written)?;
+        if must_be == 0 {
+            self.sheets.note(call, &written);
+        }
         if must_be == 0 && call.rows[AGGREGATES].iter().any(|&number| number != 0) {
             compare_with_joined(call, &rows)?;
             self.also_joined += 1;

@@ -14,7 +14,9 @@
 //! must be: unchanged, but for the first entries of the rows for the answer of an accepted call.
 //!
 //! rustc -O --edition 2021 tests/rust/compare/compare.rs -L native=DIR -l static=boundary     (DIR holds libboundary.a)
-//! ./compare [--calls N] [--seed S] [--from N]     exit status: 0 all agree, 1 a difference, 2 bad usage
+//! ./compare [--calls N] [--seed S] [--from N] [--sheets FILE]     exit status: 0 all agree, 1 a difference, 2 bad usage
+//!
+//! --sheets writes down plans of at most 8 wants, as run sheets with the plan sheets that must come of them.
 
 mod call;
 mod check;
@@ -27,6 +29,7 @@ mod limits;
 mod lists;
 mod random;
 mod rows;
+mod sheets;
 mod walk;
 mod windows;
 mod worked;
@@ -86,28 +89,37 @@ fn summary(checker: &Checker, calls: u64, seed: u64, seconds: f64) -> String {
 }
 
 fn usage() -> ! {
-    eprintln!("usage: compare [--calls N] [--seed S] [--from N]");
+    eprintln!("usage: compare [--calls N] [--seed S] [--from N] [--sheets FILE]");
     exit(2)
 }
 
-/// Calls, seed and first call.
-fn arguments() -> (u64, u64, u64) {
+/// Calls, seed, first call, and the file for sheets.
+fn arguments() -> (u64, u64, u64, Option<String>) {
     let words: Vec<String> = std::env::args().skip(1).collect();
-    let (mut calls, mut seed, mut from) = (DEFAULT_CALLS, 1, 0);
+    let (mut calls, mut seed, mut from, mut sheets) = (DEFAULT_CALLS, 1, 0, None);
     for pair in words.chunks(2) {
-        let value = pair.get(1).and_then(|word| word.parse().ok()).unwrap_or_else(|| usage());
+        let word = pair.get(1).unwrap_or_else(|| usage());
+        let number = || word.parse().unwrap_or_else(|_| usage());
         match pair[0].as_str() {
-            "--calls" => calls = value,
-            "--seed" => seed = value,
-            "--from" => from = value,
+            "--calls" => calls = number(),
+            "--seed" => seed = number(),
+            "--from" => from = number(),
+            "--sheets" => sheets = Some(word.clone()),
             _ => usage(),
         }
     }
-    (calls, seed, from)
+    (calls, seed, from, sheets)
+}
+
+fn write_sheets(path: &str, text: &str) {
+    if let Err(reason) = std::fs::write(path, text) {
+        eprintln!("compare.rs: cannot write {}: {}", path, reason);
+        exit(1);
+    }
 }
 
 fn main() {
-    let (calls, seed, from) = arguments();
+    let (calls, seed, from, sheets) = arguments();
     let began = Instant::now();
     let mut checker = Checker::new();
     check_worked(&mut checker);
@@ -122,6 +134,9 @@ fn main() {
     }
     if calls >= COVERING_CALLS {
         require_all_met(&checker);
+    }
+    if let Some(path) = sheets {
+        write_sheets(&path, &checker.sheets.text);
     }
     println!("{}", summary(&checker, calls, seed, began.elapsed().as_secs_f64()));
 }

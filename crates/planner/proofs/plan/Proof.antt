@@ -7,13 +7,14 @@ use Prim.Native.Nat.{_≤_}
 use lib.ListN.{length, take}
 use lib.Seq.{length-take-le}
 use Rattle.refusals.proofs.Verdicts.{refuses}
-use Rattle.runs.specs.Run.{Run, runOf}
+use Rattle.runs.specs.Run.{Run, runOf, stopsOf}
 use Rattle.runs.specs.Judging.{judgeOf}
 use Rattle.joins.specs.Joining.{JoinRows, joinRows}
 use Rattle.tables.specs.Listing.{ListRows, listRows}
 use Rattle.planner.specs.Plan.{Rows, rowsOf}
 use Rattle.planner.specs.Private.{Holds, ListsNamed, IsNamed}
-use Rattle.planner.proofs.Joined.{LongRows, join-verdict, join-long, join-holds}
+use Rattle.joins.proofs.Held.{Front}
+use Rattle.planner.proofs.Joined.{join-verdict, join-front, join-holds}
 use Rattle.planner.proofs.Refusals.{engineRows, run-refused, run-accepted, times-refused, legs-refused, engine-refused, engine-listed, run-planned}
 use Rattle.planner.proofs.Priced.{in-froms, in-tos, planned-so}
 use borrow.Author.Needs.{needs}
@@ -95,32 +96,32 @@ first d = d .before .before
 abbrev after : tie.After-join → JoinRows
 after j = let l = j .join .last .1 .1 .1 .1 .1 .1 .1 in joinRows (l .0) (l .1 .0) (l .1 .1 .0) (l .1 .1 .1 .0)
 
-long : (d : tie.Else3) → LongRows (joined (first d) .join .result .stops) (after (joined (first d)))
-long d = let j = joined (first d) in join-long (run j) (j .join .result) (after j) (j .join .ensures .0) (j .join .ensures .1) (passed (first d))
+long : (d : tie.Else3) → Front (joined (first d) .join .result .stops) (after (joined (first d))) (stopsOf (run (joined (first d))))
+long d = let j = joined (first d) in join-front (run j) (j .join .result) (after j) (j .join .ensures .0) (j .join .ensures .1) (passed (first d))
 
 holds : (d : tie.Else3) → let j = joined (first d) in let k = j .join .result .stops in Holds (run j) (take k (after j .firsts)) (take k (after j .lefts)) (take k (after j .spans)) (take k (after j .reads)) (run j .head) (run j .turn)
 holds d = let j = joined (first d) in join-holds (run j) (j .join .result) (after j) (j .join .ensures .0) (j .join .ensures .1) (passed (first d))
 
 array-share-prefix-firsts : tie.Need-array-share-prefix-firsts
-array-share-prefix-firsts c = long c .firsts
+array-share-prefix-firsts c = long c .firsts .0
 
 slice-aggregate-list-named : tie.Need-slice-aggregate-list-named
 slice-aggregate-list-named c = sym (length-take-le _ _ (array-share-prefix-firsts (c .before)))
 
 array-share-prefix-lefts : tie.Need-array-share-prefix-lefts
-array-share-prefix-lefts c = long (c .before) .lefts
+array-share-prefix-lefts c = long (c .before) .lefts .0
 
 slice-aggregate-list-named-2 : tie.Need-slice-aggregate-list-named-2
 slice-aggregate-list-named-2 c = sym (length-take-le _ _ (array-share-prefix-lefts (c .before)))
 
 array-share-prefix-spans : tie.Need-array-share-prefix-spans
-array-share-prefix-spans c = long (c .before .before) .spans
+array-share-prefix-spans c = long (c .before .before) .spans .0
 
 slice-aggregate-list-named-3 : tie.Need-slice-aggregate-list-named-3
 slice-aggregate-list-named-3 c = sym (length-take-le _ _ (array-share-prefix-spans (c .before)))
 
 array-share-prefix-reads : tie.Need-array-share-prefix-reads
-array-share-prefix-reads c = long (c .before .before .before) .reads
+array-share-prefix-reads c = long (c .before .before .before) .reads .0
 
 slice-aggregate-list-named-4 : tie.Need-slice-aggregate-list-named-4
 slice-aggregate-list-named-4 c = sym (length-take-le _ _ (array-share-prefix-reads (c .before)))

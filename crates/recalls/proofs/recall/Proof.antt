@@ -3,6 +3,7 @@
 use mathlib.Core.Path.{refl, sym}
 use lib.Seq.{length-take-le}
 use Rattle.recalls.proofs.Read.{Wide, sheet-refused, in-starts, in-lengths, in-aggregates, in-numbers, in-counts, named, sheet-recalled}
+use Rattle.recalls.specs.Recall.{runChecks}
 use borrow.Author.Needs.{needs}
 use Rattle.recalls.proofs.recall.Statement.{statement}
 use Rattle.recalls.proofs.recall.Tie as tie
@@ -38,7 +39,7 @@ returns : tie.Need-returns
 returns c =
     let c5 = c .before .before .before .before .before in
     let c10 = c5 .before .before .before .before .before .before in
-    sheet-refused _ _ (record { starts = search needs; lengths = search needs; aggregates = search needs; numbers = search needs; counts = search needs }) (c10 .read-sheet .result) _ (c10 .read-sheet .ensures) _ (c5 .refused .ensures) (c .before .before .before .before .if1 .taken) _ _ refl _ _ (c .before .before .write-refusal .ensures)
+    sheet-refused runChecks _ _ (record { starts = search needs; lengths = search needs; aggregates = search needs; numbers = search needs; counts = search needs }) (c10 .read-sheet .result) _ (c10 .read-sheet .ensures) _ (c5 .refused .ensures) (c .before .before .before .before .if1 .taken) _ _ refl _ _ (c .before .before .write-refusal .ensures)
 
 tape-name-requires : tie.Need-tape-name-requires
 tape-name-requires c κs = search needs
@@ -47,7 +48,7 @@ array-share-prefix-starts : tie.Need-array-share-prefix-starts
 array-share-prefix-starts c =
     let c1 = c .before in
     let d = c1 .before .before .before .before .before .before .before in
-    in-starts _ _ (record { starts = search needs; lengths = search needs; aggregates = search needs; numbers = search needs; counts = search needs }) (d .read-sheet .result) _ (d .read-sheet .ensures) _ (c1 .before .refused .ensures) (c1 .if1 .left)
+    in-starts runChecks _ _ (record { starts = search needs; lengths = search needs; aggregates = search needs; numbers = search needs; counts = search needs }) (d .read-sheet .result) _ (d .read-sheet .ensures) _ (c1 .before .refused .ensures) (c1 .if1 .left)
 
 slice-aggregate-recall-run : tie.Need-slice-aggregate-recall-run
 slice-aggregate-recall-run c = sym (length-take-le _ _ (array-share-prefix-starts (c .before)))
@@ -56,7 +57,7 @@ array-share-prefix-lengths : tie.Need-array-share-prefix-lengths
 array-share-prefix-lengths c =
     let c2 = c .before .before in
     let d = c2 .before .before .before .before .before .before .before in
-    in-lengths _ _ (record { starts = search needs; lengths = search needs; aggregates = search needs; numbers = search needs; counts = search needs }) (d .read-sheet .result) _ (d .read-sheet .ensures) _ (c2 .before .refused .ensures) (c2 .if1 .left)
+    in-lengths runChecks _ _ (record { starts = search needs; lengths = search needs; aggregates = search needs; numbers = search needs; counts = search needs }) (d .read-sheet .result) _ (d .read-sheet .ensures) _ (c2 .before .refused .ensures) (c2 .if1 .left)
 
 slice-aggregate-recall-run-2 : tie.Need-slice-aggregate-recall-run-2
 slice-aggregate-recall-run-2 c = sym (length-take-le _ _ (array-share-prefix-lengths (c .before)))
@@ -65,7 +66,7 @@ array-share-prefix-aggregates : tie.Need-array-share-prefix-aggregates
 array-share-prefix-aggregates c =
     let c3 = c .before .before .before in
     let d = c3 .before .before .before .before .before .before .before in
-    in-aggregates _ _ (record { starts = search needs; lengths = search needs; aggregates = search needs; numbers = search needs; counts = search needs }) (d .read-sheet .result) _ (d .read-sheet .ensures) _ (c3 .before .refused .ensures) (c3 .if1 .left)
+    in-aggregates runChecks _ _ (record { starts = search needs; lengths = search needs; aggregates = search needs; numbers = search needs; counts = search needs }) (d .read-sheet .result) _ (d .read-sheet .ensures) _ (c3 .before .refused .ensures) (c3 .if1 .left)
 
 slice-aggregate-recall-run-3 : tie.Need-slice-aggregate-recall-run-3
 slice-aggregate-recall-run-3 c = sym (length-take-le _ _ (array-share-prefix-aggregates (c .before)))
@@ -74,7 +75,7 @@ array-share-prefix-numbers : tie.Need-array-share-prefix-numbers
 array-share-prefix-numbers c =
     let c4 = c .before .before .before .before in
     let d = c4 .before .before .before .before .before .before .before in
-    in-numbers _ _ (record { starts = search needs; lengths = search needs; aggregates = search needs; numbers = search needs; counts = search needs }) (d .read-sheet .result) _ (d .read-sheet .ensures) _ (c4 .before .refused .ensures) (c4 .if1 .left)
+    in-numbers runChecks _ _ (record { starts = search needs; lengths = search needs; aggregates = search needs; numbers = search needs; counts = search needs }) (d .read-sheet .result) _ (d .read-sheet .ensures) _ (c4 .before .refused .ensures) (c4 .if1 .left)
 
 slice-aggregate-recall-run-4 : tie.Need-slice-aggregate-recall-run-4
 slice-aggregate-recall-run-4 c = sym (length-take-le _ _ (array-share-prefix-numbers (c .before)))
@@ -83,7 +84,7 @@ array-share-prefix-counts : tie.Need-array-share-prefix-counts
 array-share-prefix-counts c =
     let c5 = c .before .before .before .before .before in
     let d = c5 .before .before .before .before .before .before .before in
-    in-counts _ _ (record { starts = search needs; lengths = search needs; aggregates = search needs; numbers = search needs; counts = search needs }) (d .read-sheet .result) _ (d .read-sheet .ensures) _ (c5 .before .refused .ensures) (c5 .if1 .left)
+    in-counts runChecks _ _ (record { starts = search needs; lengths = search needs; aggregates = search needs; numbers = search needs; counts = search needs }) (d .read-sheet .result) _ (d .read-sheet .ensures) _ (c5 .before .refused .ensures) (c5 .if1 .left)
 
 slice-aggregate-recall-run-5 : tie.Need-slice-aggregate-recall-run-5
 slice-aggregate-recall-run-5 c = sym (length-take-le _ _ (array-share-prefix-counts (c .before)))
@@ -92,7 +93,7 @@ recall-run-requires : tie.Need-recall-run-requires
 recall-run-requires c κs =
     let c7 = c .before .before .before .before .before .before .before in
     let d = c7 .before .before .before .before .before .before .before in
-    named _ _ (record { starts = search needs; lengths = search needs; aggregates = search needs; numbers = search needs; counts = search needs }) (d .read-sheet .result) _ (d .read-sheet .ensures) _ (c7 .before .refused .ensures) (c7 .if1 .left) _ (c .before .before .before .before .before .before .tape-name .ensures .0)
+    named runChecks _ _ (record { starts = search needs; lengths = search needs; aggregates = search needs; numbers = search needs; counts = search needs }) (d .read-sheet .result) _ (d .read-sheet .ensures) _ (c7 .before .refused .ensures) (c7 .if1 .left) _ (c .before .before .before .before .before .before .tape-name .ensures .0)
 
 same-length-2 : tie.Need-same-length-2
 same-length-2 c = search needs
@@ -101,7 +102,7 @@ returns-2 : tie.Need-returns-2
 returns-2 c =
     let c10 = c .before .before .before .before .before .before .before .before .before .before in
     let d = c10 .before .before .before .before .before .before .before in
-    sheet-recalled _ _ (record { starts = search needs; lengths = search needs; aggregates = search needs; numbers = search needs; counts = search needs }) (d .read-sheet .result) _ (d .read-sheet .ensures) _ (c10 .before .refused .ensures) (c10 .if1 .left) _ (c .before .before .before .before .before .before .before .before .before .tape-name .ensures .0) _ _ _ (c .before .before .recall-run .ensures)
+    sheet-recalled runChecks _ _ (record { starts = search needs; lengths = search needs; aggregates = search needs; numbers = search needs; counts = search needs }) (d .read-sheet .result) _ (d .read-sheet .ensures) _ (c10 .before .refused .ensures) (c10 .if1 .left) _ (c .before .before .before .before .before .before .before .before .before .tape-name .ensures .0) _ _ _ (c .before .before .recall-run .ensures)
 
 pub recall-spec : {M : Type 1} → statement M
 recall-spec =

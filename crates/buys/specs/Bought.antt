@@ -1,0 +1,41 @@
+-- What is answered to the bytes of a run sheet, whatever they are: the figure sheet of the least list, or the two lines of the first refusal that
+-- applies; and the row that takes the answer. The checks, the working room and the row are those of `recalls`.
+use Prim.Native.Nat.{ℕ}
+use mathlib.Core.Path.{_≡_}
+use mathlib.Core.Bool.{true, false}
+use mathlib.Core.List.{List, map}
+use Rattle.refusals.specs.declared.Verdict.{Verdict}
+use Rattle.refusals.specs.Refusals.{isRefusal, firstOf}
+use Rattle.runs.specs.Run.{Run}
+use Rattle.runs.specs.Lists.{Detour}
+use Rattle.least.specs.Least.{LeastForRun}
+use Rattle.sheets.specs.Sheet.{sheetRun, sheetName}
+use Rattle.writers.specs.FigureSheet.{figureText}
+use Rattle.writers.specs.RefusalLines.{refusalText}
+use Rattle.recalls.specs.Recall.{runChecks, recallVerdict, bytesPut, rowPut}
+
+-- The figure sheet of the least list of a run. There is one such list.
+pub record FiguresOf (name : List ℕ) (run : Run) (text : List ℕ) : Type 0 where
+  pub list : List Detour
+  pub least : LeastForRun run list
+  pub says : text ≡ figureText name run (map (λ d. d .from) list) (map (λ d. d .to) list)
+
+-- The text of the answer, under a verdict.
+pub record Answers (v : Verdict) (name : List ℕ) (run : Run) (text : List ℕ) : Type 0 where
+  pub refused : isRefusal (v .refusal) ≡ true → text ≡ refusalText v
+  pub figured : isRefusal (v .refusal) ≡ false → FiguresOf name run text
+
+-- The number of bytes of the answer, and the row that holds it.
+pub record Bought (v : Verdict) (name : List ℕ) (run : Run) (row : List ℕ) (n : ℕ) (row′ : List ℕ) : Type 0 where
+  pub text : List ℕ
+  pub answers : Answers v name run text
+  pub bytes : n ≡ bytesPut text row
+  pub left : row′ ≡ rowPut text row
+
+-- The answer to a run and a tape name.
+abbrev pub RunBought : List ℕ → Run → List ℕ → ℕ → List ℕ → Type 0
+RunBought name run row n row′ = Bought (firstOf (runChecks run)) name run row n row′
+
+-- The answer to a sheet.
+abbrev pub SheetBought : List ℕ → List ℕ → ℕ → List ℕ → Type 0
+SheetBought sheet row n row′ = Bought (recallVerdict sheet) (sheetName sheet) (sheetRun sheet) row n row′

@@ -1,0 +1,23 @@
+// cmd_buys: a run sheet from standard input, the figure sheet of its plan to standard output; or two lines that say why not.
+// The answer is proved in `buys`; what is read and written here is tested and not proved.
+use libc::STDIN_FILENO;
+use libc::STDOUT_FILENO;
+
+// The first n bytes of a row, or the row where it has fewer.
+fn front(row: &[u8], n: u64) -> &[u8] {
+    let start: usize = 0;
+    let end = n as usize;
+    if end <= row.len() {
+        return &row[start..end];
+    }
+    row
+}
+
+// A byte more than a sheet may have is read. No answer is longer than 4,492 bytes.
+fn main() {
+    let mut sheet = [0u8; 16385];
+    let mut out = [0u8; 4492];
+    let n = io::read_full(STDIN_FILENO, &mut sheet);
+    let bytes = buys::buys(&sheet[..n], &mut out);
+    io::write_all(STDOUT_FILENO, front(&out, bytes));
+}

@@ -1,0 +1,157 @@
+-- Request L4: what each detour of a list buys. A figure is the sum of the list without the entry less the sum of the list, exactly; in a plan each is
+-- above zero.
+use Prim.Native.Nat.{ℕ, zero, suc, _+_, _≤_, _<_}
+use mathlib.Core.Path.{_≡_}
+use mathlib.Core.Logic.{_↔_}
+use mathlib.Core.List.{List, [], _∷_, _++_}
+use lib.ListN.{length, getD, take, drop, replicate}
+use lib.IntN.{ℤ, pos, negsuc}
+use Rattle.refusals.specs.declared.Refusal.{Refusal}
+use Rattle.refusals.specs.declared.Refusal.the-variants.{Accepted, ShortRow, BadEntry}
+use Rattle.walk.specs.declared.Answer.{Answer}
+use Rattle.runs.specs.Run.{Run, runOf, stopsOf}
+use Rattle.runs.specs.Lists.{Detour, WellFormed, listOf}
+use Rattle.least.specs.Least.{listSum}
+use Rattle.figures.specs.Figures.{figuresAnswer, figuresRow}
+use Rattle.planner.specs.Plan.{Rows, Plans}
+use Rattle.demands.specs.Table.{RunApplies, ListIsBad, FirstThatApplies, SomeApplies}
+use Rattle.demands.specs.Demand1.{OnlyPlace, priceOrder}
+use Rattle.demands.specs.Cases.{twoFiles, exampleRun}
+
+-- The refusals, in the pricer's order: 1 to 7, then 10, then 8, where the row has fewer entries than the list.
+pub data BuysApplies (r : Run) (froms tos : List ℕ) (row : List ℤ) : Refusal → ℕ → Type 0 where
+  run : {kind : Refusal} {place : ℕ} → RunApplies r kind place → BuysApplies r froms tos row kind place
+  bad-list : {place : ℕ} → ListIsBad r froms tos place → BuysApplies r froms tos row BadEntry place
+  short-row : length row < length froms → BuysApplies r froms tos row ShortRow 0
+
+-- Whatever is handed in, and whatever answer and row fit the contract: the first that applies, and a refusal changes nothing.
+pub record BuysAnswers (r : Run) (froms tos : List ℕ) (row : List ℤ) (answer : Answer) (out : List ℤ) : Type 0 where
+  pub first : FirstThatApplies (BuysApplies r froms tos row) priceOrder (answer .refusal) (answer .place)
+  pub kept : (answer .refusal ≡ Accepted → ⊥) → OnlyPlace answer × (out ≡ row)
+
+abbrev pub FiguresAnswer : Type 0
+FiguresAnswer =
+    (r : Run) (froms tos : List ℕ) (row : List ℤ) (answer : Answer) (out : List ℤ)
+    → answer ≡ figuresAnswer r froms tos row
+    → out ≡ figuresRow r froms tos row
+    → BuysAnswers r froms tos row answer out
+
+abbrev pub FiguresAnswerIff : Type 0
+FiguresAnswerIff =
+    (r : Run) (froms tos : List ℕ) (row : List ℤ) (answer : Answer)
+    → answer ≡ figuresAnswer r froms tos row
+    → (answer .refusal ≡ Accepted → ⊥) ↔ SomeApplies (BuysApplies r froms tos row) priceOrder
+
+-- A whole number with its sign is the first number less the second.
+pub data IsLess (a b : ℕ) : ℤ → Type 0 where
+  over : {n : ℕ} → a ≡ b + n → IsLess a b (pos n)
+  under : {n : ℕ} → a + suc n ≡ b → IsLess a b (negsuc n)
+
+-- A list without the entry at an index, from 0: what stands before it, then what stands behind it.
+abbrev pub leftOut : List Detour → ℕ → List Detour
+leftOut list i = take i list ++ drop (suc i) list
+
+-- What entry i buys. The list without it is well formed, so it has a walk and a sum.
+pub record IsBought (r : Run) (list : List Detour) (i : ℕ) (figure : ℤ) : Type 0 where
+  pub formed : WellFormed (stopsOf r) (leftOut list i)
+  pub less : IsLess (listSum (r .turn) (r .head) (stopsOf r) (leftOut list i)) (listSum (r .turn) (r .head) (stopsOf r) list) figure
+
+-- An accepted answer: a figure for each entry, in the list's order; later entries of the row as they were.
+pub record FiguresTold (r : Run) (froms tos : List ℕ) (row : List ℤ) (answer : Answer) (out : List ℤ) : Type 0 where
+  pub even : length froms ≡ length tos
+  pub formed : WellFormed (stopsOf r) (listOf froms tos)
+  pub sum : answer .sum ≡ listSum (r .turn) (r .head) (stopsOf r) (listOf froms tos)
+  pub number : answer .detours ≡ length froms
+  pub each : (i : ℕ) → i < length froms → IsBought r (listOf froms tos) i (getD out i (pos 0))
+  pub long : length out ≡ length row
+  pub later : drop (length froms) out ≡ drop (length froms) row
+
+abbrev pub FiguresTell : Type 0
+FiguresTell =
+    (r : Run) (froms tos : List ℕ) (row : List ℤ) (answer : Answer) (out : List ℤ)
+    → answer ≡ figuresAnswer r froms tos row
+    → out ≡ figuresRow r froms tos row
+    → answer .refusal ≡ Accepted
+    → FiguresTold r froms tos row answer out
+
+-- The contract determines the answer and the row.
+abbrev pub FiguresOne : Type 0
+FiguresOne =
+    (r : Run) (froms tos : List ℕ) (row : List ℤ) (answer answer′ : Answer) (out out′ : List ℤ)
+    → (answer ≡ figuresAnswer r froms tos row) × (out ≡ figuresRow r froms tos row)
+    → (answer′ ≡ figuresAnswer r froms tos row) × (out′ ≡ figuresRow r froms tos row)
+    → (answer ≡ answer′) × (out ≡ out′)
+
+-- The list that a plan leaves in its rows, with a row for its figures: the answer is the plan's own, no figure is below zero, and more, each is above.
+pub record PlanPays (planned : Answer) (answer : Answer) (out : List ℤ) : Type 0 where
+  pub same : answer ≡ planned
+  pub not-below : (i : ℕ) → i < planned .detours → (n : ℕ) × (getD out i (pos 0) ≡ pos n)
+  pub above : (i : ℕ) → i < planned .detours → (n : ℕ) × (0 < n) × (getD out i (pos 0) ≡ pos n)
+
+abbrev pub PlansPay : Type 0
+PlansPay =
+    (r : Run) (before : Rows) (planned : Answer) (after : Rows)
+    → Plans r before planned after
+    → planned .refusal ≡ Accepted
+    → (row : List ℤ) → planned .detours ≤ length row
+    → (answer : Answer) → answer ≡ figuresAnswer r (take (planned .detours) (after .froms)) (take (planned .detours) (after .tos)) row
+    → (out : List ℤ) → out ≡ figuresRow r (take (planned .detours) (after .froms)) (take (planned .detours) (after .tos)) row
+    → PlanPays planned answer out
+
+-- Worked by hand: the figures of a list, in a row of as many entries.
+pub record Bought : Type 0 where
+  pub run : Run
+  pub froms : List ℕ
+  pub tos : List ℕ
+  pub figures : List ℤ
+
+pub record IsWorked (b : Bought) (row : List ℤ) : Type 0 where
+  pub accepted : figuresAnswer (b .run) (b .froms) (b .tos) row .refusal ≡ Accepted
+  pub fills : figuresRow (b .run) (b .froms) (b .tos) row ≡ b .figures
+
+-- Zero: 01's two files, turn price 0, one read each.
+abbrev pub nothingBought : Bought
+nothingBought = record { run = twoFiles (1 ∷ 2 ∷ []) (1 ∷ 1 ∷ []) 0; froms = 2 ∷ []; tos = 2 ∷ []; figures = pos 0 ∷ [] }
+
+-- The smallest that the limits allow, worked on paper: 2 - 2046 (2^40 + 2^32 - 1).
+abbrev pub smallestBought : Bought
+smallestBought =
+    record {
+      run = runOf (0 ∷ 1 ∷ []) (1 ∷ 1099511627775 ∷ []) (0 ∷ 0 ∷ []) (1 ∷ 2 ∷ []) (1023 ∷ 1 ∷ []) 1099511627776 4294967296;
+      froms = 2 ∷ [];
+      tos = 2 ∷ [];
+      figures = negsuc 2258388293515263 ∷ [];
+    }
+
+-- 01's sheet: (3,3)(2,2), and its plan (2,2).
+abbrev pub sheetBought : Bought
+sheetBought = record { run = exampleRun; froms = 3 ∷ 2 ∷ []; tos = 3 ∷ 2 ∷ []; figures = negsuc 197 ∷ pos 50 ∷ [] }
+
+abbrev pub planBought : Bought
+planBought = record { run = exampleRun; froms = 2 ∷ []; tos = 2 ∷ []; figures = pos 40 ∷ [] }
+
+-- The largest, worked on paper too: 63 files up to the last place, all wanted, 31 of length 1 at either side of a long one; the entry (63,63) before (32,32)(31,33) … (2,62).
+abbrev countUp : ℕ → ℕ → List ℕ
+countUp zero first = []
+countUp (suc n) first = first ∷ countUp n (suc first)
+
+abbrev countDown : ℕ → ℕ → List ℕ
+countDown zero last = []
+countDown (suc n) last = (last + n) ∷ countDown n last
+
+abbrev pub longTape : Run
+longTape =
+    runOf (countUp 32 0 ++ countUp 31 1099511627745) (replicate 31 1 ++ 1099511627714 ∷ replicate 31 1) (replicate 63 0)
+    (countUp 63 1) (replicate 62 1 ++ 962 ∷ []) 1099511627776 4294967296
+
+pub record IsLargest (row : List ℤ) : Type 0 where
+  pub accepted : figuresAnswer longTape (63 ∷ countDown 31 2) (63 ∷ countUp 31 32) row .refusal ≡ Accepted
+  pub first : getD (figuresRow longTape (63 ∷ countDown 31 2) (63 ∷ countUp 31 32) row) 0 (pos 0) ≡ pos 67950368350460032
+
+abbrev pub BoughtHold : Type 0
+BoughtHold =
+    IsWorked nothingBought (pos 7 ∷ [])
+    × (IsWorked smallestBought (pos 7 ∷ [])
+    × (IsWorked sheetBought (pos 7 ∷ pos 7 ∷ [])
+    × (IsWorked planBought (pos 7 ∷ [])
+    × IsLargest (replicate 32 (pos 7)))))
