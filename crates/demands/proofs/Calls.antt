@@ -16,7 +16,7 @@ use Rattle.runs.specs.Judging.{judgeOf}
 use Rattle.runs.specs.Lists.{listVerdict}
 use Rattle.walk.specs.Price.{ReadRows, shortReadRows, priceVerdict}
 use Rattle.refusals.proofs.Verdicts.{none-refuses, refuses, number-small}
-use Rattle.runs.proofs.Judged.{accepted-run}
+use Rattle.runs.proofs.Judged.{GoodRun, accepted-run}
 use Rattle.planner.specs.Plan.{Rows, roomFor, shortRows}
 use Rattle.boundary.specs.Boundary.{shortSums, priceCall, priceReads, priceSums, PriceCalled, leastRule, badRule, planCall, PlanCalled}
 use Rattle.demands.specs.Table.{RunApplies, ListIsBad, runOrder, FirstThatApplies, none, here, later}
@@ -26,7 +26,7 @@ use Rattle.demands.proofs.Tests.{tells-equal, tells-below, tells-not, t
 use Rattle.demands.proofs.Checks.{decides-if, decides-reworded, Finds, finds-none, finds-first, first-of-joined, AllOfRun, behind-front, past-front, some-reworded}
 use Rattle.demands.proofs.Judged.{run-finds, run-small}
 use Rattle.demands.proofs.Listed.{decides-list}
-use Rattle.demands.proofs.Demand1.{tells-reads, price-of-run, price-list, ReadsShort, short-reads, reads-short, plan-of-run, IsShort, short-row, row-short, room-short, tells-short}
+use Rattle.demands.proofs.Demand1.{tells-reads, price-of-run, price-list, ReadsShort, short-reads, reads-short, plan-of-run, IsShort, short-row, row-short, short-room, room-short, tells-short}
 
 -- Two checks for 8, one after the other, are one check.
 one-check : (a b : Bool) → firstOf (refuseIf a ShortRow ∷ refuseIf b ShortRow ∷ []) ≡ firstOf (refuseIf (a || b) ShortRow ∷ [])
@@ -109,15 +109,16 @@ module _ (r : Run) (rule : ℕ) (rows : Rows) (sums : List ℕ) where
   plan-call-rule p (PlanCallApplies.plan (PlanApplies.run h)) = absurd (omega (arith, run-small r h))
   plan-call-rule p (PlanCallApplies.bad-rule h) = (refl, λ e. omega (arith, e, h))
 
-  short-plan-call : (p : ℕ) → (p ≡ 0) × (IsShort r rows ⊎ (length sums < 4)) → AtPlan ShortRow p
-  short-plan-call p h = rw (h .0) (⊎-elim (λ s. PlanCallApplies.plan (short-row r rows 0 (refl, s))) PlanCallApplies.short-sums (h .1))
+  module _ (good : GoodRun r) where
+    short-plan-call : (p : ℕ) → (p ≡ 0) × (IsShort r rows ⊎ (length sums < 4)) → AtPlan ShortRow p
+    short-plan-call p h = rw (h .0) (⊎-elim (λ s. PlanCallApplies.plan (short-row r rows good 0 (refl, s))) PlanCallApplies.short-sums (h .1))
 
-  plan-call-short : (p : ℕ) → AtPlan ShortRow p → (p ≡ 0) × (IsShort r rows ⊎ (length sums < 4))
-  plan-call-short p (PlanCallApplies.plan h) = let s = row-short r rows p h in (s .0, inl (s .1))
-  plan-call-short p (PlanCallApplies.short-sums h) = (refl, inr h)
+    plan-call-short : (p : ℕ) → AtPlan ShortRow p → (p ≡ 0) × (IsShort r rows ⊎ (length sums < 4))
+    plan-call-short p (PlanCallApplies.plan h) = let s = row-short r rows good p h in (s .0, inl (s .1))
+    plan-call-short p (PlanCallApplies.short-sums h) = (refl, inr h)
 
-  plan-call-room : (p : ℕ) → AtPlan ShortRoom p → (p ≡ 0) × (length (rows .room) < roomFor r)
-  plan-call-room p (PlanCallApplies.plan h) = room-short r rows p h
+    plan-call-room : (p : ℕ) → AtPlan ShortRoom p → (p ≡ 0) × (length (rows .room) < roomFor r)
+    plan-call-room p (PlanCallApplies.plan h) = room-short r rows good p h
 
   plan-call-finds : Finds AtPlan planCallOrder (planCall r rule rows sums)
   unfolding planCall
@@ -130,10 +131,10 @@ module _ (r : Run) (rule : ℕ) (rows : Rows) (sums : List ℕ) where
       (decides-reworded (λ p h. rw (h .0) (PlanCallApplies.bad-rule (h .1))) plan-call-rule
       (decides-if (badRule rule) BadRule (tells-not (eqb rule leastRule) (tells-equal rule leastRule))))
       (λ b. finds-first AtPlan (room ∷ []) refl
-      (decides-reworded short-plan-call plan-call-short
+      (decides-reworded (short-plan-call (accepted-run r a)) (plan-call-short (accepted-run r a))
       (decides-if (rows-short || shortSums sums) ShortRow (tells-either rows-short (shortSums sums) (tells-short r rows) (tells-below (length sums) 4))))
       (λ c. finds-first AtPlan [] refl
-      (decides-reworded (λ p h. rw (h .0) (PlanCallApplies.plan (PlanApplies.short-room (h .1)))) plan-call-room (decides-if _ ShortRoom (tells-below (length (rows .room)) (roomFor r))))
+      (decides-reworded (λ p h. PlanCallApplies.plan (short-room r rows (accepted-run r a) p h)) (plan-call-room (accepted-run r a)) (decides-if _ ShortRoom (tells-below (length (rows .room)) (roomFor r))))
       (λ d. finds-none AtPlan))))
 
   plan-call-accepted : refuses (planCall r rule rows sums) ≡ false → planCall r rule rows sums ≡ accepted

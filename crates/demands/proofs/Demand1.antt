@@ -18,7 +18,7 @@ use Rattle.runs.specs.Judging.{judgeOf}
 use Rattle.runs.specs.Lists.{listVerdict}
 use Rattle.walk.specs.Price.{refusalAnswer, pricedAnswer, ReadRows, shortReadRows, priceVerdict, priceAnswer, priceRows}
 use Rattle.refusals.proofs.Verdicts.{none-refuses, refuses}
-use Rattle.runs.proofs.Judged.{accepted-run}
+use Rattle.runs.proofs.Judged.{GoodRun, accepted-run}
 use Rattle.walk.proofs.Priced.{price-accepted}
 use Rattle.planner.specs.Plan.{Rows, readsIn, roomFor, Plans, shortRows, planVerdict}
 use Rattle.demands.specs.Table.{RunApplies, ListIsBad}
@@ -26,6 +26,7 @@ use Rattle.demands.specs.Demand1.{OnlyPlace, PriceApplies, PlanApplies, 
 use Rattle.demands.proofs.Tests.{Tells, tells-below, tells-either, tells-regrouped}
 use Rattle.demands.proofs.Checks.{refused-iff, decides-if, decides-reworded, Finds, finds-none, finds-first}
 use Rattle.demands.proofs.Judged.{run-finds, run-small}
+use Rattle.demands.proofs.Counted.{has-stops, stops-one}
 use Rattle.demands.proofs.Listed.{decides-list}
 
 -- A refusal's answer.
@@ -88,26 +89,35 @@ module _ (r : Run) (rows : Rows) where
   plan-of-run k p l (PlanApplies.run h) = h
   plan-of-run k p l (PlanApplies.short-times h) = absurd (omega arith)
   plan-of-run k p l (PlanApplies.short-legs h) = absurd (omega arith)
-  plan-of-run k p l (PlanApplies.short-starts h) = absurd (omega arith)
-  plan-of-run k p l (PlanApplies.short-ends h) = absurd (omega arith)
-  plan-of-run k p l (PlanApplies.short-room h) = absurd (omega arith)
+  plan-of-run k p l (PlanApplies.short-starts s h) = absurd (omega arith)
+  plan-of-run k p l (PlanApplies.short-ends s h) = absurd (omega arith)
+  plan-of-run k p l (PlanApplies.short-room s h) = absurd (omega arith)
 
   abbrev pub IsShort : Type 0
   IsShort = ((length (rows .times) < length (r .numbers)) ⊎ (length (rows .legs) < length (r .numbers))) ⊎ ((length (rows .froms) < length (stopsOf r) - 1) ⊎ (length (rows .tos) < length (stopsOf r) - 1))
 
-  pub short-row : (p : ℕ) → (p ≡ 0) × IsShort → PlanApplies r rows ShortRow p
-  short-row p h = rw (h .0) (⊎-elim (⊎-elim PlanApplies.short-times PlanApplies.short-legs) (⊎-elim PlanApplies.short-starts PlanApplies.short-ends) (h .1))
+  -- Of a run that 1 to 7 accept, the stops are those of the definition.
+  module _ (good : GoodRun r) where
+    pub short-row : (p : ℕ) → (p ≡ 0) × IsShort → PlanApplies r rows ShortRow p
+    short-row p h =
+        rw (h .0)
+        (⊎-elim (⊎-elim PlanApplies.short-times PlanApplies.short-legs)
+        (⊎-elim (PlanApplies.short-starts (has-stops r good)) (PlanApplies.short-ends (has-stops r good)))
+        (h .1))
 
-  pub row-short : (p : ℕ) → PlanApplies r rows ShortRow p → (p ≡ 0) × IsShort
-  row-short p (PlanApplies.run h) = absurd (omega (arith, run-small r h))
-  row-short p (PlanApplies.short-times h) = (refl, inl (inl h))
-  row-short p (PlanApplies.short-legs h) = (refl, inl (inr h))
-  row-short p (PlanApplies.short-starts h) = (refl, inr (inl h))
-  row-short p (PlanApplies.short-ends h) = (refl, inr (inr h))
+    pub row-short : (p : ℕ) → PlanApplies r rows ShortRow p → (p ≡ 0) × IsShort
+    row-short p (PlanApplies.run h) = absurd (omega (arith, run-small r h))
+    row-short p (PlanApplies.short-times h) = (refl, inl (inl h))
+    row-short p (PlanApplies.short-legs h) = (refl, inl (inr h))
+    row-short p (PlanApplies.short-starts s h) = (refl, inr (inl (rw (stops-one r good s) at h)))
+    row-short p (PlanApplies.short-ends s h) = (refl, inr (inr (rw (stops-one r good s) at h)))
 
-  pub room-short : (p : ℕ) → PlanApplies r rows ShortRoom p → (p ≡ 0) × (length (rows .room) < roomFor r)
-  room-short p (PlanApplies.run h) = absurd (omega (arith, run-small r h))
-  room-short p (PlanApplies.short-room h) = (refl, h)
+    pub short-room : (p : ℕ) → (p ≡ 0) × (length (rows .room) < roomFor r) → PlanApplies r rows ShortRoom p
+    short-room p h = rw (h .0) (PlanApplies.short-room (has-stops r good) (h .1))
+
+    pub room-short : (p : ℕ) → PlanApplies r rows ShortRoom p → (p ≡ 0) × (length (rows .room) < roomFor r)
+    room-short p (PlanApplies.run h) = absurd (omega (arith, run-small r h))
+    room-short p (PlanApplies.short-room s h) = (refl, rw (stops-one r good s) at h)
 
   pub tells-short : Tells (shortRows (length (r .numbers)) (length (stopsOf r)) rows) IsShort
   tells-short =
@@ -127,9 +137,9 @@ module _ (r : Run) (rows : Rows) where
       let short = shortRows (length (r .numbers)) (length (stopsOf r)) rows in
       let room = refuseIf (ltb (length (rows .room)) (roomFor r)) ShortRoom in
       run-finds r (PlanApplies r rows) (λ k p. PlanApplies.run) plan-of-run (ShortRow ∷ ShortRoom ∷ []) (refuseIf short ShortRow ∷ room ∷ [])
-      (λ a. finds-first (PlanApplies r rows) (room ∷ []) refl (decides-reworded short-row row-short (decides-if short ShortRow tells-short))
+      (λ a. finds-first (PlanApplies r rows) (room ∷ []) refl (decides-reworded (short-row (accepted-run r a)) (row-short (accepted-run r a)) (decides-if short ShortRow tells-short))
       (λ b. finds-first (PlanApplies r rows) [] refl
-      (decides-reworded (λ p h. rw (h .0) (PlanApplies.short-room (h .1))) room-short (decides-if _ ShortRoom (tells-below (length (rows .room)) (roomFor r))))
+      (decides-reworded (short-room (accepted-run r a)) (room-short (accepted-run r a)) (decides-if _ ShortRoom (tells-below (length (rows .room)) (roomFor r))))
       (λ c. finds-none (PlanApplies r rows))))
 
   plan-accepted : refuses (planVerdict r rows) ≡ false → planVerdict r rows ≡ accepted

@@ -3,6 +3,7 @@ pub mod Tests
 pub mod Checks
 pub mod Conditions
 pub mod Judged
+pub mod Counted
 pub mod Listed
 pub mod Formed
 pub mod Demand1

@@ -27,9 +27,11 @@ use Rattle.least.proofs.LeastList.{least-unique}
 use Rattle.plain.specs.Plain.{PlainRows, readsIn, mostPlainWants, unevenWants, shortRows, plainVerdict, plainRowsWith, PlainPlanned, PlainPlans}
 use Rattle.plain.proofs.Checks.{late-behind}
 use Rattle.plain.proofs.Determined.{plain-determined}
+use Rattle.runs.proofs.Judged.{GoodRun, accepted-run}
 use Rattle.demands.specs.Table.{RunApplies, FirstThatApplies, here, later}
 use Rattle.demands.specs.Demand2.{listIn, IsTheWalk, IsLeast}
 use Rattle.demands.specs.Plain.{withRoom, plainOrder, PlainApplies, PlainAnswers, SameAnswer, PlainWalks, Demand1Plain, Demand1PlainIff, PlainAsPlanned, PlannerWithRoom, Demand2Plain, Demand2PlainOne, Demand3Plain}
+use Rattle.demands.proofs.Counted.{has-stops, stops-one}
 use Rattle.demands.proofs.Tests.{Tells, tells-below, tells-either, tells-regrouped}
 use Rattle.demands.proofs.Checks.{refused-iff, decides-if, decides-reworded, Finds, finds-none, finds-first}
 use Rattle.demands.proofs.Conditions.{rows-unfit}
@@ -50,8 +52,8 @@ module _ (r : Run) (rows : PlainRows) where
   plain-of-run k p l (PlainApplies.over-eight h) = absurd (omega arith)
   plain-of-run k p l (PlainApplies.short-times h) = absurd (omega arith)
   plain-of-run k p l (PlainApplies.short-legs h) = absurd (omega arith)
-  plain-of-run k p l (PlainApplies.short-starts h) = absurd (omega arith)
-  plain-of-run k p l (PlainApplies.short-ends h) = absurd (omega arith)
+  plain-of-run k p l (PlainApplies.short-starts s h) = absurd (omega arith)
+  plain-of-run k p l (PlainApplies.short-ends s h) = absurd (omega arith)
 
   eight-over : (p : ℕ) → PlainApplies r rows OverEightWants p → (p ≡ 0) × (8 < length (r .numbers))
   eight-over p (PlainApplies.run h) = absurd (omega (arith, run-small r h))
@@ -60,15 +62,20 @@ module _ (r : Run) (rows : PlainRows) where
   abbrev IsShort : Type 0
   IsShort = ((length (rows .times) < length (r .numbers)) ⊎ (length (rows .legs) < length (r .numbers))) ⊎ ((length (rows .froms) < length (stopsOf r) - 1) ⊎ (length (rows .tos) < length (stopsOf r) - 1))
 
-  short-row : (p : ℕ) → (p ≡ 0) × IsShort → PlainApplies r rows ShortRow p
-  short-row p h = rw (h .0) (⊎-elim (⊎-elim PlainApplies.short-times PlainApplies.short-legs) (⊎-elim PlainApplies.short-starts PlainApplies.short-ends) (h .1))
+  module _ (good : GoodRun r) where
+    short-row : (p : ℕ) → (p ≡ 0) × IsShort → PlainApplies r rows ShortRow p
+    short-row p h =
+        rw (h .0)
+        (⊎-elim (⊎-elim PlainApplies.short-times PlainApplies.short-legs)
+        (⊎-elim (PlainApplies.short-starts (has-stops r good)) (PlainApplies.short-ends (has-stops r good)))
+        (h .1))
 
-  row-short : (p : ℕ) → PlainApplies r rows ShortRow p → (p ≡ 0) × IsShort
-  row-short p (PlainApplies.run h) = absurd (omega (arith, run-small r h))
-  row-short p (PlainApplies.short-times h) = (refl, inl (inl h))
-  row-short p (PlainApplies.short-legs h) = (refl, inl (inr h))
-  row-short p (PlainApplies.short-starts h) = (refl, inr (inl h))
-  row-short p (PlainApplies.short-ends h) = (refl, inr (inr h))
+    row-short : (p : ℕ) → PlainApplies r rows ShortRow p → (p ≡ 0) × IsShort
+    row-short p (PlainApplies.run h) = absurd (omega (arith, run-small r h))
+    row-short p (PlainApplies.short-times h) = (refl, inl (inl h))
+    row-short p (PlainApplies.short-legs h) = (refl, inl (inr h))
+    row-short p (PlainApplies.short-starts s h) = (refl, inr (inl (rw (stops-one r good s) at h)))
+    row-short p (PlainApplies.short-ends s h) = (refl, inr (inr (rw (stops-one r good s) at h)))
 
   tells-short : Tells (shortRows (length (r .numbers)) (length (stopsOf r)) rows) IsShort
   tells-short =
@@ -95,7 +102,7 @@ module _ (r : Run) (rows : PlainRows) where
       (drop-front (late .1)
       (drop-front (late .0)
       (run-finds r (PlainApplies r rows) (λ k p. PlainApplies.run) plain-of-run (ShortRow ∷ []) (rowsCheck ∷ [])
-      (λ a. finds-first (PlainApplies r rows) [] refl (decides-reworded short-row row-short (decides-if _ ShortRow tells-short)) (λ b. finds-none (PlainApplies r rows))))))
+      (λ a. finds-first (PlainApplies r rows) [] refl (decides-reworded (short-row (accepted-run r a)) (row-short (accepted-run r a)) (decides-if _ ShortRow tells-short)) (λ b. finds-none (PlainApplies r rows))))))
 
   plain-finds : Finds (PlainApplies r rows) plainOrder (plainVerdict r rows)
   unfolding plainVerdict rowsCheck

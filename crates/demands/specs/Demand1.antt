@@ -1,5 +1,5 @@
 -- Demand 1: any input gets an answer; a refusal is the first of the numbered table that applies, both ways, and nothing lent changes.
-use Prim.Native.Nat.{ℕ, _-_, _<_}
+use Prim.Native.Nat.{ℕ, _+_, _-_, _*_, _<_}
 use mathlib.Core.Path.{_≡_}
 use mathlib.Core.Logic.{_↔_}
 use mathlib.Core.List.{List, [], _∷_}
@@ -7,10 +7,10 @@ use lib.ListN.{length}
 use Rattle.refusals.specs.declared.Refusal.{Refusal}
 use Rattle.refusals.specs.declared.Refusal.the-variants.{Accepted, FileRows, BadFile, WantRows, BadWant, TooManyReads, TurnPrice, HeadPlace, ShortRow, ShortRoom, BadEntry}
 use Rattle.walk.specs.declared.Answer.{Answer}
-use Rattle.runs.specs.Run.{Run, stopsOf}
+use Rattle.runs.specs.Run.{Run, total}
 use Rattle.walk.specs.Price.{ReadRows, priceAnswer, priceRows}
-use Rattle.planner.specs.Plan.{Rows, roomFor, Plans}
-use Rattle.demands.specs.Table.{RunApplies, ListIsBad, FirstThatApplies, SomeApplies}
+use Rattle.planner.specs.Plan.{Rows, Plans}
+use Rattle.demands.specs.Table.{HasStops, RunApplies, ListIsBad, FirstThatApplies, SomeApplies}
 
 -- A refusal's answer: every number but the place is 0.
 pub record OnlyPlace (answer : Answer) : Type 0 where
@@ -56,9 +56,9 @@ pub data PlanApplies (r : Run) (rows : Rows) : Refusal → ℕ → Type 0 where
   run : {kind : Refusal} {place : ℕ} → RunApplies r kind place → PlanApplies r rows kind place
   short-times : length (rows .times) < length (r .numbers) → PlanApplies r rows ShortRow 0
   short-legs : length (rows .legs) < length (r .numbers) → PlanApplies r rows ShortRow 0
-  short-starts : length (rows .froms) < length (stopsOf r) - 1 → PlanApplies r rows ShortRow 0
-  short-ends : length (rows .tos) < length (stopsOf r) - 1 → PlanApplies r rows ShortRow 0
-  short-room : length (rows .room) < roomFor r → PlanApplies r rows ShortRoom 0
+  short-starts : {stops : ℕ} → HasStops r stops → length (rows .froms) < stops - 1 → PlanApplies r rows ShortRow 0
+  short-ends : {stops : ℕ} → HasStops r stops → length (rows .tos) < stops - 1 → PlanApplies r rows ShortRow 0
+  short-room : {stops : ℕ} → HasStops r stops → length (rows .room) < stops * stops * (total (r .counts) + 1) → PlanApplies r rows ShortRoom 0
 
 pub record PlanAnswers (r : Run) (before : Rows) (answer : Answer) (after : Rows) : Type 0 where
   pub first : FirstThatApplies (PlanApplies r before) planOrder (answer .refusal) (answer .place)

@@ -16,7 +16,7 @@ use Rattle.walk.specs.declared.Leg.{Leg}
 use Rattle.walk.specs.Walk.{headAt, Moves, ServesAll, sumOf}
 use Rattle.planner.specs.Plan.{Rows, rowsOf, roomFor, Plans}
 use Rattle.plain.specs.Plain.{PlainRows, PlainPlans}
-use Rattle.demands.specs.Table.{RunApplies, FirstThatApplies, SomeApplies}
+use Rattle.demands.specs.Table.{HasStops, RunApplies, FirstThatApplies, SomeApplies}
 use Rattle.demands.specs.Demand1.{OnlyPlace}
 use Rattle.demands.specs.Demand2.{listIn, IsTheWalk, IsLeast}
 use Rattle.demands.specs.Demand3.{AsksNoLess}
@@ -35,8 +35,8 @@ pub data PlainApplies (r : Run) (rows : PlainRows) : Refusal → ℕ → Type 0 
   over-eight : 8 < length (r .numbers) → PlainApplies r rows OverEightWants 0
   short-times : length (rows .times) < length (r .numbers) → PlainApplies r rows ShortRow 0
   short-legs : length (rows .legs) < length (r .numbers) → PlainApplies r rows ShortRow 0
-  short-starts : length (rows .froms) < length (stopsOf r) - 1 → PlainApplies r rows ShortRow 0
-  short-ends : length (rows .tos) < length (stopsOf r) - 1 → PlainApplies r rows ShortRow 0
+  short-starts : {stops : ℕ} → HasStops r stops → length (rows .froms) < stops - 1 → PlainApplies r rows ShortRow 0
+  short-ends : {stops : ℕ} → HasStops r stops → length (rows .tos) < stops - 1 → PlainApplies r rows ShortRow 0
 
 pub record PlainAnswers (r : Run) (before : PlainRows) (answer : Answer) (after : PlainRows) : Type 0 where
   pub first : FirstThatApplies (PlainApplies r before) plainOrder (answer .refusal) (answer .place)

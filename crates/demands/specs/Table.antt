@@ -70,6 +70,24 @@ pub record NamesStop (r : Run) (f : ℕ) : Type 0 where
   pub first : (g : ℕ) → IsFile r g → g < f → Together r g f → ⊥
   pub wanted : WantedWith r f
 
+-- How many stops the wants from index i on make: none behind the last want; a want adds one unless a later want lies together with it.
+pub data StopsFrom (r : Run) : ℕ → ℕ → Type 0 where
+  behind : StopsFrom r (length (r .numbers)) 0
+  one-more : {i n : ℕ}
+      → ((j : ℕ) → i < j → j < length (r .numbers) → Together r (getD (r .numbers) i 0) (getD (r .numbers) j 0) → ⊥)
+      → StopsFrom r (suc i) n
+      → StopsFrom r i (suc n)
+  as-many : {i n : ℕ} (j : ℕ)
+      → i < j
+      → j < length (r .numbers)
+      → Together r (getD (r .numbers) i 0) (getD (r .numbers) j 0)
+      → StopsFrom r (suc i) n
+      → StopsFrom r i n
+
+-- A run's stops are so many.
+abbrev pub HasStops : Run → ℕ → Type 0
+HasStops r n = StopsFrom r 0 n
+
 -- 7: left of the rightmost wanted end: some file that lies together with a wanted one ends right of the head.
 pub record WantedBeyond (r : Run) : Type 0 where
   pub which : ℕ
