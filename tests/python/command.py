@@ -457,20 +457,22 @@ def interrupted(at):
             raise Wrong(f"ended by signal {number}: status {call.returncode}, left {os.listdir(at.temporary)}")
 
 
-# A stand-in for rt, which proves nothing: it says what rt says, and makes what it is asked for from the programs kept beside it.
+# A stand-in for rt, which proves nothing: it says what rt says, and makes what it is asked for from the programs kept beside it. It may be called
+# from another folder than the checkout.
 STAND_IN = """#!/bin/sh
-printf '%s\\n' "$*" >> calls
+printf '%s\\n' "$*" >> "${0%/*}/../calls"
 mkdir -p target/bin target/log target/stamp target/staticlib
 : > target/log/walk.out
-sleep "${SLOW:-0}"
+case $2 in cmd_*) sleep "${SLOW:-0}" ;; esac
 echo 'rt: refusals proved (unchanged since it was last proved)'
 echo 'logic=proved'
 echo 'rt: walk proved (7 s)' | tee target/log/walk.out
 [ -z "${FAULT:-}" ] || { echo "$FAULT"; exit 1; }
 mktemp -d > /dev/null
-case $1 in
-check) [ -e "target/stamp/$2" ] || cp "kept/$2" "target/bin/$2"; echo > "target/stamp/$2" ;;
-staticlib) echo > target/staticlib/libboundary.a ;;
+case $1,$2 in
+check,cmd_*) [ -e "target/stamp/$2" ] || cp "kept/$2" "target/bin/$2"; echo > "target/stamp/$2" ;;
+check,*) echo > "target/stamp/$2" ;;
+staticlib,*) echo > target/staticlib/libboundary.a ;;
 esac
 """
 
@@ -488,8 +490,15 @@ def unbuilt(at):
 
 
 def called(at):
+    """The calls of rt for programs and for the library."""
     with open(at.path("calls")) as handle:
-        return handle.read().split("\n")[:-1]
+        return [call for call in handle.read().split("\n")[:-1] if re.match("check cmd_|staticlib ", call)]
+
+
+def proved_first(at):
+    """The calls of rt for what a program stands on, in their order."""
+    with open(at.path("calls")) as handle:
+        return [call.split()[1] for call in handle.read().split("\n")[:-1] if not re.match("check cmd_|staticlib ", call)]
 
 
 def building(at):
@@ -503,6 +512,7 @@ def building(at):
     at.must("./violstream plan examples/VX0041.run", 0, PLAN, silent=True)
     if called(at) != ["check cmd_plan"]:
         raise Wrong(f"rt was called so: {called(at)}")
+    below(at, "cmd_plan")
     at.must(f"./violstream ltfs VX0041 {LABEL} {INDEX}", 0, SHEET, ["building cmd_ltfs"])
     at.must("rm target/bin/cmd_plan && ./violstream plan examples/VX0041.run", 0, PLAN, ["building cmd_plan"])
     at.must("./violstream build", 0, b"", ["building cmd_field", "building cmd_buys", "building cmd_rewrite", "building libboundary.a"])
@@ -512,6 +522,26 @@ def building(at):
     every = ["check cmd_plan", "check cmd_field", "check cmd_buys", "check cmd_rewrite", "check cmd_ltfs", "staticlib boundary"]
     if called(at) != ["check cmd_plan", "check cmd_ltfs", "check cmd_plan", "check cmd_field", "check cmd_buys", "check cmd_rewrite", "staticlib boundary"] + every:
         raise Wrong(f"rt was called so: {called(at)}")
+
+
+def below(at, program):
+    """What a program stands on was proved once each, and nothing before what it names."""
+    with open(at.path("crates.txt")) as handle:
+        named = dict(line.split("#")[0].split(":") for line in handle if ":" in line.split("#")[0])
+    named = {crate.strip(): [one for one in rest.split() if one in named] for crate, rest in named.items()}
+    under, todo = set(), list(named[program])
+    while todo:
+        crate = todo.pop()
+        if crate not in under:
+            under.add(crate)
+            todo += named[crate]
+    order = proved_first(at)
+    if sorted(order) != sorted(under):
+        raise Wrong(f"under {program} there are {sorted(under)}, and proved were {order}")
+    for at_once, crate in enumerate(order):
+        late = [one for one in named[crate] if one not in order[:at_once]]
+        if late:
+            raise Wrong(f"{crate} was proved before {late}, which it names: {order}")
 
 
 def building_fails(at):
