@@ -71,6 +71,18 @@ module _ {page : List ℕ} {at : ℕ} {text : List ℕ} {most : ℕ} {page′ : 
     pub wrote-on : at + (most + n) ≤ length page → Put page′ next b n page″ last → Wrote page at (text ++ b) (most + n) page″ last
     wrote-on r q = wrote-both (q .room (omega (arith, w .within, wrote-long (omega arith))))
 
+-- The contract determines the page and the answer.
+pub put-determined : (page : List ℕ) (at : ℕ) (text : List ℕ) (most : ℕ) (page′ page″ : List ℕ) (next last : ℕ) → Put page at text most page′ next → Put page at text most page″ last
+    → (page′ ≡ page″) × (next ≡ last)
+put-determined page at text most page′ page″ next last p q =
+    elim (decLt (length page) (at + most)) [
+      | yes h ↦ (p .full h .0 ∙ sym (q .full h .0), p .full h .1 ∙ sym (q .full h .1))
+      | no h ↦ there (p .room (omega arith)) (q .room (omega arith))
+    ]
+  where
+    there : Wrote page at text most page′ next → Wrote page at text most page″ last → (page′ ≡ page″) × (next ≡ last)
+    there v w = let e : next ≡ last = v .after ∙ sym (w .after) in (wrote-page v ∙ rw e (sym (wrote-page w)), e)
+
 -- Three texts one behind the other, on a page with room for all of them.
 pub put-three : {page : List ℕ} {at : ℕ} {a : List ℕ} {l : ℕ} {page₁ : List ℕ} {at₁ : ℕ} {b : List ℕ} {m : ℕ} {page₂ : List ℕ} {at₂ : ℕ} {c : List ℕ} {n : ℕ} {page₃ : List ℕ} {at₃ : ℕ} (most : ℕ)
     → at + most ≤ length page → l + m + n ≤ most → Put page at a l page₁ at₁ → Put page₁ at₁ b m page₂ at₂ → Put page₂ at₂ c n page₃ at₃ → Put page at (a ++ b ++ c) most page₃ at₃

@@ -1,21 +1,25 @@
 -- The sheet's own lines: what the reader of each has found, from what stands behind its key.
 use Prim.Native.Nat.{ℕ, _+_, _-_, _≤_, _<_}
-use mathlib.Core.Path.{_≡_, ap, sym, _∙_, subst}
-use mathlib.Core.Bool.{Bool, true, false, _&&_, and-false}
+use mathlib.Core.Path.{_≡_, refl, ap, sym, _∙_, subst}
+use mathlib.Core.Bool.{Bool, true, false, _&&_, and-false, true≢false}
 use mathlib.Core.List.{List}
 use native.Mathlib.Omega.{arith}
-use lib.ListN.{length, take, drop}
+use lib.ListN.{length, take, drop, length-drop}
+use lib.Seq.{length-take-le}
 use borrow.Author.Tests.{le-leb, lt-leb}
 use Rattle.texts.specs.declared.Number.{Number}
 use Rattle.lines.specs.declared.Keyed.{Keyed}
 use Rattle.lines.specs.declared.NumberLine.{NumberLine}
+use Rattle.sheets.specs.declared.NameLine.{NameLine}
+use Rattle.sheets.specs.declared.RuleLine.{RuleLine}
 use Rattle.texts.specs.Text.{lineFeed, has, startsWith, isText, isName}
 use Rattle.texts.specs.Found.{NumberFound}
 use Rattle.lines.specs.Lines.{lineOf, valueText, isNumberLine, numberBehind}
 use Rattle.lines.specs.Found.{ValueFound, Passed, NumberLineFound}
+use Rattle.lines.proofs.Determined.{place-determined}
 use Rattle.lines.proofs.Passing.{unkeyed, unkeyed-line, value-at, line-passed, some-text, no-text, no-number, number-is}
 use Rattle.sheets.specs.Lines.{tapeKey, turnKey, ruleKey, leastText, sweepText, isTapeLine, isCountLine, isTurnLine, turnWith, emptyTurn, turnIn, isRuleLine, namesSweep}
-use Rattle.sheets.specs.Found.{NamePart}
+use Rattle.sheets.specs.Found.{NamePart, NameLineFound, RuleLineFound}
 
 -- `turn=` with a number, or with nothing.
 module _ (sheet : List ℕ) (at : ℕ) (r : Keyed) (found : ValueFound turnKey sheet at r) (from end : ℕ) (e : r ≡ Keyed.Text from end) where
@@ -118,3 +122,28 @@ module _ (sheet : List ℕ) (r : Keyed) (found : ValueFound tapeKey sheet 0 r) w
           record { good = rw (name-is ∙ f, v .begun); within = omega arith; rest = v .rest },
           record { ordered = omega arith; within = omega arith; name = subst (λ n. take (end - n) (drop n sheet) ≡ valueText tapeKey (lineOf sheet)) five (v .value) },
         )
+
+-- The answers for the first line and for the rule's are determined.
+name-size : (sheet : List ℕ) (end : ℕ) → NamePart sheet end → length (take (end - length tapeKey) (drop (length tapeKey) sheet)) ≡ end - length tapeKey
+name-size sheet end p = length-take-le (end - length tapeKey) (drop (length tapeKey) sheet) (rw (length-drop (length tapeKey) sheet) (omega (arith, p .within)))
+
+name-same : (sheet : List ℕ) (end last : ℕ) → NamePart sheet end → NamePart sheet last → end ≡ last
+name-same sheet end last p q =
+    omega (arith, p .ordered, q .ordered, sym (name-size sheet end p) ∙ ap length (p .name ∙ sym (q .name)) ∙ name-size sheet last q)
+
+next-same : (test : List ℕ → Bool) (sheet : List ℕ) (at m n : ℕ) → Passed test sheet at m → Passed test sheet at n → m ≡ n
+next-same test sheet at m n p q = place-determined sheet m n (p .within) (q .within) (p .rest ∙ sym (q .rest))
+
+pub name-line-determined : (sheet : List ℕ) (r s : NameLine) → NameLineFound sheet r → NameLineFound sheet s → r ≡ s
+name-line-determined sheet (NameLine.Name end next) (NameLine.Name stop last) p q =
+    rw (name-same sheet end stop (p .1) (q .1), next-same isTapeLine sheet 0 next last (p .0) (q .0))
+name-line-determined sheet (NameLine.Name end next) NameLine.Bad p q = absurd (true≢false (sym (p .0 .good) ∙ q))
+name-line-determined sheet NameLine.Bad (NameLine.Name stop last) p q = absurd (true≢false (sym (q .0 .good) ∙ p))
+name-line-determined sheet NameLine.Bad NameLine.Bad p q = refl
+
+pub rule-line-determined : (sheet : List ℕ) (at : ℕ) (r s : RuleLine) → RuleLineFound sheet at r → RuleLineFound sheet at s → r ≡ s
+rule-line-determined sheet at (RuleLine.Value a next) (RuleLine.Value b last) p q =
+    rw (p .1 ∙ sym (q .1), next-same isRuleLine sheet at next last (p .0) (q .0))
+rule-line-determined sheet at (RuleLine.Value a next) RuleLine.Bad p q = absurd (true≢false (sym (p .0 .good) ∙ q))
+rule-line-determined sheet at RuleLine.Bad (RuleLine.Value b last) p q = absurd (true≢false (sym (q .0 .good) ∙ p))
+rule-line-determined sheet at RuleLine.Bad RuleLine.Bad p q = refl

@@ -19,9 +19,9 @@ use Rattle.refusals.proofs.Verdicts.{test-says, AllAccept, all-accept, accepts-
 use Rattle.writers.specs.declared.Written.{Written}
 use Rattle.texts.specs.Text.{isName, isNameByte, allOf, between}
 use Rattle.sheets.specs.Sheet.{mostSheetFiles}
-use Rattle.writers.specs.Writing.{sheetText, rowVerdict, writeVerdict, writtenAnswer, writtenRow, Handed}
+use Rattle.writers.specs.Writing.{sheetText, rowVerdict, writeVerdict, writtenOf, writtenAnswer, writtenRow, Handed}
 use Rattle.prints.specs.Printing.{Wrote, Put}
-use Rattle.writers.specs.Private.{sheetMost, SheetFits, writtenOf}
+use Rattle.writers.specs.Private.{sheetMost, SheetFits}
 use Rattle.texts.proofs.Bytes.{and-true-both}
 
 -- A refusal: the answer is the refusal's, and the row stays.

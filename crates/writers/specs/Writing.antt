@@ -49,10 +49,12 @@ writeVerdict name run row =
 abbrev pub refusedWriting : Verdict → Written
 refusedWriting v = record { refusal = v .refusal; place = v .place; bytes = 0 }
 
--- The answer to a verdict and a text: the number of bytes, unless it is a refusal.
+-- The answer to a verdict: so many bytes, unless it is a refusal; and to a verdict and a text.
+abbrev pub writtenOf : Verdict → ℕ → Written
+writtenOf v n = cond (isRefusal (v .refusal)) (refusedWriting v) (record { refusal = Accepted; place = 0; bytes = n })
+
 unfoldable pub writtenAnswer : Verdict → List ℕ → Written
-writtenAnswer v text =
-    cond (isRefusal (v .refusal)) (refusedWriting v) (record { refusal = Accepted; place = 0; bytes = length text })
+writtenAnswer v text = writtenOf v (length text)
 
 -- The row afterwards: the text, then the later bytes as they were; on a refusal the whole row as it was.
 unfoldable pub writtenRow : Verdict → List ℕ → List ℕ → List ℕ

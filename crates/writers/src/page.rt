@@ -9,8 +9,7 @@ ghost use Rattle.refusals.specs.declared.Refusal.the-variants.{BadName};
 ghost use Rattle.refusals.specs.Refusals.{refuseIf, firstOf};
 ghost use Rattle.texts.specs.Text.{isName};
 ghost use Rattle.prints.specs.Printing.{pairLines, tripleLines, Wrote};
-ghost use Rattle.writers.specs.Writing.{rowVerdict, Handed};
-ghost use Rattle.writers.specs.Private.{writtenOf};
+ghost use Rattle.writers.specs.Writing.{rowVerdict, writtenOf, Handed};
 use crate::Written;
 use prints::put;
 use prints::put_pair_line;
@@ -68,7 +67,7 @@ pub(crate) fn put_triples(
 }
 
 // 13, unless what was judged before refuses: more files than a sheet takes, or a name that is none.
-pub(crate) fn judge_name(before: Verdict, over: bool, name: &[u8]) -> Verdict
+pub fn judge_name(before: Verdict, over: bool, name: &[u8]) -> Verdict
     ensures { λ r. ⌜ r ≡ firstOf (before ∷ refuseIf (over || not (isName (now (name .entry)))) BadName ∷ []) ⌝ }
 {
     if refused(before) {
@@ -81,7 +80,7 @@ pub(crate) fn judge_name(before: Verdict, over: bool, name: &[u8]) -> Verdict
 }
 
 // The answer to a verdict: on a refusal kind and place, and 0 bytes.
-pub(crate) fn written(verdict: Verdict, bytes: u64) -> Written
+pub fn answer_to(verdict: Verdict, bytes: u64) -> Written
     ensures { λ r. ⌜ r ≡ writtenOf verdict bytes ⌝ }
 {
     let refusal = verdict.refusal;
@@ -106,5 +105,5 @@ pub fn hand_out(text: &[u8], out: &mut [u8]) -> Written
     let short = out.len() < text.len();
     let bytes = if short { 0 } else { text.len() };
     put(out, 0, &text[..bytes]);
-    written(refuse_if(short, Refusal::ShortRow), text.len() as u64)
+    answer_to(refuse_if(short, Refusal::ShortRow), text.len() as u64)
 }

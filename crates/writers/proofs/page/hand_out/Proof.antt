@@ -23,8 +23,8 @@ put-requires c κs = search needs
 refuse-if-requires : tie.Need-refuse-if-requires
 refuse-if-requires c κs = search needs
 
-written-requires : tie.Need-written-requires
-written-requires c κs = search needs
+answer-to-requires : tie.Need-answer-to-requires
+answer-to-requires c κs = search needs
 
 same-length : tie.Need-same-length
 same-length c = search needs
@@ -36,8 +36,8 @@ returns c =
     let a = c8 .before .before .args in
     let n = c4 .before .before .before .if1 .bytes in
     ⊎-elim
-    (λ w. none-handed (a .text .now) (a .out .now) n _ _ (c4 .put .ensures) _ (c .before .refuse-if .ensures) _ (c .written .ensures) (ltb-true _ _ (w .0 .taken)) (w .1))
-    (λ w. all-handed (a .text .now) (a .out .now) n _ _ (c4 .put .ensures) _ (c .before .refuse-if .ensures) _ (c .written .ensures) (ltb-false _ _ (w .0 .left)) (w .1))
+    (λ w. none-handed (a .text .now) (a .out .now) n _ _ (c4 .put .ensures) _ (c .before .refuse-if .ensures) _ (c .answer-to .ensures) (ltb-true _ _ (w .0 .taken)) (w .1))
+    (λ w. all-handed (a .text .now) (a .out .now) n _ _ (c4 .put .ensures) _ (c .before .refuse-if .ensures) _ (c .answer-to .ensures) (ltb-false _ _ (w .0 .left)) (w .1))
     (c4 .before .before .before .if1 .came)
 
 pub hand-out-spec : {M : Type 1} → statement M
@@ -47,6 +47,6 @@ hand-out-spec =
     slice-aggregate-put
     put-requires
     refuse-if-requires
-    written-requires
+    answer-to-requires
     same-length
     returns)

@@ -1,11 +1,11 @@
--- `writers::figure::put_figure_sheet` meets its contract: the first three lines and the detours, one behind the other.
+-- `figure_sheets::put_figure_sheet` meets its contract: the first three lines and the detours, one behind the other.
 -- Assumes nothing.
 use native.Mathlib.Omega.{arith}
-use Rattle.writers.specs.FigureSheet.{figurePage}
+use Rattle.figure_sheets.specs.FigureSheet.{figurePage}
 use Rattle.prints.proofs.Pages.{wrote-both, wrote-long, wrote-on, wrote-within}
 use borrow.Author.Needs.{needs}
-use Rattle.writers.proofs.figure.put_figure_sheet.Statement.{statement}
-use Rattle.writers.proofs.figure.put_figure_sheet.Tie as tie
+use Rattle.figure_sheets.proofs.put_figure_sheet.Statement.{statement}
+use Rattle.figure_sheets.proofs.put_figure_sheet.Tie as tie
 
 slice-aggregate-put-line : tie.Need-slice-aggregate-put-line
 slice-aggregate-put-line c = search needs

@@ -1,4 +1,4 @@
--- `writers::figure::write_figures` meets its contract: 1 to 7, then 13, then 10 as the figures' routine gives it, then 8, then the sheet.
+-- `figure_sheets::write_figures` meets its contract: 1 to 7, then 13, then 10 as the figures' routine gives it, then 8, then the sheet.
 -- Assumes nothing.
 use Prim.Native.Nat.{_≤_}
 use mathlib.Core.Path.{_≡_, sym, _∙_}
@@ -6,13 +6,13 @@ use native.Mathlib.Omega.{arith}
 use lib.ListN.{length, replicate}
 use lib.IntN.{pos}
 use Rattle.runs.specs.Run.{Run, runOf}
 use Rattle.writers.specs.Writing.{rowVerdict}
-use Rattle.writers.specs.FigureSheet.{figureText, figureSheetVerdict}
+use Rattle.figure_sheets.specs.FigureSheet.{figureText, figureSheetVerdict}
 use Rattle.writers.proofs.Sheets.{refused-handed, part-length, page-handed}
-use Rattle.writers.proofs.Figures.{figures-refused, figures-list-refused, few-figures, figures-last, figures-count, figures-fit, figures-wrote}
+use Rattle.figure_sheets.proofs.Figures.{figures-refused, figures-list-refused, few-figures, figures-last, figures-count, figures-fit, figures-wrote}
 use borrow.Author.Needs.{needs}
-use Rattle.writers.proofs.figure.write_figures.Statement.{statement}
-use Rattle.writers.proofs.figure.write_figures.Tie as tie
+use Rattle.figure_sheets.proofs.write_figures.Statement.{statement}
+use Rattle.figure_sheets.proofs.write_figures.Tie as tie
 
 -- What was handed in.
 abbrev begun : tie.After-judge → tie.Start
@@ -30,8 +30,8 @@ judge-name-requires c κs = search needs
 refused-requires : tie.Need-refused-requires
 refused-requires c κs = search needs
 
-written-requires : tie.Need-written-requires
-written-requires c κs = search needs
+answer-to-requires : tie.Need-answer-to-requires
+answer-to-requires c κs = search needs
 
 returns : tie.Need-returns
 returns c =
@@ -41,7 +41,7 @@ returns c =
     refused-handed _ _ _ _ _ _
     (figures-refused (s .args .name .now) (run s) (s .args .froms .now) (s .args .tos .now) (s .args .out .now) _ _ (name .before .judge .ensures) (name .judge-name .ensures) _
     (asked .refused .ensures) (c .before .if1 .taken))
-    (sym (asked .refused .ensures) ∙ c .before .if1 .taken) (c .written .ensures)
+    (sym (asked .refused .ensures) ∙ c .before .if1 .taken) (c .answer-to .ensures)
 
 slice-aggregate-figures : tie.Need-slice-aggregate-figures
 slice-aggregate-figures c = search needs
@@ -52,8 +52,8 @@ figures-requires c κs = search needs
 refused-requires-2 : tie.Need-refused-requires-2
 refused-requires-2 c κs = search needs
 
-written-requires-2 : tie.Need-written-requires-2
-written-requires-2 c κs = search needs
+answer-to-requires-2 : tie.Need-answer-to-requires-2
+answer-to-requires-2 c κs = search needs
 
 returns-2 : tie.Need-returns-2
 returns-2 c =
@@ -64,7 +64,7 @@ returns-2 c =
     refused-handed _ _ _ _ _ _
     (figures-list-refused (s .args .name .now) (run s) (s .args .froms .now) (s .args .tos .now) (s .args .out .now) _ _ (name .before .judge .ensures) (name .judge-name .ensures) _
     (e .before .refused .ensures) (e .if1 .left) (replicate 64 (pos 0)) (omega arith) (f .figures .result) (f .figures .ensures .0) _ (c .before .before .refused2 .ensures) (c .before .if2 .taken))
-    (sym (c .before .before .refused2 .ensures) ∙ c .before .if2 .taken) (c .written2 .ensures)
+    (sym (c .before .before .refused2 .ensures) ∙ c .before .if2 .taken) (c .answer-to2 .ensures)
 
 -- Where the list is accepted: the figures that were left in the row.
 module _ (e : tie.Else2) where
@@ -141,12 +141,12 @@ write-figures-spec =
     judge-requires
     judge-name-requires
     refused-requires
-    written-requires
+    answer-to-requires
     returns
     slice-aggregate-figures
     figures-requires
     refused-requires-2
-    written-requires-2
+    answer-to-requires-2
     returns-2
     slice-aggregate-put-figure-sheet
     array-share-prefix-row

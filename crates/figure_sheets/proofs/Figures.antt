@@ -31,11 +31,11 @@ use Rattle.figures.specs.Figures.{figuresOf, figuresVerdict, figuresAnswer, fig
 use Rattle.figures.proofs.Answers.{figures-length}
 use Rattle.texts.specs.Text.{isName, comma, decimal}
 use Rattle.prints.specs.Printing.{numberLine, pairText, Wrote, Put}
 use Rattle.writers.specs.Writing.{rowVerdict}
-use Rattle.writers.specs.FigureSheet.{buysKey, figureLine, figureLines, figurePage, figureText, figureSheetVerdict}
-use Rattle.writers.specs.Private.{figureMost, FigureFits}
+use Rattle.figure_sheets.specs.FigureSheet.{buysKey, figureLine, figureLines, figurePage, figureText, figureSheetVerdict}
+use Rattle.figure_sheets.specs.Private.{figureMost, FigureFits}
 use Rattle.prints.proofs.Pages.{wrote-on, wrote-within}
 use Rattle.writers.proofs.Sheets.{last-verdict, judged-refused, judged-passes, run-passes, good-run, name-fits}
 
 -- A signed word below zero: one less than its size, as the code takes it from -1, and then the size.
 below : (z : ℤ) → SFits w64 z → ltZ (toZ w64 (ofZ w64 z)) (pos 0) ≡ true → negsuc 0 -ℤ toZ w64 (ofZ w64 z) ≡ pos (natAbs z - 1)

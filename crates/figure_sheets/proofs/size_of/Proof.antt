@@ -1,8 +1,8 @@
--- `writers::figure::size_of` meets its contract: below zero the number is taken from -1, so that the smallest word has a size too.
+-- `figure_sheets::size_of` meets its contract: below zero the number is taken from -1, so that the smallest word has a size too.
 -- Assumes nothing.
-use Rattle.writers.proofs.Figures.{less-fits, less-casts, less-adds, less-size, whole-casts, whole-size}
-use Rattle.writers.proofs.figure.size_of.Statement.{statement}
-use Rattle.writers.proofs.figure.size_of.Tie as tie
+use Rattle.figure_sheets.proofs.Figures.{less-fits, less-casts, less-adds, less-size, whole-casts, whole-size}
+use Rattle.figure_sheets.proofs.size_of.Statement.{statement}
+use Rattle.figure_sheets.proofs.size_of.Tie as tie
 
 sub-result : tie.Need-sub-result
 sub-result c = less-fits _ (c .before .fits .figure) (c .if1 .taken)

@@ -1,4 +1,4 @@
--- `writers::figure::put_figure` meets its contract: the key, the pair, the comma with the sign, the digits and the LF.
+-- `figure_sheets::put_figure` meets its contract: the key, the pair, the comma with the sign, the digits and the LF.
 -- Assumes nothing.
 use Prim.Native.Nat.{_≤_}
 use mathlib.Core.Path.{_≡_, sym, _∙_}
@@ -7,10 +7,10 @@ use mathlib.Core.List.{[], _∷_}
 use native.Mathlib.Omega.{arith}
 use lib.ListN.{take}
 use lib.Seq.{length-take-le}
-use Rattle.writers.proofs.Figures.{signKey, minus-taken, none-taken, whole-size, figure-wrote}
+use Rattle.figure_sheets.proofs.Figures.{signKey, minus-taken, none-taken, whole-size, figure-wrote}
 use borrow.Author.Needs.{needs}
-use Rattle.writers.proofs.figure.put_figure.Statement.{statement}
-use Rattle.writers.proofs.figure.put_figure.Tie as tie
+use Rattle.figure_sheets.proofs.put_figure.Statement.{statement}
+use Rattle.figure_sheets.proofs.put_figure.Tie as tie
 
 -- The sign that was chosen.
 sign : (j : tie.Joined1) → take (j .if1 .sign) (44 ∷ 45 ∷ []) ≡ signKey (j .before .before .args .figure)

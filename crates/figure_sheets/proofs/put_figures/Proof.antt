@@ -1,14 +1,14 @@
--- `writers::figure::put_figures` meets its contract: what stands on the page and the lines left make the whole.
+-- `figure_sheets::put_figures` meets its contract: what stands on the page and the lines left make the whole.
 -- Assumes nothing.
 use borrow.Author.Needs.{needs}
 use Prim.Native.Nat.{_-_}
 use native.Mathlib.Omega.{arith}
 use lib.ListN.{length, drop}
-use Rattle.writers.specs.FigureSheet.{figureLines}
+use Rattle.figure_sheets.specs.FigureSheet.{figureLines}
 use Rattle.prints.proofs.Pages.{LinesPut, lines-put-none, line-room, line-wrote, lines-put}
-use Rattle.writers.proofs.Figures.{figures-left, figures-over}
-use Rattle.writers.proofs.figure.put_figures.Statement.{statement}
-use Rattle.writers.proofs.figure.put_figures.Tie as tie
+use Rattle.figure_sheets.proofs.Figures.{figures-left, figures-over}
+use Rattle.figure_sheets.proofs.put_figures.Statement.{statement}
+use Rattle.figure_sheets.proofs.put_figures.Tie as tie
 
 abbrev Inv-loop : tie.InvT-loop
 Inv-loop page₀ at froms tos figures next₀ i₀ page next i = LinesPut page₀ at 69 (figureLines froms tos figures) (length froms) (figureLines (drop i froms) (drop i tos) (drop i figures)) page next i

@@ -1,16 +1,13 @@
-// The figure sheet writer: what each detour of the list that it is given buys.
+// figure_sheets: the figure sheet writer: what each detour of the list that it is given buys.
+// For the program and the tools, which see only this contract. What the words mean stands in specs/; the function answers every input.
 ghost use mathlib.Core.Path.{_≡_};
 ghost use Prim.Native.Nat.{_+_, _*_, _≤_};
 ghost use lib.ListN.{length};
 ghost use lib.IntN.{natAbs};
 ghost use Rattle.runs.specs.Run.{runAt};
 ghost use Rattle.prints.specs.Printing.{Wrote};
-ghost use Rattle.writers.specs.FigureSheet.{figureLine, figureLines, figurePage, FigureWritten};
-ghost use Rattle.writers.specs.Private.{figureMost, FigureFits};
-use crate::Written;
-use crate::page::hand_out;
-use crate::page::judge_name;
-use crate::page::written;
+ghost use Rattle.figure_sheets.specs.FigureSheet.{figureLine, figureLines, figurePage, FigureWritten};
+ghost use Rattle.figure_sheets.specs.Private.{figureMost, FigureFits};
 use prints::put;
 use prints::put_line;
 use prints::put_number_line;
@@ -18,6 +15,10 @@ use prints::put_pair;
 use refusals::Verdict;
 use refusals::refused;
 use walk::Answer;
+use writers::Written;
+use writers::answer_to;
+use writers::hand_out;
+use writers::judge_name;
 
 // A number without its sign.
 fn size_of(figure: i64) -> u64
@@ -91,7 +92,7 @@ pub fn write_figures(
     let run = runs::judge(starts, lengths, aggregates, numbers, counts, head, turn);
     let named = judge_name(run, false, name);
     if refused(named) {
-        return written(named, 0);
+        return answer_to(named, 0);
     }
     let mut row = [0i64; 64];
     let answer = figures::figures(
@@ -112,7 +113,7 @@ pub fn write_figures(
         place: answer.place,
     };
     if refused(list) {
-        return written(list, 0);
+        return answer_to(list, 0);
     }
     let detours = froms.len();
     let mut page = [0u8; 4492];
