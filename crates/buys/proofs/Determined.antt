@@ -7,7 +7,7 @@ use Rattle.refusals.specs.declared.Verdict.{Verdict}
 use Rattle.refusals.specs.Refusals.{isRefusal}
 use Rattle.runs.specs.Run.{Run, stopsOf}
 use Rattle.least.proofs.LeastList.{least-unique}
-use Rattle.writers.specs.FigureSheet.{figureText}
+use Rattle.figure_sheets.specs.FigureSheet.{figureText}
 use Rattle.recalls.specs.Recall.{bytesPut, rowPut}
 use Rattle.buys.specs.Bought.{FiguresOf, Answers, Bought, SheetBought}
 

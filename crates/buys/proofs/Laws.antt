@@ -16,7 +16,7 @@ use Rattle.sheets.specs.Sheet.{sheetRun, sheetName}
 use Rattle.sheets.specs.Reading.{RunRows, SheetRead, readName}
 use Rattle.writers.specs.declared.Written.{Written}
 use Rattle.writers.specs.Writing.{Handed, rowVerdict}
-use Rattle.writers.specs.FigureSheet.{figureText, figureSheetVerdict}
+use Rattle.figure_sheets.specs.FigureSheet.{figureText, figureSheetVerdict}
 use Rattle.writers.specs.RefusalLines.{refusalText}
 use Rattle.writers.proofs.Sheets.{last-verdict}
 use Rattle.recalls.specs.Recall.{runChecks, recallVerdict}

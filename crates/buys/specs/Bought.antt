@@ -10,7 +10,7 @@ use Rattle.runs.specs.Run.{Run}
 use Rattle.runs.specs.Lists.{Detour}
 use Rattle.least.specs.Least.{LeastForRun}
 use Rattle.sheets.specs.Sheet.{sheetRun, sheetName}
-use Rattle.writers.specs.FigureSheet.{figureText}
+use Rattle.figure_sheets.specs.FigureSheet.{figureText}
 use Rattle.writers.specs.RefusalLines.{refusalText}
 use Rattle.recalls.specs.Recall.{runChecks, recallVerdict, bytesPut, rowPut}
 

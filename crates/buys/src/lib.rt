@@ -52,7 +52,7 @@ fn buys_run(
         return lines.bytes;
     }
     let n = plan.detours as usize;
-    let text = writers::write_figures(
+    let text = figure_sheets::write_figures(
         name,
         starts,
         lengths,

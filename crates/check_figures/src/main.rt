@@ -74,7 +74,7 @@ fn show(a: u64, b: u64, c: u64, before: u64) -> u64 {
     let tos = [first + c / 4 % 2, second + c / 8 % 4, 2 + c / 32 % 5];
     let n = (c / 256 % 4) as usize;
     let mut out = [0u8; 4492];
-    let sheet = writers::write_figures(
+    let sheet = figure_sheets::write_figures(
         b"D",
         &starts,
         &lengths,

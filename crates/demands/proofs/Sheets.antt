@@ -25,7 +25,7 @@ use Rattle.sheets.proofs.Good.{good-lines}
 use Rattle.writers.specs.declared.Written.{Written}
 use Rattle.writers.specs.Writing.{refusedWriting, sheetText, rowVerdict, writeVerdict, writtenAnswer, writtenRow, Handed}
 use Rattle.writers.specs.PlanSheet.{planText, planSheetVerdict}
-use Rattle.writers.specs.FigureSheet.{figureText, figureSheetVerdict}
+use Rattle.figure_sheets.specs.FigureSheet.{figureText, figureSheetVerdict}
 use Rattle.demands.specs.Table.{FirstBad, RunApplies, ListIsBad}
 use Rattle.demands.specs.Lines.{LineIsBad, linesDue, Ruled}
 use Rattle.demands.specs.Sheets.{readOrder, ReadApplies, ReadAnswers, OneRule, writeOrder, listSheetOrder, WriteApplies, ListSheetApplies, WriteAnswers, Demand1Read, Demand1Write, Demand1PlanSheet, Demand1FigureSheet}

@@ -18,7 +18,7 @@ use Rattle.sheets.specs.Sheet.{longestSheet, mostSheetFiles, sheetFiles, sheetW
 use Rattle.sheets.specs.Reading.{readVerdict, readAnswer, readRow, RunRows, SheetRead, readName}
 use Rattle.writers.specs.Writing.{sheetText, writeVerdict, writtenAnswer, writtenRow, SheetWritten}
 use Rattle.writers.specs.PlanSheet.{planText, planSheetVerdict}
-use Rattle.writers.specs.FigureSheet.{figureText, figureSheetVerdict}
+use Rattle.figure_sheets.specs.FigureSheet.{figureText, figureSheetVerdict}
 use Rattle.demands.specs.Table.{FirstBad, RunApplies, ListIsBad, FirstThatApplies}
 use Rattle.demands.specs.Lines.{LineIsBad, linesDue, Ruled}
 

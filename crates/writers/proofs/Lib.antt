@@ -1,8 +1,6 @@
 -- Laws that this crate's proofs share, and those that other crates cite.
-pub mod Pages
 pub mod Sheets
 pub mod Plans
-pub mod Figures
 pub mod Refusals
 pub mod Reread
 pub mod RoundTrip

@@ -1,23 +1,10 @@
 -- What the functions that put a sheet on a page ask and leave. No public contract cites this file.
-use Prim.Native.Nat.{ℕ, _+_, _≤_}
+use Prim.Native.Nat.{ℕ, _≤_}
 use mathlib.Core.Path.{_≡_}
-use mathlib.Core.Bool.{cond}
-use mathlib.Core.List.{List, _++_}
-use lib.ListN.{length, take}
-use lib.IntN.{ℤ}
-use Rattle.refusals.specs.declared.Refusal.the-variants.{Accepted}
-use Rattle.refusals.specs.declared.Verdict.{Verdict}
-use Rattle.refusals.specs.Refusals.{isRefusal}
+use mathlib.Core.List.{List}
+use lib.ListN.{length}
 use Rattle.runs.specs.Run.{mostWants}
 use Rattle.sheets.specs.Sheet.{mostSheetFiles}
-use Rattle.writers.specs.declared.Written.{Written}
-use Rattle.writers.specs.Writing.{refusedWriting}
-
--- A text put on a page behind what stands before a position, in at most so many bytes.
-pub record Wrote (page : List ℕ) (at : ℕ) (text : List ℕ) (most : ℕ) (page′ : List ℕ) (next : ℕ) : Type 0 where
-  pub after : next ≡ at + length text
-  pub bytes : take next page′ ≡ take at page ++ text
-  pub within : next ≤ at + most
 
 -- No run sheet is longer than this, whatever its numbers are: 112 bytes for the first lines, 68 for each of 256 files, 27 for the number of wants and
 -- 49 for each of 64 wants. (That of an accepted run is shorter, and within the limit of a sheet: proofs/RoundTrip.)
@@ -47,19 +34,3 @@ pub record PlanFits (page name froms tos numbers times legs : List ℕ) : Type 0
   pub wants : length numbers ≤ mostWants
   pub timed : length numbers ≡ length times
   pub numbered : length numbers ≡ length legs
-
--- No figure sheet is longer than this: 76 bytes for the first lines and 69 for each of 64 detours.
-abbrev pub figureMost : ℕ
-figureMost = 4492
-
--- What fits on its page: a name, a list and its figures within the run's limits.
-pub record FigureFits (page name froms tos : List ℕ) (figures : List ℤ) : Type 0 where
-  pub room : figureMost ≤ length page
-  pub short : length name ≤ 16
-  pub few : length froms ≤ mostWants
-  pub even : length froms ≡ length tos
-  pub figured : length froms ≡ length figures
-
--- The answer to a verdict.
-abbrev pub writtenOf : Verdict → ℕ → Written
-writtenOf v n = cond (isRefusal (v .refusal)) (refusedWriting v) (record { refusal = Accepted; place = 0; bytes = n })

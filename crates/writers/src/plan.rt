@@ -1,18 +1,18 @@
 // The plan sheet writer: it prices the list that it is given, and writes what the pricer answers.
-ghost use mathlib.Core.Path.{_≡_};
 ghost use Prim.Native.Nat.{_≤_};
 ghost use lib.ListN.{length};
 ghost use Rattle.runs.specs.Run.{runAt};
+ghost use Rattle.prints.specs.Printing.{Wrote};
 ghost use Rattle.writers.specs.PlanSheet.{planTop, planLines, PlanWritten};
-ghost use Rattle.writers.specs.Private.{Wrote, planMost, PlanFits};
+ghost use Rattle.writers.specs.Private.{planMost, PlanFits};
 use crate::Written;
+use crate::page::answer_to;
 use crate::page::hand_out;
 use crate::page::judge_name;
-use crate::page::put_line;
-use crate::page::put_number_line;
 use crate::page::put_pairs;
 use crate::page::put_triples;
-use crate::page::written;
+use prints::put_line;
+use prints::put_number_line;
 use refusals::Verdict;
 use refusals::refused;
 use walk::Answer;
@@ -67,7 +67,7 @@ pub fn write_plan(
     let run = runs::judge(starts, lengths, aggregates, numbers, counts, head, turn);
     let named = judge_name(run, false, name);
     if refused(named) {
-        return written(named, 0);
+        return answer_to(named, 0);
     }
     let mut times = [0u64; 64];
     let mut legs = [0u64; 64];
@@ -90,7 +90,7 @@ pub fn write_plan(
         place: answer.place,
     };
     if refused(list) {
-        return written(list, 0);
+        return answer_to(list, 0);
     }
     let wants = numbers.len();
     let mut page = [0u8; 7644];

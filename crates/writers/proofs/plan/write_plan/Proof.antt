@@ -19,8 +19,8 @@ judge-name-requires c κs = search needs
 refused-requires : tie.Need-refused-requires
 refused-requires c κs = search needs
 
-written-requires : tie.Need-written-requires
-written-requires c κs = search needs
+answer-to-requires : tie.Need-answer-to-requires
+answer-to-requires c κs = search needs
 
 returns : tie.Need-returns
 returns c =
@@ -30,7 +30,7 @@ returns c =
     let a = c12 .before .before .args in
     let run = runOf (a .starts .now) (a .lengths .now) (a .aggregates .now) (a .numbers .now) (a .counts .now) (a .head) (a .turn) in
     refused-handed _ _ _ _ _ _ (plan-refused (a .name .now) run (a .froms .now) (a .tos .now) (a .out .now) _ _
-    (c4 .judge .ensures) (c .before .before .before .judge-name .ensures) _ (c .before .before .refused .ensures) (c .before .if1 .taken)) (sym (c .before .before .refused .ensures) ∙ c .before .if1 .taken) (c .written .ensures)
+    (c4 .judge .ensures) (c .before .before .before .judge-name .ensures) _ (c .before .before .refused .ensures) (c .before .if1 .taken)) (sym (c .before .before .refused .ensures) ∙ c .before .if1 .taken) (c .answer-to .ensures)
 
 slice-aggregate-price : tie.Need-slice-aggregate-price
 slice-aggregate-price c = search needs
@@ -44,8 +44,8 @@ price-requires c κs = search needs
 refused-requires-2 : tie.Need-refused-requires-2
 refused-requires-2 c κs = search needs
 
-written-requires-2 : tie.Need-written-requires-2
-written-requires-2 c κs = search needs
+answer-to-requires-2 : tie.Need-answer-to-requires-2
+answer-to-requires-2 c κs = search needs
 
 returns-2 : tie.Need-returns-2
 returns-2 c =
@@ -55,7 +55,7 @@ returns-2 c =
     let run = runOf (a .starts .now) (a .lengths .now) (a .aggregates .now) (a .numbers .now) (a .counts .now) (a .head) (a .turn) in
     refused-handed _ _ _ _ _ _ (plan-list-refused (a .name .now) run (a .froms .now) (a .tos .now) (a .out .now) _ _
     (named .before .before .before .judge .ensures) (named .before .before .judge-name .ensures) _ (named .before .refused .ensures) (named .if1 .left)
-    _ _ (search needs) (search needs) (price .price .result) (price .price .ensures .0) _ (c .before .before .refused2 .ensures) (c .before .if2 .taken)) (sym (c .before .before .refused2 .ensures) ∙ c .before .if2 .taken) (c .written2 .ensures)
+    _ _ (search needs) (search needs) (price .price .result) (price .price .ensures .0) _ (c .before .before .refused2 .ensures) (c .before .if2 .taken)) (sym (c .before .before .refused2 .ensures) ∙ c .before .if2 .taken) (c .answer-to2 .ensures)
 
 slice-aggregate-put-plan : tie.Need-slice-aggregate-put-plan
 slice-aggregate-put-plan c = search needs
@@ -146,13 +146,13 @@ write-plan-spec =
     judge-requires
     judge-name-requires
     refused-requires
-    written-requires
+    answer-to-requires
     returns
     slice-aggregate-price
     slice-aggregate-price-2
     price-requires
     refused-requires-2
-    written-requires-2
+    answer-to-requires-2
     returns-2
     slice-aggregate-put-plan
     count-reads-requires

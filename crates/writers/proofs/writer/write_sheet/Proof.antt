@@ -16,8 +16,8 @@ judge-name-requires c κs = search needs
 refused-requires : tie.Need-refused-requires
 refused-requires c κs = search needs
 
-written-requires : tie.Need-written-requires
-written-requires c κs = search needs
+answer-to-requires : tie.Need-answer-to-requires
+answer-to-requires c κs = search needs
 
 returns : tie.Need-returns
 returns c =
@@ -25,7 +25,7 @@ returns c =
     let c8 = c4 .before .before .before .before in
     let a = c8 .before .before .before .before .args in
     let run = runOf (a .starts .now) (a .lengths .now) (a .aggregates .now) (a .numbers .now) (a .counts .now) (a .head) (a .turn) in
-    refused-handed _ _ _ _ _ _ (write-refused (a .name .now) run (a .out .now) _ _ (c4 .judge .ensures) (c .before .before .before .judge-name .ensures) _ (c .before .before .refused .ensures) (c .before .if1 .taken)) (sym (c .before .before .refused .ensures) ∙ c .before .if1 .taken) (c .written .ensures)
+    refused-handed _ _ _ _ _ _ (write-refused (a .name .now) run (a .out .now) _ _ (c4 .judge .ensures) (c .before .before .before .judge-name .ensures) _ (c .before .before .refused .ensures) (c .before .if1 .taken)) (sym (c .before .before .refused .ensures) ∙ c .before .if1 .taken) (c .answer-to .ensures)
 
 slice-aggregate-put-sheet : tie.Need-slice-aggregate-put-sheet
 slice-aggregate-put-sheet c = search needs
@@ -67,7 +67,7 @@ write-sheet-spec =
     judge-requires
     judge-name-requires
     refused-requires
-    written-requires
+    answer-to-requires
     returns
     slice-aggregate-put-sheet
     put-sheet-requires
