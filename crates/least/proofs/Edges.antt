@@ -69,5 +69,8 @@ module _ (L R C : ℕ → ℕ) (U : ℕ) where
   pub value-supported : (a b n : ℕ) → Supported (λ s. value L R C U a b s) n
   value-supported a b n = edges b a b n (le-refl b)
 
+  pub value-supported-later : (a b i n : ℕ) → Supported (λ s. value L R C U a b (s + i)) n
+  value-supported-later a b i n = later a b i n (value-supported a b)
+
   pub candidate-supported : (a b k n : ℕ) → k ≤ suc b → Supported (λ s. candidate L R C U (value L R C U) a b s k) n
   candidate-supported a b k n h = candidate-edge a b k n (edges b) h

@@ -13,6 +13,7 @@ use Rattle.runs.specs.Run.{Stop, aloneOf, plainStops, total, endAt, lastPlace, 
 use Rattle.runs.specs.Judging.{judgeOf}
 use Rattle.runs.specs.Private.{InTable}
 use Rattle.runs.specs.Lists.{Detour, listOf}
+use Rattle.least.specs.Lines.{Supported}
 use Rattle.least.specs.Recurrence.{W, lower, value, candidate, choice, planDetours, best, fileAt, leftAt, rightAt, countAt}
 
 -- Rows that the judging accepts with some head, and the number of their reads.
@@ -101,6 +102,34 @@ abbrev pub lowered : ℕ → ℕ → ℕ → ℕ → ℕ → List ℕ → ℕ �
 lowered cell inner rest base slope room s =
     lower (getD room (cell + s) 0) (base + slope * s + getD room (inner + s) 0 + getD room (rest + s) 0)
 
+-- A row is the lower edge of lines, and so is the sum of the two that a choice is made of. The tests of a block need room for n times a word.
+pub record Edges (cell inner rest n : ℕ) (room : List ℕ) : Type 0 where
+  pub row : Supported (λ s. getD room (cell + s) 0) n
+  pub sum : Supported (λ s. getD room (inner + s) 0 + getD room (rest + s) 0) n
+  pub times-fit : (s : ℕ) → s < n → getD room (cell + s) 0 * n < 2 ^ 64
+
+-- The first r of n words are none that the choice lowers.
+pub record Unlowered (cell inner rest base slope n : ℕ) (room : List ℕ) (r : ℕ) : Type 0 where
+  pub within : r ≤ n
+  pub stay : (s : ℕ) → s < r → getD room (cell + s) 0 ≤ base + slope * s + getD room (inner + s) 0 + getD room (rest + s) 0
+
+-- A block of n words: r of them, and one at least.
+pub record Block (n r : ℕ) : Type 0 where
+  pub within : r ≤ n
+  pub some : 0 < n → 0 < r
+
+-- The words to lower after those that stay: a block where none stays.
+pub record Turn (stay n r : ℕ) : Type 0 where
+  pub within : r ≤ n
+  pub some : stay ≡ 0 → 0 < n → 0 < r
+  pub none : 0 < stay → r ≡ 0
+
+-- The choice is laid over the first r of n words, and one at least.
+pub record Laid (cell inner rest base slope n : ℕ) (room after : List ℕ) (r : ℕ) : Type 0 where
+  pub within : r ≤ n
+  pub some : 0 < r
+  pub written : Written cell r (lowered cell inner rest base slope room) room after
+
 -- What the words of the table are to be: the least that the window (a, b] can cost, and what a choice at stop b + 1 comes to.
 abbrev pub worth : List Stop → ℕ → ℕ → ℕ → ℕ → ℕ
 worth stops turn a b s = value (leftAt stops) (rightAt stops) (countAt stops) turn a b s
@@ -143,6 +172,11 @@ pub record DetourFrom (counts : List ℕ) (a b c w : ℕ) : Type 0 where
   pub after : a < c
   pub up-to : c ≤ b + 1
   pub left : w ≡ readsIn counts c
+
+-- The n words of a row so far, from `cell`: a lower edge of lines, and none larger than a choice can come to.
+pub record SoFar (cell n : ℕ) (room : List ℕ) : Type 0 where
+  pub edge : Supported (λ s. getD room (cell + s) 0) n
+  pub small : (s : ℕ) → s < n → getD room (cell + s) 0 ≤ 2 * (highestTurn + 2 * lastPlace) * mostReads
 
 -- A column of the table that is to be filled: column b + 1, where those up to b are done.
 pub record ColumnTask (starts lengths numbers counts : List ℕ) (turn reads : ℕ) (room : List ℕ) (b n : ℕ) : Type 0 where
