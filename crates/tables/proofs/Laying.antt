@@ -1,17 +1,29 @@
 -- Laying a choice over a row block by block: what the two tests show, that nothing in them wraps, and the loop over the blocks.
-use Prim.Native.Nat.{ℕ, suc, _+_, _-_, _*_, _≤_, _<_, _^_}
+use Prim.Native.Nat.{ℕ, _+_, _-_, _*_, _≤_, _<_, _^_}
 use mathlib.Core.Path.{_≡_, sym, ap, _∙_}
 use mathlib.Core.Logic.{inl, inr, ⊎-elim, by-cases}
 use mathlib.Core.List.{List}
 use native.Mathlib.Omega.{arith}
 use native.Mathlib.Decide.{decLt}
 use native.Mathlib.Nat.{mul-le-mul-left, mul-le-mul-right, add-zero}
-use lib.ListN.{length, getD}
-use Rattle.least.specs.Recurrence.{lower}
+use lib.ListN.{getD}
 use Rattle.least.specs.Lines.{Supported}
 use Rattle.least.proofs.Lines.{lower-first, supported-line, supported-sum, supported-from, supported-same, supported-rises, never-above-near, never-above-far}
-use Rattle.tables.specs.Private.{Kept, Written, Apart, LowerFits, Edges, Unlowered, Turn, Laid, lowered}
+use Rattle.tables.specs.Private.{Written, Apart, LowerFits, WordFits, Edges, Unlowered, Block, Turn, Laid, choiceSum, lowered}
 use Rattle.tables.proofs.Words.{kept-more, word-apart}
+
+-- Of two words and more: the first, the last, and the last of a block.
+pub first-within : (n : ℕ) → 2 ≤ n → 0 < n
+first-within n h = omega arith
+
+pub end-within : (n : ℕ) → 2 ≤ n → n - 1 < n
+end-within n h = omega arith
+
+pub last-there : (n r : ℕ) → 2 ≤ n → Block n r → 1 ≤ r
+last-there n r h b = b .some (omega arith)
+
+pub last-within : (n r : ℕ) → 2 ≤ n → Block n r → r - 1 < n
+last-within n r h b = omega (arith, b .within, last-there n r h b)
 
 tangent-small : (old step next j n : ℕ) → next ≡ old + step → j < n → old + step * j ≤ next * n
 tangent-small old step next j n e l =
@@ -19,11 +31,8 @@ tangent-small old step next j n e l =
     omega (arith, mul-le-mul-right j h, mul-le-mul-left next l)
 
 module _ (cell inner rest base slope n : ℕ) (xs : List ℕ) (ok : LowerFits cell inner rest base slope n xs) where
-  first : (p : ℕ) → getD xs (p + 0) 0 ≡ getD xs p 0
-  first p = rw (add-zero p)
-
-  pub first-fits : 0 < n → base + getD xs inner 0 + getD xs rest 0 < 2 ^ 64
-  first-fits h = omega (arith, ok .fits 0 h, first inner, first rest)
+  pub word-fits : (s : ℕ) → s < n → WordFits inner rest base slope s xs
+  word-fits s l = record { inner-in = omega (arith, ok .inner-in); rest-in = omega (arith, ok .rest-in); fits = ok .fits s l }
 
   -- Fewer words fit too.
   pub fewer-fit : (m : ℕ) → m ≤ n → LowerFits cell inner rest base slope m xs
@@ -38,59 +47,72 @@ module _ (cell inner rest base slope n : ℕ) (xs : List ℕ) (ok : LowerFits ce
         fits = λ s l. ok .fits s (omega arith);
       }
 
-  module _ (ed : Edges cell inner rest n xs) (two : 1 < n) where
+  -- Two words and more are left: the first, the choice's for it, and the row's step to the second.
+  module _ (ed : Edges cell inner rest n xs) (two : 2 ≤ n) where
     abbrev row : ℕ → ℕ
     row s = getD xs (cell + s) 0
 
     abbrev sum : ℕ → ℕ
     sum s = getD xs (inner + s) 0 + getD xs (rest + s) 0
 
+    abbrev old : ℕ
+    old = getD xs cell 0
+
+    abbrev step : ℕ
+    step = getD xs (cell + 1) 0 - getD xs cell 0
+
+    first-row : row 0 ≡ old
+    first-row = rw (add-zero cell)
+
     pub step-up : getD xs cell 0 ≤ getD xs (cell + 1) 0
-    step-up = omega (arith, first cell, supported-rises row n (ed .row) 0 1 (omega arith) two)
+    step-up = omega (arith, first-row, supported-rises row n (ed .row) 0 1 (omega arith) two)
 
-    step-is : getD xs (cell + 1) 0 ≡ getD xs (cell + 0) 0 + (getD xs (cell + 1) 0 - getD xs cell 0)
-    step-is = omega (arith, first cell, step-up)
+    step-is : row 1 ≡ row 0 + step
+    step-is = omega (arith, first-row, step-up)
 
-    -- The row's tangent at j, and the choice's line at the end.
-    pub tangent-fits : (j : ℕ) → j < n → getD xs cell 0 + (getD xs (cell + 1) 0 - getD xs cell 0) * j < 2 ^ 64
-    tangent-fits j l =
-        omega (arith, tangent-small (getD xs cell 0) (getD xs (cell + 1) 0 - getD xs cell 0) (getD xs (cell + 1) 0) j n (omega (arith, step-up)) l, ed .times-fit 1 two)
+    -- The row's tangent fits, j words further.
+    pub tangent-fits : (j : ℕ) → j < n → old + step * j < 2 ^ 64
+    tangent-fits j l = omega (arith, tangent-small old step (getD xs (cell + 1) 0) j n (omega (arith, step-up)) l, ed .times-fit 1 two)
 
-    pub line-fits : base + getD xs inner 0 + getD xs rest 0 + slope * (n - 1) < 2 ^ 64
-    line-fits = omega (arith, ok .fits (n - 1) (omega arith), first inner, first rest, supported-rises sum n (ed .sum) 0 (n - 1) (omega arith) (omega arith))
+    pub rise-fits : (j : ℕ) → j < n → step * j < 2 ^ 64
+    rise-fits j l = omega (arith, tangent-fits j l)
 
-    -- Far: no word that is left is lowered.
-    pub all-stay : getD xs cell 0 ≤ base + getD xs inner 0 + getD xs rest 0
-        → getD xs cell 0 + (getD xs (cell + 1) 0 - getD xs cell 0) * (n - 1) ≤ base + getD xs inner 0 + getD xs rest 0 + slope * (n - 1)
-        → Unlowered cell inner rest base slope n xs n
-    all-stay h k =
-        record {
-          within = omega arith;
-          stay =
-              λ s l.
-              omega (
-                arith,
-                never-above-far row sum n (getD xs (cell + 1) 0 - getD xs cell 0) base slope s (ed .row) (ed .sum) step-is (omega (arith, first cell, first inner, first rest, h)) (omega (arith, first cell, first inner, first rest, k)) two l,
-              );
-        }
+    module _ (new : ℕ) (new-is : new ≡ choiceSum inner rest base slope xs 0) where
+      new-sum : new ≡ base + sum 0
+      new-sum = omega arith
 
-    choice-edge : Supported (λ s. base + slope * s + sum s) n
-    choice-edge = supported-sum (λ s. base + slope * s) sum n (supported-line base slope n) (ed .sum)
+      -- The choice's line fits, at the end.
+      pub line-fits : new + slope * (n - 1) < 2 ^ 64
+      line-fits = omega (arith, ok .fits (n - 1) (omega arith), new-sum, supported-rises sum n (ed .sum) 0 (n - 1) (omega arith) (omega arith))
 
-    -- Near: no word up to j is lowered.
-    pub block-stays : (j : ℕ) → j < n → getD xs cell 0 ≤ base + getD xs inner 0 + getD xs rest 0
-        → getD xs cell 0 + (getD xs (cell + 1) 0 - getD xs cell 0) * j ≤ base + slope * j + getD xs (inner + j) 0 + getD xs (rest + j) 0
-        → Unlowered cell inner rest base slope n xs (j + 1)
-    block-stays j l h k =
-        record {
-          within = omega arith;
-          stay =
-              λ s m.
-              omega (
-                arith,
-                never-above-near row (λ s. base + slope * s + sum s) n (getD xs (cell + 1) 0 - getD xs cell 0) j s (ed .row) choice-edge step-is (omega (arith, first cell, first inner, first rest, h)) (omega (arith, first cell, k)) two l (omega arith),
-              );
-        }
+      pub trips-fit : slope * (n - 1) < 2 ^ 64
+      trips-fit = omega (arith, line-fits)
+
+      -- Far: no word that is left is lowered.
+      pub all-stay : old ≤ new → old + step * (n - 1) ≤ new + slope * (n - 1) → Unlowered cell inner rest base slope n xs n
+      all-stay h k =
+          record {
+            within = omega arith;
+            stay =
+                λ s l.
+                omega (arith, never-above-far row sum n step base slope s (ed .row) (ed .sum) step-is (omega (arith, first-row, new-sum, h)) (omega (arith, first-row, new-sum, k)) two l);
+          }
+
+      choice-edge : Supported (λ s. base + slope * s + sum s) n
+      choice-edge = supported-sum (λ s. base + slope * s) sum n (supported-line base slope n) (ed .sum)
+
+      -- Near: no word up to j is lowered.
+      pub block-stays : (j top : ℕ) → j < n → top ≡ choiceSum inner rest base slope xs j → old ≤ new → old + step * j ≤ top → Unlowered cell inner rest base slope n xs (j + 1)
+      block-stays j top l e h k =
+          record {
+            within = omega arith;
+            stay =
+                λ s m.
+                omega (
+                  arith,
+                  never-above-near row (λ s. base + slope * s + sum s) n step j s (ed .row) choice-edge step-is (omega (arith, first-row, new-sum, h)) (omega (arith, first-row, e, k)) two l (omega arith),
+                );
+          }
 
   -- Words that stay, or a block of words lowered.
   module _ (stay turn : ℕ) (u : Unlowered cell inner rest base slope n xs stay) (t : Turn stay n turn) (some : 0 < n) (ys : List ℕ) (w : Written cell turn (lowered cell inner rest base slope xs) xs ys) where
@@ -102,7 +124,7 @@ module _ (cell inner rest base slope n : ℕ) (xs : List ℕ) (ok : LowerFits ce
           written =
               record {
                 kept = kept-more cell turn stay xs ys (omega (arith, t .none h)) (w .kept);
-                words = λ s l. w .kept .above (cell + s) (omega (arith, t .none h)) ∙ sym (lower-first (getD xs (cell + s) 0) (base + slope * s + getD xs (inner + s) 0 + getD xs (rest + s) 0) (u .stay s l));
+                words = λ s l. w .kept .above (cell + s) (omega (arith, t .none h)) ∙ sym (lower-first (getD xs (cell + s) 0) (choiceSum inner rest base slope xs s) (u .stay s l));
               };
         }
 

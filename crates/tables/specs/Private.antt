@@ -82,6 +82,10 @@ pub record Written (at n : ℕ) (f : ℕ → ℕ) (before after : List ℕ) : Ty
 abbrev pub Apart : ℕ → ℕ → ℕ → Type 0
 Apart p q n = (p + n ≤ q) ⊎ (q + n ≤ p)
 
+-- What the choice comes to for s reads skipped, by the words that it is made of.
+abbrev pub choiceSum : ℕ → ℕ → ℕ → ℕ → List ℕ → ℕ → ℕ
+choiceSum inner rest base slope room s = base + slope * s + getD room (inner + s) 0 + getD room (rest + s) 0
+
 -- What a row needs to be made of another, a sum on top of each word; and of two others.
 pub record SkipFits (cell from more n : ℕ) (room : List ℕ) : Type 0 where
   pub cell-in : cell + n ≤ length room
@@ -96,11 +100,15 @@ pub record LowerFits (cell inner rest base slope n : ℕ) (room : List ℕ) : Ty
   pub inner-apart : Apart inner cell n
   pub rest-apart : Apart rest cell n
   pub wait-fits : base + slope * n < 2 ^ 64
-  pub fits : (s : ℕ) → s < n → base + slope * s + getD room (inner + s) 0 + getD room (rest + s) 0 < 2 ^ 64
+  pub fits : (s : ℕ) → s < n → choiceSum inner rest base slope room s < 2 ^ 64
 
 abbrev pub lowered : ℕ → ℕ → ℕ → ℕ → ℕ → List ℕ → ℕ → ℕ
-lowered cell inner rest base slope room s =
-    lower (getD room (cell + s) 0) (base + slope * s + getD room (inner + s) 0 + getD room (rest + s) 0)
+lowered cell inner rest base slope room s = lower (getD room (cell + s) 0) (choiceSum inner rest base slope room s)
+
+pub record WordFits (inner rest base slope s : ℕ) (room : List ℕ) : Type 0 where
+  pub inner-in : inner + s < length room
+  pub rest-in : rest + s < length room
+  pub fits : choiceSum inner rest base slope room s < 2 ^ 64
 
 -- A row is the lower edge of lines, and so is the sum of the two that a choice is made of. The tests of a block need room for n times a word.
 pub record Edges (cell inner rest n : ℕ) (room : List ℕ) : Type 0 where
@@ -111,7 +119,7 @@ pub record Edges (cell inner rest n : ℕ) (room : List ℕ) : Type 0 where
 -- The first r of n words are none that the choice lowers.
 pub record Unlowered (cell inner rest base slope n : ℕ) (room : List ℕ) (r : ℕ) : Type 0 where
   pub within : r ≤ n
-  pub stay : (s : ℕ) → s < r → getD room (cell + s) 0 ≤ base + slope * s + getD room (inner + s) 0 + getD room (rest + s) 0
+  pub stay : (s : ℕ) → s < r → getD room (cell + s) 0 ≤ choiceSum inner rest base slope room s
 
 -- A block of n words: r of them, and one at least.
 pub record Block (n r : ℕ) : Type 0 where

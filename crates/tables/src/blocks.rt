@@ -1,11 +1,11 @@
 // Laying a choice over a row of the table, block by block. A row is the lower edge of lines, as the choice's words are: two comparisons show of
 // all words that are left, or of a block, that the choice lowers none of them.
 ghost use mathlib.Core.Path.{_≡_};
-ghost use Prim.Native.Nat.{_+_, _<_};
-ghost use lib.ListN.{length, getD};
+ghost use Prim.Native.Nat.{_<_};
 ghost use Rattle.least.specs.Recurrence.{lower};
-ghost use Rattle.tables.specs.Private.{Written, LowerFits, Edges, Unlowered, Block, Turn, Laid, lowered};
+ghost use Rattle.tables.specs.Private.{Written, LowerFits, WordFits, Edges, Unlowered, Block, Turn, Laid, choiceSum, lowered};
 
+// Words that are looked at together.
 const BLOCK: usize = 32;
 
 fn lower_of(x: u64, y: u64) -> u64
@@ -43,8 +43,16 @@ fn block_of(n: usize) -> usize
     if n < BLOCK { n } else { BLOCK }
 }
 
-// How many of n words from here on are shown to stay as they are: all of them, a block or none. The row lies below its tangent. The choice rises
-// by its slope at least with each word, and between two words it lies above their chord.
+// The choice's word for s reads skipped.
+fn choice_word(room: &[u64], inner: usize, rest: usize, base: u64, slope: u64, s: usize) -> u64
+    requires { ⌜ WordFits inner rest base slope s (now room) ⌝ }
+    ensures { λ r. ⌜ r ≡ choiceSum inner rest base slope (now (room .entry)) s ⌝ }
+{
+    base + slope * (s as u64) + room[inner + s] + room[rest + s]
+}
+
+// How many of n words are shown to stay as they are: all, a block or none. The row lies below its tangent, which its first two words give. The choice
+// rises by its slope at least with each word (far), and between two words it lies above their chord (near).
 fn unlowered(
     room: &[u64],
     cell: usize,
@@ -62,7 +70,7 @@ fn unlowered(
         return 0;
     }
     let old = room[cell];
-    let new = base + room[inner] + room[rest];
+    let new = choice_word(room, inner, rest, base, slope, 0);
     if new < old {
         return 0;
     }
@@ -72,9 +80,7 @@ fn unlowered(
         return n;
     }
     let near = block_of(n) - 1;
-    if old + step * (near as u64)
-        <= base + slope * (near as u64) + room[inner + near] + room[rest + near]
-    {
+    if old + step * (near as u64) <= choice_word(room, inner, rest, base, slope, near) {
         return near + 1;
     }
     0

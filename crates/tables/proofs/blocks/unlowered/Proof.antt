@@ -1,6 +1,5 @@
-use Prim.Native.Nat.{_-_}
 use native.Mathlib.Omega.{arith}
-use Rattle.tables.proofs.Laying.{first-fits, step-up, tangent-fits, line-fits, all-stay, block-stays}
+use Rattle.tables.proofs.Laying.{word-fits, first-within, end-within, last-within, last-there, step-up, tangent-fits, rise-fits, line-fits, trips-fit, all-stay, block-stays}
 use borrow.Author.Needs.{needs}
 use Rattle.tables.proofs.blocks.unlowered.Statement.{statement}
 use Rattle.tables.proofs.blocks.unlowered.Tie as tie
@@ -17,29 +16,11 @@ mul-old c = search needs
 shared-slice-read-old : tie.Need-shared-slice-read-old
 shared-slice-read-old c = search needs
 
-mul-new : tie.Need-mul-new
-mul-new c = search needs
-
-shared-slice-read-new : tie.Need-shared-slice-read-new
-shared-slice-read-new c = search needs
-
-add-new : tie.Need-add-new
-add-new c =
-    let e = c .before .before in
+choice-word-requires : tie.Need-choice-word-requires
+choice-word-requires c κs =
+    let e = c .before in
     let z = e .before .before in
-    omega (arith, first-fits _ _ _ _ _ _ _ (z .pre .0) (search needs))
-
-mul-new-2 : tie.Need-mul-new-2
-mul-new-2 c = search needs
-
-shared-slice-read-new-2 : tie.Need-shared-slice-read-new-2
-shared-slice-read-new-2 c = search needs
-
-add-new-2 : tie.Need-add-new-2
-add-new-2 c =
-    let e = c .before .before .before in
-    let z = e .before .before in
-    omega (arith, first-fits _ _ _ _ _ _ _ (z .pre .0) (search needs))
+    word-fits _ _ _ _ _ _ _ (z .pre .0) 0 (first-within _ (e .if1 .left))
 
 returns-2 : tie.Need-returns-2
 returns-2 c = search needs
@@ -55,7 +36,7 @@ shared-slice-read-step c = search needs
 
 sub-step : tie.Need-sub-step
 sub-step c =
-    let e = c .before .before .before .before .before in
+    let e = c .before .before .before .before in
     let z = e .before .before in
     step-up _ _ _ _ _ _ _ (z .pre .0) (z .pre .1) (e .if1 .left)
 
@@ -64,33 +45,33 @@ sub-far c = search needs
 
 mul-if3 : tie.Need-mul-if3
 mul-if3 c =
-    let e = c .before .before .before .before .before in
+    let e = c .before .before .before .before in
     let z = e .before .before in
-    omega (arith, tangent-fits _ _ _ _ _ _ _ (z .pre .0) (z .pre .1) (e .if1 .left) (z .args .n - 1) (search needs))
+    omega (arith, rise-fits _ _ _ _ _ _ _ (z .pre .0) (z .pre .1) (e .if1 .left) _ (end-within _ (e .if1 .left)))
 
 add-if3 : tie.Need-add-if3
 add-if3 c =
-    let e = c .before .before .before .before .before in
+    let e = c .before .before .before .before in
     let z = e .before .before in
-    omega (arith, tangent-fits _ _ _ _ _ _ _ (z .pre .0) (z .pre .1) (e .if1 .left) (z .args .n - 1) (search needs))
+    omega (arith, tangent-fits _ _ _ _ _ _ _ (z .pre .0) (z .pre .1) (e .if1 .left) _ (end-within _ (e .if1 .left)))
 
 mul-if3-2 : tie.Need-mul-if3-2
 mul-if3-2 c =
-    let e = c .before .before .before .before .before in
+    let e = c .before .before .before .before in
     let z = e .before .before in
-    omega (arith, line-fits _ _ _ _ _ _ _ (z .pre .0) (z .pre .1) (e .if1 .left))
+    record { fits = trips-fit _ _ _ _ _ _ _ (z .pre .0) (z .pre .1) (e .if1 .left) _ (c .before .before .choice-word .ensures) }
 
 add-if3-2 : tie.Need-add-if3-2
 add-if3-2 c =
-    let e = c .before .before .before .before .before in
+    let e = c .before .before .before .before in
     let z = e .before .before in
-    omega (arith, line-fits _ _ _ _ _ _ _ (z .pre .0) (z .pre .1) (e .if1 .left))
+    record { fits = line-fits _ _ _ _ _ _ _ (z .pre .0) (z .pre .1) (e .if1 .left) _ (c .before .before .choice-word .ensures) }
 
 returns-3 : tie.Need-returns-3
 returns-3 c =
-    let e = c .before .before .before .before .before .before in
+    let e = c .before .before .before .before .before in
     let z = e .before .before in
-    all-stay _ _ _ _ _ _ _ (z .pre .0) (z .pre .1) (e .if1 .left) (c .before .before .if2 .left) (c .if3 .taken)
+    all-stay _ _ _ _ _ _ _ (z .pre .0) (z .pre .1) (e .if1 .left) _ (c .before .before .before .choice-word .ensures) (c .before .before .if2 .left) (c .if3 .taken)
 
 block-of-requires : tie.Need-block-of-requires
 block-of-requires c κs = search needs
@@ -98,79 +79,40 @@ block-of-requires c κs = search needs
 sub-near : tie.Need-sub-near
 sub-near c =
     let k = c in
-    let e = k .before .before .before .before .before .before .before in
+    let e = k .before .before .before .before .before .before in
     let z = e .before .before in
-    k .block-of .ensures .some (search needs)
+    last-there _ _ (e .if1 .left) (k .block-of .ensures)
 
 mul-if4 : tie.Need-mul-if4
 mul-if4 c =
     let k = c in
-    let e = k .before .before .before .before .before .before .before in
+    let e = k .before .before .before .before .before .before in
     let z = e .before .before in
-    omega (arith, tangent-fits _ _ _ _ _ _ _ (z .pre .0) (z .pre .1) (e .if1 .left) (k .block-of .result - 1) (search needs))
+    record { fits = rise-fits _ _ _ _ _ _ _ (z .pre .0) (z .pre .1) (e .if1 .left) _ (last-within _ _ (e .if1 .left) (k .block-of .ensures)) }
 
 add-if4 : tie.Need-add-if4
 add-if4 c =
     let k = c in
-    let e = k .before .before .before .before .before .before .before in
+    let e = k .before .before .before .before .before .before in
     let z = e .before .before in
-    omega (arith, tangent-fits _ _ _ _ _ _ _ (z .pre .0) (z .pre .1) (e .if1 .left) (k .block-of .result - 1) (search needs))
+    record { fits = tangent-fits _ _ _ _ _ _ _ (z .pre .0) (z .pre .1) (e .if1 .left) _ (last-within _ _ (e .if1 .left) (k .block-of .ensures)) }
 
-mul-if4-2 : tie.Need-mul-if4-2
-mul-if4-2 c =
+choice-word-requires-2 : tie.Need-choice-word-requires-2
+choice-word-requires-2 c κs =
     let k = c in
-    let e = k .before .before .before .before .before .before .before in
+    let e = k .before .before .before .before .before .before in
     let z = e .before .before in
-    omega (arith, z .pre .0 .fits (k .block-of .result - 1) (search needs))
-
-add-if4-2 : tie.Need-add-if4-2
-add-if4-2 c =
-    let k = c in
-    let e = k .before .before .before .before .before .before .before in
-    let z = e .before .before in
-    omega (arith, z .pre .0 .fits (k .block-of .result - 1) (search needs))
-
-add-if4-3 : tie.Need-add-if4-3
-add-if4-3 c = search needs
-
-mul-if4-3 : tie.Need-mul-if4-3
-mul-if4-3 c = search needs
-
-shared-slice-read-if4 : tie.Need-shared-slice-read-if4
-shared-slice-read-if4 c = search needs
-
-add-if4-4 : tie.Need-add-if4-4
-add-if4-4 c =
-    let k = c .before in
-    let e = k .before .before .before .before .before .before .before in
-    let z = e .before .before in
-    omega (arith, z .pre .0 .fits (k .block-of .result - 1) (search needs))
-
-add-if4-5 : tie.Need-add-if4-5
-add-if4-5 c = search needs
-
-mul-if4-4 : tie.Need-mul-if4-4
-mul-if4-4 c = search needs
-
-shared-slice-read-if4-2 : tie.Need-shared-slice-read-if4-2
-shared-slice-read-if4-2 c = search needs
-
-add-if4-6 : tie.Need-add-if4-6
-add-if4-6 c =
-    let k = c .before .before in
-    let e = k .before .before .before .before .before .before .before in
-    let z = e .before .before in
-    omega (arith, z .pre .0 .fits (k .block-of .result - 1) (search needs))
+    word-fits _ _ _ _ _ _ _ (z .pre .0) _ (last-within _ _ (e .if1 .left) (k .block-of .ensures))
 
 add-result : tie.Need-add-result
 add-result c = search needs
 
 returns-4 : tie.Need-returns-4
 returns-4 c =
-    let k = c .before .before .before in
-    let e = k .before .before .before .before .before .before .before in
+    let k = c .before .before in
+    let e = k .before .before .before .before .before .before in
     let z = e .before .before in
-    block-stays _ _ _ _ _ _ _ (z .pre .0) (z .pre .1) (e .if1 .left) (k .block-of .result - 1) (search needs) (k .before .before .before .if2 .left) (c .if4 .taken)
+    block-stays _ _ _ _ _ _ _ (z .pre .0) (z .pre .1) (e .if1 .left) _ (k .before .before .before .before .choice-word .ensures) _ _ (last-within _ _ (e .if1 .left) (k .block-of .ensures)) (c .before .choice-word2 .ensures) (k .before .before .before .if2 .left) (c .if4 .taken)
 
 returns-5 : tie.Need-returns-5
 returns-5 c = search needs
@@ -182,12 +124,7 @@ unlowered-spec =
     returns
     mul-old
     shared-slice-read-old
-    mul-new
-    shared-slice-read-new
-    add-new
-    mul-new-2
-    shared-slice-read-new-2
-    add-new-2
+    choice-word-requires
     returns-2
     add-step
     mul-step
@@ -203,16 +140,7 @@ unlowered-spec =
     sub-near
     mul-if4
     add-if4
-    mul-if4-2
-    add-if4-2
-    add-if4-3
-    mul-if4-3
-    shared-slice-read-if4
-    add-if4-4
-    add-if4-5
-    mul-if4-4
-    shared-slice-read-if4-2
-    add-if4-6
+    choice-word-requires-2
     add-result
     returns-4
     returns-5)
