@@ -1,7 +1,8 @@
 /* Measures the planner and the pricer through the C boundary, beside two table programs in C (plain.c and paper.c), in
  * one process and on the same runs, and prints one table. Every sum is compared, and the planner's list with plain.c's.
  *
- * bench/run.sh [--quick] builds and runs it     --quick: each size once, to see that all agree; its times say little */
+ * bench/run.sh [--quick | --slow SECONDS] builds and runs it     --quick: each size once, to see that all agree; its times
+ * say little     --slow: in place of the table, a search for runs that take the planner long (slow.c) */
 #define _POSIX_C_SOURCE 199309L
 #include <inttypes.h>
 #include <stdbool.h>
@@ -10,6 +11,7 @@
 #include <string.h>
 #include <time.h>
 #include <violstream.h>
+#include "slow.h"
 #include "stack.h"
 #include "tables.h"
 
@@ -239,6 +241,25 @@ static void crowd(struct request *q, size_t at)
     join(q);
 }
 
+/* The slowest shape found (slow.c): each file half as long as the one to its left, down to 1, no gaps, all wanted; a turn costs 1,
+ * and the reads crowd the rightmost. What a choice comes to then dips below the row in many blocks. */
+static void make_halving(struct request *q)
+{
+    uint64_t place = 0, length = VIOLSTREAM_MAX_POSITION / 4;
+    q->files = q->wants = 0;
+    q->stops = (struct stops){.reads = VIOLSTREAM_MAX_READS, .turn = 1};
+    while (q->files < VIOLSTREAM_MAX_WANTS) {
+        q->starts[q->files] = place;
+        q->lengths[q->files] = length;
+        q->aggregates[q->files++] = 0;
+        want_last_file(q);
+        place += length;
+        length = length > 1 ? length / 2 : 1;
+    }
+    q->stops.head = place;
+    crowd(q, q->wants - 1);
+}
+
 static void print_sizes(struct request *q)
 {
     static const size_t wants[] = {8, 16, 32, 64};
@@ -264,6 +285,8 @@ static void print_sizes(struct request *q)
         snprintf(where, sizeof where, "%zu by %zu", q->stops.k, together[i]);
         print_size(q, where);
     }
+    make_halving(q);
+    print_size(q, "halving");
 }
 
 /* ---- The pricer ---- */
@@ -400,19 +423,27 @@ int main(int argc, char **argv)
 {
     static struct request request;
     quick = argc == 2 && strcmp(argv[1], "--quick") == 0;
-    if (argc > 1 && !quick) {
-        fprintf(stderr, "usage: bench [--quick]\n");
+    bool slow = argc == 3 && strcmp(argv[1], "--slow") == 0;
+    if (argc > 1 && !quick && !slow) {
+        fprintf(stderr, "usage: bench [--quick | --slow SECONDS]\n");
         return 2;
     }
     room = calloc(VIOLSTREAM_ROOM_MOST, sizeof *room);
     if (room == NULL)
         fail("no memory for the room", VIOLSTREAM_MAX_WANTS, VIOLSTREAM_MAX_READS);
+    if (slow) {
+        if (!search_slow(strtod(argv[2], NULL), 1, room))
+            fail("the planner refuses or differs from plain C", VIOLSTREAM_MAX_WANTS, VIOLSTREAM_MAX_READS);
+        free(room);
+        return 0;
+    }
     printf("Milliseconds, the best of %s, one core, C compiled with %s.\n"
            "One buffer serves all: before every timed call, outside the clock, it is filled with a pattern other than zero.\n"
            "No buffer is cleared first. boundary: violstream_plan, which judges, plans, prices and clears its room at the end.\n"
            "plain: table and list. paper: document 000's cells one by one. paper, rows: the same with n_skip innermost.\n"
            "None of these clears its table. clearing: that alone. with clearing: a program's time and that of clearing together.\n"
-           "n by m: as no file, all files in aggregates of m, which make n stops of the wants; the table programs take the stops.\n\n",
+           "n by m: as no file, all files in aggregates of m, which make n stops of the wants; the table programs take the stops.\n"
+           "halving: each file half as long as the one to its left, and most reads at the rightmost; the slowest shape found.\n\n",
            quick ? "one" : "at least 5", FLAGS);
     print_sizes(&request);
     printf("\n");

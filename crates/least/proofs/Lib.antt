@@ -5,8 +5,10 @@ pub mod Rising
 pub mod Sums
 pub mod Cost
 pub mod Scan
+pub mod Lines
 pub mod Columns
 pub mod Value
+pub mod Edges
 pub mod Bounds
 pub mod Best
 pub mod Ties

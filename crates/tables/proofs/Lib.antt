@@ -1,5 +1,6 @@
 -- Laws that this crate's proofs share; Determined for the planner, which prices the list.
 pub mod Words
+pub mod Laying
 pub mod Sizes
 pub mod Facts
 pub mod Cells

@@ -6,11 +6,14 @@ use native.Mathlib.Omega.{arith}
 use native.Mathlib.Numerals.{add-one}
 use native.Mathlib.Nat.{le-refl}
 use lib.ListN.{length, getD}
-use Rattle.runs.specs.Run.{Stop, plainStops}
+use Rattle.runs.specs.Run.{Stop, plainStops, lastPlace, highestTurn, mostReads}
 use Rattle.least.proofs.Scan.{lowest-one-more, lowest-end}
 use Rattle.least.proofs.Value.{value-step}
+use Rattle.least.proofs.Lines.{lower-below-first, supported-lower, supported-same}
+use Rattle.least.proofs.Edges.{candidate-supported}
+use Rattle.least.specs.Lines.{Supported}
 use Rattle.least.specs.Recurrence.{lower, lowest, leftAt, rightAt, countAt}
-use Rattle.tables.specs.Private.{Kept, Written, SkipFits, RowTask, DetourFrom, rowAt, readsIn, startAt, worth, choiceWorth}
+use Rattle.tables.specs.Private.{Kept, Written, SkipFits, RowTask, DetourFrom, SoFar, rowAt, readsIn, startAt, worth, choiceWorth}
 use Rattle.tables.proofs.Sizes.{reads-more}
 use Rattle.tables.proofs.Words.{kept-none, kept-more, kept-on}
 use Rattle.tables.proofs.Facts.{cheap-turn}
@@ -50,7 +53,21 @@ module _ (starts lengths numbers counts : List ℕ) (turn reads : ℕ) (a b n : 
     pub from : a ≤ c
     pub up-to : c ≤ b + 1
     pub left : w ≡ readsIn counts c
+    pub so-far : SoFar (rowAt (length numbers) reads a (b + 1)) n ys
     pub words : (s : ℕ) → s < n → lowest (choiceWorth (plainStops starts lengths numbers counts) turn a b s) a c (getD ys (rowAt (length numbers) reads a (b + 1) + s) 0) ≡ worth (plainStops starts lengths numbers counts) turn a (suc b) s
+
+  choice-edge : (c : ℕ) → c ≤ b + 1 → Supported (λ s. choiceWorth stops turn a b s c) n
+  choice-edge c h = candidate-supported (leftAt stops) (rightAt stops) (countAt stops) turn a b c n (omega arith)
+
+  -- The row with one choice more.
+  so-far-lowered : (ys zs : List ℕ) (c : ℕ) → c ≤ b + 1 → SoFar cell n ys → ((s : ℕ) → s < n → getD zs (cell + s) 0 ≡ lower (getD ys (cell + s) 0) (choiceWorth stops turn a b s c)) → SoFar cell n zs
+  so-far-lowered ys zs c h so e =
+      record {
+        edge =
+            supported-same (λ s. lower (getD ys (cell + s) 0) (choiceWorth stops turn a b s c)) (λ s. getD zs (cell + s) 0) n (λ s l. sym (e s l))
+            (supported-lower (λ s. getD ys (cell + s) 0) (λ s. choiceWorth stops turn a b s c) n (so .edge) (choice-edge c h));
+        small = λ s l. rw (e s l) (omega (arith, lower-below-first (getD ys (cell + s) 0) (choiceWorth stops turn a b s c), so .small s l));
+      }
 
   module _ (xs ys : List ℕ) (c w : ℕ) (r : RowLoop xs ys c w) where
     pub detour-next : a < c → DetourFrom counts a b c w
@@ -72,6 +89,7 @@ module _ (starts lengths numbers counts : List ℕ) (turn reads : ℕ) (a b n : 
           from = omega arith;
           up-to = omega (arith, r .up-to);
           left = omega (arith, r .left, counts-back (omega arith));
+          so-far = so-far-lowered ys zs c (r .up-to) (r .so-far) (z .words);
           words = λ s l. rw (z .words s l) (sym (lowest-one-more (choiceWorth stops turn a b s) a c (getD ys (cell + s) 0) h) ∙ r .words s l);
         }
 
@@ -88,15 +106,24 @@ module _ (starts lengths numbers counts : List ℕ) (turn reads : ℕ) (a b n : 
         (from-is, inner-word starts lengths numbers counts turn reads room a b n t a s (omega (arith, t .window)) l, more-is, ← early-is starts lengths numbers counts turn reads (t .judged) b (t .inside) a (omega (arith, t .window)))
         (sym (candidate-skip (leftAt stops) (rightAt stops) (countAt stops) turn (worth stops turn) a b s))
 
+    skip-small : (s : ℕ) → s < n → choiceWorth stops turn a b s 0 ≤ 2 * (highestTurn + 2 * lastPlace) * mostReads
+    skip-small s l =
+        omega (arith, choice-small starts lengths numbers counts turn reads (t .judged) b (t .inside) a s 0 (omega arith) (skipped starts lengths numbers counts turn reads room a b n t s l), cheap-turn starts lengths numbers counts turn reads (t .judged))
+
     pub skip-fits : SkipFits row (from + getD counts (b + 1) 0) more n room
     skip-fits =
         record {
           cell-in = omega (arith, row-is, room-for starts lengths numbers counts turn reads room a b n t a (b + 1) 0 (omega (arith, t .window, t .inside)) (t .inside) (omega (arith, count-span starts lengths numbers counts turn reads room a b n t)));
           from-in = rw from-is (room-for starts lengths numbers counts turn reads room a b n t a b (getD counts (b + 1) 0) (omega (arith, t .window, t .inside)) (omega (arith, t .inside)) (count-span starts lengths numbers counts turn reads room a b n t));
           apart = rw (from-is, row-is) (earlier-apart starts lengths numbers counts turn reads room a b n t a b (getD counts (b + 1) 0) (le-refl b) (count-span starts lengths numbers counts turn reads room a b n t));
-          fits =
-              λ s l.
-              omega (arith, skip-word s l, choice-small starts lengths numbers counts turn reads (t .judged) b (t .inside) a s 0 (omega arith) (skipped starts lengths numbers counts turn reads room a b n t s l), cheap-turn starts lengths numbers counts turn reads (t .judged));
+          fits = λ s l. omega (arith, skip-word s l, skip-small s l);
+        }
+
+    so-far-skipped : (ys : List ℕ) → ((s : ℕ) → s < n → getD ys (cell + s) 0 ≡ choiceWorth stops turn a b s 0) → SoFar cell n ys
+    so-far-skipped ys e =
+        record {
+          edge = supported-same (λ s. choiceWorth stops turn a b s 0) (λ s. getD ys (cell + s) 0) n (λ s l. sym (e s l)) (choice-edge 0 (omega arith));
+          small = λ s l. rw (e s l) (skip-small s l);
         }
 
     pub row-starts : (left : ℕ) → left ≡ readsIn counts (b + 1) → (ys : List ℕ) → Written row n (λ s. more + getD room (from + getD counts (b + 1) 0 + s) 0) room ys → RowLoop ys ys (b + 1) left
@@ -108,6 +135,7 @@ module _ (starts lengths numbers counts : List ℕ) (turn reads : ℕ) (a b n : 
           from = omega (arith, t .window);
           up-to = le-refl (b + 1);
           left = e;
+          so-far = so-far-skipped ys (λ s l. z .words s l ∙ skip-word s l);
           words =
               λ s l.
               rw (z .words s l, skip-word s l, add-one b)

@@ -10,7 +10,9 @@ use Rattle.runs.specs.Run.{Stop, plainStops, lastPlace, highestTurn, mostReads}
 use Rattle.least.specs.Recurrence.{trip, early, W, lower, leftAt, rightAt, countAt}
 use Rattle.least.proofs.Sums.{W-suc, W-rises}
 use Rattle.least.proofs.Bounds.{candidate-bound}
-use Rattle.tables.specs.Private.{Judged, Written, Apart, LowerFits, lowered, RowTask, DetourFrom, rowAt, readsIn, readsFirst, startAt, stopEnd, worth, choiceWorth}
+use Rattle.least.proofs.Lines.{supported-sum, supported-same}
+use Rattle.least.proofs.Edges.{value-supported, value-supported-later}
+use Rattle.tables.specs.Private.{Judged, Written, Apart, LowerFits, Edges, SoFar, lowered, RowTask, DetourFrom, rowAt, readsIn, readsFirst, startAt, stopEnd, worth, choiceWorth}
 use Rattle.tables.proofs.Words.{written-same}
 use Rattle.tables.proofs.Facts.{left-at, right-at, count-at, reads-at, few-reads, cheap-turn, ends-near, reads-up-to, count-few}
 use Rattle.tables.proofs.Cells.{row-inside, rows-apart}
@@ -20,6 +22,10 @@ use Rattle.tables.proofs.Choices.{candidate-detour}
 pub wait-small : (slope w n : ℕ) → slope ≤ 2 * (highestTurn + lastPlace) → w ≤ mostReads → n ≤ mostReads + 1
     → slope * w + slope * n ≤ 2 * (highestTurn + lastPlace) * mostReads + 2 * (highestTurn + lastPlace) * (mostReads + 1)
 wait-small slope w n h l m = omega (arith, mul-le-mul h l, mul-le-mul h m)
+
+-- So does a choice's cost, as often as a row has words.
+times-small : (v n : ℕ) → v ≤ 2 * (highestTurn + 2 * lastPlace) * mostReads → n ≤ mostReads + 1 → v * n ≤ 2 * (highestTurn + 2 * lastPlace) * mostReads * (mostReads + 1)
+times-small v n h l = mul-le-mul h l
 
 -- A candidate's sum, from its parts.
 candidate-sum : (slope w e s x y v : ℕ) → v ≡ slope * (w + s) + e + x + y → slope * w + e + slope * s + x + y ≡ v
@@ -134,6 +140,22 @@ module _ (starts lengths numbers counts : List ℕ) (turn reads : ℕ) (room : L
             where
               rest-away : Apart (rowAt k reads a (c - 1)) (rowAt k reads a (b + 1)) n
               rest-away = rw add-zero at (earlier-apart a (c - 1) 0 (omega (arith, d .up-to, d .after)) (omega (arith, count-span)))
+
+          pub detour-edges : SoFar (rowAt k reads a (b + 1)) n room → Edges cell (at + getD counts (b + 1) 0) rest n room
+          detour-edges so =
+              record {
+                row = rw cell-is (so .edge);
+                sum =
+                    supported-same (λ s. worth stops turn c b (s + countAt stops (suc b)) + worth stops turn a (c - 1) s) (λ s. getD room (at + getD counts (b + 1) 0 + s) 0 + getD room (rest + s) 0) n
+                    (λ s l. sym (both-words s l))
+                    (supported-sum (λ s. worth stops turn c b (s + countAt stops (suc b))) (λ s. worth stops turn a (c - 1) s) n
+                    (value-supported-later (leftAt stops) (rightAt stops) (countAt stops) turn c b (countAt stops (suc b)) n)
+                    (value-supported (leftAt stops) (rightAt stops) (countAt stops) turn a (c - 1) n));
+                times-fit = λ s l. rw cell-is (omega (arith, times-small (getD room (rowAt k reads a (b + 1) + s) 0) n (so .small s l) (omega (arith, t .span, few-reads starts lengths numbers counts turn reads (t .judged)))));
+              }
+            where
+              both-words : (s : ℕ) → s < n → getD room (at + getD counts (b + 1) 0 + s) 0 + getD room (rest + s) 0 ≡ worth stops turn c b (s + countAt stops (suc b)) + worth stops turn a (c - 1) s
+              both-words s l = rw (at-is, rest-is, inner-word c s (d .up-to) l, rest-word (c - 1) s (omega (arith, d .after)) (omega (arith, d .up-to, d .after)) l)
 
           pub detour-written : (after : List ℕ) → Written cell n (lowered cell (at + getD counts (b + 1) 0) rest (slope * w + e) slope room) room after
               → Written (rowAt k reads a (b + 1)) n (λ s. lower (getD room (rowAt k reads a (b + 1) + s) 0) (choiceWorth stops turn a b s c)) room after

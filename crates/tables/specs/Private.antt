@@ -13,6 +13,7 @@ use Rattle.runs.specs.Run.{Stop, aloneOf, plainStops, total, endAt, lastPlace, 
 use Rattle.runs.specs.Judging.{judgeOf}
 use Rattle.runs.specs.Private.{InTable}
 use Rattle.runs.specs.Lists.{Detour, listOf}
+use Rattle.least.specs.Lines.{Supported}
 use Rattle.least.specs.Recurrence.{W, lower, value, candidate, choice, planDetours, best, fileAt, leftAt, rightAt, countAt}
 
 -- Rows that the judging accepts with some head, and the number of their reads.
@@ -81,6 +82,10 @@ pub record Written (at n : ℕ) (f : ℕ → ℕ) (before after : List ℕ) : Ty
 abbrev pub Apart : ℕ → ℕ → ℕ → Type 0
 Apart p q n = (p + n ≤ q) ⊎ (q + n ≤ p)
 
+-- What the choice comes to for s reads skipped, by the words that it is made of.
+abbrev pub choiceSum : ℕ → ℕ → ℕ → ℕ → List ℕ → ℕ → ℕ
+choiceSum inner rest base slope room s = base + slope * s + getD room (inner + s) 0 + getD room (rest + s) 0
+
 -- What a row needs to be made of another, a sum on top of each word; and of two others.
 pub record SkipFits (cell from more n : ℕ) (room : List ℕ) : Type 0 where
   pub cell-in : cell + n ≤ length room
@@ -95,11 +100,43 @@ pub record LowerFits (cell inner rest base slope n : ℕ) (room : List ℕ) : Ty
   pub inner-apart : Apart inner cell n
   pub rest-apart : Apart rest cell n
   pub wait-fits : base + slope * n < 2 ^ 64
-  pub fits : (s : ℕ) → s < n → base + slope * s + getD room (inner + s) 0 + getD room (rest + s) 0 < 2 ^ 64
+  pub fits : (s : ℕ) → s < n → choiceSum inner rest base slope room s < 2 ^ 64
 
 abbrev pub lowered : ℕ → ℕ → ℕ → ℕ → ℕ → List ℕ → ℕ → ℕ
-lowered cell inner rest base slope room s =
-    lower (getD room (cell + s) 0) (base + slope * s + getD room (inner + s) 0 + getD room (rest + s) 0)
+lowered cell inner rest base slope room s = lower (getD room (cell + s) 0) (choiceSum inner rest base slope room s)
+
+pub record WordFits (inner rest base slope s : ℕ) (room : List ℕ) : Type 0 where
+  pub inner-in : inner + s < length room
+  pub rest-in : rest + s < length room
+  pub fits : choiceSum inner rest base slope room s < 2 ^ 64
+
+-- A row is the lower edge of lines, and so is the sum of the two that a choice is made of. The tests of a block need room for n times a word.
+pub record Edges (cell inner rest n : ℕ) (room : List ℕ) : Type 0 where
+  pub row : Supported (λ s. getD room (cell + s) 0) n
+  pub sum : Supported (λ s. getD room (inner + s) 0 + getD room (rest + s) 0) n
+  pub times-fit : (s : ℕ) → s < n → getD room (cell + s) 0 * n < 2 ^ 64
+
+-- The first r of n words are none that the choice lowers.
+pub record Unlowered (cell inner rest base slope n : ℕ) (room : List ℕ) (r : ℕ) : Type 0 where
+  pub within : r ≤ n
+  pub stay : (s : ℕ) → s < r → getD room (cell + s) 0 ≤ choiceSum inner rest base slope room s
+
+-- A block of n words: r of them, and one at least.
+pub record Block (n r : ℕ) : Type 0 where
+  pub within : r ≤ n
+  pub some : 0 < n → 0 < r
+
+-- The words to lower after those that stay: a block where none stays.
+pub record Turn (stay n r : ℕ) : Type 0 where
+  pub within : r ≤ n
+  pub some : stay ≡ 0 → 0 < n → 0 < r
+  pub none : 0 < stay → r ≡ 0
+
+-- The choice is laid over the first r of n words, and one at least.
+pub record Laid (cell inner rest base slope n : ℕ) (room after : List ℕ) (r : ℕ) : Type 0 where
+  pub within : r ≤ n
+  pub some : 0 < r
+  pub written : Written cell r (lowered cell inner rest base slope room) room after
 
 -- What the words of the table are to be: the least that the window (a, b] can cost, and what a choice at stop b + 1 comes to.
 abbrev pub worth : List Stop → ℕ → ℕ → ℕ → ℕ → ℕ
@@ -143,6 +180,11 @@ pub record DetourFrom (counts : List ℕ) (a b c w : ℕ) : Type 0 where
   pub after : a < c
   pub up-to : c ≤ b + 1
   pub left : w ≡ readsIn counts c
+
+-- The n words of a row so far, from `cell`: a lower edge of lines, and none larger than a choice can come to.
+pub record SoFar (cell n : ℕ) (room : List ℕ) : Type 0 where
+  pub edge : Supported (λ s. getD room (cell + s) 0) n
+  pub small : (s : ℕ) → s < n → getD room (cell + s) 0 ≤ 2 * (highestTurn + 2 * lastPlace) * mostReads
 
 -- A column of the table that is to be filled: column b + 1, where those up to b are done.
 pub record ColumnTask (starts lengths numbers counts : List ℕ) (turn reads : ℕ) (room : List ℕ) (b n : ℕ) : Type 0 where

@@ -4,7 +4,8 @@ ghost use Prim.Native.Nat.{suc, _+_, _-_, _*_, _≤_, _<_};
 ghost use lib.ListN.{length, getD};
 ghost use Rattle.runs.specs.Run.{plainStopsAt};
 ghost use Rattle.least.specs.Recurrence.{lower};
-ghost use Rattle.tables.specs.Private.{Written, SkipFits, LowerFits, lowered, RowTask, DetourFrom, ColumnTask, DoneUpTo, Judged, Filled, Beyond, tableSize, rowAt, readsIn, worth, choiceWorth};
+ghost use Rattle.tables.specs.Private.{Written, SkipFits, RowTask, DetourFrom, SoFar, ColumnTask, DoneUpTo, Judged, Filled, Beyond, tableSize, rowAt, readsIn, worth, choiceWorth};
+use crate::blocks::lower_row;
 use crate::stops::early_of;
 use crate::stops::row;
 use crate::stops::trip_of;
@@ -33,35 +34,6 @@ fn skip_row(room: &mut [u64], cell: usize, from: usize, more: u64, n: usize)
     }
 }
 
-fn lower_of(x: u64, y: u64) -> u64
-    ensures { λ r. ⌜ r ≡ lower x y ⌝ }
-{
-    if y < x { y } else { x }
-}
-
-// The row of a choice that detours: each word falls to the choice's, where that is lower.
-fn lower_row(
-    room: &mut [u64],
-    cell: usize,
-    inner: usize,
-    rest: usize,
-    base: u64,
-    slope: u64,
-    n: usize,
-)
-    requires { ⌜ LowerFits cell inner rest base slope n (now room) ⌝ }
-    ensures { λ _. ⌜ Written cell n (lowered cell inner rest base slope (now (room .entry))) (now (room .entry)) (now (room .exit)) ⌝ }
-{
-    let mut wait = base;
-    let mut s: usize = 0;
-    while s < n {
-        let low = lower_of(room[cell + s], wait + room[inner + s] + room[rest + s]);
-        room[cell + s] = low;
-        wait += slope;
-        s += 1;
-    }
-}
-
 // Row (a, b + 1) against the detour from c; w reads stand left of c.
 fn detour_row(
     starts: &[u64],
@@ -79,6 +51,7 @@ fn detour_row(
 )
     requires { ⌜ RowTask (now starts) (now lengths) (now numbers) (now counts) turn reads (now room) a b n ⌝ }
     requires { ⌜ DetourFrom (now counts) a b c w ⌝ }
+    requires { ⌜ SoFar (rowAt (length (now numbers)) reads a (b + 1)) n (now room) ⌝ }
     ensures { λ _. ⌜ Written (rowAt (length (now (numbers .entry))) reads a (b + 1)) n (λ s. lower (getD (now (room .entry)) (rowAt (length (now (numbers .entry))) reads a (b + 1) + s) 0) (choiceWorth (plainStopsAt starts lengths numbers counts) turn a b s c)) (now (room .entry)) (now (room .exit)) ⌝ }
 {
     let k = numbers.len();

@@ -1,7 +1,7 @@
 use native.Mathlib.Omega.{arith}
 use native.Mathlib.Nat.{mul-le-mul}
 use Rattle.tables.proofs.Facts.{trip-fits, early-fits, row-fits, row-part-small, count-few, even-counts}
-use Rattle.tables.proofs.Steps.{waiting-few, slope-small, base-small, detour-fits, detour-written}
+use Rattle.tables.proofs.Steps.{waiting-few, slope-small, base-small, detour-fits, detour-edges, detour-written}
 use borrow.Author.Needs.{needs}
 use Rattle.tables.proofs.filling.detour_row.Statement.{statement}
 use Rattle.tables.proofs.filling.detour_row.Tie as tie
@@ -15,12 +15,12 @@ add-trip-of c = search needs
 trip-of-requires : tie.Need-trip-of-requires
 trip-of-requires c κs =
     let z = c .before .before .before .before .before in
-    trip-fits _ _ _ _ _ _ (z .pre .0 .judged) _ _ (z .pre .1 .up-to) (z .pre .0 .inside)
+    trip-fits _ _ _ _ _ _ (z .pre .0 .judged) _ _ (z .pre .1 .0 .up-to) (z .pre .0 .inside)
 
 mul-base : tie.Need-mul-base
 mul-base c =
     let z = c .before .before .before .before .before .before in
-    omega (arith, mul-le-mul (slope-small _ _ _ _ _ _ _ _ _ _ (z .pre .0) _ _ (z .pre .1) _ (c .trip-of .ensures)) (waiting-few _ _ _ _ _ _ _ _ _ _ (z .pre .0) _ _ (z .pre .1)))
+    omega (arith, mul-le-mul (slope-small _ _ _ _ _ _ _ _ _ _ (z .pre .0) _ _ (z .pre .1 .0) _ (c .trip-of .ensures)) (waiting-few _ _ _ _ _ _ _ _ _ _ (z .pre .0) _ _ (z .pre .1 .0)))
 
 add-early-of : tie.Need-add-early-of
 add-early-of c = search needs
@@ -28,17 +28,17 @@ add-early-of c = search needs
 early-of-requires : tie.Need-early-of-requires
 early-of-requires c κs =
     let z = c .before .before .before .before .before .before in
-    early-fits _ _ _ _ _ _ (z .pre .0 .judged) _ _ (z .pre .1 .up-to) (z .pre .0 .inside)
+    early-fits _ _ _ _ _ _ (z .pre .0 .judged) _ _ (z .pre .1 .0 .up-to) (z .pre .0 .inside)
 
 add-base : tie.Need-add-base
 add-base c =
     let z = c .before .before .before .before .before .before .before in
-    omega (arith, base-small _ _ _ _ _ _ _ _ _ _ (z .pre .0) _ _ (z .pre .1) _ (c .before .trip-of .ensures) _ (c .early-of .ensures))
+    omega (arith, base-small _ _ _ _ _ _ _ _ _ _ (z .pre .0) _ _ (z .pre .1 .0) _ (c .before .trip-of .ensures) _ (c .early-of .ensures))
 
 row-requires : tie.Need-row-requires
 row-requires c κs =
     let z = c .before .before .before .before .before .before .before in
-    let h = z .pre .1 .up-to in
+    let h = z .pre .1 .0 .up-to in
     let l = z .pre .0 .inside in
     row-fits _ _ _ _ _ _ (z .pre .0 .judged) _ _ (omega arith) (omega arith)
 
@@ -56,7 +56,7 @@ shared-slice-read-inner c =
 add-inner-2 : tie.Need-add-inner-2
 add-inner-2 c =
     let z = c .before .before .before .before .before .before .before .before .before in
-    let h = z .pre .1 .up-to in
+    let h = z .pre .1 .0 .up-to in
     let l = z .pre .0 .inside in
     omega (arith, row-part-small _ _ _ _ _ _ (z .pre .0 .judged) (z .args .c) (z .args .b) _ _ (omega arith) (omega arith) (c .before .row .ensures) (count-few _ _ _ _ _ _ (z .pre .0 .judged) _ l))
 
@@ -78,14 +78,14 @@ row-requires-3 c κs =
     let z = c .before .before .before .before .before .before .before .before .before .before .before in
     let h = z .pre .0 .window in
     let l = z .pre .0 .inside in
-    let m = z .pre .1 .up-to in
+    let m = z .pre .1 .0 .up-to in
     row-fits _ _ _ _ _ _ (z .pre .0 .judged) _ _ (omega arith) (omega arith)
 
 lower-row-requires : tie.Need-lower-row-requires
 lower-row-requires c κs =
     let e = c .before .before .before .before .before in
     let z = e .before .before .before .before .before .before .before in
-    detour-fits _ _ _ _ _ _ _ _ _ _ (z .pre .0) _ _ (z .pre .1) _ (e .before .trip-of .ensures) _ (e .early-of .ensures) _ _ _ (c .before .row2 .ensures) (c .before .before .before .before .row .ensures) (c .row3 .ensures)
+    (detour-fits _ _ _ _ _ _ _ _ _ _ (z .pre .0) _ _ (z .pre .1 .0) _ (e .before .trip-of .ensures) _ (e .early-of .ensures) _ _ _ (c .before .row2 .ensures) (c .before .before .before .before .row .ensures) (c .row3 .ensures), detour-edges _ _ _ _ _ _ _ _ _ _ (z .pre .0) _ _ (z .pre .1 .0) _ (e .before .trip-of .ensures) _ (e .early-of .ensures) _ _ _ (c .before .row2 .ensures) (c .before .before .before .before .row .ensures) (c .row3 .ensures) (z .pre .1 .1))
 
 same-length : tie.Need-same-length
 same-length c = search needs
@@ -95,7 +95,7 @@ returns c =
     let r = c .before .before .before in
     let e = r .before .before .before .before .before in
     let z = e .before .before .before .before .before .before .before in
-    detour-written _ _ _ _ _ _ _ _ _ _ (z .pre .0) _ _ (z .pre .1) _ (e .before .trip-of .ensures) _ (e .early-of .ensures) _ _ _ (r .before .row2 .ensures) (r .before .before .before .before .row .ensures) (r .row3 .ensures) _ (c .before .before .lower-row .ensures)
+    detour-written _ _ _ _ _ _ _ _ _ _ (z .pre .0) _ _ (z .pre .1 .0) _ (e .before .trip-of .ensures) _ (e .early-of .ensures) _ _ _ (r .before .row2 .ensures) (r .before .before .before .before .row .ensures) (r .row3 .ensures) _ (c .before .before .lower-row .ensures)
 
 pub detour-row-spec : {M : Type 1} → statement M
 detour-row-spec =

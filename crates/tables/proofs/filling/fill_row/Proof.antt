@@ -75,7 +75,7 @@ loop-holds c =
 detour-row-requires : tie.Need-detour-row-requires Inv-loop μ-loop
 detour-row-requires c κs =
     let r = c .before .before .loop .inv in
-    (r .task, detour-next _ _ _ _ _ _ _ _ _ _ _ _ _ r (c .before .loop-test .taken))
+    (r .task, (detour-next _ _ _ _ _ _ _ _ _ _ _ _ _ r (c .before .loop-test .taken), r .so-far))
 
 sub-c : tie.Need-sub-c Inv-loop μ-loop
 sub-c c = search needs

@@ -1,8 +1,8 @@
--- `tables::filling::lower_of` meets its contract: the test is that of the definition.
+-- `tables::blocks::lower_of` meets its contract: the test is that of the definition.
 -- Assumes nothing.
 use borrow.Author.Tests.{lt-ltb, le-ltb}
-use Rattle.tables.proofs.filling.lower_of.Statement.{statement}
-use Rattle.tables.proofs.filling.lower_of.Tie as tie
+use Rattle.tables.proofs.blocks.lower_of.Statement.{statement}
+use Rattle.tables.proofs.blocks.lower_of.Tie as tie
 
 returns : tie.Need-returns
 returns c = rw (lt-ltb _ _ (c .if1 .taken))

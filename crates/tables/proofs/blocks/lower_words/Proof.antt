@@ -5,10 +5,10 @@ use Prim.Native.Nat.{_+_, _-_, _*_, _≤_}
 use native.Mathlib.Omega.{arith}
 use Rattle.tables.specs.Private.{Written, lowered}
 use Rattle.tables.proofs.Words.{written-none, sum-here, row-lowered, written-all}
-use Rattle.tables.proofs.filling.lower_row.Statement.{statement}
-use Rattle.tables.proofs.filling.lower_row.Tie as tie
+use Rattle.tables.proofs.blocks.lower_words.Statement.{statement}
+use Rattle.tables.proofs.blocks.lower_words.Tie as tie
 
--- `tables::filling::lower_row` meets its contract: before each turn the words so far are lowered and all others as they were.
+-- `tables::blocks::lower_words` meets its contract: before each turn the words so far are lowered and all others as they were.
 -- Assumes nothing.
 
 abbrev Inv-loop : tie.InvT-loop
@@ -94,8 +94,8 @@ same-length c = search needs
 returns : tie.Need-returns Inv-loop μ-loop
 returns c = let v = c .before .loop .inv in written-all _ _ _ _ _ _ (v .2) (omega arith)
 
-pub lower-row-spec : {M : Type 1} → statement M
-lower-row-spec =
+pub lower-words-spec : {M : Type 1} → statement M
+lower-words-spec =
     tie.close
     (tie.spec
     Inv-loop
