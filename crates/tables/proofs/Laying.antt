@@ -9,7 +9,7 @@ use native.Mathlib.Nat.{mul-le-mul-left, mul-le-mul-right, add-zero}
 use lib.ListN.{getD}
 use Rattle.least.specs.Lines.{Supported}
 use Rattle.least.proofs.Lines.{lower-first, supported-line, supported-sum, supported-from, supported-same, supported-rises, never-above-near, never-above-far}
-use Rattle.tables.specs.Private.{Written, Apart, LowerFits, WordFits, Edges, Unlowered, Block, Turn, Laid, choiceSum, lowered}
+use Rattle.tables.specs.Private.{Written, Apart, LowerFits, WordFits, Edges, Unlowered, Block, Falling, Laid, choiceSum, lowered}
 use Rattle.tables.proofs.Words.{kept-more, word-apart}
 
 -- Of two words and more: the first, the last, and the last of a block.
@@ -115,7 +115,7 @@ module _ (cell inner rest base slope n : ℕ) (xs : List ℕ) (ok : LowerFits ce
           }
 
   -- Words that stay, or a block of words lowered.
-  module _ (stay turn : ℕ) (u : Unlowered cell inner rest base slope n xs stay) (t : Turn stay n turn) (some : 0 < n) (ys : List ℕ) (w : Written cell turn (lowered cell inner rest base slope xs) xs ys) where
+  module _ (stay fall : ℕ) (u : Unlowered cell inner rest base slope n xs stay) (t : Falling stay n fall) (some : 0 < n) (ys : List ℕ) (w : Written cell fall (lowered cell inner rest base slope xs) xs ys) where
     stay-laid : 0 < stay → Laid cell inner rest base slope n xs ys stay
     stay-laid h =
         record {
@@ -123,17 +123,17 @@ module _ (cell inner rest base slope n : ℕ) (xs : List ℕ) (ok : LowerFits ce
           some = h;
           written =
               record {
-                kept = kept-more cell turn stay xs ys (omega (arith, t .none h)) (w .kept);
+                kept = kept-more cell fall stay xs ys (omega (arith, t .none h)) (w .kept);
                 words = λ s l. w .kept .above (cell + s) (omega (arith, t .none h)) ∙ sym (lower-first (getD xs (cell + s) 0) (choiceSum inner rest base slope xs s) (u .stay s l));
               };
         }
 
-    pub next-laid : Laid cell inner rest base slope n xs ys (stay + turn)
+    pub next-laid : Laid cell inner rest base slope n xs ys (stay + fall)
     next-laid =
         by-cases
         (decLt 0 stay)
-        (λ h. let e : stay + turn ≡ stay = omega (arith, t .none h) in rw e (stay-laid h))
-        (λ h. let e : stay + turn ≡ turn = omega arith in rw e (record { within = t .within; some = t .some (omega arith) some; written = w }))
+        (λ h. let e : stay + fall ≡ stay = omega (arith, t .none h) in rw e (stay-laid h))
+        (λ h. let e : stay + fall ≡ fall = omega arith in rw e (record { within = t .within; some = t .some (omega arith) some; written = w }))
 
 -- The blocks so far are laid, i words, and m are left.
 module _ (cell inner rest base slope i m : ℕ) (xs ys : List ℕ) (ok : LowerFits cell inner rest base slope (i + m) xs) (w : Written cell i (lowered cell inner rest base slope xs) xs ys) where

@@ -127,7 +127,7 @@ pub record Block (n r : ℕ) : Type 0 where
   pub some : 0 < n → 0 < r
 
 -- The words to lower after those that stay: a block where none stays.
-pub record Turn (stay n r : ℕ) : Type 0 where
+pub record Falling (stay n r : ℕ) : Type 0 where
   pub within : r ≤ n
   pub some : stay ≡ 0 → 0 < n → 0 < r
   pub none : 0 < stay → r ≡ 0

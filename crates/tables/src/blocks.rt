@@ -3,7 +3,7 @@
 ghost use mathlib.Core.Path.{_≡_};
 ghost use Prim.Native.Nat.{_<_};
 ghost use Rattle.least.specs.Recurrence.{lower};
-ghost use Rattle.tables.specs.Private.{Written, LowerFits, WordFits, Edges, Unlowered, Block, Turn, Laid, choiceSum, lowered};
+ghost use Rattle.tables.specs.Private.{Written, LowerFits, WordFits, Edges, Unlowered, Block, Falling, Laid, choiceSum, lowered};
 
 // Words that are looked at together.
 const BLOCK: usize = 32;
@@ -51,8 +51,8 @@ fn choice_word(room: &[u64], inner: usize, rest: usize, base: u64, slope: u64, s
     base + slope * (s as u64) + room[inner + s] + room[rest + s]
 }
 
-// How many of n words are shown to stay as they are: all, a block or none. The row lies below its tangent, which its first two words give. The choice
-// rises by its slope at least with each word (far), and between two words it lies above their chord (near).
+// How many of n words are shown to stay as they are: all, a block or none. The row lies below its tangent, which its first two words give.
+// The choice rises by its slope at least with each word (far), and between two words it lies above their chord (near).
 fn unlowered(
     room: &[u64],
     cell: usize,
@@ -87,8 +87,8 @@ fn unlowered(
 }
 
 // How many words to lower after those that stay.
-fn turn_of(stay: usize, n: usize) -> usize
-    ensures { λ r. ⌜ Turn stay n r ⌝ }
+fn falling(stay: usize, n: usize) -> usize
+    ensures { λ r. ⌜ Falling stay n r ⌝ }
 {
     if stay == 0 {
         return block_of(n);
@@ -112,9 +112,9 @@ fn lower_next(
     ensures { λ r. ⌜ Laid cell inner rest base slope n (now (room .entry)) (now (room .exit)) r ⌝ }
 {
     let stay = unlowered(room, cell, inner, rest, base, slope, n);
-    let turn = turn_of(stay, n);
-    lower_words(room, cell, inner, rest, base, slope, turn);
-    stay + turn
+    let fall = falling(stay, n);
+    lower_words(room, cell, inner, rest, base, slope, fall);
+    stay + fall
 }
 
 // The row of a choice that detours: each word falls to the choice's, where that is lower.

@@ -9,13 +9,13 @@ use Rattle.tables.proofs.blocks.lower_next.Tie as tie
 unlowered-requires : tie.Need-unlowered-requires
 unlowered-requires c κs = search needs
 
-turn-of-requires : tie.Need-turn-of-requires
-turn-of-requires c κs = search needs
+falling-requires : tie.Need-falling-requires
+falling-requires c κs = search needs
 
 lower-words-requires : tie.Need-lower-words-requires
 lower-words-requires c κs =
     let z = c .before .before .before .before .before in
-    fewer-fit _ _ _ _ _ _ _ (z .pre .0) _ (c .before .turn-of .ensures .within)
+    fewer-fit _ _ _ _ _ _ _ (z .pre .0) _ (c .before .falling .ensures .within)
 
 add-result : tie.Need-add-result
 add-result c = search needs
@@ -26,16 +26,16 @@ same-length c = search needs
 returns : tie.Need-returns
 returns c =
     let w = c .before .before in
-    let t = w .before .before in
-    let z = t .before .before .before .before in
-    next-laid _ _ _ _ _ _ _ (z .pre .0) _ _ (t .before .unlowered .ensures) (t .turn-of .ensures) (z .pre .1 .1) _ (w .lower-words .ensures)
+    let f = w .before .before in
+    let z = f .before .before .before .before in
+    next-laid _ _ _ _ _ _ _ (z .pre .0) _ _ (f .before .unlowered .ensures) (f .falling .ensures) (z .pre .1 .1) _ (w .lower-words .ensures)
 
 pub lower-next-spec : {M : Type 1} → statement M
 lower-next-spec =
     tie.close
     (tie.spec
     unlowered-requires
-    turn-of-requires
+    falling-requires
     lower-words-requires
     add-result
     same-length
