@@ -4,7 +4,7 @@
  * Two calls. violstream_price says what a list of detours costs; violstream_plan finds the best list. Both work on
  * 64-bit numbers and on rows that the caller lends. They allocate nothing and keep nothing between calls, so several
  * threads can call at once, each with rows of its own. Whatever the run, violstream_price takes at most 1,024 bytes of
- * stack beside its arguments and violstream_plan at most 6 KB; a plan at the limits takes some tens of milliseconds. C99
+ * stack beside its arguments and violstream_plan at most 6 KB; a plan at the limits takes a few milliseconds, at most some tens. C99
  * or later, or C++. Link with libviolstream.a (x86-64, beside the C library alone):
  *
  *   cc example.c $(pkg-config --cflags --libs violstream)
