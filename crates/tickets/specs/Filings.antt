@@ -1,6 +1,6 @@
 -- A filing: a ticket goes behind its office's tickets, or is refused and nothing changes.
 use Prim.Native.Nat.{ℕ}
-use mathlib.Core.Bool.{Bool, not, cond, _||_}
+use mathlib.Core.Bool.{Bool, not, cond, _&&_}
 use mathlib.Core.List.{List, [], _∷_, _++_}
 use lib.ListN.{length}
 use lib.Dec.{leb, eqb}
@@ -11,26 +11,22 @@ use Rattle.runs.specs.Run.{mostFiles}
 use Rattle.tickets.specs.declared.Ticket.{Ticket}
 use Rattle.tickets.specs.declared.Filing.{Filing}
 use Rattle.tickets.specs.declared.FiledRow.{FiledRow}
-use Rattle.tickets.specs.Table.{places, mostCount, upTo, waiting, rowOf, rowVerdict}
+use Rattle.tickets.specs.Table.{offices, places, mostCount, upTo, waiting, rowOf, rowVerdict}
 
--- 15: the office, the file number (1 to the tape's number of files, at most 4,096) or the count is out of range.
-abbrev pub badFiling : Filing → Bool
-badFiling f =
-    not (eqb (f .office) 1 || eqb (f .office) 2)
-    || not (upTo (f .files) (f .file))
-    || not (upTo mostFiles (f .file))
-    || not (upTo mostCount (f .count))
+-- The office is 1 or 2, the file number 1 to the tape's number of files, at most 4,096, and the count 1 to 128.
+abbrev pub inRange : Filing → Bool
+inRange f = upTo offices (f .office) && upTo (f .files) (f .file) && upTo mostFiles (f .file) && upTo mostCount (f .count)
 
 -- 16: that office has 16 waiting.
 abbrev pub isFull : ℕ → List Ticket → Bool
 isFull office row = leb places (length (waiting office row))
 
--- A filing's refusals: 8 and 26, then 15, then 16.
+-- A filing's refusals: 8 and 26, then 15 (something out of range), then 16.
 unfoldable pub fileVerdict : ℕ → List Ticket → Filing → Verdict
 fileVerdict len row f =
     firstOf
     (rowVerdict len row
-    ∷ refuseIf (badFiling f) BadTicket
+    ∷ refuseIf (not (inRange f)) BadTicket
     ∷ refuseIf (isFull (f .office) row) OfficeFull
     ∷ [])
 

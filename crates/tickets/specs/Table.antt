@@ -1,7 +1,7 @@
 -- The waiting table: 32 records, 16 places for each office, office 1's first; each office's tickets in order of filing, then its empty places.
-use Prim.Native.Nat.{ℕ, zero, suc, _+_, _-_}
+use Prim.Native.Nat.{ℕ, _-_, _≤_, _<_}
 use mathlib.Core.Path.{_≡_}
-use mathlib.Core.Bool.{Bool, true, false, not, cond, _&&_, _||_}
+use mathlib.Core.Bool.{Bool, true, not, cond, _&&_, _||_}
 use mathlib.Core.List.{List, [], _∷_, _++_}
 use lib.ListN.{length, getD, take, drop, replicate}
 use lib.Dec.{ltb, leb, eqb}
@@ -11,7 +11,10 @@ use Rattle.refusals.specs.Refusals.{refuseIf, refuseAt, firstOf, firstWhere}
 use Rattle.runs.specs.Run.{mostFiles}
 use Rattle.tickets.specs.declared.Ticket.{Ticket}
 
--- The places of one office, and of both.
+-- The offices, 1 and 2; the places of one office, and of both.
+abbrev pub offices : ℕ
+offices = 2
+
 abbrev pub places : ℕ
 places = 16
 
@@ -59,6 +62,17 @@ placed ts = ts ++ replicate (places - length ts) noTicket
 
 abbrev pub rowOf : List Ticket → List Ticket → List Ticket
 rowOf ones twos = placed ones ++ placed twos
+
+-- Tickets of an office, and no more than it has places for.
+pub record Waits (office : ℕ) (ts : List Ticket) : Type 0 where
+  pub few : length ts ≤ places
+  pub each : (i : ℕ) → i < length ts → isTicket office (getD ts i noTicket) ≡ true
+
+-- A sound row: these tickets wait at office 1, those at office 2, and nothing else stands in it.
+pub record Sound (ones twos row : List Ticket) : Type 0 where
+  pub one : Waits 1 ones
+  pub two : Waits 2 twos
+  pub is : row ≡ rowOf ones twos
 
 -- The office whose place a record has, by its index from 0, and whether it is that office's first.
 abbrev pub officeAt : ℕ → ℕ

@@ -7,12 +7,14 @@ ghost use lib.ListN.{length, getD, take, drop};
 ghost use lib.Seq.{paste};
 ghost use Rattle.refusals.specs.Refusals.{firstWhere};
 ghost use Rattle.tickets.specs.Table.{isEmpty, upTo, isTicket, firstPlace, waiting, officeAt, isFirstPlace, badRecord, rowVerdict, placed, rowWithout, noTicket, places};
-ghost use Rattle.tickets.specs.Filings.{badFiling, fileVerdict, fileRow};
+ghost use Rattle.tickets.specs.Filings.{inRange, fileVerdict, fileRow};
 use refusals::Refusal;
 use refusals::Verdict;
 use refusals::refuse_at;
 use refusals::refuse_if;
 use refusals::refused;
+
+pub const OFFICES: u64 = 2;
 
 // The places of one office, and of both.
 pub const PLACES: usize = 16;
@@ -165,25 +167,19 @@ pub fn count_waiting(row: [Ticket; 32], office: u64) -> usize
     n
 }
 
-// 15.
-fn bad_filing(filing: Filing) -> bool
-    ensures { λ r. ⌜ r ≡ badFiling filing ⌝ }
+// Whether all of a filing is in range.
+fn in_range(filing: Filing) -> bool
+    ensures { λ r. ⌜ r ≡ inRange filing ⌝ }
 {
-    let office = filing.office;
-    if office == 0 {
-        return true;
-    }
-    if 2 < office {
-        return true;
-    }
-    if up_to(filing.files, filing.file) {
-        if up_to(runs::MOST_FILES as u64, filing.file) {
-            if up_to(MOST_COUNT, filing.count) {
-                return false;
+    let file = filing.file;
+    if up_to(OFFICES, filing.office) {
+        if up_to(filing.files, file) {
+            if up_to(runs::MOST_FILES as u64, file) {
+                return up_to(MOST_COUNT, filing.count);
             }
         }
     }
-    true
+    false
 }
 
 // The verdict on a filing: 8 and 26, then 15, then 16.
@@ -194,7 +190,7 @@ fn judge_filing(len: usize, row: [Ticket; 32], filing: Filing) -> Verdict
     if refused(table) {
         return table;
     }
-    let ticket = refuse_if(bad_filing(filing), Refusal::BadTicket);
+    let ticket = refuse_if(!in_range(filing), Refusal::BadTicket);
     if refused(ticket) {
         return ticket;
     }
