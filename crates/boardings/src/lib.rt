@@ -6,13 +6,13 @@ ghost use Rattle.planner.specs.Plan.{rowsBefore, rowsAfter};
 ghost use Rattle.boardings.specs.Boarders.{share, wantsOf};
 ghost use Rattle.boardings.specs.Boardings.{Boards, tapeAt, takenOf, wantRows, notBoarded, boardedBy};
 ghost use Rattle.boardings.specs.Private.{SoundRow};
-use crate::wants::wants_of;
+use crate::gathering::wants_of;
 use refusals::number;
 use refusals::refused;
 use tickets::Ticket;
 use walk::Answer;
 
-mod wants;
+mod gathering;
 
 // The most tickets of a boarding, and those that each office has first claim to.
 pub const MOST_BOARDERS: usize = 8;
