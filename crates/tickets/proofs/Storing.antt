@@ -1,23 +1,23 @@
 -- A filing: the store that the code makes is one ticket more at its office, and the answer by the verdict.
-use Prim.Native.Nat.{ℕ, suc, _+_, _-_, _≤_, _<_}
-use mathlib.Core.Path.{_≡_, refl, sym, ap, _∙_}
-use mathlib.Core.Bool.{Bool, true, false, not, cond, _&&_, true≢false}
+use Prim.Native.Nat.{ℕ, _+_, _<_}
+use mathlib.Core.Path.{_≡_, refl, ap, _∙_}
+use mathlib.Core.Bool.{true, false, not, cond, _&&_}
 use mathlib.Core.List.{List, [], _∷_, _++_}
 use mathlib.Core.Logic.{⊎-elim, _⊎_, inl, inr}
 use native.Mathlib.Omega.{arith}
 use native.Mathlib.Decide.{decLt}
 use lib.Dec.{leb, eqb, ltb}
-use lib.ListN.{length, getD, set}
-use borrow.Author.Tests.{leb-true, leb-false, eqb-false, not-true, not-false, eq-eqb, ne-eqb}
+use lib.ListN.{length, set}
+use borrow.Author.Tests.{leb-true, leb-false, eqb-false, not-true, not-false}
 use Rattle.refusals.specs.declared.Refusal.the-variants.{ShortRow, BadRecord, BadTicket, OfficeFull}
 use Rattle.refusals.specs.declared.Verdict.{Verdict}
-use Rattle.refusals.specs.Refusals.{isRefusal, refuseIf, refuseAt, firstOf, firstWhere}
+use Rattle.refusals.specs.Refusals.{refuseIf, refuseAt, firstWhere}
 use Rattle.refusals.proofs.Verdicts.{refuses, all-accept, accepts-if, accepts-at}
 use Rattle.tickets.specs.declared.Ticket.{Ticket}
 use Rattle.tickets.specs.declared.Filing.{Filing}
 use Rattle.tickets.specs.declared.FiledRow.{FiledRow}
 use Rattle.tickets.specs.Table.{offices, places, allPlaces, upTo, waiting, rowOf, badRecord, rowVerdict, firstPlace, Sound}
-use Rattle.tickets.specs.Filings.{inRange, isFull, fileVerdict, ticketOf, withTicket, rowWith, fileRow}
+use Rattle.tickets.specs.Filings.{inRange, isFull, fileVerdict, ticketOf, fileRow}
 use Rattle.tickets.proofs.Sound.{row-sound, and-true-both}
 use Rattle.tickets.proofs.Placed.{row-more-one, row-more-two}
 
