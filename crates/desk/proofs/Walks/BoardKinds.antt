@@ -1,3 +1,4 @@
+-- Derived by tools/derive.py from the text of `desk::board`, and derived again after any change of it.
 use Rattle.tickets.proofs.Ticket.{the-row}
 use Rattle.boardings.proofs.Boarded
 use Rattle.boardings.proofs.Boarded.Laws

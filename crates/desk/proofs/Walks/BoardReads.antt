@@ -1,3 +1,4 @@
+-- Derived by tools/derive.py from the text of `desk::board`, and derived again after any change of it.
 use Rattle.desk.proofs.board.{clauses, ensures-1, ensures-2, signature}
 use Rattle.desk.proofs.Walks.BoardKinds as Kinds
 use Rattle.desk.proofs.Walks.BoardKinds.{ps}

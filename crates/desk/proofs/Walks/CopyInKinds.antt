@@ -1,3 +1,4 @@
+-- Derived by tools/derive.py from the text of `desk::copy_in`, and derived again after any change of it.
 use Rattle.tickets.proofs.Ticket.Laws.{the-copy, the-laws, the-plain}
 use Rattle.tickets.proofs.Ticket.{the-row, the-type}
 use borrow.Fn.Kinds.{PK, RK, rUnit}

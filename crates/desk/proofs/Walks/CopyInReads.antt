@@ -1,3 +1,4 @@
+-- Derived by tools/derive.py from the text of `desk::copy_in`, and derived again after any change of it.
 use Rattle.desk.proofs.copy_in.{clauses, ensures-1, signature}
 use Rattle.desk.proofs.Walks.CopyInKinds as Kinds
 use Rattle.desk.proofs.Walks.CopyInKinds.{ps}

@@ -1,3 +1,4 @@
+-- Derived by tools/derive.py from the text of `desk::file`, and derived again after any change of it.
 use Rattle.tickets.proofs.Ticket.{the-row}
 use Rattle.tickets.proofs.Filed
 use Rattle.tickets.proofs.Filed.Laws

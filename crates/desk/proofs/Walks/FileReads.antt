@@ -1,3 +1,4 @@
+-- Derived by tools/derive.py from the text of `desk::file`, and derived again after any change of it.
 use Rattle.desk.proofs.file.{clauses, ensures-1, ensures-2, signature}
 use Rattle.desk.proofs.Walks.FileKinds as Kinds
 use Rattle.desk.proofs.Walks.FileKinds.{ps}

@@ -1,3 +1,4 @@
+-- Derived by tools/derive.py from the text of `desk::board`, and derived again after any change of it.
 use Rattle.boardings.proofs.board_in.Met
 use Rattle.boardings.proofs.board_in.Reads
 use Rattle.boardings.proofs.board_in.Symbol

@@ -1,3 +1,4 @@
+-- Derived by tools/derive.py from the text of `desk::copy_in`, and derived again after any change of it.
 use Rattle.desk.proofs.copy_in.Code
 use Rattle.desk.proofs.copy_in.Code.{calls-desk·used, env, function, unfolded}
 use Rattle.desk.proofs.copy_in.Key

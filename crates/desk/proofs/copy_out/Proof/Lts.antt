@@ -1,3 +1,4 @@
+-- Derived by tools/derive.py from the text of `desk::copy_out`, and derived again after any change of it.
 use denote.Memory.{pointee}
 use borrow.Rule.Local.{mem-whole, room-whole, whole-mem}
 use Rattle.tickets.proofs.Ticket.Laws as L

@@ -1,3 +1,4 @@
+-- Derived by tools/derive.py from the text of `desk::copy_out`, and derived again after any change of it.
 use Rattle.desk.proofs.blank.Met
 use Rattle.desk.proofs.blank.Reads
 use Rattle.desk.proofs.blank.Symbol

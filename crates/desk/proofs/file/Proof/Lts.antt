@@ -1,3 +1,4 @@
+-- Derived by tools/derive.py from the text of `desk::file`, and derived again after any change of it.
 use denote.Memory.{pointee}
 use Prim.Native.Nat.{_+_, ℕ}
 use Rattle.tickets.proofs.Filed

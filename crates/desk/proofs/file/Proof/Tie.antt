@@ -1,3 +1,4 @@
+-- Derived by tools/derive.py from the text of `desk::file`, and derived again after any change of it.
 use Rattle.desk.proofs.copy_in.Met
 use Rattle.desk.proofs.Walks.CopyInReads as Reads
 use Rattle.desk.proofs.copy_in.Symbol
