@@ -2,4 +2,5 @@
 pub mod Places
 pub mod Copying
 pub mod Thin
+pub mod Determined
 pub mod Walks
