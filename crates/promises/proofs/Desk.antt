@@ -1,28 +1,27 @@
 -- Request L6's promises: the table stays a table, each office's tickets leave in order and in time, and each boarded run is one of the demands'.
-use Prim.Native.Nat.{ℕ, zero, suc, _+_, _-_, _*_, _≤_, _<_, _/_, min}
+use Prim.Native.Nat.{ℕ, _+_, _-_, _*_, _≤_, _<_}
 use mathlib.Core.Path.{_≡_, refl, sym, ap, _∙_}
-use mathlib.Core.Bool.{Bool, true, false, cond, true≢false}
+use mathlib.Core.Bool.{Bool, true, false, true≢false}
 use mathlib.Core.List.{List, [], _∷_, _++_, append-assoc, append-nil}
-use mathlib.Core.Logic.{⊎-elim, _⊎_, inl, inr}
+use mathlib.Core.Logic.{⊎-elim, inl}
 use native.Mathlib.Omega.{arith}
 use native.Mathlib.Nat.{div-lt-iff-lt-mul}
 use native.Mathlib.Decide.{decLt}
 use lib.ListN.{length, drop, length-append, length-drop}
 use lib.Seq.{drop-drop, drop-append-le}
-use Rattle.refusals.specs.declared.Refusal.the-variants.{Accepted}
 use Rattle.refusals.specs.Refusals.{isRefusal}
 use Rattle.refusals.proofs.Verdicts.{refuses}
 use Rattle.runs.proofs.Search.{true-or-false}
-use Rattle.planner.specs.Plan.{Rows, planVerdict}
 use Rattle.walk.specs.Price.{pricedAnswer}
 use Rattle.tickets.specs.declared.Ticket.{Ticket}
 use Rattle.tickets.specs.Table.{waiting, rowVerdict, Waits}
-use Rattle.tickets.specs.Filings.{fileVerdict, fileRow}
+use Rattle.tickets.specs.Filings.{ticketOf, fileVerdict, fileRow}
+use Rattle.tickets.proofs.Storing.{file-accepted, office-is, range-office}
+use borrow.Author.Tests.{eq-eqb}
 use Rattle.tickets.proofs.Placed.{none-bad}
-use Rattle.boardings.specs.declared.BoardedRow.{BoardedRow}
 use Rattle.demands.proofs.Demand2.{demand2-walk, demand2-least}
 use Rattle.demands.proofs.Demand3.{demand3-same}
-use Rattle.promises.specs.Desk.{emptyTable, IsTable, IsOffice, Call, Fits, Day, over, then, departs, departures, leaving, left, joining, joined, TableStays, TableFromEmpty, InOrder, LeavesInTime, BoardingTakes, RefusalKeeps, OwnOfficeDecides, BoardedRunHolds}
+use Rattle.promises.specs.Desk.{emptyTable, IsTable, IsOffice, Call, filing, files, Day, over, then, departs, departures, leaving, left, joining, joined, TableStays, TableFromEmpty, InOrder, LeavesInTime, LeavesFromFiling, BoardingTakes, RefusalKeeps, OwnOfficeDecides, BoardedRunHolds}
 use Rattle.promises.proofs.Steps.{Step, step, not-accepted, table-of, takes, refused-is, board-accepted}
 
 stays : {row last : List Ticket} {cs : List Call} → IsTable row → Day row cs last → IsTable last
@@ -70,7 +69,8 @@ in-time office o {row} {last} j table (then {next = next} {c = c} {cs = cs} fits
       where
         place : leaving office c ≤ j → j - leaving office c < length (waiting office next)
         place b =
-            let size : length (waiting office next) ≡ (length (waiting office row) + length (joining office c)) - leaving office c = ap length (s .queue) ∙ length-drop (leaving office c) (waiting office row ++ joining office c) ∙ ap (λ n. n - leaving office c) (length-append (waiting office row) (joining office c)) in
+            let size : length (waiting office next) ≡ (length (waiting office row) + length (joining office c)) - leaving office c =
+            ap length (s .queue) ∙ length-drop (leaving office c) (waiting office row ++ joining office c) ∙ ap (λ n. n - leaving office c) (length-append (waiting office row) (joining office c)) in
             omega arith
 
         enough : (d : Bool) → departs c ≡ d → leaving office c ≤ j → j - leaving office c < 4 * departures cs
@@ -82,6 +82,16 @@ in-time office o {row} {last} j table (then {next = next} {c = c} {cs = cs} fits
 
 pub leaves-in-time : LeavesInTime
 leaves-in-time office j row last cs o table day l h = in-time office o j table day l (omega (arith, div-lt-iff-lt-mul {k = 4} {x = j} {y = departures cs} (omega arith) .0 (omega arith)))
+
+pub leaves-from-filing : LeavesFromFiling
+unfolding fileRow
+leaves-from-filing len row f r last cs table is accepts day =
+    let passes : refuses (fileVerdict len row f) ≡ false = ap (λ x. isRefusal (x .filed .verdict .refusal)) (sym is) ∙ ap isRefusal accepts in
+    let o : IsOffice (f .office) = office-is (f .office) (range-office f (file-accepted len row f passes .ranged)) in
+    let s = step (f .office) o table (files is) in
+    let joins : joining (f .office) (filing len f r) ≡ ticketOf f ∷ [] = rw (ap isRefusal accepts, eq-eqb (f .office) (f .office) refl) in
+    let behind : waiting (f .office) (r .row) ≡ waiting (f .office) row ++ ticketOf f ∷ [] = s .0 .queue ∙ ap (λ ts. waiting (f .office) row ++ ts) joins in
+    (behind, λ h. leaves-in-time (f .office) (length (waiting (f .office) row)) (r .row) last cs o (s .1) day (rw (behind, length-append (waiting (f .office) row) (ticketOf f ∷ [])) (omega arith)) h)
 
 pub boarding-takes : BoardingTakes
 boarding-takes len tape row b before after r table fits accepts = takes len tape row b before after r fits table (ap isRefusal accepts)

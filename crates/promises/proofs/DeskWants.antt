@@ -1,31 +1,29 @@
 -- The wants of a boarding: counts added by file, ascending, each a file of the tape; so 3, 4 and 5 never apply.
 use Prim.Native.Nat.{ℕ, zero, suc, _+_, _*_, _≤_, _<_}
 use mathlib.Core.Path.{_≡_, refl, sym, ap, _∙_}
-use mathlib.Core.Bool.{Bool, true, false, not, cond, true≢false, _&&_, _||_}
+use mathlib.Core.Bool.{Bool, true, false, not, cond, _&&_, _||_}
 use mathlib.Core.List.{List, [], _∷_, _++_}
-use mathlib.Core.Logic.{⊎-elim, _⊎_, inl, inr}
+use mathlib.Core.Logic.{⊎-elim, inl, inr}
 use native.Mathlib.Omega.{arith}
 use lib.Dec.{eqb, ltb, leb}
-use lib.ListN.{length, getD, take, drop, length-append, length-map, length-take}
+use lib.ListN.{length, getD, take, length-append, length-map}
 use lib.Seq.{length-take-le}
-use borrow.Author.Tests.{lt-ltb, le-ltb, eq-eqb, ne-eqb, lt-leb, leb-true, not-true, eqb-false, eqb-true}
-use Rattle.refusals.specs.declared.Refusal.{Refusal}
-use Rattle.refusals.specs.declared.Refusal.the-variants.{Accepted, WantRows, BadWant, TooManyReads, TurnPrice, HeadPlace, ShortRow, ShortRoom}
-use Rattle.refusals.specs.declared.Verdict.{Verdict}
-use Rattle.refusals.specs.Refusals.{isRefusal, accepted, refuseIf, refuseAt, firstOf, firstWhere}
+use borrow.Author.Tests.{lt-ltb, le-ltb, eq-eqb, ne-eqb, lt-leb, leb-true, not-true, eqb-false}
+use Rattle.refusals.specs.declared.Refusal.the-variants.{TurnPrice, HeadPlace, ShortRow, ShortRoom}
+use Rattle.refusals.specs.Refusals.{accepted, refuseIf, firstOf}
 use Rattle.refusals.proofs.Verdicts.{refuses, none-refuses}
 use Rattle.runs.specs.Run.{Run, total, mostFiles, highestTurn, lastPlace, mostWants, mostReads, rightEnd, stopsOf}
-use Rattle.runs.specs.Judging.{numberBefore, badWant, tableChecks, wantsChecks, headChecks, judgeOf}
+use Rattle.runs.specs.Judging.{numberBefore, badWant, tableChecks, wantsChecks, judgeOf}
 use Rattle.runs.proofs.Search.{true-or-false, first-all}
-use Rattle.walk.specs.Price.{refusalAnswer, pricedAnswer}
+use Rattle.walk.specs.Price.{pricedAnswer}
 use Rattle.least.specs.Wants.{readsOfFile}
 use Rattle.planner.specs.Plan.{Rows, planVerdict, shortRows, roomFor}
 use Rattle.tickets.specs.declared.Ticket.{Ticket}
-use Rattle.tickets.specs.Table.{mostCount, noTicket, isTicket, upTo, waiting, badRecord, allPlaces, rowVerdict, Waits}
+use Rattle.tickets.specs.Table.{mostCount, noTicket, isTicket, upTo, waiting, allPlaces, rowVerdict}
 use Rattle.tickets.proofs.Sound.{and-true-both}
 use Rattle.tickets.proofs.Placed.{none-bad}
 use Rattle.boardings.specs.Boarders.{Want, wantOf, addWant, withWants, wantsOf, fileNumbers, readCounts, shareOne, shareTwo, boarders}
-use Rattle.boardings.specs.Boardings.{boardRun, Boards}
+use Rattle.boardings.specs.Boardings.{boardRun}
 use Rattle.boardings.proofs.Adding.{by-order, add-longer, add-total}
 use Rattle.boardings.proofs.Who.{share-within, shares-fit}
 use Rattle.promises.specs.Desk.{IsTable}
@@ -40,7 +38,8 @@ reads-added w (x ∷ xs) f =
     (w .file) (x .file)
     (λ l. rw (lt-ltb (w .file) (x .file) l))
     (λ e. rw (le-ltb (w .file) (x .file) (omega arith), eq-eqb (w .file) (x .file) e) (rw e (together (eqb (x .file) f) (w .count) (x .count) (readsOfFile (fileNumbers xs) (readCounts xs) f))))
-    (λ g. rw (le-ltb (w .file) (x .file) (omega arith), ne-eqb (w .file) (x .file) (λ e. omega arith)) (apart (cond (eqb (x .file) f) (x .count) 0) (cond (eqb (w .file) f) (w .count) 0) (readsOfFile (fileNumbers xs) (readCounts xs) f) (readsOfFile (fileNumbers (addWant w xs)) (readCounts (addWant w xs)) f) (reads-added w xs f)))
+    (λ g. rw (le-ltb (w .file) (x .file) (omega arith), ne-eqb (w .file) (x .file) (λ e. omega arith))
+    (apart (cond (eqb (x .file) f) (x .count) 0) (cond (eqb (w .file) f) (w .count) 0) (readsOfFile (fileNumbers xs) (readCounts xs) f) (readsOfFile (fileNumbers (addWant w xs)) (readCounts (addWant w xs)) f) (reads-added w xs f)))
   where
     together : (b : Bool) (m n r : ℕ) → cond b (n + m) 0 + r ≡ cond b m 0 + (cond b n 0 + r)
     together true m n r = omega arith

@@ -1,9 +1,9 @@
 -- One call on a table: what joins and leaves at each office, and the next table.
-use Prim.Native.Nat.{ℕ, zero, suc, _+_, _-_, _*_, _≤_, _<_, min}
+use Prim.Native.Nat.{ℕ, _+_, _-_, _≤_, _<_, min}
 use mathlib.Core.Path.{_≡_, refl, sym, ap, _∙_}
-use mathlib.Core.Bool.{Bool, true, false, not, cond, true≢false, _&&_}
+use mathlib.Core.Bool.{Bool, true, false, cond, true≢false, _&&_}
 use mathlib.Core.List.{List, [], _∷_, _++_, append-nil}
-use mathlib.Core.Logic.{⊎-elim, _⊎_, inl, inr}
+use mathlib.Core.Logic.{⊎-elim, inl, inr}
 use native.Mathlib.Omega.{arith}
 use native.Mathlib.Decide.{decLt}
 use lib.Dec.{eqb}
@@ -11,13 +11,10 @@ use lib.ListN.{length, getD, drop, length-append, length-drop, List·getD-append
 use lib.Seq.{getD-drop, getD-append-add}
 use Rattle.refusals.specs.declared.Refusal.{Refusal}
 use Rattle.refusals.specs.declared.Refusal.the-variants.{Accepted, FileRows, BadFile, WantRows, BadWant, TooManyReads, TurnPrice, HeadPlace, ShortRow, ShortRoom, BadEntry, BadLine, LongSheet, BadName, BadRule, BadTicket, OfficeFull, NotWaiting, NumbersSpent, RetiredRule, BadText, ManyExtents, Overlap, FarFile, OverEightWants, BadSheetCount, BadRecord}
-use Rattle.refusals.specs.declared.Verdict.{Verdict}
 use Rattle.refusals.specs.Refusals.{isRefusal}
 use Rattle.refusals.proofs.Verdicts.{refuses}
 use Rattle.runs.specs.Run.{mostFiles}
 use Rattle.runs.proofs.Search.{true-or-false}
-use Rattle.walk.specs.declared.Answer.{Answer}
-use Rattle.walk.specs.Price.{refusalAnswer}
 use Rattle.planner.specs.Plan.{Rows}
 use Rattle.tickets.specs.declared.Ticket.{Ticket}
 use Rattle.tickets.specs.declared.Filing.{Filing}
@@ -26,11 +23,11 @@ use Rattle.tickets.specs.Table.{offices, places, mostCount, noTicket, upTo, isT
 use Rattle.tickets.specs.Filings.{inRange, fileVerdict, ticketOf, withTicket, rowWith, fileRow}
 use Rattle.tickets.proofs.Sound.{and-true-both}
 use Rattle.tickets.proofs.Placed.{waiting-one, waiting-two}
-use Rattle.tickets.proofs.Storing.{file-accepted, office-is, range-office}
+use Rattle.tickets.proofs.Storing.{file-accepted}
 use Rattle.boardings.specs.declared.Boarding.{Boarding}
 use Rattle.boardings.specs.declared.BoardedRow.{BoardedRow}
 use Rattle.boardings.specs.Boarders.{share, shareOne, shareTwo, rowStaying, wantsOf}
-use Rattle.boardings.specs.Boardings.{Tape, takenOf, wantRows, notBoarded, boardedBy, Boards}
+use Rattle.boardings.specs.Boardings.{Tape, takenOf, wantRows, notBoarded, Boards}
 use Rattle.boardings.proofs.Who.{share-within}
 use Rattle.promises.specs.Desk.{IsTable, IsOffice, Call, filing, boarding, Fits, files, boards, departs, leaving, joining, Takes}
 

@@ -1,15 +1,13 @@
 -- Request L6: two offices, one tape. Calls that fit the contracts of filing and boarding, one after the other, on one waiting table.
-use Prim.Native.Nat.{ℕ, _+_, _-_, _≤_, _<_, _/_, min}
+use Prim.Native.Nat.{ℕ, _+_, _≤_, _<_, _/_, min}
 use mathlib.Core.Path.{_≡_}
-use mathlib.Core.Bool.{Bool, true, false, not, cond}
+use mathlib.Core.Bool.{Bool, false, not, cond}
 use mathlib.Core.Logic.{_⊎_}
 use mathlib.Core.List.{List, [], _∷_, _++_}
-use lib.ListN.{length, getD, take, drop, replicate}
-use Rattle.refusals.specs.declared.Refusal.{Refusal}
-use Rattle.refusals.specs.declared.Refusal.the-variants.{Accepted, TurnPrice, HeadPlace, ShortRow, ShortRoom, BadTicket, OfficeFull, BadRecord}
-use Rattle.refusals.specs.Refusals.{isRefusal, firstOf}
-use Rattle.runs.specs.Run.{Run, stopsOf, total}
-use Rattle.runs.specs.Judging.{tableChecks}
+use lib.ListN.{length, drop, replicate}
+use Rattle.refusals.specs.declared.Refusal.the-variants.{Accepted}
+use Rattle.refusals.specs.Refusals.{isRefusal}
+use Rattle.runs.specs.Run.{Run, stopsOf}
 use Rattle.walk.specs.declared.Leg.{Leg}
 use Rattle.walk.specs.Walk.{headAt, Moves, ServesAll, sumOf}
 use Rattle.planner.specs.Plan.{Rows}
@@ -20,12 +18,10 @@ use Rattle.tickets.specs.Table.{Sound, waiting}
 use Rattle.tickets.specs.Filings.{ticketOf, fileRow}
 use Rattle.boardings.specs.declared.Boarding.{Boarding}
 use Rattle.boardings.specs.declared.BoardedRow.{BoardedRow}
-use Rattle.boardings.specs.Boarders.{Want, wantsOf}
 use Rattle.boardings.specs.Boardings.{Tape, boardRun, Boards}
-use Rattle.demands.specs.Table.{FirstBad, FirstThatApplies}
 use Rattle.demands.specs.Demand2.{IsTheWalk, IsLeast}
 
--- The records of an empty table, and a table of 32 records.
+-- An empty table: 32 empty places.
 abbrev pub emptyTable : List Ticket
 emptyTable = replicate 32 (record { office = 0; file = 0; count = 0 })
 
@@ -105,6 +101,17 @@ LeavesInTime =
     → j < length (waiting office row)
     → j / 4 + 1 ≤ departures cs
     → j < left office cs
+
+-- From its filing: the ticket stands behind its own office's tickets, as many as are ahead of it, and leaves by that number.
+abbrev pub LeavesFromFiling : Type 0
+LeavesFromFiling =
+    (len : ℕ) (row : List Ticket) (f : Filing) (r : FiledRow) (last : List Ticket) (cs : List Call)
+    → IsTable row
+    → r ≡ fileRow len row f
+    → r .filed .verdict .refusal ≡ Accepted
+    → Day (r .row) cs last
+    → (waiting (f .office) (r .row) ≡ waiting (f .office) row ++ ticketOf f ∷ [])
+    × (length (waiting (f .office) row) / 4 + 1 ≤ departures cs → length (waiting (f .office) row) < left (f .office) cs)
 
 -- What one boarding does: accepted, it takes the first tickets of each office, four or all it has, at most eight in all, and eight where so many wait;
 -- refused, none.
