@@ -22,7 +22,7 @@ use Rattle.tickets.proofs.Placed.{none-bad}
 use Rattle.demands.proofs.Demand2.{demand2-walk, demand2-least}
 use Rattle.demands.proofs.Demand3.{demand3-same}
 use Rattle.promises.specs.Desk.{emptyTable, IsTable, IsOffice, Call, filing, files, Day, over, then, departs, departures, leaving, left, joining, joined, TableStays, TableFromEmpty, InOrder, LeavesInTime, LeavesFromFiling, BoardingTakes, RefusalKeeps, OwnOfficeDecides, BoardedRunHolds}
-use Rattle.promises.proofs.Steps.{Step, step, not-accepted, table-of, takes, refused-is, board-accepted}
+use Rattle.promises.proofs.DeskSteps.{Step, step, not-accepted, table-of, takes, refused-is, board-accepted}
 
 stays : {row last : List Ticket} {cs : List Call} → IsTable row → Day row cs last → IsTable last
 stays table over = table

@@ -27,7 +27,7 @@ use Rattle.demands.proofs.Checks.{Decides, decides-if, decides-at, decides-rewo
 use Rattle.demands.proofs.Demand1.{demand1-plan}
 use Rattle.promises.specs.DeskRefusals.{Within, IsTicketOf, RecordIsBad, RowApplies, short-row, bad-record, rowOrder, InRange, FilingApplies, records, out-of-range, office-full, filingOrder, FilingAnswers, BoardingAnswers, BadRecordIsFirstSuch}
 use Rattle.promises.specs.Desk.{IsTable}
-use Rattle.promises.proofs.Steps.{not-accepted}
+use Rattle.promises.proofs.DeskSteps.{not-accepted}
 
 tells-within : (most n : ℕ) → Tells (upTo most n) (Within most n)
 tells-within most n =

@@ -2,3 +2,4 @@
 pub mod Desk
 pub mod DeskRefusals
 pub mod DeskWants
+pub mod DeskCases
