@@ -18,7 +18,10 @@ long : (s : tie.Start) → length (s .args .row) ≡ 32
 long s = search needs
 
 returns : tie.Need-returns
-returns c = let n = c .before .before in let a = n .before .args in nobody (a .row) (a .answer) (n .number .result) (n .number .ensures) (c .before .if1 .taken) (c .not-boarded .result) (c .not-boarded .ensures)
+returns c =
+    let n = c .before .before in
+    let a = n .before .args in
+    nobody (a .row) (a .answer) (n .number .result) (n .number .ensures) (c .before .if1 .taken) (c .not-boarded .result) (c .not-boarded .ensures)
 
 without-first-requires : tie.Need-without-first-requires
 without-first-requires c κs = search needs

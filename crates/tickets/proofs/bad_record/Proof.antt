@@ -42,7 +42,10 @@ ticket : (b : Bool) (t : tie.After-is-ticket) → t .is-ticket .result ≡ b →
 ticket b t e = rw (← t .before .office-at .ensures) (sym (t .is-ticket .ensures) ∙ e)
 
 returns-2 : tie.Need-returns-2
-returns-2 c = let t = c .before .before .before in let e = t .before .before in bad-first (start e .args .t1) (start e .args .i) (full e) (ticket true t (c .before .before .if2 .taken)) (sym (c .before .is-first-place .ensures) ∙ c .if3 .taken)
+returns-2 c =
+    let t = c .before .before .before in
+    let e = t .before .before in
+    bad-first (start e .args .t1) (start e .args .i) (full e) (ticket true t (c .before .before .if2 .taken)) (sym (c .before .is-first-place .ensures) ∙ c .if3 .taken)
 
 sub-before : tie.Need-sub-before
 sub-before c = let s = start (c .before .before .before .before .before) in let h = behind-another (s .args .i) (sym (c .before .is-first-place .ensures) ∙ c .if3 .left) in omega arith
@@ -57,7 +60,11 @@ is-empty-requires-2 : tie.Need-is-empty-requires-2
 is-empty-requires-2 c κs = search needs
 
 returns-3 : tie.Need-returns-3
-returns-3 c = let d = c .before .before in let t = d .before .before .before in let e = t .before .before in bad-behind (start e .args .t1) (start e .args .i) (full e) (ticket true t (d .before .before .if2 .taken)) (sym (d .before .is-first-place .ensures) ∙ d .if3 .left) (c .is-empty2 .ensures)
+returns-3 c =
+    let d = c .before .before in
+    let t = d .before .before .before in
+    let e = t .before .before in
+    bad-behind (start e .args .t1) (start e .args .i) (full e) (ticket true t (d .before .before .if2 .taken)) (sym (d .before .is-first-place .ensures) ∙ d .if3 .left) (c .is-empty2 .ensures)
 
 returns-4 : tie.Need-returns-4
 returns-4 c = let t = c .before in let e = t .before .before in bad-not-ticket (start e .args .t1) (start e .args .i) (full e) (ticket false t (c .if2 .left))

@@ -44,11 +44,25 @@ loop-less : tie.Need-loop-less Inv-loop μ-loop
 loop-less c = search needs
 
 loop-again : tie.Need-loop-again Inv-loop μ-loop
-loop-again c = let l = c .before .before in let s = l .before in let a = s .args in let t = placed (drop (a .n) (placesFrom (a .first) (a .row))) in
-    (omega (arith, c .before .loop-test .taken), ap (λ x. set x (a .first + l .loop .i) (c .moved-up .result)) (l .loop .inv .1) ∙ ap (λ x. set (paste (a .row) (a .first) t (l .loop .i)) (a .first + l .loop .i) x) (c .moved-up .ensures) ∙ paste-suc (a .row) (a .first) t (l .loop .i) noTicket (omega (arith, s .pre, long s, c .before .loop-test .taken)) (rw (closed-long (a .first) (a .row) (s .pre) (long s) (a .n)) (c .before .loop-test .taken)) ∙ ap (λ k. paste (a .row) (a .first) t k) (sym (add-one (l .loop .i))))
+loop-again c =
+    let l = c .before .before in
+    let s = l .before in
+    let a = s .args in
+    let t = placed (drop (a .n) (placesFrom (a .first) (a .row))) in (
+      omega (arith, c .before .loop-test .taken),
+      ap (λ x. set x (a .first + l .loop .i) (c .moved-up .result)) (l .loop .inv .1)
+          ∙ ap (λ x. set (paste (a .row) (a .first) t (l .loop .i)) (a .first + l .loop .i) x) (c .moved-up .ensures)
+          ∙ paste-suc (a .row) (a .first) t (l .loop .i) noTicket (omega (arith, s .pre, long s, c .before .loop-test .taken))
+          (rw (closed-long (a .first) (a .row) (s .pre) (long s) (a .n)) (c .before .loop-test .taken))
+          ∙ ap (λ k. paste (a .row) (a .first) t k) (sym (add-one (l .loop .i))),
+    )
 
 returns : tie.Need-returns Inv-loop μ-loop
-returns c = let l = c .before in let a = l .before .args in let e : l .loop .i ≡ 16 = omega (arith, l .loop .inv .0, c .loop-test .left) in l .loop .inv .1 ∙ ap (λ k. paste (a .row) (a .first) (placed (drop (a .n) (placesFrom (a .first) (a .row)))) k) e
+returns c =
+    let l = c .before in
+    let a = l .before .args in
+    let e : l .loop .i ≡ 16 = omega (arith, l .loop .inv .0, c .loop-test .left) in
+    l .loop .inv .1 ∙ ap (λ k. paste (a .row) (a .first) (placed (drop (a .n) (placesFrom (a .first) (a .row)))) k) e
 
 pub close-up-spec : {M : Type 1} → statement M
 close-up-spec =

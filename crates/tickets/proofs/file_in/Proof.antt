@@ -35,7 +35,10 @@ fits n =
     rw (n .before .first-place .ensures, n .count-waiting .ensures) (omega arith)
 
 returns : tie.Need-returns
-returns c = let r = c .before in let a = start r .args in file-refused (a .len) (a .row) (a .filing) (r .before .judge-filing .result) (r .before .judge-filing .ensures) (sym (r .refused .ensures) ∙ c .if1 .taken)
+returns c =
+    let r = c .before in
+    let a = start r .args in
+    file-refused (a .len) (a .row) (a .filing) (r .before .judge-filing .result) (r .before .judge-filing .ensures) (sym (r .refused .ensures) ∙ c .if1 .taken)
 
 first-place-requires : tie.Need-first-place-requires
 first-place-requires c κs = search needs
@@ -53,7 +56,11 @@ array-set-from-next : tie.Need-array-set-from-next
 array-set-from-next c = fits c
 
 returns-2 : tie.Need-returns-2
-returns-2 c = let r = refusal c in let a = start r .args in file-stored (a .len) (a .row) (a .filing) (r .before .judge-filing .result) (r .before .judge-filing .ensures) (long (start r)) (sym (r .refused .ensures) ∙ c .before .before .if1 .left) (c .before .first-place .result) (c .count-waiting .result) (c .before .first-place .ensures) (c .count-waiting .ensures)
+returns-2 c =
+    let r = refusal c in
+    let a = start r .args in
+    file-stored (a .len) (a .row) (a .filing) (r .before .judge-filing .result) (r .before .judge-filing .ensures) (long (start r)) (sym (r .refused .ensures) ∙ c .before .before .if1 .left)
+    (c .before .first-place .result) (c .count-waiting .result) (c .before .first-place .ensures) (c .count-waiting .ensures)
 
 pub file-in-spec : {M : Type 1} → statement M
 file-in-spec =

@@ -26,7 +26,9 @@ add-result : tie.Need-add-result Inv-loop μ-loop
 add-result c = search needs
 
 returns : tie.Need-returns Inv-loop μ-loop
-returns c = let a = c .before .before .before in sym (first-here (badRecord (a .before .args .row)) (a .loop .i) 32 (a .loop .inv .1) (sym (c .before .bad-record .ensures) ∙ c .if1 .taken) (c .before .before .loop-test .taken))
+returns c =
+    let a = c .before .before .before in
+    sym (first-here (badRecord (a .before .args .row)) (a .loop .i) 32 (a .loop .inv .1) (sym (c .before .bad-record .ensures) ∙ c .if1 .taken) (c .before .before .loop-test .taken))
 
 add-i : tie.Need-add-i Inv-loop μ-loop
 add-i c = search needs
@@ -35,7 +37,9 @@ loop-less : tie.Need-loop-less Inv-loop μ-loop
 loop-less c = search needs
 
 loop-again : tie.Need-loop-again Inv-loop μ-loop
-loop-again c = let a = c .before .before .before in (omega (arith, c .before .before .loop-test .taken), first-more (badRecord (a .before .args .row)) (a .loop .i) (a .loop .inv .1) (sym (c .before .bad-record .ensures) ∙ c .if1 .left))
+loop-again c =
+    let a = c .before .before .before in
+    (omega (arith, c .before .before .loop-test .taken), first-more (badRecord (a .before .args .row)) (a .loop .i) (a .loop .inv .1) (sym (c .before .bad-record .ensures) ∙ c .if1 .left))
 
 returns-2 : tie.Need-returns-2 Inv-loop μ-loop
 returns-2 c = let a = c .before in first-done (badRecord (a .before .args .row)) (a .loop .i) 32 (a .loop .inv .1) (a .loop .inv .0) (c .loop-test .left)

@@ -16,7 +16,9 @@ up-to-requires-2 : tie.Need-up-to-requires-2
 up-to-requires-2 c κs = search needs
 
 returns-2 : tie.Need-returns-2
-returns-2 c = let e = c .before .before .before in ticket-count (e .before .before .args .office) (e .before .before .args .t) (e .if1 .left) (sym (c .before .before .up-to .ensures) ∙ c .before .if2 .taken) (c .up-to2 .ensures)
+returns-2 c =
+    let e = c .before .before .before in
+    ticket-count (e .before .before .args .office) (e .before .before .args .t) (e .if1 .left) (sym (c .before .before .up-to .ensures) ∙ c .before .if2 .taken) (c .up-to2 .ensures)
 
 returns-3 : tie.Need-returns-3
 returns-3 c = let e = c .before .before in ticket-no-file (e .before .before .args .office) (e .before .before .args .t) (e .if1 .left) (sym (c .before .up-to .ensures) ∙ c .if2 .left)

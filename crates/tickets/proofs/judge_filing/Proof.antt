@@ -37,7 +37,10 @@ refused-requires-2 c κs = search needs
 
 returns-2 : tie.Need-returns-2
 unfolding fileVerdict
-returns-2 c = let r = c .before .before in let e = r .before .before in rw (test-says (e .before .before .judge-row .ensures) (e .before .refused .ensures) (e .if1 .left), test-says (ranged r) (c .before .refused2 .ensures) (c .if2 .taken)) (ranged r)
+returns-2 c =
+    let r = c .before .before in
+    let e = r .before .before in
+    rw (test-says (e .before .before .judge-row .ensures) (e .before .refused .ensures) (e .if1 .left), test-says (ranged r) (c .before .refused2 .ensures) (c .if2 .taken)) (ranged r)
 
 count-waiting-requires : tie.Need-count-waiting-requires
 count-waiting-requires c κs = search needs
@@ -47,7 +50,11 @@ refuse-if-requires-2 c κs = search needs
 
 returns-3 : tie.Need-returns-3
 unfolding fileVerdict
-returns-3 c = let d = c .before .before in let r = d .before .before in let e = r .before .before in rw (test-says (e .before .before .judge-row .ensures) (e .before .refused .ensures) (e .if1 .left), test-says (ranged r) (d .before .refused2 .ensures) (d .if2 .left)) (last-if OfficeFull refl (c .refuse-if2 .ensures) (ap (λ n. leb places n) (c .before .count-waiting .ensures)))
+returns-3 c =
+    let d = c .before .before in
+    let r = d .before .before in
+    let e = r .before .before in
+    rw (test-says (e .before .before .judge-row .ensures) (e .before .refused .ensures) (e .if1 .left), test-says (ranged r) (d .before .refused2 .ensures) (d .if2 .left)) (last-if OfficeFull refl (c .refuse-if2 .ensures) (ap (λ n. leb places n) (c .before .count-waiting .ensures)))
 
 pub judge-filing-spec : {M : Type 1} → statement M
 judge-filing-spec =

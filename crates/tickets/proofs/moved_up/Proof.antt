@@ -27,7 +27,10 @@ array-copy-out-result : tie.Need-array-copy-out-result
 array-copy-out-result c = search needs
 
 returns : tie.Need-returns
-returns c = let t = c .before in let s = t .before .before in moved-here (s .args .first) (s .args .t1) (s .pre .0) (long s) (s .args .n) (s .args .i) (omega (arith, t .if2 .taken, t .before .if1 .taken))
+returns c =
+    let t = c .before in
+    let s = t .before .before in
+    moved-here (s .args .first) (s .args .t1) (s .pre .0) (long s) (s .args .n) (s .args .i) (omega (arith, t .if2 .taken, t .before .if1 .taken))
 
 returns-2 : tie.Need-returns-2
 returns-2 c = let s = c .before .before in none-left (s .args .first) (s .args .t1) (s .pre .0) (long s) (s .args .n) (s .args .i) (omega (arith, c .if2 .left, c .before .if1 .taken))
