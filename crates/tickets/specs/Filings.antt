@@ -1,0 +1,47 @@
+-- A filing: a ticket goes behind its office's tickets, or is refused and nothing changes.
+use Prim.Native.Nat.{ℕ}
+use mathlib.Core.Bool.{Bool, not, cond, _&&_}
+use mathlib.Core.List.{List, [], _∷_, _++_}
+use lib.ListN.{length}
+use lib.Dec.{leb, eqb}
+use Rattle.refusals.specs.declared.Refusal.the-variants.{BadTicket, OfficeFull}
+use Rattle.refusals.specs.declared.Verdict.{Verdict}
+use Rattle.refusals.specs.Refusals.{isRefusal, refuseIf, firstOf}
+use Rattle.runs.specs.Run.{mostFiles}
+use Rattle.tickets.specs.declared.Ticket.{Ticket}
+use Rattle.tickets.specs.declared.Filing.{Filing}
+use Rattle.tickets.specs.declared.FiledRow.{FiledRow}
+use Rattle.tickets.specs.Table.{offices, places, mostCount, upTo, waiting, rowOf, rowVerdict}
+
+-- The office is 1 or 2, the file number 1 to the tape's number of files, at most 4,096, and the count 1 to 128.
+abbrev pub inRange : Filing → Bool
+inRange f = upTo offices (f .office) && upTo (f .files) (f .file) && upTo mostFiles (f .file) && upTo mostCount (f .count)
+
+-- 16: that office has 16 waiting.
+abbrev pub isFull : ℕ → List Ticket → Bool
+isFull office row = leb places (length (waiting office row))
+
+-- A filing's refusals: 8 and 26, then 15 (something out of range), then 16.
+unfoldable pub fileVerdict : ℕ → List Ticket → Filing → Verdict
+fileVerdict len row f =
+    firstOf
+    (rowVerdict len row
+    ∷ refuseIf (not (inRange f)) BadTicket
+    ∷ refuseIf (isFull (f .office) row) OfficeFull
+    ∷ [])
+
+abbrev pub ticketOf : Filing → Ticket
+ticketOf f = record { office = f .office; file = f .file; count = f .count }
+
+-- The tickets of an office with one more, if it is that office's.
+abbrev pub withTicket : ℕ → Ticket → List Ticket → List Ticket
+withTicket office t ts = cond (eqb (t .office) office) (ts ++ t ∷ []) ts
+
+abbrev pub rowWith : Ticket → List Ticket → List Ticket
+rowWith t row = rowOf (withTicket 1 t (waiting 1 row)) (withTicket 2 t (waiting 2 row))
+
+-- The answer and the row afterwards; on a refusal the row as it was.
+unfoldable pub fileRow : ℕ → List Ticket → Filing → FiledRow
+fileRow len row f =
+    let v : Verdict = fileVerdict len row f in
+    record { filed = record { verdict = v }; row = cond (isRefusal (v .refusal)) row (rowWith (ticketOf f) row) }

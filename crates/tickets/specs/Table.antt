@@ -1,0 +1,103 @@
+-- The waiting table: 32 records, 16 places for each office, office 1's first; each office's tickets in order of filing, then its empty places.
+use Prim.Native.Nat.{ℕ, _-_, _≤_, _<_}
+use mathlib.Core.Path.{_≡_}
+use mathlib.Core.Bool.{Bool, true, not, cond, _&&_, _||_}
+use mathlib.Core.List.{List, [], _∷_, _++_}
+use lib.ListN.{length, getD, take, drop, replicate}
+use lib.Dec.{ltb, leb, eqb}
+use Rattle.refusals.specs.declared.Refusal.the-variants.{ShortRow, BadRecord}
+use Rattle.refusals.specs.declared.Verdict.{Verdict}
+use Rattle.refusals.specs.Refusals.{refuseIf, refuseAt, firstOf, firstWhere}
+use Rattle.runs.specs.Run.{mostFiles}
+use Rattle.tickets.specs.declared.Ticket.{Ticket}
+
+-- The offices, 1 and 2; the places of one office, and of both.
+abbrev pub offices : ℕ
+offices = 2
+
+abbrev pub places : ℕ
+places = 16
+
+abbrev pub allPlaces : ℕ
+allPlaces = 32
+
+-- The most reads that one ticket asks for.
+abbrev pub mostCount : ℕ
+mostCount = 128
+
+-- An empty place: all fields 0.
+abbrev pub noTicket : Ticket
+noTicket = record { office = 0; file = 0; count = 0 }
+
+abbrev pub isEmpty : Ticket → Bool
+isEmpty t = eqb (t .office) 0 && eqb (t .file) 0 && eqb (t .count) 0
+
+-- Whether a number is one of 1 to `most`.
+abbrev pub upTo : ℕ → ℕ → Bool
+upTo most n = not (eqb n 0) && leb n most
+
+-- Whether a record is a ticket of an office.
+abbrev pub isTicket : ℕ → Ticket → Bool
+isTicket office t = eqb (t .office) office && upTo mostFiles (t .file) && upTo mostCount (t .count)
+
+-- The first place of an office, counted from 0, and its places.
+abbrev pub firstPlace : ℕ → ℕ
+firstPlace office = cond (eqb office 2) places 0
+
+abbrev pub half : ℕ → List Ticket → List Ticket
+half office row = take places (drop (firstPlace office) row)
+
+-- The tickets of some places: those before the first empty one.
+unfoldable pub ticketsIn : List Ticket → List Ticket
+ticketsIn [] = []
+ticketsIn (t ∷ ts) = cond (isEmpty t) [] (t ∷ ticketsIn ts)
+
+-- The tickets of an office that wait, in order of filing.
+abbrev pub waiting : ℕ → List Ticket → List Ticket
+waiting office row = ticketsIn (half office row)
+
+-- Tickets at the places of an office, then its empty places; and the row of both offices.
+abbrev pub placed : List Ticket → List Ticket
+placed ts = ts ++ replicate (places - length ts) noTicket
+
+abbrev pub rowOf : List Ticket → List Ticket → List Ticket
+rowOf ones twos = placed ones ++ placed twos
+
+-- Tickets of an office, and no more than it has places for.
+pub record Waits (office : ℕ) (ts : List Ticket) : Type 0 where
+  pub few : length ts ≤ places
+  pub each : (i : ℕ) → i < length ts → isTicket office (getD ts i noTicket) ≡ true
+
+-- A sound row: these tickets wait at office 1, those at office 2, and nothing else stands in it.
+pub record Sound (ones twos row : List Ticket) : Type 0 where
+  pub one : Waits 1 ones
+  pub two : Waits 2 twos
+  pub is : row ≡ rowOf ones twos
+
+-- The office whose place a record has, by its index from 0, and whether it is that office's first.
+abbrev pub officeAt : ℕ → ℕ
+officeAt i = cond (ltb i places) 1 2
+
+abbrev pub isFirstPlace : ℕ → Bool
+isFirstPlace i = eqb i 0 || eqb i places
+
+-- Whether the place before it is the same office's, and empty.
+abbrev pub isBehindEmpty : List Ticket → ℕ → Bool
+isBehindEmpty row i = not (isFirstPlace i) && isEmpty (getD row (i - 1) noTicket)
+
+-- 26: neither empty nor a ticket of its place's office, or a ticket directly behind an empty place.
+abbrev pub badRecord : List Ticket → ℕ → Bool
+badRecord row i =
+    not (isEmpty (getD row i noTicket)) && (not (isTicket (officeAt i) (getD row i noTicket)) || isBehindEmpty row i)
+
+-- 8, by the number of places of the lent row, then 26 with the first bad record.
+unfoldable pub rowVerdict : ℕ → List Ticket → Verdict
+rowVerdict len row =
+    firstOf
+    (refuseIf (ltb len allPlaces) ShortRow
+    ∷ refuseAt (firstWhere (badRecord row) allPlaces) BadRecord
+    ∷ [])
+
+-- Once the first tickets of each office have left: those behind them move up.
+unfoldable pub rowWithout : ℕ → ℕ → List Ticket → List Ticket
+rowWithout one two row = placed (drop one (half 1 row)) ++ placed (drop two (half 2 row))
