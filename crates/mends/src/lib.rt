@@ -1,0 +1,4 @@
+// mends: a run sheet mended, and a line for each change.
+mod wants;
+
+pub use wants::Fate;
