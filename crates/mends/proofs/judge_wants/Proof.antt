@@ -1,0 +1,35 @@
+-- `mends::judge_wants` meets its contract.
+-- Assumes nothing.
+use borrow.Author.Needs.{needs}
+use borrow.Author.Needs.{needs}
+use Rattle.mends.proofs.judge_wants.Statement.{statement}
+use Rattle.mends.proofs.judge_wants.Tie as tie
+
+refuse-if-requires : tie.Need-refuse-if-requires
+refuse-if-requires c κs = search needs
+
+refused-requires : tie.Need-refused-requires
+refused-requires c κs = search needs
+
+returns : tie.Need-returns
+returns c = search needs
+
+too-many-reads-requires : tie.Need-too-many-reads-requires
+too-many-reads-requires c κs = search needs
+
+refuse-if-requires-2 : tie.Need-refuse-if-requires-2
+refuse-if-requires-2 c κs = search needs
+
+returns-2 : tie.Need-returns-2
+returns-2 c = search needs
+
+pub judge-wants-spec : {M : Type 1} → statement M
+judge-wants-spec =
+    tie.close
+    (tie.spec
+    refuse-if-requires
+    refused-requires
+    returns
+    too-many-reads-requires
+    refuse-if-requires-2
+    returns-2)

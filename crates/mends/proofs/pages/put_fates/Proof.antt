@@ -1,0 +1,58 @@
+-- `mends::pages::put_fates` meets its contract.
+-- Assumes nothing.
+use borrow.Author.Needs.{needs}
+use Rattle.mends.proofs.pages.put_fates.Statement.{statement}
+use Rattle.mends.proofs.pages.put_fates.Tie as tie
+
+abbrev Inv-loop : tie.InvT-loop
+Inv-loop page₀ at above wanted counts next₀ i₀ page next i = ?
+
+abbrev μ-loop : tie.MeasureT-loop
+μ-loop page₀ at above wanted counts next₀ i₀ page next i = ?
+
+loop-holds : tie.Need-loop-holds Inv-loop μ-loop
+loop-holds c = search needs
+
+fate-of-requires : tie.Need-fate-of-requires Inv-loop μ-loop
+fate-of-requires c κs = search needs
+
+add-put-fate : tie.Need-add-put-fate Inv-loop μ-loop
+add-put-fate c = search needs
+
+add-put-fate-2 : tie.Need-add-put-fate-2 Inv-loop μ-loop
+add-put-fate-2 c = search needs
+
+put-fate-requires : tie.Need-put-fate-requires Inv-loop μ-loop
+put-fate-requires c κs = search needs
+
+add-i : tie.Need-add-i Inv-loop μ-loop
+add-i c = search needs
+
+loop-less : tie.Need-loop-less Inv-loop μ-loop
+loop-less c = search needs
+
+loop-again : tie.Need-loop-again Inv-loop μ-loop
+loop-again c = search needs
+
+same-length : tie.Need-same-length Inv-loop μ-loop
+same-length c = search needs
+
+returns : tie.Need-returns Inv-loop μ-loop
+returns c = search needs
+
+pub put-fates-spec : {M : Type 1} → statement M
+put-fates-spec =
+    tie.close
+    (tie.spec
+    Inv-loop
+    μ-loop
+    loop-holds
+    fate-of-requires
+    add-put-fate
+    add-put-fate-2
+    put-fate-requires
+    add-i
+    loop-less
+    loop-again
+    same-length
+    returns)
