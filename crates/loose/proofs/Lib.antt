@@ -2,3 +2,5 @@
 pub mod Passing
 pub mod Order
 pub mod Answers
+pub mod Ends
+pub mod Wants

@@ -1,6 +1,7 @@
--- `mends::hand_both` meets its contract.
+-- `mends::hand_both` meets its contract: 12, then 8, or both texts in the rows.
 -- Assumes nothing.
 use borrow.Author.Needs.{needs}
+use Rattle.mends.proofs.Answers.{both-none, both-put}
 use borrow.Author.Needs.{needs}
 use Rattle.mends.proofs.hand_both.Statement.{statement}
 use Rattle.mends.proofs.hand_both.Tie as tie
@@ -15,7 +16,7 @@ unmended-requires : tie.Need-unmended-requires
 unmended-requires c κs = search needs
 
 returns : tie.Need-returns
-returns c = search needs
+returns c = both-none _ _ _ _ _ (c .before .before .before .judge-texts .ensures) _ (c .before .before .refused .ensures) (c .before .if1 .taken) _ (c .unmended .ensures)
 
 put-requires : tie.Need-put-requires
 put-requires c κs = search needs
@@ -30,7 +31,7 @@ same-length-2 : tie.Need-same-length-2
 same-length-2 c = search needs
 
 returns-2 : tie.Need-returns-2
-returns-2 c = search needs
+returns-2 c = both-put _ _ _ _ _ (c .before .before .before .before .before .before .before .before .before .before .judge-texts .ensures) _ (c .before .before .before .before .before .before .before .before .before .refused .ensures) (c .before .before .before .before .before .before .before .before .if1 .left) _ _ _ _ (c .before .before .before .before .before .before .put .ensures) (c .before .before .put2 .ensures)
 
 pub hand-both-spec : {M : Type 1} → statement M
 hand-both-spec =

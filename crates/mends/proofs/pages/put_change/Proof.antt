@@ -1,6 +1,7 @@
 -- `mends::pages::put_change` meets its contract.
 -- Assumes nothing.
 use borrow.Author.Needs.{needs}
+use Rattle.mends.proofs.Texts.{change-put}
 use borrow.Author.Needs.{needs}
 use Rattle.mends.proofs.pages.put_change.Statement.{statement}
 use Rattle.mends.proofs.pages.put_change.Tie as tie
@@ -24,7 +25,7 @@ same-length : tie.Need-same-length
 same-length c = search needs
 
 returns : tie.Need-returns
-returns c = search needs
+returns c = change-put _ _ _ (c .before .before .before .before .before .before .before .before .before .before .before .before .before .before .before .before .args .word .now) _ _ _ _ _ _ (c .before .before .before .before .before .before .before .before .before .before .before .before .before .before .before .before .pre .0) (c .before .before .before .before .before .before .before .before .before .before .before .before .before .before .before .before .pre .1) (c .before .before .before .before .before .before .before .before .before .before .before .put .ensures) (c .before .before .before .before .before .before .before .put-number .ensures) (c .before .before .put-line .ensures)
 
 pub put-change-spec : {M : Type 1} → statement M
 put-change-spec =
