@@ -70,7 +70,11 @@ struct Block {
 
 // The `wants` line and the lines below it: what it says, where the first want line starts and how many there are.
 enum BelowRead {
-    Good { said: u64, want_at: usize, wants: u64 },
+    Good {
+        said: u64,
+        want_at: usize,
+        wants: u64,
+    },
     Bad(u64),
 }
 

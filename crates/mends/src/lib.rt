@@ -25,10 +25,9 @@ use refusals::Refusal;
 use refusals::Verdict;
 use refusals::refuse_if;
 use refusals::refused;
+pub use wants::Fate;
 use wants::gather;
 use wants::too_many_reads;
-
-pub use wants::Fate;
 
 // What the mender answers: the bytes of the mended sheet and those of the changes; on a refusal both are 0.
 pub struct Mended {

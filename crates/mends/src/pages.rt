@@ -125,6 +125,12 @@ pub(crate) fn put_changes(
     let rule_at = put_if(page, 0, parts.empty, 3, b"turn");
     let files_at = put_if(page, rule_at, parts.sweep, 4, b"rule");
     let wants_at = put_if(page, files_at, parts.listed != parts.files, 5, b"files");
-    let fates_at = put_if(page, wants_at, parts.asked != row.len() as u64, above, b"wants");
+    let fates_at = put_if(
+        page,
+        wants_at,
+        parts.asked != row.len() as u64,
+        above,
+        b"wants",
+    );
     put_fates(page, fates_at, above, wanted, counts)
 }

@@ -4,7 +4,6 @@ use borrow.Author.Needs.{needs}
 use native.Mathlib.Omega.{arith}
 use Rattle.lines.proofs.Passing.{lines-ended, lines-failed}
 use Rattle.loose.proofs.Passing.{block-full, block-part, block-never}
-use borrow.Author.Needs.{needs}
 use Rattle.loose.proofs.file_lines.Statement.{statement}
 use Rattle.loose.proofs.file_lines.Tie as tie
 

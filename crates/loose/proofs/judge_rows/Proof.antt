@@ -3,7 +3,6 @@
 use borrow.Author.Needs.{needs}
 use mathlib.Core.Path.{_∙_}
 use borrow.Author.Tests.{lt-ltb, le-ltb}
-use borrow.Author.Needs.{needs}
 use Rattle.loose.proofs.judge_rows.Statement.{statement}
 use Rattle.loose.proofs.judge_rows.Tie as tie
 

@@ -4,7 +4,6 @@ use borrow.Author.Needs.{needs}
 use native.Mathlib.Omega.{arith}
 use Rattle.loose.proofs.Passing.{number-unread, number-read}
 use Rattle.loose.proofs.Order.{wants-bad, text-behind, below-good}
-use borrow.Author.Needs.{needs}
 use Rattle.loose.proofs.read_below.Statement.{statement}
 use Rattle.loose.proofs.read_below.Tie as tie
 

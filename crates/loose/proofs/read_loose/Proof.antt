@@ -2,7 +2,6 @@
 -- Assumes nothing.
 use borrow.Author.Needs.{needs}
 use Rattle.loose.proofs.Answers.{rows-ready, loose-read}
-use borrow.Author.Needs.{needs}
 use Rattle.loose.proofs.read_loose.Statement.{statement}
 use Rattle.loose.proofs.read_loose.Tie as tie
 

@@ -3,7 +3,6 @@
 use borrow.Author.Needs.{needs}
 use Rattle.loose.proofs.Order.{top-read, top-failed, below-read, below-failed, wants-at}
 use Rattle.loose.proofs.Answers.{sheet-long, top-refuses, below-refuses, parts-good}
-use borrow.Author.Needs.{needs}
 use Rattle.loose.proofs.read_parts.Statement.{statement}
 use Rattle.loose.proofs.read_parts.Tie as tie
 

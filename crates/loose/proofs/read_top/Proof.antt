@@ -3,7 +3,6 @@
 use borrow.Author.Needs.{needs}
 use Rattle.loose.proofs.Passing.{name-unread, name-read, number-unread, number-read, rule-unread, rule-read}
 use Rattle.loose.proofs.Order.{tape-bad, head-bad, turn-bad, rule-after, rule-bad, files-bad, top-good}
-use borrow.Author.Needs.{needs}
 use Rattle.loose.proofs.read_top.Statement.{statement}
 use Rattle.loose.proofs.read_top.Tie as tie
 

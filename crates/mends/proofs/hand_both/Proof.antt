@@ -2,7 +2,6 @@
 -- Assumes nothing.
 use borrow.Author.Needs.{needs}
 use Rattle.mends.proofs.Answers.{both-none, both-put}
-use borrow.Author.Needs.{needs}
 use Rattle.mends.proofs.hand_both.Statement.{statement}
 use Rattle.mends.proofs.hand_both.Tie as tie
 

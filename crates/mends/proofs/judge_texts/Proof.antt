@@ -6,7 +6,6 @@ use Rattle.refusals.proofs.Verdicts.{test-says, last-if}
 use mathlib.Core.Path.{refl}
 use lib.Dec.{ltb}
 use borrow.Author.Tests.{lt-ltb, le-ltb}
-use borrow.Author.Needs.{needs}
 use Rattle.mends.proofs.judge_texts.Statement.{statement}
 use Rattle.mends.proofs.judge_texts.Tie as tie
 

@@ -4,7 +4,6 @@ use borrow.Author.Needs.{needs}
 use Rattle.refusals.specs.declared.Refusal.the-variants.{TooManyReads}
 use Rattle.refusals.proofs.Verdicts.{test-says, last-if}
 use mathlib.Core.Path.{refl}
-use borrow.Author.Needs.{needs}
 use Rattle.mends.proofs.judge_wants.Statement.{statement}
 use Rattle.mends.proofs.judge_wants.Tie as tie
 

@@ -4,7 +4,6 @@ use borrow.Author.Needs.{needs}
 use mathlib.Core.Path.{sym}
 use lib.Seq.{length-take-le}
 use Rattle.mends.proofs.Answers.{wants-none, wants-writable, wants-handed}
-use borrow.Author.Needs.{needs}
 use Rattle.mends.proofs.mend_wants.Statement.{statement}
 use Rattle.mends.proofs.mend_wants.Tie as tie
 

@@ -2,7 +2,6 @@
 -- Assumes nothing.
 use borrow.Author.Needs.{needs}
 use Rattle.mends.proofs.Answers.{page-part, page-text, texts-handed}
-use borrow.Author.Needs.{needs}
 use Rattle.mends.proofs.write_mended.Statement.{statement}
 use Rattle.mends.proofs.write_mended.Tie as tie
 

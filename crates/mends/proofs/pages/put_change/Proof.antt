@@ -2,7 +2,6 @@
 -- Assumes nothing.
 use borrow.Author.Needs.{needs}
 use Rattle.mends.proofs.Texts.{change-put}
-use borrow.Author.Needs.{needs}
 use Rattle.mends.proofs.pages.put_change.Statement.{statement}
 use Rattle.mends.proofs.pages.put_change.Tie as tie
 

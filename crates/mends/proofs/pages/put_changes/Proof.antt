@@ -4,7 +4,6 @@ use borrow.Author.Needs.{needs}
 use native.Mathlib.Omega.{arith}
 use Rattle.prints.proofs.Pages.{wrote-long}
 use Rattle.mends.proofs.Texts.{above-few, room₂, room₃, room₄, fates-room, changes-put}
-use borrow.Author.Needs.{needs}
 use Rattle.mends.proofs.pages.put_changes.Statement.{statement}
 use Rattle.mends.proofs.pages.put_changes.Tie as tie
 

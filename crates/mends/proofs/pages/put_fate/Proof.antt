@@ -5,7 +5,6 @@ use native.Mathlib.Omega.{arith}
 use mathlib.Core.Path.{refl}
 use Rattle.texts.specs.Text.{bytes}
 use Rattle.mends.proofs.Texts.{fate-said, fate-unsaid}
-use borrow.Author.Needs.{needs}
 use Rattle.mends.proofs.pages.put_fate.Statement.{statement}
 use Rattle.mends.proofs.pages.put_fate.Tie as tie
 

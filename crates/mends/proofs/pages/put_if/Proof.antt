@@ -2,7 +2,6 @@
 -- Assumes nothing.
 use borrow.Author.Needs.{needs}
 use Rattle.mends.proofs.Texts.{change-said, change-unsaid}
-use borrow.Author.Needs.{needs}
 use Rattle.mends.proofs.pages.put_if.Statement.{statement}
 use Rattle.mends.proofs.pages.put_if.Tie as tie
 
