@@ -1,0 +1,4 @@
+-- The statements' proofs, and the laws that they share.
+pub mod Gathered
+pub mod Copied
+pub mod Mends
