@@ -15,12 +15,14 @@ use Rattle.refusals.specs.Refusals.{isRefusal}
 use Rattle.runs.specs.Lists.{anyBelow}
 use Rattle.runs.proofs.Search.{any-here}
 use Rattle.sheets.specs.Reading.{readRow}
-use Rattle.loose.specs.Loose.{looseFiles, wantedFiles, wantedCounts}
+use Rattle.texts.specs.Text.{bytes}
+use Rattle.sheets.specs.Sheet.{saysSweep, sheetFiles}
+use Rattle.loose.specs.Loose.{looseFiles, wantsSaid, priceLeftOut, wantedFiles, wantedCounts}
 use Rattle.mends.specs.declared.Mended.{Mended}
 use Rattle.mends.specs.declared.wants.Fate.{Fate}
 use Rattle.mends.specs.declared.wants.Fate.the-variants.{Stays, Moved, Added, Dropped}
 use Rattle.mends.specs.Wants.{remaining, askedOf, readsOf, readsEach, sameAbove, higherAbove, fateOf}
-use Rattle.mends.specs.Mending.{sheetRemaining, sheetReads, mendedText, changesText, fateLine, fateLines, mendVerdict, SheetMended}
+use Rattle.mends.specs.Mending.{sheetRemaining, sheetReads, mendedText, changeIf, changesText, fateLine, fateLines, mendVerdict, SheetMended}
 use Rattle.mends.proofs.Answers.{mend-determined}
 use Rattle.promises.specs.Mends.{InRows, MendedRows, MendingDetermined, ReadsKept, Orderly, WantsOrderly, SameFile, HigherFile, FateBy, FatesByConditions, SaidOf, EveryFateListed, SameAgain, WantsSettled}
 use Rattle.promises.proofs.Gathered.{rising-at, remaining-clean, clean-remaining, clean-each, clean-stays, reads-kept}
@@ -150,17 +152,28 @@ says-something n Moved some e = let z : _≡_ {A = ℕ} 0 1 = cc in omega arith
 says-something n Added some e = let z : _≡_ {A = ℕ} 0 1 = cc in omega arith
 says-something n Dropped some e = let z : _≡_ {A = ℕ} 0 1 = cc in omega arith
 
+-- The changes above the want lines.
+abbrev topChanges : List ℕ → List ℕ
+topChanges sheet =
+    changeIf (priceLeftOut sheet) 3 (bytes "turn")
+    ++ changeIf (saysSweep sheet) 4 (bytes "rule")
+    ++ changeIf (not (eqb (sheetFiles sheet) (looseFiles sheet))) 5 (bytes "files")
+    ++ changeIf (not (eqb (wantsSaid sheet) (length (sheetRemaining sheet)))) (looseFiles sheet + 6) (bytes "wants")
+
+regroup : (a b c d : List ℕ) → a ++ (b ++ c ++ d) ≡ a ++ b ++ c ++ d
+regroup a b c d = simp append-assoc
+
+said-of : (sheet listed : List ℕ) (above line : ℕ) (files counts top : List ℕ) → listed ≡ top ++ fateLines above files counts (length files) → line < length files → SaidOf listed files counts above line
+said-of sheet listed above line files counts top e l =
+    let found = fate-among above files counts (length files) line l in
+    record {
+      front = top ++ found .0;
+      back = found .1 .0;
+      whole = e ∙ ap (λ x. top ++ x) (found .1 .1) ∙ regroup top (found .0) (fateLine (above + (line + 1)) (fateOf files counts line)) (found .1 .0);
+      nothing = says-nothing (above + (line + 1)) (fateOf files counts line);
+      something = says-something (above + (line + 1)) (fateOf files counts line);
+    }
+
 pub every-fate-listed : EveryFateListed
 unfolding changesText
-every-fate-listed sheet line l =
-    let found = fate-among (looseFiles sheet + 6) (wantedFiles sheet) (wantedCounts sheet) (length (wantedFiles sheet)) line l in
-    record {
-      front = _ ++ found .0;
-      back = found .1 .0;
-      whole = ap (λ x. _ ++ x) (found .1 .1) ∙ regroup _ (found .0) (fateLine (looseFiles sheet + 6 + (line + 1)) (fateOf (wantedFiles sheet) (wantedCounts sheet) line)) (found .1 .0);
-      nothing = says-nothing (looseFiles sheet + 6 + (line + 1)) (fateOf (wantedFiles sheet) (wantedCounts sheet) line);
-      something = says-something (looseFiles sheet + 6 + (line + 1)) (fateOf (wantedFiles sheet) (wantedCounts sheet) line);
-    }
-  where
-    regroup : (a b c d : List ℕ) → a ++ (b ++ c ++ d) ≡ a ++ b ++ c ++ d
-    regroup a b c d = simp append-assoc
+every-fate-listed sheet line l = said-of sheet (changesText sheet) (looseFiles sheet + 6) line (wantedFiles sheet) (wantedCounts sheet) (topChanges sheet) refl l
