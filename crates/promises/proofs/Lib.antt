@@ -1,4 +1,5 @@
 -- The statements' proofs, and the laws that they share.
 pub mod Gathered
 pub mod Copied
+pub mod Again
 pub mod Mends
