@@ -219,7 +219,7 @@ module _ (sheet : List ℕ) (good : firstBadLoose sheet ≡ 0) (few : length (sh
   unfolding sheetReads
   even = each-long (wantedFiles sheet) (wantedCounts sheet) row
 
-  lines-even : length (wantedFiles sheet) ≡ length (wantedCounts sheet)
+  pub lines-even : length (wantedFiles sheet) ≡ length (wantedCounts sheet)
   unfolding wantedFiles wantedCounts
   lines-even = length-each (λ i. firstIn wantKey (lineAfter i (looseWantText sheet))) (looseWants sheet) ∙ sym (length-each (λ i. secondIn wantKey (lineAfter i (looseWantText sheet))) (looseWants sheet))
 

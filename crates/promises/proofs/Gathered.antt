@@ -12,7 +12,7 @@ use borrow.Author.Tests.{eq-eqb, ne-eqb, eqb-true, eqb-false, lt-ltb, le-ltb, lt
 use Rattle.runs.specs.Lists.{anyBelow}
 use Rattle.runs.proofs.Search.{any-here, any-zero, or-false-both}
 use Rattle.mends.specs.declared.wants.Fate.the-variants.{Stays}
-use Rattle.mends.specs.Wants.{sumOf, lower, higher, enter, entered, remaining, askedOf, readsOf, readsEach, sameAbove, higherAbove, fateOf}
+use Rattle.mends.specs.Wants.{sumOf, lower, higher, enter, entered, remaining, readsIn, askedOf, readsOf, readsEach, sameAbove, higherAbove, fateOf}
 use Rattle.mends.proofs.Texts.{each-long, each-at}
 
 -- Ascending, from a number on.
@@ -54,6 +54,13 @@ rising-at b [] p i j l m = absurd (omega arith)
 rising-at b (g ∷ files) p i zero l m = absurd (omega arith)
 rising-at b (g ∷ files) p zero (suc j) l m = rising-least (suc g) files (p .1) j (omega arith)
 rising-at b (g ∷ files) p (suc i) (suc j) l m = rising-at (suc g) files (p .1) i j (omega arith) (omega arith)
+
+rising-apart : (b : ℕ) (files : List ℕ) → Rising b files → (i j : ℕ) → i < length files → j < length files → (i ≡ j → ⊥) → getD files i 0 ≡ getD files j 0 → ⊥
+rising-apart b files p i j l m d e =
+    elim (decLt i j) [
+      | yes h ↦ omega (arith, rising-at b files p i j h m, e)
+      | no h ↦ omega (arith, rising-at b files p j i (omega arith) l, e)
+    ]
 
 -- Whether a file is among others.
 abbrev pub isIn : ℕ → List ℕ → Bool
@@ -205,11 +212,7 @@ module _ (row counts : List ℕ) (clean : Clean row counts) where
   clean-remaining = remaining-take (length row) (omega arith) ∙ take-length row
 
   apart : (i j : ℕ) → i < length row → j < length row → (i ≡ j → ⊥) → getD row i 0 ≡ getD row j 0 → ⊥
-  apart i j l m d e =
-      elim (decLt i j) [
-        | yes h ↦ omega (arith, rising-at 0 row (clean .rising) i j h m, e)
-        | no h ↦ omega (arith, rising-at 0 row (clean .rising) j i (omega arith) l, e)
-      ]
+  apart = rising-apart 0 row (clean .rising)
 
   pub clean-reads : (j : ℕ) → j < length row → readsOf row counts (getD row j 0) ≡ getD counts j 0
   unfolding readsOf
@@ -255,3 +258,64 @@ reads-kept files counts x = go (isIn x row) refl
     go false t =
         sum-nothing (λ i. askedOf x (getD row i 0) (getD reads i 0)) (length row) (λ i l. rw (ne-eqb (getD row i 0) x (not-in x row t i l)))
         ∙ sym (gone-unasked files counts x t)
+
+-- The total over the files that remain is the total over the lines.
+sum-add : (f g : ℕ → ℕ) (n : ℕ) → sumOf (λ i. f i + g i) n ≡ sumOf f n + sumOf g n
+unfolding sumOf
+sum-add f g zero = refl
+sum-add f g (suc n) = omega (arith, sum-add f g n)
+
+sum-same : (f g : ℕ → ℕ) (n : ℕ) → ((i : ℕ) → i < n → f i ≡ g i) → sumOf f n ≡ sumOf g n
+unfolding sumOf
+sum-same f g zero h = refl
+sum-same f g (suc n) h = omega (arith, sum-same f g n (λ i l. h i (omega arith)), h n (omega arith))
+
+zero-asked : (f named c : ℕ) → c ≡ 0 → askedOf f named c ≡ 0
+zero-asked f named c z = go (eqb named f)
+  where
+    go : (t : Bool) → _≡_ {A = ℕ} (cond t c 0) 0
+    go true = z
+    go false = refl
+
+module _ (files counts row : List ℕ) (rising : Rising 0 row) (all : (i : ℕ) → i < length files → (getD counts i 0 ≡ 0 → ⊥) → isIn (getD files i 0) row ≡ true) where
+  abbrev ask : ℕ → ℕ → ℕ
+  ask j i = askedOf (getD row j 0) (getD files i 0) (getD counts i 0)
+
+  -- A line's reads go to one file.
+  one-file : (i : ℕ) → i < length files → sumOf (λ j. ask j i) (length row) ≡ getD counts i 0
+  one-file i l = go (eqb (getD counts i 0) 0) refl
+    where
+      go : (t : Bool) → eqb (getD counts i 0) 0 ≡ t → sumOf (λ j. ask j i) (length row) ≡ getD counts i 0
+      go true t =
+          let z = eqb-true (getD counts i 0) 0 t in
+          sum-nothing (λ j. ask j i) (length row) (λ j m. zero-asked (getD row j 0) (getD files i 0) (getD counts i 0) z) ∙ sym z
+      go false t =
+          let found = find-in (getD files i 0) row (all i l (eqb-false (getD counts i 0) 0 t)) in
+          let j = found .0 in
+          sum-one (λ k. ask k i) (length row) j (found .1 .0)
+          (λ k m d. rw (ne-eqb (getD files i 0) (getD row k 0) (λ e. rising-apart 0 row rising k j m (found .1 .0) d (sym e ∙ sym (found .1 .1)))))
+          ∙ rw (eq-eqb (getD files i 0) (getD row j 0) (sym (found .1 .1)))
+
+  lines-total : (n : ℕ) → n ≤ length files → sumOf (λ j. sumOf (ask j) n) (length row) ≡ sumOf (λ i. getD counts i 0) n
+  unfolding sumOf
+  lines-total zero l = sum-nothing (λ j. sumOf (ask j) 0) (length row) (λ j m. refl)
+  lines-total (suc n) l = sum-add (λ j. sumOf (ask j) n) (λ j. ask j n) (length row) ∙ rw (lines-total n (omega arith), one-file n l)
+
+pub total-kept : (files counts : List ℕ) → length files ≡ length counts → readsIn (readsEach files counts (rest files counts)) ≡ readsIn counts
+unfolding readsIn readsOf
+total-kept files counts equal =
+    ap (sumOf (λ j. getD reads j 0)) (sym (each-long files counts row))
+    ∙ sum-same (λ j. getD reads j 0) (λ j. sumOf (λ i. askedOf (getD row j 0) (getD files i 0) (getD counts i 0)) (length files)) (length row) (λ j l. each-at files counts row j l)
+    ∙ lines-total files counts row (remaining-rising files counts (length files)) asked-in (length files) (omega arith)
+    ∙ ap (sumOf (λ i. getD counts i 0)) equal
+  where
+    row : List ℕ
+    row = remaining files counts (length files)
+
+    reads : List ℕ
+    reads = readsEach files counts row
+
+    asked-in : (i : ℕ) → i < length files → (getD counts i 0 ≡ 0 → ⊥) → isIn (getD files i 0) row ≡ true
+    asked-in i l some =
+        in-remaining files counts (getD files i 0) (length files)
+        ∙ any-here (asks files counts (getD files i 0)) i (length files) (rw (eq-eqb (getD files i 0) (getD files i 0) refl, ne-eqb (getD counts i 0) 0 some)) l

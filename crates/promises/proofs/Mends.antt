@@ -7,25 +7,29 @@ use native.Mathlib.Omega.{arith}
 use lib.ListN.{length, take, drop, getD}
 use lib.Seq.{take-append-seam, drop-append-seam}
 use lib.Dec.{eqb, ltb}
-use borrow.Author.Tests.{eq-eqb, ne-eqb, eqb-true, lt-ltb, le-ltb, ltb-true, not-true}
+use borrow.Author.Tests.{eq-eqb, ne-eqb, eqb-true, lt-ltb, le-ltb, ltb-true, ltb-false}
 use Rattle.refusals.specs.declared.Refusal.{Refusal}
-use Rattle.refusals.specs.declared.Refusal.the-variants.{Accepted}
+use Rattle.refusals.specs.declared.Refusal.the-variants.{Accepted, WantRows, TooManyReads, BadLine, LongSheet}
 use Rattle.refusals.specs.declared.Verdict.{Verdict}
-use Rattle.refusals.specs.Refusals.{isRefusal}
+use Rattle.refusals.specs.Refusals.{isRefusal, accepted, refuseIf, refuseAt, firstOf}
+use Rattle.refusals.proofs.Verdicts.{all-accept, accepts-if, accepts-at}
+use Rattle.runs.specs.Run.{mostWants, mostReads}
 use Rattle.runs.specs.Lists.{anyBelow}
 use Rattle.runs.proofs.Search.{any-here}
 use Rattle.sheets.specs.Reading.{readRow}
 use Rattle.texts.specs.Text.{bytes}
-use Rattle.sheets.specs.Sheet.{saysSweep, sheetFiles}
-use Rattle.loose.specs.Loose.{looseFiles, wantsSaid, priceLeftOut, wantedFiles, wantedCounts}
+use Rattle.sheets.specs.Sheet.{longestSheet, sheetTurn, saysSweep, sheetFiles, fileText}
+use Rattle.loose.specs.Loose.{looseFiles, wantsSaid, priceLeftOut, firstBadLoose, wantedFiles, wantedCounts}
+use Rattle.loose.specs.Reading.{looseVerdict}
 use Rattle.mends.specs.declared.Mended.{Mended}
 use Rattle.mends.specs.declared.wants.Fate.{Fate}
 use Rattle.mends.specs.declared.wants.Fate.the-variants.{Stays, Moved, Added, Dropped}
-use Rattle.mends.specs.Wants.{remaining, askedOf, readsOf, readsEach, sameAbove, higherAbove, fateOf}
-use Rattle.mends.specs.Mending.{sheetRemaining, sheetReads, mendedText, changeIf, changesText, fateLine, fateLines, mendVerdict, SheetMended}
+use Rattle.mends.specs.Wants.{remaining, readsIn, askedOf, readsOf, readsEach, sameAbove, higherAbove, fateOf}
+use Rattle.mends.specs.Mending.{firstLines, sheetRemaining, sheetReads, mendedText, changeIf, changesText, fateLine, fateLines, wantsVerdicts, textsVerdicts, mendVerdict, SheetMended}
 use Rattle.mends.proofs.Answers.{mend-determined}
-use Rattle.promises.specs.Mends.{InRows, MendedRows, MendingDetermined, ReadsKept, Orderly, WantsOrderly, SameFile, HigherFile, FateBy, FatesByConditions, SaidOf, EveryFateListed, SameAgain, WantsSettled}
-use Rattle.promises.proofs.Gathered.{rising-at, remaining-clean, clean-remaining, clean-each, clean-stays, reads-kept}
+use Rattle.promises.specs.Mends.{InRows, MendedRows, MendingDetermined, WasMended, SameReads, ReadsKept, Orderly, InOrder, MendedInOrder, SameFile, HigherFile, FateBy, FatesByConditions, SaidOf, EveryFateListed, OnceIsEnough}
+use Rattle.promises.proofs.Gathered.{rising-at, Clean, remaining-clean, clean-remaining, clean-each, clean-stays, reads-kept, total-kept}
+use Rattle.promises.proofs.Again.{lines-even, upper-again, turn-again, price-there, rule-there, files-said, files-again, table-again, wants-said, wants-again, named-again, asked-again, good-again}
 
 accepted-passes : (kind : Refusal) → kind ≡ Accepted → isRefusal kind ≡ false
 accepted-passes kind e = rw e
@@ -56,25 +60,168 @@ mended-rows sheet out notes answer out′ notes′ h e = go (isRefusal (v .refus
 pub mending-determined : MendingDetermined
 mending-determined = mend-determined
 
-pub reads-are-kept : ReadsKept
-unfolding sheetRemaining sheetReads
-reads-are-kept sheet file = reads-kept (wantedFiles sheet) (wantedCounts sheet) file
+-- What an accepted mending says of the sheet.
+pub record Facts (sheet : List ℕ) : Type 0 where
+  pub good : firstBadLoose sheet ≡ 0
+  pub few : length (sheetRemaining sheet) ≤ mostWants
+  pub reads : readsIn (wantedCounts sheet) ≤ mostReads
+  pub short : length (mendedText sheet) ≤ longestSheet
 
-pub wants-orderly : WantsOrderly
-unfolding sheetRemaining sheetReads
-wants-orderly sheet =
-    let clean = remaining-clean (wantedFiles sheet) (wantedCounts sheet) in
-    record { even = clean .even; ascending = λ i j l m. rising-at 0 (sheetRemaining sheet) (clean .rising) i j l m; some = clean .some }
+accepted-verdict : (sheet out notes : List ℕ) (answer : Mended) (out′ notes′ : List ℕ) → SheetMended sheet out notes answer out′ notes′ → answer .refusal ≡ Accepted
+    → isRefusal (mendVerdict sheet out notes .refusal) ≡ false
+accepted-verdict sheet out notes answer out′ notes′ h e = go (isRefusal (mendVerdict sheet out notes .refusal)) refl
+  where
+    go : (b : Bool) → isRefusal (mendVerdict sheet out notes .refusal) ≡ b → isRefusal (mendVerdict sheet out notes .refusal) ≡ false
+    go true refused =
+        let kind : answer .refusal ≡ mendVerdict sheet out notes .refusal = ap (λ a. a .refusal) (h .answer) ∙ rw refused in
+        accepted-passes (mendVerdict sheet out notes .refusal) (sym kind ∙ e)
+    go false passed = passed
 
-pub wants-settled : WantsSettled
-unfolding sheetRemaining sheetReads
-wants-settled sheet =
-    let clean = remaining-clean (wantedFiles sheet) (wantedCounts sheet) in
+facts : (sheet out notes : List ℕ) → isRefusal (mendVerdict sheet out notes .refusal) ≡ false → Facts sheet
+unfolding mendVerdict looseVerdict
+facts sheet out notes passed =
+    let all = all-accept (looseVerdict sheet ∷ firstOf (wantsVerdicts sheet) ∷ firstOf (textsVerdicts (mendedText sheet) (changesText sheet) out notes) ∷ []) passed in
+    let read = all-accept (refuseIf (ltb longestSheet (length sheet)) LongSheet ∷ refuseAt (firstBadLoose sheet) BadLine ∷ []) (all .0) in
+    let wants = all-accept (wantsVerdicts sheet) (all .1 .0) in
+    let texts = all-accept (textsVerdicts (mendedText sheet) (changesText sheet) out notes) (all .1 .1 .0) in
     record {
-      files-same = clean-remaining (sheetRemaining sheet) (sheetReads sheet) clean;
-      reads-same = clean-each (sheetRemaining sheet) (sheetReads sheet) clean;
-      all-stay = clean-stays (sheetRemaining sheet) (sheetReads sheet) clean;
+      good = accepts-at (firstBadLoose sheet) BadLine refl (read .1 .0);
+      few = ltb-false mostWants (length (sheetRemaining sheet)) (accepts-if (ltb mostWants (length (sheetRemaining sheet))) WantRows refl (wants .0));
+      reads = ltb-false mostReads (readsIn (wantedCounts sheet)) (accepts-if (ltb mostReads (readsIn (wantedCounts sheet))) TooManyReads refl (wants .1 .0));
+      short = ltb-false longestSheet (length (mendedText sheet)) (accepts-if (ltb longestSheet (length (mendedText sheet))) LongSheet refl (texts .0));
     }
+
+module _ (sheet text : List ℕ) (m : WasMended sheet text) where
+  known : Facts sheet
+  known = facts sheet (m .out) (m .notes) (accepted-verdict sheet (m .out) (m .notes) (m .answer) (m .out′) (m .notes′) (m .contract) (m .accepted))
+
+  text-mended : text ≡ mendedText sheet
+  text-mended = sym (m .text-is) ∙ mended-rows sheet (m .out) (m .notes) (m .answer) (m .out′) (m .notes′) (m .contract) (m .accepted) .text
+
+  abbrev row : List ℕ
+  row = sheetRemaining sheet
+
+  abbrev asked : List ℕ
+  asked = sheetReads sheet
+
+  named : wantedFiles text ≡ row
+  named = ap wantedFiles text-mended ∙ named-again sheet (known .good) (known .few) (known .reads)
+
+  counted : wantedCounts text ≡ asked
+  counted = ap wantedCounts text-mended ∙ asked-again sheet (known .good) (known .few) (known .reads)
+
+  total-is : readsIn asked ≡ readsIn (wantedCounts sheet)
+  unfolding sheetRemaining sheetReads
+  total-is = total-kept (wantedFiles sheet) (wantedCounts sheet) (lines-even sheet (known .good) (known .few) (known .reads))
+
+  row-clean : Clean row asked
+  unfolding sheetRemaining sheetReads
+  row-clean = remaining-clean (wantedFiles sheet) (wantedCounts sheet)
+
+  file-kept : (file : ℕ) → readsOf row asked file ≡ readsOf (wantedFiles sheet) (wantedCounts sheet) file
+  unfolding sheetRemaining sheetReads
+  file-kept file = reads-kept (wantedFiles sheet) (wantedCounts sheet) file
+
+  same-reads : SameReads sheet text
+  same-reads = record { each = λ file. rw (named, counted) (file-kept file); in-all = rw counted total-is }
+
+  in-order : InOrder text
+  in-order =
+      let k = known in
+      record {
+        described = ap firstBadLoose text-mended ∙ good-again sheet (k .good) (k .few) (k .reads);
+        wants = rw (named, counted) (record { even = row-clean .even; ascending = λ i j. rising-at 0 row (row-clean .rising) i j; some = row-clean .some });
+        few = rw named (k .few);
+        files-said = rw text-mended (files-said sheet (k .good) (k .few) (k .reads) ∙ sym (files-again sheet (k .good) (k .few) (k .reads)));
+        wants-said = rw text-mended (wants-said sheet (k .good) (k .few) (k .reads) ∙ sym (wants-again sheet (k .good) (k .few) (k .reads)));
+      }
+
+pub reads-are-kept : ReadsKept
+reads-are-kept sheet text m = same-reads sheet text m
+
+pub mended-in-order : MendedInOrder
+mended-in-order sheet text m = in-order sheet text m
+
+-- A sheet with the parts of another has its mended text; one with nothing to change lists none.
+remaining-once : (t row asked : List ℕ) → wantedFiles t ≡ row → wantedCounts t ≡ asked → remaining row asked (length row) ≡ row → sheetRemaining t ≡ row
+unfolding sheetRemaining
+remaining-once t row asked e f g = rw (e, f) g
+
+reads-once : (t row asked : List ℕ) → wantedFiles t ≡ row → wantedCounts t ≡ asked → sheetRemaining t ≡ row → readsEach row asked row ≡ asked → sheetReads t ≡ asked
+unfolding sheetReads
+reads-once t row asked e f g h = rw (g, e, f) h
+
+same-parts : (t sheet : List ℕ) → firstLines 2 t ≡ firstLines 2 sheet → sheetTurn t ≡ sheetTurn sheet → firstLines (looseFiles t) (fileText t) ≡ firstLines (looseFiles sheet) (fileText sheet)
+    → looseFiles t ≡ looseFiles sheet → sheetRemaining t ≡ sheetRemaining sheet → sheetReads t ≡ sheetReads sheet → mendedText t ≡ mendedText sheet
+unfolding mendedText
+same-parts t sheet upper turn table files wants reads = rw (upper, turn, table, files, wants, reads)
+
+fates-none : (above : ℕ) (files counts : List ℕ) (n : ℕ) → ((i : ℕ) → i < n → fateOf files counts i ≡ Stays) → fateLines above files counts n ≡ []
+unfolding fateLines
+fates-none above files counts zero h = refl
+fates-none above files counts (suc n) h = rw (fates-none above files counts n (λ i l. h i (omega arith)), h n (omega arith))
+
+no-changes : (t : List ℕ) → priceLeftOut t ≡ false → saysSweep t ≡ false → sheetFiles t ≡ looseFiles t → wantsSaid t ≡ length (sheetRemaining t)
+    → fateLines (looseFiles t + 6) (wantedFiles t) (wantedCounts t) (length (wantedFiles t)) ≡ [] → changesText t ≡ []
+unfolding changesText
+no-changes t price rule files wants fates = rw (price, rule, eq-eqb (sheetFiles t) (looseFiles t) files, eq-eqb (wantsSaid t) (length (sheetRemaining t)) wants, fates)
+
+module _ (sheet text : List ℕ) (m : WasMended sheet text) where
+  known₂ : Facts sheet
+  known₂ = known sheet text m
+
+  wants-same : sheetRemaining text ≡ sheetRemaining sheet
+  wants-same = remaining-once text (sheetRemaining sheet) (sheetReads sheet) (named sheet text m) (counted sheet text m) (clean-remaining (sheetRemaining sheet) (sheetReads sheet) (row-clean sheet text m))
+
+  reads-same : sheetReads text ≡ sheetReads sheet
+  reads-same = reads-once text (sheetRemaining sheet) (sheetReads sheet) (named sheet text m) (counted sheet text m) wants-same (clean-each (sheetRemaining sheet) (sheetReads sheet) (row-clean sheet text m))
+
+  mended-again : mendedText text ≡ text
+  mended-again =
+      let k = known₂ in
+      let e = text-mended sheet text m in
+      same-parts text sheet (ap (firstLines 2) e ∙ upper-again sheet (k .good) (k .few) (k .reads)) (ap sheetTurn e ∙ turn-again sheet (k .good) (k .few) (k .reads))
+      (ap (λ t. firstLines (looseFiles t) (fileText t)) e ∙ table-again sheet (k .good) (k .few) (k .reads)) (ap looseFiles e ∙ files-again sheet (k .good) (k .few) (k .reads)) wants-same reads-same
+      ∙ sym e
+
+  unchanged : changesText text ≡ []
+  unchanged =
+      let k = known₂ in
+      let e = text-mended sheet text m in
+      let order = in-order sheet text m in
+      no-changes text (ap priceLeftOut e ∙ price-there sheet (k .good) (k .few) (k .reads)) (ap saysSweep e ∙ rule-there sheet (k .good) (k .few) (k .reads)) (order .files-said)
+      (ap wantsSaid e ∙ wants-said sheet (k .good) (k .few) (k .reads) ∙ ap length (sym wants-same))
+      (rw (named sheet text m, counted sheet text m)
+      (fates-none (looseFiles text + 6) (sheetRemaining sheet) (sheetReads sheet) (length (sheetRemaining sheet)) (clean-stays (sheetRemaining sheet) (sheetReads sheet) (row-clean sheet text m))))
+
+  -- Given a row that takes it, it is accepted.
+  accepted-again : (out notes : List ℕ) → length text ≤ length out → mendVerdict text out notes ≡ accepted
+  unfolding mendVerdict looseVerdict
+  accepted-again out notes fits =
+      let k = known₂ in
+      let short : length text ≤ longestSheet = rw (text-mended sheet text m) (k .short) in
+      let reads : readsIn (wantedCounts text) ≤ mostReads = rw (counted sheet text m, total-is sheet text m) (k .reads) in
+      rw (
+        le-ltb longestSheet (length text) short,
+        in-order sheet text m .described,
+        wants-same,
+        le-ltb mostWants (length (sheetRemaining sheet)) (k .few),
+        le-ltb mostReads (readsIn (wantedCounts text)) reads,
+        mended-again,
+        unchanged,
+        le-ltb longestSheet (length text) short,
+        le-ltb (length out) (length text) fits,
+        le-ltb (length notes) 0 (omega arith),
+      )
+
+pub once-is-enough : OnceIsEnough
+unfolding readRow
+once-is-enough sheet text m out notes answer out′ notes′ h fits =
+    let v = accepted-again sheet text m out notes fits in
+    let same = mended-again sheet text m in
+    let none = unchanged sheet text m in
+    let row : out′ ≡ text ++ drop (length text) out = h .sheet ∙ rw (v, same) in
+    (h .answer ∙ rw (v, same, none), rw row (take-append-seam text (drop (length text) out)))
 
 -- A line's fate by its conditions.
 module _ (files counts : List ℕ) (line : ℕ) where
@@ -140,7 +287,7 @@ fate-among above files counts (suc n) line l = go (fate-among above files counts
         let found = rest (ltb-true line n t) in
         (found .0, (found .1 .0 ++ fateLine (above + (n + 1)) (fateOf files counts n), ap (λ x. x ++ fateLine (above + (n + 1)) (fateOf files counts n)) (found .1 .1) ∙ append-assoc (found .0 ++ fateLine (above + (line + 1)) (fateOf files counts line)) (found .1 .0) (fateLine (above + (n + 1)) (fateOf files counts n))))
     go rest false t =
-        let e : line ≡ n = omega (arith, borrow.Author.Tests.ltb-false line n t) in
+        let e : line ≡ n = omega (arith, ltb-false line n t) in
         (fateLines above files counts n, ([], rw e (sym (mathlib.Core.List.append-nil (fateLines above files counts n ++ fateLine (above + (n + 1)) (fateOf files counts n))))))
 
 says-nothing : (n : ℕ) (fate : Fate) → fate ≡ Stays → fateLine n fate ≡ []

@@ -5,12 +5,14 @@ use mathlib.Core.Path.{_≡_}
 use mathlib.Core.List.{List, [], _++_}
 use lib.ListN.{length, take, drop, getD}
 use Rattle.refusals.specs.declared.Refusal.the-variants.{Accepted}
-use Rattle.loose.specs.Loose.{looseFiles, wantedFiles, wantedCounts}
+use Rattle.runs.specs.Run.{mostWants}
+use Rattle.sheets.specs.Sheet.{sheetFiles}
+use Rattle.loose.specs.Loose.{looseFiles, looseWants, wantsSaid, firstBadLoose, wantedFiles, wantedCounts}
 use Rattle.mends.specs.declared.Mended.{Mended}
 use Rattle.mends.specs.declared.wants.Fate.{Fate}
 use Rattle.mends.specs.declared.wants.Fate.the-variants.{Stays, Moved, Added, Dropped}
-use Rattle.mends.specs.Wants.{remaining, readsOf, readsEach, fateOf}
-use Rattle.mends.specs.Mending.{sheetRemaining, sheetReads, mendedText, changesText, fateLine, fateLines, SheetMended}
+use Rattle.mends.specs.Wants.{readsIn, readsOf, fateOf}
+use Rattle.mends.specs.Mending.{mendedText, changesText, fateLine, SheetMended}
 
 -- An accepted mending: the mended sheet and the changes stand in the first bytes of the rows, and the later bytes are as they were.
 pub record InRows (sheet out notes : List ℕ) (answer : Mended) (out′ notes′ : List ℕ) : Type 0 where
@@ -34,20 +36,41 @@ MendingDetermined =
     → SheetMended sheet out notes s out″ notes″
     → (r ≡ s) × ((out′ ≡ out″) × (notes′ ≡ notes″))
 
--- The total of the counts of a file's want lines before is that of its want lines after, whatever the file.
-abbrev pub ReadsKept : Type 0
-ReadsKept =
-    (sheet : List ℕ) (file : ℕ)
-    → readsOf (sheetRemaining sheet) (sheetReads sheet) file ≡ readsOf (wantedFiles sheet) (wantedCounts sheet) file
+-- A sheet that was mended, and what came of it.
+pub record WasMended (sheet text : List ℕ) : Type 0 where
+  pub out : List ℕ
+  pub notes : List ℕ
+  pub answer : Mended
+  pub out′ : List ℕ
+  pub notes′ : List ℕ
+  pub contract : SheetMended sheet out notes answer out′ notes′
+  pub accepted : answer .refusal ≡ Accepted
+  pub text-is : take (answer .bytes) out′ ≡ text
 
--- The wants written: a count for each file, files strictly ascending (so none repeats), no count 0.
+-- The total of the counts of a file's want lines on the old sheet is that of its want lines on the mended one, whatever the file; and so is the total
+-- over all files.
+pub record SameReads (old new : List ℕ) : Type 0 where
+  pub each : (file : ℕ) → readsOf (wantedFiles new) (wantedCounts new) file ≡ readsOf (wantedFiles old) (wantedCounts old) file
+  pub in-all : readsIn (wantedCounts new) ≡ readsIn (wantedCounts old)
+
+abbrev pub ReadsKept : Type 0
+ReadsKept = (sheet text : List ℕ) → WasMended sheet text → SameReads sheet text
+
+-- The want lines of the mended sheet: files strictly ascending (so none repeats), no count 0; `files=` and `wants=` say how many lines follow.
 pub record Orderly (files counts : List ℕ) : Type 0 where
   pub even : length files ≡ length counts
   pub ascending : (i j : ℕ) → i < j → j < length files → getD files i 0 < getD files j 0
   pub some : (i : ℕ) → i < length files → getD counts i 0 ≡ 0 → ⊥
 
-abbrev pub WantsOrderly : Type 0
-WantsOrderly = (sheet : List ℕ) → Orderly (sheetRemaining sheet) (sheetReads sheet)
+pub record InOrder (text : List ℕ) : Type 0 where
+  pub described : firstBadLoose text ≡ 0
+  pub wants : Orderly (wantedFiles text) (wantedCounts text)
+  pub few : length (wantedFiles text) ≤ mostWants
+  pub files-said : sheetFiles text ≡ looseFiles text
+  pub wants-said : wantsSaid text ≡ looseWants text
+
+abbrev pub MendedInOrder : Type 0
+MendedInOrder = (sheet text : List ℕ) → WasMended sheet text → InOrder text
 
 -- A line above that names the same file and is not dropped; one that names a higher file.
 pub record SameFile (files counts : List ℕ) (line above : ℕ) : Type 0 where
@@ -84,11 +107,12 @@ EveryFateListed =
     → line < length (wantedFiles sheet)
     → SaidOf (changesText sheet) (wantedFiles sheet) (wantedCounts sheet) (looseFiles sheet + 6) line
 
--- The wants written, gathered once more, are the same with the same reads, and each of their lines stays.
-pub record SameAgain (files counts : List ℕ) : Type 0 where
-  pub files-same : remaining files counts (length files) ≡ files
-  pub reads-same : readsEach files counts files ≡ counts
-  pub all-stay : (line : ℕ) → line < length files → fateOf files counts line ≡ Stays
-
-abbrev pub WantsSettled : Type 0
-WantsSettled = (sheet : List ℕ) → SameAgain (sheetRemaining sheet) (sheetReads sheet)
+-- A mended sheet needs no second mending: given a row that takes it, it is accepted, comes out as it is, and no change is listed.
+abbrev pub OnceIsEnough : Type 0
+OnceIsEnough =
+    (sheet text : List ℕ)
+    → WasMended sheet text
+    → (out notes : List ℕ) (answer : Mended) (out′ notes′ : List ℕ)
+    → SheetMended text out notes answer out′ notes′
+    → length text ≤ length out
+    → (answer ≡ record { refusal = Accepted; place = 0; bytes = length text; noted = 0 }) × (take (length text) out′ ≡ text)
