@@ -49,7 +49,7 @@ class Checkout:
             (shutil.copytree if os.path.isdir(source) else shutil.copy2)(source, to)
         os.makedirs(os.path.join(self.root, "crates/refusals"))
         os.makedirs(os.path.join(self.root, "target/bin"))
-        for name in ("cmd_plan", "cmd_field", "cmd_buys", "cmd_rewrite", "cmd_ltfs"):
+        for name in ("cmd_plan", "cmd_field", "cmd_buys", "cmd_rewrite", "cmd_mend", "cmd_ltfs"):
             source = os.path.join(programs.ROOT, "target/bin", name)
             if not os.path.exists(source):
                 sys.exit(f"command.py: no program {source}; 'rt check {name}' makes it")
@@ -147,6 +147,24 @@ def rewriting(at):
     at.must("./violstream rewrite old.run > /dev/full", 1, b"", ["cannot write to standard output"])
 
 
+def mending(at):
+    """A sheet with wants in any order comes back in order, with a line for each change on standard error. Files and statuses as for plan."""
+    loose = RUN.replace(b"turn=1", b"turn=").replace(b"wants=3", b"wants=9").replace(b"want=1,1\nwant=2,3\n", b"want=2,1\nwant=1,0\nwant=1,1\nwant=2,2\n")
+    new = RUN.replace(b"turn=1", b"turn=12000")
+    words = ["change=3,turn\n", "change=9,wants\n", "change=11,dropped\n", "change=12,moved\n", "change=13,added\n"]
+    at.write("loose.run", loose)
+    at.must("./violstream mend loose.run", 0, new, words)
+    at.must("./violstream mend", 0, new, words, data=loose)
+    at.must("./violstream mend - < loose.run 2> /dev/null | ./violstream mend", 0, new, silent=True)
+    at.must("./violstream mend loose.run 2> /dev/null | ./violstream plan", 0, answer(new), silent=True)
+    at.must("./violstream mend examples/VX0041.run", 0, RUN, silent=True)
+    at.must("./violstream mend", 3, refusal(11, 3), ["refused (11): a line that is not as described"], data=changed(3, b"turn=x"))
+    at.must("./violstream mend < /dev/zero", 3, refusal(12), ["refused (12): a sheet over 16,384 bytes"])
+    at.must("./violstream mend", 3, refusal(3), ["refused (3): over 64 wants left"], data=RUN + b"".join(b"want=%d,1\n" % (n + 4) for n in range(62)))
+    at.must("./violstream mend", 3, refusal(5), ["refused (5): over 1,024 reads"], data=RUN + b"want=3,1020\n")
+    at.must("./violstream mend examples/VX0041.run > /dev/full", 1, b"", ["cannot write to standard output"])
+
+
 def fielding(at):
     """The plain engine prints what plan prints, up to eight wants, and refuses more. Files, statuses and words as for plan."""
     at.must("./violstream field examples/VX0041.run", 0, PLAN, silent=True)
@@ -167,7 +185,7 @@ def statuses(at):
     at.must(f"./violstream ltfs vx0041 {LABEL} {INDEX}", 3, refusal(13))
     at.must(f"set -o pipefail; ./violstream ltfs VX0041 {INDEX} {INDEX} | ./violstream plan", 3, refusal(11, 1))
     at.must("./violstream help", 0, silent=True)
-    for line in ("nothing", "plan -x", "plan - -", "field -x", "field - -", "buys -x", "buys - -", "rewrite -x", "rewrite - -", "ltfs", "ltfs A B", "ltfs A B C D", "ltfs A - -", "ltfs -A B C", "install a", "install /a /b",
+    for line in ("nothing", "plan -x", "plan - -", "field -x", "field - -", "buys -x", "buys - -", "rewrite -x", "rewrite - -", "mend -x", "mend - -", "ltfs", "ltfs A B", "ltfs A B C D", "ltfs A - -", "ltfs -A B C", "install a", "install /a /b",
                  "uninstall a", "install -x", "build x", "test x"):
         at.must(f"./violstream {line}", 2, b"", ["violstream: ", "\nusage: ./violstream "])
         said = at.shell(f"./violstream {line}")[1]
@@ -183,7 +201,7 @@ def help_and_version(at):
     text = at.shell("./violstream help")[0]
     if not text.startswith(b"usage: ./violstream plan"):
         raise Wrong(f"./violstream help prints {text!r}")
-    for line in ("--help", "-h", "", "plan --help", "field --help", "buys --help", "rewrite --help", "ltfs -h", "build --help", "test --help", "install --help", "version --help"):
+    for line in ("--help", "-h", "", "plan --help", "field --help", "buys --help", "rewrite --help", "mend --help", "ltfs -h", "build --help", "test --help", "install --help", "version --help"):
         at.must(f"./violstream {line}", 0, text, silent=True)
     version = at.shell("./violstream --version")[0]
     if re.fullmatch(rb"violstream [0-9]+\.[0-9]+\.[0-9]+ \(rattle-kit-\S+ logic [0-9a-f]{16}\)\n", version) is None:
@@ -515,12 +533,12 @@ def building(at):
     below(at, "cmd_plan")
     at.must(f"./violstream ltfs VX0041 {LABEL} {INDEX}", 0, SHEET, ["building cmd_ltfs"])
     at.must("rm target/bin/cmd_plan && ./violstream plan examples/VX0041.run", 0, PLAN, ["building cmd_plan"])
-    at.must("./violstream build", 0, b"", ["building cmd_field", "building cmd_buys", "building cmd_rewrite", "building libboundary.a"])
-    at.must("touch -d '+1 minute' crates/refusals/newer && ./violstream build", 0, b"", ["cmd_plan", "cmd_field", "cmd_buys", "cmd_rewrite", "cmd_ltfs", "libboundary.a"])
+    at.must("./violstream build", 0, b"", ["building cmd_field", "building cmd_buys", "building cmd_rewrite", "building cmd_mend", "building libboundary.a"])
+    at.must("touch -d '+1 minute' crates/refusals/newer && ./violstream build", 0, b"", ["cmd_plan", "cmd_field", "cmd_buys", "cmd_rewrite", "cmd_mend", "cmd_ltfs", "libboundary.a"])
     at.must("rm crates/refusals/newer && ./violstream build", 0, b"", ["violstream: built"])
     at.must("./violstream build more", 2, b"")
-    every = ["check cmd_plan", "check cmd_field", "check cmd_buys", "check cmd_rewrite", "check cmd_ltfs", "staticlib boundary"]
-    if called(at) != ["check cmd_plan", "check cmd_ltfs", "check cmd_plan", "check cmd_field", "check cmd_buys", "check cmd_rewrite", "staticlib boundary"] + every:
+    every = ["check cmd_plan", "check cmd_field", "check cmd_buys", "check cmd_rewrite", "check cmd_mend", "check cmd_ltfs", "staticlib boundary"]
+    if called(at) != ["check cmd_plan", "check cmd_ltfs", "check cmd_plan", "check cmd_field", "check cmd_buys", "check cmd_rewrite", "check cmd_mend", "staticlib boundary"] + every:
         raise Wrong(f"rt was called so: {called(at)}")
 
 
@@ -596,7 +614,7 @@ def until(true, otherwise):
     raise Wrong(otherwise)
 
 
-TESTS = (answers, fielding, figures, rewriting, statuses, help_and_version, nothing_lost, broken_program, several, ltfs_inputs, words_of_sheets, words_of_damaged_sheets,
+TESTS = (answers, fielding, figures, rewriting, mending, statuses, help_and_version, nothing_lost, broken_program, several, ltfs_inputs, words_of_sheets, words_of_damaged_sheets,
          words_of_tapes, keyboard, transcripts, manual, interrupted, building, building_fails, building_twice, building_interrupted)
 
 

@@ -1,6 +1,11 @@
--- The proofs of the promises: request L6 by single calls (DeskSteps), by days (Desk), its refusals, its wants and its worked cases.
+-- The proofs of the promises. Request L6: by single calls (DeskSteps), by days (Desk), its refusals, its wants and its worked cases. Request L11: laws
+-- of what is gathered, copied and read again, then its promises (Mends).
 pub mod DeskSteps
 pub mod Desk
 pub mod DeskRefusals
 pub mod DeskWants
 pub mod DeskCases
+pub mod Gathered
+pub mod Copied
+pub mod Again
+pub mod Mends

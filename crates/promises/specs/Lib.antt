@@ -1,5 +1,6 @@
--- The promises of requests. Each statement is a type; proofs/ has its proof.
+-- What the requests after those in `demands` promise, and the auditor's commands. Each statement is a type; proofs/ has its proof.
 pub mod Desk
 pub mod DeskRefusals
 pub mod DeskWants
 pub mod DeskCases
+pub mod Mends

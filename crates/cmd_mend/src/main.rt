@@ -1,0 +1,44 @@
+// cmd_mend: a run sheet from standard input, the mended sheet to standard output and a line for each change to standard error; or two lines that
+// say why not to standard output. The answer is proved in `mends` and `writers`; what is read and written here is tested and not proved.
+use libc::STDERR_FILENO;
+use libc::STDIN_FILENO;
+use libc::STDOUT_FILENO;
+use refusals::Verdict;
+use refusals::refused;
+
+// The first n bytes of a row, or the row where it has fewer.
+fn front(row: &[u8], n: u64) -> &[u8] {
+    let start: usize = 0;
+    let end = n as usize;
+    if end <= row.len() {
+        return &row[start..end];
+    }
+    row
+}
+
+// The two lines of a refusal, which are at most 38 bytes.
+fn print_refusal(verdict: Verdict) {
+    let mut lines = [0u8; 38];
+    let said = writers::write_refusal(verdict, &mut lines);
+    io::write_all(STDOUT_FILENO, front(&lines, said.bytes));
+}
+
+// A byte more than a sheet may have is read. No mended sheet is longer than a sheet may be, and there are fewer changes than fill the row for them.
+fn main() {
+    let mut sheet = [0u8; 16385];
+    let mut out = [0u8; 16384];
+    let mut notes = [0u8; 98424];
+    let n = io::read_full(STDIN_FILENO, &mut sheet);
+    let mended = mends::mend(&sheet[..n], &mut out, &mut notes);
+    let refusal = mended.refusal;
+    let verdict = Verdict {
+        refusal,
+        place: mended.place,
+    };
+    if refused(verdict) {
+        print_refusal(verdict);
+        return;
+    }
+    io::write_all(STDOUT_FILENO, front(&out, mended.bytes));
+    io::write_all(STDERR_FILENO, front(&notes, mended.noted));
+}

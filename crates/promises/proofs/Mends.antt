@@ -1,0 +1,326 @@
+-- The promises of the request on mending.
+use Prim.Native.Nat.{ℕ, zero, suc, _+_, _≤_, _<_}
+use mathlib.Core.Path.{_≡_, refl, ap, sym, _∙_}
+use mathlib.Core.Bool.{Bool, true, false, true≢false, not, cond}
+use mathlib.Core.List.{List, [], _∷_, _++_, append-assoc}
+use native.Mathlib.Omega.{arith}
+use lib.ListN.{length, take, drop, getD}
+use lib.Seq.{take-append-seam, drop-append-seam}
+use lib.Dec.{eqb, ltb}
+use borrow.Author.Tests.{eq-eqb, ne-eqb, eqb-true, lt-ltb, le-ltb, ltb-true, ltb-false}
+use Rattle.refusals.specs.declared.Refusal.{Refusal}
+use Rattle.refusals.specs.declared.Refusal.the-variants.{Accepted, WantRows, TooManyReads, BadLine, LongSheet}
+use Rattle.refusals.specs.declared.Verdict.{Verdict}
+use Rattle.refusals.specs.Refusals.{isRefusal, accepted, refuseIf, refuseAt, firstOf}
+use Rattle.refusals.proofs.Verdicts.{all-accept, accepts-if, accepts-at}
+use Rattle.runs.specs.Run.{mostWants, mostReads}
+use Rattle.runs.specs.Lists.{anyBelow}
+use Rattle.runs.proofs.Search.{any-here}
+use Rattle.sheets.specs.Reading.{readRow}
+use Rattle.texts.specs.Text.{bytes}
+use Rattle.sheets.specs.Sheet.{longestSheet, sheetTurn, saysSweep, sheetFiles, fileText}
+use Rattle.loose.specs.Loose.{looseFiles, wantsSaid, priceLeftOut, firstBadLoose, wantedFiles, wantedCounts}
+use Rattle.loose.specs.Reading.{looseVerdict}
+use Rattle.mends.specs.declared.Mended.{Mended}
+use Rattle.mends.specs.declared.wants.Fate.{Fate}
+use Rattle.mends.specs.declared.wants.Fate.the-variants.{Stays, Moved, Added, Dropped}
+use Rattle.mends.specs.Wants.{remaining, readsIn, askedOf, readsOf, readsEach, sameAbove, higherAbove, fateOf}
+use Rattle.mends.specs.Mending.{firstLines, sheetRemaining, sheetReads, mendedText, changeIf, changesText, fateLine, fateLines, wantsVerdicts, textsVerdicts, mendVerdict, SheetMended}
+use Rattle.mends.proofs.Answers.{mend-determined}
+use Rattle.promises.specs.Mends.{InRows, MendedRows, MendingDetermined, WasMended, SameReads, ReadsKept, Orderly, InOrder, MendedInOrder, SameFile, HigherFile, FateBy, FatesByConditions, SaidOf, EveryFateListed, OnceIsEnough}
+use Rattle.promises.proofs.Gathered.{rising-at, Clean, remaining-clean, clean-remaining, clean-each, clean-stays, reads-kept, total-kept}
+use Rattle.promises.proofs.Again.{lines-even, upper-again, turn-again, price-there, rule-there, files-said, files-again, table-again, wants-said, wants-again, named-again, asked-again, good-again}
+
+accepted-passes : (kind : Refusal) → kind ≡ Accepted → isRefusal kind ≡ false
+accepted-passes kind e = rw e
+
+pub mended-rows : MendedRows
+unfolding readRow
+mended-rows sheet out notes answer out′ notes′ h e = go (isRefusal (v .refusal)) refl
+  where
+    v : Verdict
+    v = mendVerdict sheet out notes
+
+    go : (b : Bool) → isRefusal (v .refusal) ≡ b → InRows sheet out notes answer out′ notes′
+    go true refused =
+        let kind : answer .refusal ≡ v .refusal = ap (λ a. a .refusal) (h .answer) ∙ rw refused in
+        absurd (true≢false (sym refused ∙ accepted-passes (v .refusal) (sym kind ∙ e)))
+    go false passed =
+        let bytes : answer .bytes ≡ length (mendedText sheet) = ap (λ a. a .bytes) (h .answer) ∙ rw passed in
+        let noted : answer .noted ≡ length (changesText sheet) = ap (λ a. a .noted) (h .answer) ∙ rw passed in
+        let row : out′ ≡ mendedText sheet ++ drop (length (mendedText sheet)) out = h .sheet ∙ rw passed in
+        let list : notes′ ≡ changesText sheet ++ drop (length (changesText sheet)) notes = h .listed ∙ rw passed in
+        record {
+          text = rw (bytes, row) (take-append-seam (mendedText sheet) (drop (length (mendedText sheet)) out));
+          below = rw (bytes, row) (drop-append-seam (mendedText sheet) (drop (length (mendedText sheet)) out));
+          changes = rw (noted, list) (take-append-seam (changesText sheet) (drop (length (changesText sheet)) notes));
+          behind = rw (noted, list) (drop-append-seam (changesText sheet) (drop (length (changesText sheet)) notes));
+        }
+
+pub mending-determined : MendingDetermined
+mending-determined = mend-determined
+
+-- What an accepted mending says of the sheet.
+pub record Facts (sheet : List ℕ) : Type 0 where
+  pub good : firstBadLoose sheet ≡ 0
+  pub few : length (sheetRemaining sheet) ≤ mostWants
+  pub reads : readsIn (wantedCounts sheet) ≤ mostReads
+  pub short : length (mendedText sheet) ≤ longestSheet
+
+accepted-verdict : (sheet out notes : List ℕ) (answer : Mended) (out′ notes′ : List ℕ) → SheetMended sheet out notes answer out′ notes′ → answer .refusal ≡ Accepted
+    → isRefusal (mendVerdict sheet out notes .refusal) ≡ false
+accepted-verdict sheet out notes answer out′ notes′ h e = go (isRefusal (mendVerdict sheet out notes .refusal)) refl
+  where
+    go : (b : Bool) → isRefusal (mendVerdict sheet out notes .refusal) ≡ b → isRefusal (mendVerdict sheet out notes .refusal) ≡ false
+    go true refused =
+        let kind : answer .refusal ≡ mendVerdict sheet out notes .refusal = ap (λ a. a .refusal) (h .answer) ∙ rw refused in
+        accepted-passes (mendVerdict sheet out notes .refusal) (sym kind ∙ e)
+    go false passed = passed
+
+facts : (sheet out notes : List ℕ) → isRefusal (mendVerdict sheet out notes .refusal) ≡ false → Facts sheet
+unfolding mendVerdict looseVerdict
+facts sheet out notes passed =
+    let all = all-accept (looseVerdict sheet ∷ firstOf (wantsVerdicts sheet) ∷ firstOf (textsVerdicts (mendedText sheet) (changesText sheet) out notes) ∷ []) passed in
+    let read = all-accept (refuseIf (ltb longestSheet (length sheet)) LongSheet ∷ refuseAt (firstBadLoose sheet) BadLine ∷ []) (all .0) in
+    let wants = all-accept (wantsVerdicts sheet) (all .1 .0) in
+    let texts = all-accept (textsVerdicts (mendedText sheet) (changesText sheet) out notes) (all .1 .1 .0) in
+    record {
+      good = accepts-at (firstBadLoose sheet) BadLine refl (read .1 .0);
+      few = ltb-false mostWants (length (sheetRemaining sheet)) (accepts-if (ltb mostWants (length (sheetRemaining sheet))) WantRows refl (wants .0));
+      reads = ltb-false mostReads (readsIn (wantedCounts sheet)) (accepts-if (ltb mostReads (readsIn (wantedCounts sheet))) TooManyReads refl (wants .1 .0));
+      short = ltb-false longestSheet (length (mendedText sheet)) (accepts-if (ltb longestSheet (length (mendedText sheet))) LongSheet refl (texts .0));
+    }
+
+module _ (sheet text : List ℕ) (m : WasMended sheet text) where
+  known : Facts sheet
+  known = facts sheet (m .out) (m .notes) (accepted-verdict sheet (m .out) (m .notes) (m .answer) (m .out′) (m .notes′) (m .contract) (m .accepted))
+
+  text-mended : text ≡ mendedText sheet
+  text-mended = sym (m .text-is) ∙ mended-rows sheet (m .out) (m .notes) (m .answer) (m .out′) (m .notes′) (m .contract) (m .accepted) .text
+
+  abbrev row : List ℕ
+  row = sheetRemaining sheet
+
+  abbrev asked : List ℕ
+  asked = sheetReads sheet
+
+  named : wantedFiles text ≡ row
+  named = ap wantedFiles text-mended ∙ named-again sheet (known .good) (known .few) (known .reads)
+
+  counted : wantedCounts text ≡ asked
+  counted = ap wantedCounts text-mended ∙ asked-again sheet (known .good) (known .few) (known .reads)
+
+  total-is : readsIn asked ≡ readsIn (wantedCounts sheet)
+  unfolding sheetRemaining sheetReads
+  total-is = total-kept (wantedFiles sheet) (wantedCounts sheet) (lines-even sheet (known .good) (known .few) (known .reads))
+
+  row-clean : Clean row asked
+  unfolding sheetRemaining sheetReads
+  row-clean = remaining-clean (wantedFiles sheet) (wantedCounts sheet)
+
+  file-kept : (file : ℕ) → readsOf row asked file ≡ readsOf (wantedFiles sheet) (wantedCounts sheet) file
+  unfolding sheetRemaining sheetReads
+  file-kept file = reads-kept (wantedFiles sheet) (wantedCounts sheet) file
+
+  same-reads : SameReads sheet text
+  same-reads = record { each = λ file. rw (named, counted) (file-kept file); in-all = rw counted total-is }
+
+  in-order : InOrder text
+  in-order =
+      let k = known in
+      record {
+        described = ap firstBadLoose text-mended ∙ good-again sheet (k .good) (k .few) (k .reads);
+        wants = rw (named, counted) (record { even = row-clean .even; ascending = λ i j. rising-at 0 row (row-clean .rising) i j; some = row-clean .some });
+        few = rw named (k .few);
+        files-said = rw text-mended (files-said sheet (k .good) (k .few) (k .reads) ∙ sym (files-again sheet (k .good) (k .few) (k .reads)));
+        wants-said = rw text-mended (wants-said sheet (k .good) (k .few) (k .reads) ∙ sym (wants-again sheet (k .good) (k .few) (k .reads)));
+      }
+
+pub reads-are-kept : ReadsKept
+reads-are-kept sheet text m = same-reads sheet text m
+
+pub mended-in-order : MendedInOrder
+mended-in-order sheet text m = in-order sheet text m
+
+-- A sheet with the parts of another has its mended text; one with nothing to change lists none.
+remaining-once : (t row asked : List ℕ) → wantedFiles t ≡ row → wantedCounts t ≡ asked → remaining row asked (length row) ≡ row → sheetRemaining t ≡ row
+unfolding sheetRemaining
+remaining-once t row asked e f g = rw (e, f) g
+
+reads-once : (t row asked : List ℕ) → wantedFiles t ≡ row → wantedCounts t ≡ asked → sheetRemaining t ≡ row → readsEach row asked row ≡ asked → sheetReads t ≡ asked
+unfolding sheetReads
+reads-once t row asked e f g h = rw (g, e, f) h
+
+same-parts : (t sheet : List ℕ) → firstLines 2 t ≡ firstLines 2 sheet → sheetTurn t ≡ sheetTurn sheet → firstLines (looseFiles t) (fileText t) ≡ firstLines (looseFiles sheet) (fileText sheet)
+    → looseFiles t ≡ looseFiles sheet → sheetRemaining t ≡ sheetRemaining sheet → sheetReads t ≡ sheetReads sheet → mendedText t ≡ mendedText sheet
+unfolding mendedText
+same-parts t sheet upper turn table files wants reads = rw (upper, turn, table, files, wants, reads)
+
+fates-none : (above : ℕ) (files counts : List ℕ) (n : ℕ) → ((i : ℕ) → i < n → fateOf files counts i ≡ Stays) → fateLines above files counts n ≡ []
+unfolding fateLines
+fates-none above files counts zero h = refl
+fates-none above files counts (suc n) h = rw (fates-none above files counts n (λ i l. h i (omega arith)), h n (omega arith))
+
+no-changes : (t : List ℕ) → priceLeftOut t ≡ false → saysSweep t ≡ false → sheetFiles t ≡ looseFiles t → wantsSaid t ≡ length (sheetRemaining t)
+    → fateLines (looseFiles t + 6) (wantedFiles t) (wantedCounts t) (length (wantedFiles t)) ≡ [] → changesText t ≡ []
+unfolding changesText
+no-changes t price rule files wants fates = rw (price, rule, eq-eqb (sheetFiles t) (looseFiles t) files, eq-eqb (wantsSaid t) (length (sheetRemaining t)) wants, fates)
+
+module _ (sheet text : List ℕ) (m : WasMended sheet text) where
+  known₂ : Facts sheet
+  known₂ = known sheet text m
+
+  wants-same : sheetRemaining text ≡ sheetRemaining sheet
+  wants-same = remaining-once text (sheetRemaining sheet) (sheetReads sheet) (named sheet text m) (counted sheet text m) (clean-remaining (sheetRemaining sheet) (sheetReads sheet) (row-clean sheet text m))
+
+  reads-same : sheetReads text ≡ sheetReads sheet
+  reads-same = reads-once text (sheetRemaining sheet) (sheetReads sheet) (named sheet text m) (counted sheet text m) wants-same (clean-each (sheetRemaining sheet) (sheetReads sheet) (row-clean sheet text m))
+
+  mended-again : mendedText text ≡ text
+  mended-again =
+      let k = known₂ in
+      let e = text-mended sheet text m in
+      same-parts text sheet (ap (firstLines 2) e ∙ upper-again sheet (k .good) (k .few) (k .reads)) (ap sheetTurn e ∙ turn-again sheet (k .good) (k .few) (k .reads))
+      (ap (λ t. firstLines (looseFiles t) (fileText t)) e ∙ table-again sheet (k .good) (k .few) (k .reads)) (ap looseFiles e ∙ files-again sheet (k .good) (k .few) (k .reads)) wants-same reads-same
+      ∙ sym e
+
+  unchanged : changesText text ≡ []
+  unchanged =
+      let k = known₂ in
+      let e = text-mended sheet text m in
+      let order = in-order sheet text m in
+      no-changes text (ap priceLeftOut e ∙ price-there sheet (k .good) (k .few) (k .reads)) (ap saysSweep e ∙ rule-there sheet (k .good) (k .few) (k .reads)) (order .files-said)
+      (ap wantsSaid e ∙ wants-said sheet (k .good) (k .few) (k .reads) ∙ ap length (sym wants-same))
+      (rw (named sheet text m, counted sheet text m)
+      (fates-none (looseFiles text + 6) (sheetRemaining sheet) (sheetReads sheet) (length (sheetRemaining sheet)) (clean-stays (sheetRemaining sheet) (sheetReads sheet) (row-clean sheet text m))))
+
+  -- Given a row that takes it, it is accepted.
+  accepted-again : (out notes : List ℕ) → length text ≤ length out → mendVerdict text out notes ≡ accepted
+  unfolding mendVerdict looseVerdict
+  accepted-again out notes fits =
+      let k = known₂ in
+      let short : length text ≤ longestSheet = rw (text-mended sheet text m) (k .short) in
+      let reads : readsIn (wantedCounts text) ≤ mostReads = rw (counted sheet text m, total-is sheet text m) (k .reads) in
+      rw (
+        le-ltb longestSheet (length text) short,
+        in-order sheet text m .described,
+        wants-same,
+        le-ltb mostWants (length (sheetRemaining sheet)) (k .few),
+        le-ltb mostReads (readsIn (wantedCounts text)) reads,
+        mended-again,
+        unchanged,
+        le-ltb longestSheet (length text) short,
+        le-ltb (length out) (length text) fits,
+        le-ltb (length notes) 0 (omega arith),
+      )
+
+pub once-is-enough : OnceIsEnough
+unfolding readRow
+once-is-enough sheet text m out notes answer out′ notes′ h fits =
+    let v = accepted-again sheet text m out notes fits in
+    let same = mended-again sheet text m in
+    let none = unchanged sheet text m in
+    let row : out′ ≡ text ++ drop (length text) out = h .sheet ∙ rw (v, same) in
+    (h .answer ∙ rw (v, same, none), rw row (take-append-seam text (drop (length text) out)))
+
+-- A line's fate by its conditions.
+module _ (files counts : List ℕ) (line : ℕ) where
+  abbrev asks : ℕ → Bool
+  asks i = not (eqb (askedOf (getD files line 0) (getD files i 0) (getD counts i 0)) 0)
+
+  abbrev above-it : ℕ → Bool
+  above-it i = ltb (getD files line 0) (getD files i 0)
+
+  any-none : (test : ℕ → Bool) (n : ℕ) → ((i : ℕ) → i < n → test i ≡ false) → anyBelow test n ≡ false
+  unfolding anyBelow
+  any-none test zero h = refl
+  any-none test (suc n) h = rw (any-none test n (λ i l. h i (omega arith)), h n (omega arith))
+
+  same-there : (above : ℕ) → SameFile files counts line above → sameAbove files counts line ≡ true
+  unfolding sameAbove
+  same-there above p = any-here asks above line (rw (eq-eqb (getD files above 0) (getD files line 0) (p .same), ne-eqb (getD counts above 0) 0 (p .some))) (p .higher-up)
+
+  same-nowhere : ((above : ℕ) → SameFile files counts line above → ⊥) → sameAbove files counts line ≡ false
+  unfolding sameAbove
+  same-nowhere none = any-none asks line (λ i l. go i l (eqb (getD files i 0) (getD files line 0)) refl (eqb (getD counts i 0) 0) refl)
+    where
+      go : (i : ℕ) → i < line → (s : Bool) → eqb (getD files i 0) (getD files line 0) ≡ s → (z : Bool) → eqb (getD counts i 0) 0 ≡ z → not (eqb (cond s (getD counts i 0) 0) 0) ≡ false
+      go i l true s true z = rw z
+      go i l true s false z = absurd (none i (record { higher-up = l; same = eqb-true (getD files i 0) (getD files line 0) s; some = borrow.Author.Tests.eqb-false (getD counts i 0) 0 z }))
+      go i l false s z e = refl
+
+  higher-there : (above : ℕ) → HigherFile files line above → higherAbove files line ≡ true
+  unfolding higherAbove
+  higher-there above p = any-here above-it above line (lt-ltb (getD files line 0) (getD files above 0) (p .higher)) (p .higher-up)
+
+  higher-nowhere : ((above : ℕ) → HigherFile files line above → ⊥) → higherAbove files line ≡ false
+  unfolding higherAbove
+  higher-nowhere none = any-none above-it line (λ i l. go i l (ltb (getD files line 0) (getD files i 0)) refl)
+    where
+      go : (i : ℕ) → i < line → (t : Bool) → ltb (getD files line 0) (getD files i 0) ≡ t → ltb (getD files line 0) (getD files i 0) ≡ false
+      go i l true t = absurd (none i (record { higher-up = l; higher = ltb-true (getD files line 0) (getD files i 0) t }))
+      go i l false t = t
+
+  fate-by : FateBy files counts line (fateOf files counts line)
+  unfolding fateOf
+  fate-by =
+      record {
+        dropped = λ z. rw (eq-eqb (getD counts line 0) 0 z);
+        added = λ some above p. rw (ne-eqb (getD counts line 0) 0 some, same-there above p);
+        moved = λ some none above p. rw (ne-eqb (getD counts line 0) 0 some, same-nowhere none, higher-there above p);
+        stays = λ some none low. rw (ne-eqb (getD counts line 0) 0 some, same-nowhere none, higher-nowhere low);
+      }
+
+pub fates-by-conditions : FatesByConditions
+fates-by-conditions files counts line = fate-by files counts line
+
+-- Each line's fate among the others'.
+fate-among : (above : ℕ) (files counts : List ℕ) (n line : ℕ) → line < n → (front : List ℕ) × ((back : List ℕ) × (fateLines above files counts n ≡ front ++ fateLine (above + (line + 1)) (fateOf files counts line) ++ back))
+unfolding fateLines
+fate-among above files counts zero line l = absurd (omega arith)
+fate-among above files counts (suc n) line l = go (fate-among above files counts n line) (ltb line n) refl
+  where
+    go : (line < n → (front : List ℕ) × ((back : List ℕ) × (fateLines above files counts n ≡ front ++ fateLine (above + (line + 1)) (fateOf files counts line) ++ back)))
+        → (t : Bool) → ltb line n ≡ t
+        → (front : List ℕ) × ((back : List ℕ) × (fateLines above files counts n ++ fateLine (above + (n + 1)) (fateOf files counts n) ≡ front ++ fateLine (above + (line + 1)) (fateOf files counts line) ++ back))
+    go rest true t =
+        let found = rest (ltb-true line n t) in
+        (found .0, (found .1 .0 ++ fateLine (above + (n + 1)) (fateOf files counts n), ap (λ x. x ++ fateLine (above + (n + 1)) (fateOf files counts n)) (found .1 .1) ∙ append-assoc (found .0 ++ fateLine (above + (line + 1)) (fateOf files counts line)) (found .1 .0) (fateLine (above + (n + 1)) (fateOf files counts n))))
+    go rest false t =
+        let e : line ≡ n = omega (arith, ltb-false line n t) in
+        (fateLines above files counts n, ([], rw e (sym (mathlib.Core.List.append-nil (fateLines above files counts n ++ fateLine (above + (n + 1)) (fateOf files counts n))))))
+
+says-nothing : (n : ℕ) (fate : Fate) → fate ≡ Stays → fateLine n fate ≡ []
+says-nothing n fate e = rw e
+
+says-something : (n : ℕ) (fate : Fate) → (fate ≡ Stays → ⊥) → fateLine n fate ≡ [] → ⊥
+says-something n Stays some e = some refl
+says-something n Moved some e = let z : _≡_ {A = ℕ} 0 1 = cc in omega arith
+says-something n Added some e = let z : _≡_ {A = ℕ} 0 1 = cc in omega arith
+says-something n Dropped some e = let z : _≡_ {A = ℕ} 0 1 = cc in omega arith
+
+-- The changes above the want lines.
+abbrev topChanges : List ℕ → List ℕ
+topChanges sheet =
+    changeIf (priceLeftOut sheet) 3 (bytes "turn")
+    ++ changeIf (saysSweep sheet) 4 (bytes "rule")
+    ++ changeIf (not (eqb (sheetFiles sheet) (looseFiles sheet))) 5 (bytes "files")
+    ++ changeIf (not (eqb (wantsSaid sheet) (length (sheetRemaining sheet)))) (looseFiles sheet + 6) (bytes "wants")
+
+regroup : (a b c d : List ℕ) → a ++ (b ++ c ++ d) ≡ a ++ b ++ c ++ d
+regroup a b c d = simp append-assoc
+
+said-of : (sheet listed : List ℕ) (above line : ℕ) (files counts top : List ℕ) → listed ≡ top ++ fateLines above files counts (length files) → line < length files → SaidOf listed files counts above line
+said-of sheet listed above line files counts top e l =
+    let found = fate-among above files counts (length files) line l in
+    record {
+      front = top ++ found .0;
+      back = found .1 .0;
+      whole = e ∙ ap (λ x. top ++ x) (found .1 .1) ∙ regroup top (found .0) (fateLine (above + (line + 1)) (fateOf files counts line)) (found .1 .0);
+      nothing = says-nothing (above + (line + 1)) (fateOf files counts line);
+      something = says-something (above + (line + 1)) (fateOf files counts line);
+    }
+
+pub every-fate-listed : EveryFateListed
+unfolding changesText
+every-fate-listed sheet line l = said-of sheet (changesText sheet) (looseFiles sheet + 6) line (wantedFiles sheet) (wantedCounts sheet) (topChanges sheet) refl l

@@ -1,0 +1,118 @@
+-- The request on mending (L11): what stands in the two rows; the reads of every file are kept; the wants written ascend, none repeats, none is 0; each
+-- want line's fate, by conditions of its own; every change is listed and nothing else; what is written needs no second mending.
+use Prim.Native.Nat.{ℕ, _+_, _≤_, _<_}
+use mathlib.Core.Path.{_≡_}
+use mathlib.Core.List.{List, [], _++_}
+use lib.ListN.{length, take, drop, getD}
+use Rattle.refusals.specs.declared.Refusal.the-variants.{Accepted}
+use Rattle.runs.specs.Run.{mostWants}
+use Rattle.sheets.specs.Sheet.{sheetFiles}
+use Rattle.loose.specs.Loose.{looseFiles, looseWants, wantsSaid, firstBadLoose, wantedFiles, wantedCounts}
+use Rattle.mends.specs.declared.Mended.{Mended}
+use Rattle.mends.specs.declared.wants.Fate.{Fate}
+use Rattle.mends.specs.declared.wants.Fate.the-variants.{Stays, Moved, Added, Dropped}
+use Rattle.mends.specs.Wants.{readsIn, readsOf, fateOf}
+use Rattle.mends.specs.Mending.{mendedText, changesText, fateLine, SheetMended}
+
+-- An accepted mending: the mended sheet and the changes stand in the first bytes of the rows, and the later bytes are as they were.
+pub record InRows (sheet out notes : List ℕ) (answer : Mended) (out′ notes′ : List ℕ) : Type 0 where
+  pub text : take (answer .bytes) out′ ≡ mendedText sheet
+  pub below : drop (answer .bytes) out′ ≡ drop (answer .bytes) out
+  pub changes : take (answer .noted) notes′ ≡ changesText sheet
+  pub behind : drop (answer .noted) notes′ ≡ drop (answer .noted) notes
+
+abbrev pub MendedRows : Type 0
+MendedRows =
+    (sheet out notes : List ℕ) (answer : Mended) (out′ notes′ : List ℕ)
+    → SheetMended sheet out notes answer out′ notes′
+    → answer .refusal ≡ Accepted
+    → InRows sheet out notes answer out′ notes′
+
+-- The contract leaves no choice: two answers to one sheet are the same, and so are the rows.
+abbrev pub MendingDetermined : Type 0
+MendingDetermined =
+    (sheet out notes : List ℕ) (r s : Mended) (out′ out″ notes′ notes″ : List ℕ)
+    → SheetMended sheet out notes r out′ notes′
+    → SheetMended sheet out notes s out″ notes″
+    → (r ≡ s) × ((out′ ≡ out″) × (notes′ ≡ notes″))
+
+-- A sheet that was mended, and what came of it.
+pub record WasMended (sheet text : List ℕ) : Type 0 where
+  pub out : List ℕ
+  pub notes : List ℕ
+  pub answer : Mended
+  pub out′ : List ℕ
+  pub notes′ : List ℕ
+  pub contract : SheetMended sheet out notes answer out′ notes′
+  pub accepted : answer .refusal ≡ Accepted
+  pub text-is : take (answer .bytes) out′ ≡ text
+
+-- The total of the counts of a file's want lines on the old sheet is that of its want lines on the mended one, whatever the file; and so is the total
+-- over all files.
+pub record SameReads (old new : List ℕ) : Type 0 where
+  pub each : (file : ℕ) → readsOf (wantedFiles new) (wantedCounts new) file ≡ readsOf (wantedFiles old) (wantedCounts old) file
+  pub in-all : readsIn (wantedCounts new) ≡ readsIn (wantedCounts old)
+
+abbrev pub ReadsKept : Type 0
+ReadsKept = (sheet text : List ℕ) → WasMended sheet text → SameReads sheet text
+
+-- The want lines of the mended sheet: files strictly ascending (so none repeats), no count 0; `files=` and `wants=` say how many lines follow.
+pub record Orderly (files counts : List ℕ) : Type 0 where
+  pub even : length files ≡ length counts
+  pub ascending : (i j : ℕ) → i < j → j < length files → getD files i 0 < getD files j 0
+  pub some : (i : ℕ) → i < length files → getD counts i 0 ≡ 0 → ⊥
+
+pub record InOrder (text : List ℕ) : Type 0 where
+  pub described : firstBadLoose text ≡ 0
+  pub wants : Orderly (wantedFiles text) (wantedCounts text)
+  pub few : length (wantedFiles text) ≤ mostWants
+  pub files-said : sheetFiles text ≡ looseFiles text
+  pub wants-said : wantsSaid text ≡ looseWants text
+
+abbrev pub MendedInOrder : Type 0
+MendedInOrder = (sheet text : List ℕ) → WasMended sheet text → InOrder text
+
+-- A line above that names the same file and is not dropped; one that names a higher file.
+pub record SameFile (files counts : List ℕ) (line above : ℕ) : Type 0 where
+  pub higher-up : above < line
+  pub same : getD files above 0 ≡ getD files line 0
+  pub some : getD counts above 0 ≡ 0 → ⊥
+
+pub record HigherFile (files : List ℕ) (line above : ℕ) : Type 0 where
+  pub higher-up : above < line
+  pub higher : getD files line 0 < getD files above 0
+
+-- A want line's fate: dropped when its count is 0; else added when there is a line of the first kind; else moved when there is one of the second;
+-- else it stays.
+pub record FateBy (files counts : List ℕ) (line : ℕ) (fate : Fate) : Type 0 where
+  pub dropped : getD counts line 0 ≡ 0 → fate ≡ Dropped
+  pub added : (getD counts line 0 ≡ 0 → ⊥) → (above : ℕ) → SameFile files counts line above → fate ≡ Added
+  pub moved : (getD counts line 0 ≡ 0 → ⊥) → ((above : ℕ) → SameFile files counts line above → ⊥) → (above : ℕ) → HigherFile files line above → fate ≡ Moved
+  pub stays : (getD counts line 0 ≡ 0 → ⊥) → ((above : ℕ) → SameFile files counts line above → ⊥) → ((above : ℕ) → HigherFile files line above → ⊥) → fate ≡ Stays
+
+abbrev pub FatesByConditions : Type 0
+FatesByConditions = (files counts : List ℕ) (line : ℕ) → FateBy files counts line (fateOf files counts line)
+
+-- What the changes say of a want line, between what they say of the lines above it and below it: nothing if it stays, else its number and its fate.
+pub record SaidOf (listed files counts : List ℕ) (above line : ℕ) : Type 0 where
+  pub front : List ℕ
+  pub back : List ℕ
+  pub whole : listed ≡ front ++ fateLine (above + (line + 1)) (fateOf files counts line) ++ back
+  pub nothing : fateOf files counts line ≡ Stays → fateLine (above + (line + 1)) (fateOf files counts line) ≡ []
+  pub something : (fateOf files counts line ≡ Stays → ⊥) → fateLine (above + (line + 1)) (fateOf files counts line) ≡ [] → ⊥
+
+abbrev pub EveryFateListed : Type 0
+EveryFateListed =
+    (sheet : List ℕ) (line : ℕ)
+    → line < length (wantedFiles sheet)
+    → SaidOf (changesText sheet) (wantedFiles sheet) (wantedCounts sheet) (looseFiles sheet + 6) line
+
+-- A mended sheet needs no second mending: given a row that takes it, it is accepted, comes out as it is, and no change is listed.
+abbrev pub OnceIsEnough : Type 0
+OnceIsEnough =
+    (sheet text : List ℕ)
+    → WasMended sheet text
+    → (out notes : List ℕ) (answer : Mended) (out′ notes′ : List ℕ)
+    → SheetMended text out notes answer out′ notes′
+    → length text ≤ length out
+    → (answer ≡ record { refusal = Accepted; place = 0; bytes = length text; noted = 0 }) × (take (length text) out′ ≡ text)
