@@ -1,0 +1,3 @@
+-- What a reader of a month's page must believe, above what is said of a sheet's outcome: Month for the figures, Parts for the input.
+pub mod Month
+pub mod Parts
