@@ -5,9 +5,11 @@ ghost use mathlib.Core.Bool.{_||_};
 ghost use Prim.Native.Nat.{_<_};
 ghost use Rattle.months.specs.Month.{tooLarge, grown, emptyMonth, withRefused, overTotals, withTotals, withLongest, added};
 
+mod page;
 mod parts;
 
 use outcomes::Outcome;
+pub use page::write_month;
 pub use parts::add_sheet;
 pub use parts::judge_input;
 pub use parts::next_part;
@@ -26,6 +28,12 @@ pub struct Month {
     pub letters: u64,
     pub tape: [u8; 16],
     pub over: bool,
+}
+
+// A whole part and a remainder.
+struct Mean {
+    whole: u64,
+    rest: u64,
 }
 
 // What stands where a part begins: nothing any more, a line with the byte count of a sheet, or neither.
