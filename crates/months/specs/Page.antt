@@ -4,7 +4,7 @@ use mathlib.Core.Path.{_≡_}
 use mathlib.Core.Bool.{cond}
 use mathlib.Core.List.{List, [], _∷_, _++_}
 use lib.ListN.{take}
-use lib.Dec.{ltb, eqb}
+use lib.Dec.{eqb}
 use Rattle.refusals.specs.declared.Verdict.{Verdict}
 use Rattle.refusals.specs.Refusals.{numberOf, isRefusal}
 use Rattle.texts.specs.Text.{bytes, comma, decimal}
@@ -46,12 +46,9 @@ sumsText reads sum =
 unfoldable pub longestText : ℕ → List ℕ → ℕ → List ℕ
 longestText time tape file = bytes "longest=" ++ decimal time ++ (comma ∷ []) ++ tape ++ numberLine (comma ∷ []) file
 
--- The tape's letters: at most sixteen.
-unfoldable pub lettersOf : ℕ → ℕ
-lettersOf letters = cond (ltb 16 letters) 16 letters
-
+-- The tape's letters: so many of its bytes.
 abbrev pub monthTape : Month → List ℕ
-monthTape m = take (lettersOf (m .letters)) (m .tape)
+monthTape m = take (m .letters) (m .tape)
 
 -- What the plans save; and the lines of a refusal, where there is one.
 unfoldable pub endText : ℕ → Verdict → List ℕ

@@ -3,7 +3,7 @@ ghost use mathlib.Core.Path.{_≡_};
 ghost use Prim.Native.Nat.{_+_, _*_, _≤_, _<_};
 ghost use lib.ListN.{length, take};
 ghost use Rattle.prints.specs.Printing.{Wrote};
-ghost use Rattle.months.specs.Page.{oneIf, kindsIn, refusalLine, refusalLines, lettersOf, meanOf, topText, sumsText, longestText, endText, PagePut};
+ghost use Rattle.months.specs.Page.{oneIf, kindsIn, refusalLine, refusalLines, meanOf, topText, sumsText, longestText, endText, PagePut};
 use crate::Mean;
 use crate::Month;
 use prints::put;
@@ -123,15 +123,15 @@ fn put_end(page: &mut [u8], at: usize, saved: u64, verdict: Verdict) -> usize
     put_number_line(page, place, b"place=", verdict.place)
 }
 
-// A name has at most 16 letters.
-fn letters_in(letters: u64) -> usize
-    ensures { λ r. ⌜ r ≡ lettersOf letters ⌝ }
-    ensures { λ r. ⌜ r ≤ 16 ⌝ }
+// So many letters of a tape's name, or all of them.
+fn tape_of(tape: &[u8], letters: u64) -> &[u8]
+    ensures { λ r. ⌜ now r ≡ take letters (now (tape .entry)) ⌝ }
 {
-    if 16 < letters {
-        return 16;
+    let end = letters as usize;
+    if end <= tape.len() {
+        return &tape[..end];
     }
-    letters as usize
+    tape
 }
 
 // The page of a month and a verdict on its input, in the first bytes of a row: how many they are. A row shorter than the page takes
@@ -141,11 +141,11 @@ pub fn write_month(month: Month, verdict: Verdict, out: &mut [u8]) -> usize
 {
     let runs = month.refused;
     let tape = month.tape;
-    let letters = letters_in(month.letters);
+    let name = tape_of(&tape, month.letters);
     let mut page = [0u8; 2048];
     let sums = put_top(&mut page, month.accepted, &runs);
     let longest = put_sums(&mut page, sums, month.reads, month.sum);
-    let saved = put_longest(&mut page, longest, month.time, &tape[..letters], month.file);
+    let saved = put_longest(&mut page, longest, month.time, name, month.file);
     let bytes = put_end(&mut page, saved, month.saved, verdict);
     put(out, 0, &page[..bytes])
 }

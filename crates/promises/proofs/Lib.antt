@@ -1,0 +1,2 @@
+-- The proofs of the promises.
+pub mod MonthTotals
