@@ -20,19 +20,32 @@ struct Turn {
     last: bool,
 }
 
+// What is read next.
+enum Next {
+    Byte(u8),
+    End,
+}
+
+fn next_byte() -> Next {
+    let mut byte = [0u8; 1];
+    if io::read_full(STDIN_FILENO, &mut byte) == 0 {
+        return Next::End;
+    }
+    Next::Byte(byte[0])
+}
+
 // Up to the LF, which is among the bytes, to the end of the input or to the end of the row: how many bytes there are.
 fn read_line(line: &mut [u8; 21]) -> usize
     ensures { λ r. ⌜ r ≤ 21 ⌝ }
 {
     let mut n: usize = 0;
-    let mut byte = [0u8; 1];
     while n < LONGEST_LINE {
-        if io::read_full(STDIN_FILENO, &mut byte) == 0 {
+        let Next::Byte(byte) = next_byte() else {
             return n;
-        }
-        line[n] = byte[0];
+        };
+        line[n] = byte;
         n += 1;
-        if byte[0] == b'\n' {
+        if byte == b'\n' {
             return n;
         }
     }
@@ -74,15 +87,31 @@ fn pass_over(bytes: u64) -> u64
     bytes
 }
 
+// The first n bytes of a row, or the row where it has fewer.
+fn front(row: &[u8], n: u64) -> &[u8] {
+    let start: usize = 0;
+    let end = n as usize;
+    if end <= row.len() {
+        return &row[start..end];
+    }
+    row
+}
+
+// So many bytes of a sheet, into the front of a row: how many there were.
+fn read_kept(sheet: &mut [u8], most: usize) -> usize {
+    if most <= sheet.len() {
+        return io::read_full(STDIN_FILENO, &mut sheet[..most]);
+    }
+    0
+}
+
 // A sheet of so many bytes.
 fn take_sheet(month: Month, bytes: u64) -> Turn {
     let mut sheet = [0u8; 16385];
     let kept = least(bytes, KEPT);
-    let most = kept as usize;
-    let n = io::read_full(STDIN_FILENO, &mut sheet[..most]);
-    let got = least(n as u64, kept);
+    let got = least(read_kept(&mut sheet, kept as usize) as u64, kept);
     let more = pass_over(bytes - kept);
-    let added = months::add_sheet(month, bytes, got + more, &sheet[..n]);
+    let added = months::add_sheet(month, bytes, got + more, front(&sheet, got));
     let next = added.month;
     Turn {
         month: next,
@@ -91,11 +120,16 @@ fn take_sheet(month: Month, bytes: u64) -> Turn {
     }
 }
 
+// What the first n bytes of a line say.
+fn part_in(month: Month, line: &[u8; 21], n: usize) -> Part {
+    months::next_part(month, front(line, n as u64))
+}
+
 // One part of the input.
 fn take_part(month: Month) -> Turn {
     let mut line = [0u8; 21];
     let n = read_line(&mut line);
-    match months::next_part(month, &line[..n]) {
+    match part_in(month, &line, n) {
         Part::Sheet(bytes) => take_sheet(month, bytes),
         Part::End => Turn {
             month,

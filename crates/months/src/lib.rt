@@ -31,9 +31,9 @@ pub struct Month {
 }
 
 // A whole part and a remainder.
-struct Mean {
-    whole: u64,
-    rest: u64,
+pub struct Mean {
+    pub whole: u64,
+    pub rest: u64,
 }
 
 // What stands where a part begins: nothing any more, a line with the byte count of a sheet, or neither.

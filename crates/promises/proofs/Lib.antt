@@ -1,2 +1,3 @@
 -- The proofs of the promises.
 pub mod MonthTotals
+pub mod MonthInput

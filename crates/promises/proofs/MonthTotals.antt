@@ -26,7 +26,7 @@ module _ {A : Type 0} {P Q : A → Type 0} where
   every-map f [] e = tt
   every-map f (x ∷ xs) e = (f x (e .0), every-map f xs (e .1))
 
-module _ {A : Type 0} {P : A → Type 0} where
+module _ {A : Type 0} (P : A → Type 0) where
   pub every-append : (xs ys : List A) → Every P xs → Every P ys → Every P (xs ++ ys)
   every-append [] ys e f = f
   every-append (x ∷ xs) ys e f = (e .0, every-append xs ys (e .1) f)
@@ -87,7 +87,7 @@ record Totals (runs : List Outcome) (m : Month) : Type 0 where
   exact : m .over ≡ false
   long : length (m .refused) ≡ 32
 
-grown-fits : (a b : ℕ) → a + b < 2 ^ 64 → grown a b ≡ a + b
+pub grown-fits : (a b : ℕ) → a + b < 2 ^ 64 → grown a b ≡ a + b
 unfolding grown
 grown-fits a b l = rw (lt-leb (2 ^ 64) (a + b) l)
 
@@ -134,7 +134,7 @@ module _ (done : List Outcome) (m : Month) (t : Totals done m) (few : length don
             let more : howMany (isRefusedBy n) (done ++ (o ∷ [])) ≡ howMany (isRefusedBy n) done + 0 = many-more done o (isRefusedBy n) ∙ rw (e, q) refl in
             getD-set-other (m .refused) k n (grown (refusedWith m k) 1) 0 other ∙ t .refused n ∙ omega (arith, more)
 
-    pub refused-totals : Totals (done ++ (o ∷ [])) (withRefused m (numberOf (o .refusal)))
+    refused-totals : Totals (done ++ (o ∷ [])) (withRefused m (numberOf (o .refusal)))
     unfolding withRefused k
     refused-totals =
         record {
@@ -152,7 +152,7 @@ module _ (done : List Outcome) (m : Month) (t : Totals done m) (few : length don
     accepted-fits : m .accepted + 1 < 2 ^ 64
     accepted-fits = many-fits (m .accepted) isAccepted (t .accepted)
 
-    pub accepted-totals : Totals (done ++ (o ∷ [])) (withTotals m o)
+    accepted-totals : Totals (done ++ (o ∷ [])) (withTotals m o)
     unfolding withTotals
     accepted-totals =
         record {
@@ -183,7 +183,7 @@ pub none-longer : (runs : List Outcome) (m : Month) → Longest runs m → Every
 none-longer runs m (inl n) = every-map (λ x z. omega (arith, z)) runs (n .none)
 none-longer runs m (inr f) =
     subst (Every (λ r. longestTime r ≤ m .time)) (sym (f .stands))
-    (every-append (f .earlier) (f .run ∷ f .later)
+    (every-append (λ r. longestTime r ≤ m .time) (f .earlier) (f .run ∷ f .later)
     (every-map (λ x s. omega (arith, s, f .time)) (f .earlier) (f .shorter))
     (omega (arith, f .time), every-map (λ x s. omega (arith, s, f .time)) (f .later) (f .longest)))
 
@@ -197,7 +197,7 @@ longest-stays : (done : List Outcome) (o : Outcome) (m m′ : Month) → NamesKe
 longest-stays done o m m′ k le (inl n) =
     inl
     (record {
-      none = every-append done (o ∷ []) (n .none) (omega (arith, le, n .time), tt);
+      none = every-append (λ r. longestTime r ≡ 0) done (o ∷ []) (n .none) (omega (arith, le, n .time), tt);
       time = k .time ∙ n .time;
       file = k .file ∙ n .file;
       letters = k .letters ∙ n .letters;
@@ -211,7 +211,7 @@ longest-stays done o m m′ k le (inr f) =
       stands = ap (λ l. l ++ (o ∷ [])) (f .stands) ∙ mathlib.Core.List.append-assoc (f .earlier) (f .run ∷ f .later) (o ∷ []);
       read = f .read;
       shorter = f .shorter;
-      longest = every-append (f .later) (o ∷ []) (f .longest) (omega (arith, le, f .time), tt);
+      longest = every-append (λ r. longestTime r ≤ longestTime (f .run)) (f .later) (o ∷ []) (f .longest) (omega (arith, le, f .time), tt);
       time = k .time ∙ f .time;
       file = k .file ∙ f .file;
       letters = k .letters ∙ f .letters;
@@ -253,7 +253,7 @@ module _ (done : List Outcome) (m : Month) (h : Held done m) (few : length done 
       })
 
   held-accepted : isRefusal (o .refusal) ≡ false → Held (done ++ (o ∷ [])) (added m o)
-  unfolding added
+  unfolding added withLongest withTotals
   held-accepted e = rw e (go (ltb (m .time) (o .time)) refl)
     where
       t : Totals (done ++ (o ∷ [])) (withTotals m o)
@@ -263,7 +263,6 @@ module _ (done : List Outcome) (m : Month) (h : Held done m) (few : length done 
       here = rw e refl
 
       go : (b : Bool) → ltb (m .time) (o .time) ≡ b → Held (done ++ (o ∷ [])) (withLongest (withTotals m o) o)
-      unfolding withLongest withTotals
       go true q =
           let l = ltb-true (m .time) (o .time) q in
           rw q
@@ -292,7 +291,7 @@ held-all [] done m h smalls s few = subst (λ l. Held l m) (sym (append-nil done
 held-all (o ∷ os) done m h smalls s few =
     let next = held-more done m h (omega arith) smalls o (s .0) in
     subst (λ l. Held l (addedAll (added m o) os)) (append-snoc done o os)
-    (held-all os (done ++ (o ∷ [])) (added m o) next (every-append done (o ∷ []) smalls (s .0, tt)) (s .1) (omega (arith, length-more done o)))
+    (held-all os (done ++ (o ∷ [])) (added m o) next (every-append Small done (o ∷ []) smalls (s .0, tt)) (s .1) (omega (arith, length-more done o)))
 
 zeros-at : (k n : ℕ) → getD {A = ℕ} (replicate k 0) n 0 ≡ 0
 zeros-at zero n = refl

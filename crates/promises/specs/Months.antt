@@ -10,7 +10,7 @@ use lib.Dec.{eqb, leb}
 use Rattle.refusals.specs.declared.Refusal.the-variants.{Accepted, BadSheetCount}
 use Rattle.refusals.specs.declared.Verdict.{Verdict}
 use Rattle.refusals.specs.Refusals.{numberOf, isRefusal}
-use Rattle.texts.specs.Text.{lineFeed, has, before, behind, isNumber, valueOf}
+use Rattle.texts.specs.Text.{lineFeed, isEmpty, has, before, behind, isNumber, valueOf}
 use Rattle.outcomes.specs.declared.Outcome.{Outcome}
 use Rattle.outcomes.specs.Outcomes.{OutcomeOf}
 use Rattle.months.specs.declared.Month.{Month}
@@ -115,16 +115,19 @@ pub record Division : Type 0 where
 abbrev pub isWhole : List ℕ → Bool
 isWhole input = has lineFeed input && isNumber (before lineFeed input) && leb (valueOf (before lineFeed input)) (length (behind lineFeed input))
 
+abbrev pub sheetIn : List ℕ → List ℕ
+sheetIn input = take (valueOf (before lineFeed input)) (behind lineFeed input)
+
+abbrev pub behindSheet : List ℕ → List ℕ
+behindSheet input = drop (valueOf (before lineFeed input)) (behind lineFeed input)
+
 unfoldable pub divided : ℕ → List ℕ → Division
-divided n [] = record { sheets = []; good = true }
-divided zero (b ∷ bytes) = record { sheets = []; good = false }
-divided (suc n) (b ∷ bytes) =
-    cond (isWhole (b ∷ bytes))
-    (record {
-      sheets = take (valueOf (before lineFeed (b ∷ bytes))) (behind lineFeed (b ∷ bytes)) ∷ divided n (drop (valueOf (before lineFeed (b ∷ bytes))) (behind lineFeed (b ∷ bytes))) .sheets;
-      good = divided n (drop (valueOf (before lineFeed (b ∷ bytes))) (behind lineFeed (b ∷ bytes))) .good;
-    })
-    (record { sheets = []; good = false })
+divided zero input = record { sheets = []; good = isEmpty input }
+divided (suc n) input =
+    cond (isEmpty input) (record { sheets = []; good = true })
+    (cond (isWhole input)
+    (record { sheets = sheetIn input ∷ divided n (behindSheet input) .sheets; good = divided n (behindSheet input) .good })
+    (record { sheets = []; good = false }))
 
 -- What the program holds of the input: a line up to its LF, at most 21 bytes of it; behind a byte count the sheet's bytes, of which it keeps 16,385.
 abbrev pub lineHeld : List ℕ → List ℕ
@@ -138,11 +141,11 @@ keptOf bytes rest = take 16385 (take bytes rest)
 
 -- Reading part by part, by what the functions of the crate answer: from a month and the rest of the input to the month and whether the input was good.
 pub data ReadsOn : Month → List ℕ → Month → Bool → Type 0 where
-  ended : {m : Month} {input : List ℕ} → partOf (m .sheets) (lineHeld input) ≡ End → ReadsOn m input m true
-  refused : {m : Month} {input : List ℕ} → partOf (m .sheets) (lineHeld input) ≡ Bad → ReadsOn m input m false
-  cut : {m : Month} {input : List ℕ} {bytes : ℕ} {r : Added} → partOf (m .sheets) (lineHeld input) ≡ Sheet bytes
+  at-end : {m : Month} {input : List ℕ} → partOf (m .sheets) (lineHeld input) ≡ End → ReadsOn m input m true
+  no-part : {m : Month} {input : List ℕ} → partOf (m .sheets) (lineHeld input) ≡ Bad → ReadsOn m input m false
+  cut-short : {m : Month} {input : List ℕ} {bytes : ℕ} {r : Added} → partOf (m .sheets) (lineHeld input) ≡ Sheet bytes
       → SheetAdded m bytes (length (take bytes (restOf input))) (keptOf bytes (restOf input)) r → r .whole ≡ false → ReadsOn m input (r .month) false
-  added : {m m′ : Month} {input : List ℕ} {bytes : ℕ} {r : Added} {good : Bool} → partOf (m .sheets) (lineHeld input) ≡ Sheet bytes
+  one-more : {m m′ : Month} {input : List ℕ} {bytes : ℕ} {r : Added} {good : Bool} → partOf (m .sheets) (lineHeld input) ≡ Sheet bytes
       → SheetAdded m bytes (length (take bytes (restOf input))) (keptOf bytes (restOf input)) r → r .whole ≡ true
       → ReadsOn (r .month) (drop bytes (restOf input)) m′ good → ReadsOn m input m′ good
 
