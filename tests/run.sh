@@ -250,6 +250,7 @@ run python/field
 [ -n "$only" ] || run python/field --sheets "$out/c.sheets" --sheets "$out/rust.sheets"
 run python/buys
 run python/rewrite
+run python/month
 run python/ltfs --cases 2000
 run python/prices
 run python/figures

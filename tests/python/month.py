@@ -156,7 +156,7 @@ def cases():
         yield framed(*[one] * 1000) + more
     yield framed(*[one] * 1500)
     draw = random.Random(13)
-    pool = [drawn(draw, wants, draw.randrange(wants, 51)) for wants in (0, 1, 2, 3, 4, 5, 6, 7) for _ in range(4)] + every + [none, one, two, example]
+    pool = [drawn(draw, wants, draw.randrange(wants, 51)) for wants in (1, 2, 3, 4, 5, 6, 7) for _ in range(4)] + every + [none, one, two, example]
     for _ in range(60):
         yield framed(*(draw.choice(pool) for _ in range(draw.randrange(1, 30))))
 

@@ -1,3 +1,4 @@
 -- The proofs of the promises.
 pub mod MonthTotals
 pub mod MonthInput
+pub mod MonthOrder

@@ -63,7 +63,7 @@ number-short (b ∷ (c ∷ text)) e =
     let small = ltb-true (valueOf (b ∷ (c ∷ text))) (2 ^ 64) (parts .1) in
     let digit : 48 < b = digit-above b (eqb-false b 48 (not-true (eqb b 48) (first .0))) (c ∷ text) (first .1) in
     let large = value-least (0 * 10 + (b - 48)) (c ∷ text) in
-    let twenty : 10 ^ 20 ≤ 10 ^ length (c ∷ text) = pow-le-pow-right (omega arith) (omega arith) in
+    let twenty : 10 ^ 20 ≤ 10 ^ length (c ∷ text) = pow-le-pow-right (omega arith) {i = 20} {j = length (c ∷ text)} (omega arith) in
     let one : 1 * 10 ^ length (c ∷ text) ≤ (0 * 10 + (b - 48)) * 10 ^ length (c ∷ text) = mul-le-mul-right (10 ^ length (c ∷ text)) (omega arith) in
     absurd (omega (arith, small, large, twenty, one)))
 
@@ -355,7 +355,7 @@ reads-on : {m : Month} {input : List ℕ} {m′ : Month} {good : Bool} → Reads
 reads-on (at-end {m} {input} e) n count = ends-to m n count input e
 reads-on (no-part {m} {input} e) n count = bad-to m n count input e
 reads-on (cut-short {m} {input} {bytes} {r} e h w) n count = cut-to m n count bytes r input e h w
-reads-on (one-more {m} {m′} {input} {bytes} {r} {good} e h w rest) n count = more-to m bytes r m′ good n count input e h w (reads-on rest)
+reads-on (one-more {m} {m′} {input} {bytes} {r} {good} e h w rest) n count = more-to m bytes r m′ good n count input e h w (λ left c. reads-on rest left c)
 
 few-sheets : (n : ℕ) (input : List ℕ) → length (divided n input .sheets) ≤ n
 unfolding divided
