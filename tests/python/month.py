@@ -12,9 +12,9 @@ the program.
 import os
 import random
 import re
-import resource
 import subprocess
 import sys
+import tempfile
 import time
 
 import programs
@@ -178,13 +178,22 @@ def compare(start):
 
 
 def timed(start, sheets, text):
-    began = time.perf_counter()
-    out = subprocess.run(start, input=text, capture_output=True).stdout
-    took = time.perf_counter() - began
+    """Seconds, and the most memory that the program's own process had, as the system counts it (an emulator's is in it)."""
+    most = 0
+    with tempfile.TemporaryFile() as stored:
+        stored.write(text)
+        stored.seek(0)
+        began = time.perf_counter()
+        with subprocess.Popen(start, stdin=stored, stdout=subprocess.PIPE) as running:
+            while running.poll() is None:
+                with open(f"/proc/{running.pid}/status", encoding="ascii") as status:
+                    most = max([most] + [int(line.split()[1]) for line in status if line.startswith("VmHWM")])
+                time.sleep(0.002)
+            took = time.perf_counter() - began
+            out = running.stdout.read()
     if not out.startswith(b"accepted=%d\n" % sheets):
         sys.exit(f"month.py: the program printed {out!r}")
-    most = resource.getrusage(resource.RUSAGE_CHILDREN).ru_maxrss
-    return f"{took:.2f} s, at most {most / 1024:.1f} MiB of memory so far"
+    return f"{took:.2f} s, {most / 1024:.1f} MiB of memory at most"
 
 
 def main():

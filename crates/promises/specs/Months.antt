@@ -99,6 +99,15 @@ MonthCounts =
     → Outcomes sheets runs
     → FiguresOf runs (addedAll emptyMonth runs)
 
+-- With no reads: 0, no name and 0.
+abbrev pub NoReadsNoName : Type 0
+NoReadsNoName =
+    (sheets : List (List ℕ)) (runs : List Outcome)
+    → length sheets ≤ 1000
+    → Outcomes sheets runs
+    → addedAll emptyMonth runs .reads ≡ 0
+    → NoneRead runs (addedAll emptyMonth runs)
+
 -- The mean: the sum is so many times the reads and a remainder below them; 0 and 0 where nothing is read.
 pub record MeanIs (sum reads : ℕ) (mean : Mean) : Type 0 where
   pub none : reads ≡ 0 → (mean .whole ≡ 0) × (mean .rest ≡ 0)
