@@ -251,6 +251,7 @@ run python/field
 run python/buys
 run python/rewrite
 run python/mend
+run python/month
 run python/ltfs --cases 2000
 run python/prices
 run python/figures

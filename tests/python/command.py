@@ -49,7 +49,7 @@ class Checkout:
             (shutil.copytree if os.path.isdir(source) else shutil.copy2)(source, to)
         os.makedirs(os.path.join(self.root, "crates/refusals"))
         os.makedirs(os.path.join(self.root, "target/bin"))
-        for name in ("cmd_plan", "cmd_field", "cmd_buys", "cmd_rewrite", "cmd_mend", "cmd_ltfs"):
+        for name in ("cmd_plan", "cmd_field", "cmd_buys", "cmd_rewrite", "cmd_mend", "cmd_month", "cmd_ltfs"):
             source = os.path.join(programs.ROOT, "target/bin", name)
             if not os.path.exists(source):
                 sys.exit(f"command.py: no program {source}; 'rt check {name}' makes it")
@@ -165,6 +165,24 @@ def mending(at):
     at.must("./violstream mend examples/VX0041.run > /dev/full", 1, b"", ["cannot write to standard output"])
 
 
+def monthly(at):
+    """A page over the sheets of one input, however long; status 3 and a reason in words where a 25 ends it. Nothing is kept of the input."""
+    text, page = contents("crates/cmd_month/stdin"), contents("crates/cmd_month/stdout")
+    none = b"accepted=0\nrefusals=0\nreads=0\nsum=0\nmean=0,0\nlongest=0,,0\nsaved=0\n"
+    at.write("may.month", text)
+    at.write("cut.month", text[:-1])
+    at.must("./violstream month may.month", 0, page, silent=True)
+    at.must("./violstream month - < may.month", 0, page, silent=True)
+    at.must("cat may.month | ./violstream month", 0, page, silent=True)
+    at.must("./violstream month < /dev/null", 0, none, silent=True)
+    at.must("./violstream month", 3, page + b"refused=25\nplace=8\n", ["standard input: refused (25): sheet 8"], data=text + b"00\n")
+    at.must("./violstream month < /dev/zero", 3, none + b"refused=25\nplace=1\n", ["refused (25): sheet 1"])
+    at.must("./violstream month cut.month | tail -n 2", 0, b"refused=25\nplace=7\n", ["cut.month: refused (25): sheet 7"])
+    at.must("./violstream month no-such", 1, b"", ["cannot read no-such"])
+    at.must("./violstream month crates", 1, b"", ["cannot read crates: it is a folder"])
+    at.must("./violstream month may.month > /dev/full", 1, b"", ["cannot write to standard output"])
+
+
 def fielding(at):
     """The plain engine prints what plan prints, up to eight wants, and refuses more. Files, statuses and words as for plan."""
     at.must("./violstream field examples/VX0041.run", 0, PLAN, silent=True)
@@ -185,7 +203,7 @@ def statuses(at):
     at.must(f"./violstream ltfs vx0041 {LABEL} {INDEX}", 3, refusal(13))
     at.must(f"set -o pipefail; ./violstream ltfs VX0041 {INDEX} {INDEX} | ./violstream plan", 3, refusal(11, 1))
     at.must("./violstream help", 0, silent=True)
-    for line in ("nothing", "plan -x", "plan - -", "field -x", "field - -", "buys -x", "buys - -", "rewrite -x", "rewrite - -", "mend -x", "mend - -", "ltfs", "ltfs A B", "ltfs A B C D", "ltfs A - -", "ltfs -A B C", "install a", "install /a /b",
+    for line in ("nothing", "plan -x", "plan - -", "field -x", "field - -", "buys -x", "buys - -", "rewrite -x", "rewrite - -", "mend -x", "mend - -", "month -x", "month a b", "ltfs", "ltfs A B", "ltfs A B C D", "ltfs A - -", "ltfs -A B C", "install a", "install /a /b",
                  "uninstall a", "install -x", "build x", "test x"):
         at.must(f"./violstream {line}", 2, b"", ["violstream: ", "\nusage: ./violstream "])
         said = at.shell(f"./violstream {line}")[1]
@@ -201,7 +219,7 @@ def help_and_version(at):
     text = at.shell("./violstream help")[0]
     if not text.startswith(b"usage: ./violstream plan"):
         raise Wrong(f"./violstream help prints {text!r}")
-    for line in ("--help", "-h", "", "plan --help", "field --help", "buys --help", "rewrite --help", "mend --help", "ltfs -h", "build --help", "test --help", "install --help", "version --help"):
+    for line in ("--help", "-h", "", "plan --help", "field --help", "buys --help", "rewrite --help", "mend --help", "month --help", "ltfs -h", "build --help", "test --help", "install --help", "version --help"):
         at.must(f"./violstream {line}", 0, text, silent=True)
     version = at.shell("./violstream --version")[0]
     if re.fullmatch(rb"violstream [0-9]+\.[0-9]+\.[0-9]+ \(rattle-kit-\S+ logic [0-9a-f]{16}\)\n", version) is None:
@@ -533,12 +551,12 @@ def building(at):
     below(at, "cmd_plan")
     at.must(f"./violstream ltfs VX0041 {LABEL} {INDEX}", 0, SHEET, ["building cmd_ltfs"])
     at.must("rm target/bin/cmd_plan && ./violstream plan examples/VX0041.run", 0, PLAN, ["building cmd_plan"])
-    at.must("./violstream build", 0, b"", ["building cmd_field", "building cmd_buys", "building cmd_rewrite", "building cmd_mend", "building libboundary.a"])
-    at.must("touch -d '+1 minute' crates/refusals/newer && ./violstream build", 0, b"", ["cmd_plan", "cmd_field", "cmd_buys", "cmd_rewrite", "cmd_mend", "cmd_ltfs", "libboundary.a"])
+    at.must("./violstream build", 0, b"", ["building cmd_field", "building cmd_buys", "building cmd_rewrite", "building cmd_mend", "building cmd_month", "building libboundary.a"])
+    at.must("touch -d '+1 minute' crates/refusals/newer && ./violstream build", 0, b"", ["cmd_plan", "cmd_field", "cmd_buys", "cmd_rewrite", "cmd_mend", "cmd_month", "cmd_ltfs", "libboundary.a"])
     at.must("rm crates/refusals/newer && ./violstream build", 0, b"", ["violstream: built"])
     at.must("./violstream build more", 2, b"")
-    every = ["check cmd_plan", "check cmd_field", "check cmd_buys", "check cmd_rewrite", "check cmd_mend", "check cmd_ltfs", "staticlib boundary"]
-    if called(at) != ["check cmd_plan", "check cmd_ltfs", "check cmd_plan", "check cmd_field", "check cmd_buys", "check cmd_rewrite", "check cmd_mend", "staticlib boundary"] + every:
+    every = ["check cmd_plan", "check cmd_field", "check cmd_buys", "check cmd_rewrite", "check cmd_mend", "check cmd_month", "check cmd_ltfs", "staticlib boundary"]
+    if called(at) != ["check cmd_plan", "check cmd_ltfs", "check cmd_plan", "check cmd_field", "check cmd_buys", "check cmd_rewrite", "check cmd_mend", "check cmd_month", "staticlib boundary"] + every:
         raise Wrong(f"rt was called so: {called(at)}")
 
 
@@ -614,7 +632,7 @@ def until(true, otherwise):
     raise Wrong(otherwise)
 
 
-TESTS = (answers, fielding, figures, rewriting, mending, statuses, help_and_version, nothing_lost, broken_program, several, ltfs_inputs, words_of_sheets, words_of_damaged_sheets,
+TESTS = (answers, fielding, figures, rewriting, mending, monthly, statuses, help_and_version, nothing_lost, broken_program, several, ltfs_inputs, words_of_sheets, words_of_damaged_sheets,
          words_of_tapes, keyboard, transcripts, manual, interrupted, building, building_fails, building_twice, building_interrupted)
 
 

@@ -1,5 +1,5 @@
 -- The proofs of the promises. Request L6: by single calls (DeskSteps), by days (Desk), its refusals, its wants and its worked cases. Request L11: laws
--- of what is gathered, copied and read again, then its promises (Mends).
+-- of what is gathered, copied and read again, then its promises (Mends). Request L13: totals, names, the input's division, the order of the sheets.
 pub mod DeskSteps
 pub mod Desk
 pub mod DeskRefusals
@@ -9,3 +9,7 @@ pub mod Gathered
 pub mod Copied
 pub mod Again
 pub mod Mends
+pub mod MonthTotals
+pub mod MonthNames
+pub mod MonthInput
+pub mod MonthOrder

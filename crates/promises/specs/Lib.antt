@@ -4,3 +4,4 @@ pub mod DeskRefusals
 pub mod DeskWants
 pub mod DeskCases
 pub mod Mends
+pub mod Months
