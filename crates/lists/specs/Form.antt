@@ -5,12 +5,11 @@ use mathlib.Core.Bool.{Bool, cond}
 use mathlib.Core.List.{List, [], _∷_}
 use lib.Dec.{eqb, ltb}
 use Rattle.runs.specs.Run.{mostWants}
-use Rattle.texts.specs.Text.{lineFeed, isEmpty, startsWith}
-use Rattle.sheets.specs.Lines.{lineAfter, afterLines, isNumberLine, numberBehind, isPairLine, firstIn, secondIn, isTripleLine}
-use Rattle.sheets.specs.Sheet.{firstBadOf, eachOf}
+use Rattle.texts.specs.Text.{lineFeed, isEmpty, behind, startsWith}
+use Rattle.lines.specs.Lines.{lineOf, lineAfter, afterLines, isNumberLine, numberBehind, isPairLine, firstIn, secondIn, isTripleLine, firstBadOf, eachOf}
 use Rattle.sheets.specs.Lines.{tapeKey, isTapeLine, isCountLine}
 use Rattle.sheets.specs.Sheet.{unless, shifted, firstSome}
-use Rattle.writers.specs.PlanSheet.{sumKey, readsKey, finishKey, endKey, detoursKey, detourKey, timeKey}
+use Rattle.lists.specs.Keys.{sumKey, readsKey, finishKey, endKey, detoursKey, detourKey, timeKey}
 
 -- A well-formed list has fewer detours than there are stops, so at most 63.
 abbrev pub mostDetours : ℕ
@@ -43,17 +42,23 @@ detourText plan = afterLines 6 plan
 unfoldable pub timeText : List ℕ → List ℕ
 timeText plan = afterLines (planDetours plan) (detourText plan)
 
+-- The first line that fails its own test, behind so many that have passed; 0 where all pass.
+unfoldable pub firstFailing : ℕ → List (List ℕ → Bool) → List ℕ → ℕ
+firstFailing passed [] text = 0
+firstFailing passed (test ∷ tests) text = cond (test (lineOf text)) (firstFailing (suc passed) tests (behind lineFeed text)) (suc passed)
+
 -- The first of its first six lines that is not as described, and the first of the others; 0 where all are.
 unfoldable pub planBadTop : List ℕ → ℕ
 planBadTop plan =
-    firstSome
-    (unless (isTapeLine (lineAfter 0 plan)) 1
-    ∷ unless (isNumberLine sumKey (lineAfter 1 plan)) 2
-    ∷ unless (isNumberLine readsKey (lineAfter 2 plan)) 3
-    ∷ unless (isNumberLine finishKey (lineAfter 3 plan)) 4
-    ∷ unless (isNumberLine endKey (lineAfter 4 plan)) 5
-    ∷ unless (isCountLine detoursKey mostDetours (lineAfter 5 plan)) 6
+    firstFailing 0
+    (isTapeLine
+    ∷ isNumberLine sumKey
+    ∷ isNumberLine readsKey
+    ∷ isNumberLine finishKey
+    ∷ isNumberLine endKey
+    ∷ isCountLine detoursKey mostDetours
     ∷ [])
+    plan
 
 unfoldable pub planBadBelow : List ℕ → ℕ
 planBadBelow plan =

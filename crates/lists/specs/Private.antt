@@ -9,7 +9,7 @@ use Rattle.refusals.specs.declared.Verdict.{Verdict}
 use Rattle.refusals.specs.Refusals.{isRefusal, refuseIf, refuseAt, accepted}
 use Rattle.lines.specs.Lines.{lineAfter, isPairLine, firstIn, secondIn, firstBadOf, eachOf}
 use Rattle.sheets.specs.Reading.{shortPairRows}
-use Rattle.writers.specs.PlanSheet.{detourKey}
+use Rattle.lists.specs.Keys.{detourKey}
 use Rattle.lists.specs.declared.ListReading.{ListReading}
 use Rattle.lists.specs.declared.Top.{Top}
 use Rattle.lists.specs.declared.Form.{Form}

@@ -5,7 +5,7 @@ ghost use Prim.Native.Nat.{_≤_};
 ghost use lib.ListN.{length, drop};
 ghost use Rattle.lines.specs.Lines.{firstIn, secondIn, isPairLine, isTripleLine};
 ghost use Rattle.runs.specs.Run.{mostWants};
-ghost use Rattle.writers.specs.PlanSheet.{detourKey, timeKey};
+ghost use Rattle.lists.specs.Keys.{detourKey, timeKey};
 ghost use Rattle.lists.specs.Form.{mostDetours, linesIn, linesUpTo, firstBadToEnd, planDetours, detourText, planBadLine, listDetours, listText, listBadLine};
 ghost use Rattle.lists.specs.Reading.{PlanRead, ListRead};
 ghost use Rattle.lists.specs.Private.{TopFound, BelowAt, BelowFound, FormFound, FillReady, filledRow, FormWithin, ReadAs};
