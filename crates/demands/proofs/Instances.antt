@@ -28,8 +28,9 @@ use Rattle.plain.specs.Plain.{PlainRows, plainRows, plainVerdict}
 use Rattle.boundary.specs.Boundary.{codeOf, sumsWith, priceCall, priceReads, priceSums, planCall, PlanCalled}
 use Rattle.texts.specs.Text.{bytes, allOf, isNumber, isName, valueFrom, startsWith, has, before, behind}
 use Rattle.sheets.specs.declared.Reading.{Reading}
-use Rattle.sheets.specs.Lines.{lineOf, afterLines, isTapeLine, isNumberLine, isCountLine, isTurnLine, isRuleLine, namesSweep, isPair, isPairLine, isTripleLine}
-use Rattle.sheets.specs.Sheet.{saysSweep, sheetFiles, fileText, wantsText, sheetWants, wantText, endText, firstBadOf, firstBadTop, firstBadBelow, firstBadLine, sheetRun, sheetName}
+use Rattle.lines.specs.Lines.{lineOf, afterLines, isNumberLine, isPair, isPairLine, isTripleLine, firstBadOf}
+use Rattle.sheets.specs.Lines.{isTapeLine, isCountLine, isTurnLine, isRuleLine, namesSweep}
+use Rattle.sheets.specs.Sheet.{saysSweep, sheetFiles, fileText, wantsText, sheetWants, wantText, endText, firstBadTop, firstBadBelow, firstBadLine, sheetRun, sheetName}
 use Rattle.sheets.specs.Reading.{sheetVerdict, ruleVerdict, readVerdict, readAnswer, readRow, RunRows, runRows, rowsVerdict, readName}
 use Rattle.writers.specs.declared.Written.{Written}
 use Rattle.writers.specs.Writing.{sheetText, rowVerdict, writeVerdict, writtenAnswer, writtenRow}

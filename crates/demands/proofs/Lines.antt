@@ -13,7 +13,8 @@ use Rattle.texts.specs.Text.{lineFeed, comma, isEmpty, has, before, behind, sta
 use Rattle.texts.proofs.Bytes.{and-true-both, short-text}
 use Rattle.texts.proofs.Decimals.{has-append, has-none}
 use Rattle.texts.proofs.Split.{before-here, behind-here, split-at, key-split, whole-key}
-use Rattle.sheets.specs.Lines.{lineOf, afterLines, lineAfter, valueText, isTapeLine, isNumberLine, isCountLine, isTurnLine, isRuleLine, namesSweep, isPair, isPairLine, isTriple, isTripleLine, tapeKey, turnKey, ruleKey, sweepText, leastText}
+use Rattle.lines.specs.Lines.{lineOf, afterLines, lineAfter, valueText, isNumberLine, isPair, isPairLine, isTriple, isTripleLine}
+use Rattle.sheets.specs.Lines.{isTapeLine, isCountLine, isTurnLine, isRuleLine, namesSweep, tapeKey, turnKey, ruleKey, sweepText, leastText}
 use Rattle.writers.proofs.Reread.{line-first, key-begins, key-value}
 use Rattle.demands.specs.Lines.{Stands, Name, Number, NumberOrNothing, RuleName, UpTo, NumberAnd, Pair, Triple, Ruled}
 use Rattle.demands.proofs.Tests.{Tells, tells-true, tells-holds, tells-at-most, tells-either, tells-both}

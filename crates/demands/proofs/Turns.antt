@@ -15,7 +15,8 @@ use Rattle.refusals.specs.Refusals.{isRefusal, accepted, refuseIf, refuseAt, fi
 use Rattle.refusals.proofs.Verdicts.{refuses, first-refuses, first-passes, all-accept, accepts-if}
 use Rattle.texts.specs.Text.{lineFeed, has, isEmpty, isText, startsWith}
 use Rattle.sheets.specs.declared.Reading.{Reading}
-use Rattle.sheets.specs.Lines.{lineAfter, afterLines, turnKey, turnWith}
+use Rattle.lines.specs.Lines.{afterLines, lineAfter}
+use Rattle.sheets.specs.Lines.{turnKey, turnWith}
 use Rattle.sheets.specs.Sheet.{longestSheet, firstBadLine, saysSweep, sheetFiles, sheetWants, sheetTurnWith}
 use Rattle.sheets.specs.Reading.{sheetVerdict, ruleVerdict, readVerdict, refusedReading, readRow, RunRows, rowsVerdict, ReadWith, readName}
 use Rattle.sheets.proofs.Good.{short-sheet, accepted-sheet, good-lines}

@@ -7,7 +7,8 @@ use mathlib.Core.Logic.{_⊎_, _↔_}
 use mathlib.Core.List.{List, [], _∷_, _++_}
 use Rattle.runs.specs.Run.{mostWants}
 use Rattle.texts.specs.Text.{lineFeed, comma, isNumber, isName, valueOf}
-use Rattle.sheets.specs.Lines.{afterLines, tapeKey, headKey, turnKey, ruleKey, filesKey, fileKey, wantsKey, wantKey, sweepText, leastText}
+use Rattle.lines.specs.Lines.{afterLines}
+use Rattle.sheets.specs.Lines.{tapeKey, headKey, turnKey, ruleKey, filesKey, fileKey, wantsKey, wantKey, sweepText, leastText}
 use Rattle.sheets.specs.Sheet.{mostSheetFiles, sheetFiles, sheetWants, firstBadLine}
 use Rattle.demands.specs.Table.{FirstBad}
 

@@ -11,7 +11,8 @@ use Rattle.refusals.specs.declared.Refusal.{Refusal}
 use Rattle.refusals.specs.declared.Refusal.the-variants.{Accepted, BadLine, LongSheet, ShortRow}
 use Rattle.texts.specs.Text.{lineFeed, valueOf}
 use Rattle.sheets.specs.declared.Reading.{Reading}
-use Rattle.sheets.specs.Lines.{afterLines, turnKey}
+use Rattle.lines.specs.Lines.{afterLines}
+use Rattle.sheets.specs.Lines.{turnKey}
 use Rattle.sheets.specs.Sheet.{longestSheet}
 use Rattle.sheets.specs.Reading.{RunRows, ReadWith, SheetRead, readName}
 use Rattle.writers.specs.declared.Written.{Written}

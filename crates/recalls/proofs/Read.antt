@@ -14,7 +14,8 @@ use Rattle.refusals.proofs.Verdicts.{refuses, first-refuses, first-passes, all-
 use Rattle.runs.specs.Run.{Run, runOf}
 use Rattle.texts.specs.Text.{isName}
 use Rattle.sheets.specs.declared.Reading.{Reading}
-use Rattle.sheets.specs.Sheet.{sheetHead, sheetTurn, sheetFiles, sheetWants, eachOf, sheetRun, sheetName}
+use Rattle.lines.specs.Lines.{eachOf}
+use Rattle.sheets.specs.Sheet.{sheetHead, sheetTurn, sheetFiles, sheetWants, sheetRun, sheetName}
 use Rattle.sheets.specs.Reading.{sheetVerdict, ruleVerdict, readVerdict, refusedReading, readAnswer, readRow, RunRows, rowsVerdict, SheetRead, readName}
 use Rattle.sheets.proofs.Rows.{length-each}
 use Rattle.sheets.proofs.Good.{good-name, few-files, few-wants}

@@ -11,14 +11,16 @@ use borrow.Author.Tests.{ltb-false}
 use Rattle.refusals.specs.declared.Refusal.the-variants.{ShortRow, RetiredRule}
 use Rattle.refusals.specs.declared.Verdict.{Verdict}
 use Rattle.refusals.specs.Refusals.{isRefusal, refuseIf, refuseAt, firstOf, firstWhere}
-use Rattle.refusals.proofs.Verdicts.{first-refuses, all-accept, accepts-if}
+use Rattle.refusals.proofs.Verdicts.{all-accept, accepts-if}
 use Rattle.runs.proofs.Search.{or-false-both}
 use Rattle.sheets.specs.declared.Reading.{Reading}
 use Rattle.sheets.specs.declared.reader.Judged.{Judged}
-use Rattle.sheets.specs.Lines.{fileKey, wantKey, firstIn, secondIn, middleIn, thirdIn, isPairLine, isTripleLine, afterLines}
-use Rattle.sheets.specs.Sheet.{firstBadOf, eachOf, sheetName}
-use Rattle.sheets.specs.Reading.{sheetVerdict, ruleVerdict, readVerdict, readAnswer, readRow, RunRows, runRows, SheetRead, readName, readFrom, placeOn, shortPairRows, shortTripleRows}
-use Rattle.sheets.specs.Private.{JudgedGood, JudgedFound, PairsReady, TriplesReady, filledRow, linesFilled, readingOf, NamePart}
+use Rattle.lines.specs.Lines.{afterLines, isPairLine, firstIn, secondIn, isTripleLine, middleIn, thirdIn, firstBadOf, eachOf}
+use Rattle.sheets.specs.Lines.{fileKey, wantKey}
+use Rattle.sheets.specs.Sheet.{sheetName}
+use Rattle.sheets.specs.Reading.{ruleVerdict, readVerdict, readAnswer, readRow, RunRows, runRows, SheetRead, readName, readFrom, placeOn, shortPairRows, shortTripleRows}
+use Rattle.sheets.specs.Found.{NamePart}
+use Rattle.sheets.specs.Private.{JudgedGood, JudgedFound, PairsReady, TriplesReady, filledRow, linesFilled, readingOf}
 use Rattle.sheets.proofs.Rows.{length-each}
 
 -- Two pairs of rows judged one after the other are judged together.
@@ -128,7 +130,6 @@ module _ (sheet : List ℕ) (judged : Judged) (found : JudgedFound sheet judged)
     pub files-ready : TriplesReady fileKey sheet (judged .top .next) m starts lengths aggregates
     files-ready =
         record {
-          keyed = omega arith;
           within = found .file-at;
           none = lines-ready v (judged .top .files) m m-is (isTripleLine fileKey) (drop (judged .top .next) sheet) (λ e. rw (parts e .upper .files, parts e .upper .rest) (parts e .below .filed));
           room = row-ready v (judged .top .files) m m-is starts (λ e. pair-room e .0);
@@ -140,7 +141,6 @@ module _ (sheet : List ℕ) (judged : Judged) (found : JudgedFound sheet judged)
       pub wants-ready : PairsReady wantKey sheet (judged .at) n numbers counts
       wants-ready =
           record {
-            keyed = omega arith;
             within = found .want-at;
             none = lines-ready v (judged .wants) n n-is (isPairLine wantKey) (drop (judged .at) sheet) (λ e. rw (parts e .below .count, parts e .below .rest) (parts e .below .wanted));
             room = row-ready v (judged .wants) n n-is numbers (λ e. wants-room e .0);

@@ -14,8 +14,9 @@ use Rattle.runs.specs.Run.{mostWants}
 use Rattle.texts.specs.Text.{lineFeed, has, before, behind, isEmpty, isName, isNumber, startsWith}
 use Rattle.texts.proofs.Bytes.{and-true-both}
 use Rattle.texts.proofs.Split.{split-at, none-before}
-use Rattle.sheets.specs.Lines.{lineOf, lineAfter, tapeKey, headKey, filesKey, fileKey, wantsKey, wantKey, turnKey, valueText, isTapeLine, isNumberLine, numberBehind, isCountLine, isTurnLine, isRuleLine, isPairLine, isTripleLine}
-use Rattle.sheets.specs.Sheet.{longestSheet, mostSheetFiles, sheetFiles, sheetWants, fileText, wantsText, wantText, endText, unless, shifted, firstBadOf, firstSome, firstBadTop, firstBadBelow, firstBadLine, sheetName}
+use Rattle.lines.specs.Lines.{lineOf, lineAfter, valueText, isNumberLine, numberBehind, isPairLine, isTripleLine, firstBadOf}
+use Rattle.sheets.specs.Lines.{tapeKey, headKey, filesKey, fileKey, wantsKey, wantKey, turnKey, isTapeLine, isCountLine, isTurnLine, isRuleLine}
+use Rattle.sheets.specs.Sheet.{longestSheet, mostSheetFiles, sheetFiles, sheetWants, fileText, wantsText, wantText, endText, unless, shifted, firstSome, firstBadTop, firstBadBelow, firstBadLine, sheetName}
 use Rattle.sheets.specs.Reading.{sheetVerdict}
 
 -- Where no line is bad, each is as described.

@@ -13,18 +13,21 @@ use Rattle.refusals.specs.declared.Verdict.{Verdict}
 use Rattle.refusals.specs.Refusals.{isRefusal, refuseIf, refuseAt}
 use Rattle.refusals.proofs.Verdicts.{refuse-at, test-says, last-at, accepts-if}
 use Rattle.runs.specs.Run.{mostWants}
-use Rattle.sheets.specs.declared.lines.NameLine.{NameLine}
-use Rattle.sheets.specs.declared.lines.NumberLine.{NumberLine}
-use Rattle.sheets.specs.declared.lines.RuleLine.{RuleLine}
+use Rattle.lines.specs.declared.NumberLine.{NumberLine}
+use Rattle.sheets.specs.declared.NameLine.{NameLine}
+use Rattle.sheets.specs.declared.RuleLine.{RuleLine}
 use Rattle.sheets.specs.declared.reader.Top.{Top}
 use Rattle.sheets.specs.declared.reader.TopRead.{TopRead}
 use Rattle.sheets.specs.declared.reader.BelowRead.{BelowRead}
 use Rattle.sheets.specs.declared.reader.Judged.{Judged}
 use Rattle.texts.specs.Text.{lineFeed, behind, isEmpty}
-use Rattle.sheets.specs.Lines.{lineOf, afterLines, lineAfter, headKey, filesKey, fileKey, wantsKey, wantKey, isTapeLine, isNumberLine, numberBehind, isCountLine, isTurnLine, turnIn, isRuleLine, namesSweep, isPairLine, isTripleLine}
-use Rattle.sheets.specs.Sheet.{longestSheet, mostSheetFiles, sheetHead, sheetTurnWith, saysSweep, sheetFiles, fileText, wantsText, sheetWants, wantText, endText, shifted, firstSome, firstBadOf, firstBadTop, firstBadBelow, firstBadLine}
+use Rattle.lines.specs.Lines.{lineOf, afterLines, lineAfter, isNumberLine, numberBehind, isPairLine, isTripleLine, firstBadOf}
+use Rattle.sheets.specs.Lines.{headKey, filesKey, fileKey, wantsKey, wantKey, isTapeLine, isCountLine, isTurnLine, turnIn, isRuleLine, namesSweep}
+use Rattle.sheets.specs.Sheet.{longestSheet, mostSheetFiles, sheetHead, sheetTurnWith, saysSweep, sheetFiles, fileText, wantsText, sheetWants, wantText, endText, shifted, firstSome, firstBadTop, firstBadBelow, firstBadLine}
 use Rattle.sheets.specs.Reading.{sheetVerdict}
-use Rattle.sheets.specs.Private.{Passed, NamePart, NameLineFound, NumberLineFound, RuleLineFound, LinesPassed, LineBad, TopIs, TopBad, TopFound, FilesAt, WantsAt, BelowIs, BelowBad, BelowFound, Unread, JudgedFound}
+use Rattle.lines.specs.Found.{Passed, NumberLineFound, LinesPassed, LineBad}
+use Rattle.sheets.specs.Found.{NamePart, NameLineFound, RuleLineFound}
+use Rattle.sheets.specs.Private.{TopIs, TopBad, TopFound, FilesAt, WantsAt, BelowIs, BelowBad, BelowFound, Unread, JudgedFound}
 use Rattle.texts.proofs.Bytes.{and-true-both}
 
 -- So many lines passed, and what is left stands at a position.

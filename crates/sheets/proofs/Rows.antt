@@ -6,10 +6,10 @@ use native.Mathlib.Omega.{arith}
 use native.Mathlib.Numerals.{add-one}
 use lib.ListN.{length, drop, set, length-append, length-drop}
 use lib.Seq.{drop-cons, set-at, append-snoc}
-use Rattle.sheets.specs.Lines.{lineOf, lineAfter, isPairLine, firstIn, secondIn, isTripleLine, middleIn, thirdIn}
-use Rattle.sheets.specs.Sheet.{eachOf}
-use Rattle.sheets.specs.Private.{PairAt, TripleAt, PairsReady, TriplesReady, filledRow}
-use Rattle.sheets.proofs.Passing.{LinesSeen, lines-none, line-seen}
+use Rattle.lines.specs.Found.{PairAt, TripleAt}
+use Rattle.sheets.specs.Private.{PairsReady, TriplesReady, filledRow}
+use Rattle.lines.proofs.Passing.{LinesSeen, lines-none, line-seen}
+use Rattle.lines.specs.Lines.{lineOf, lineAfter, isPairLine, firstIn, secondIn, isTripleLine, middleIn, thirdIn, eachOf}
 
 pub length-each : (value : ℕ → ℕ) (n : ℕ) → length (eachOf value n) ≡ n
 unfolding eachOf
@@ -46,7 +46,7 @@ pub record Filling (key sheet : List ℕ) (at count : ℕ) (firsts₀ seconds₀
 module _ (key sheet : List ℕ) (at count : ℕ) (firsts₀ seconds₀ : List ℕ) (ready : PairsReady key sheet at count firsts₀ seconds₀) where
   pub filling-none : Filling key sheet at count firsts₀ seconds₀ at 0 firsts₀ seconds₀
   unfolding eachOf
-  filling-none = record { seen = lines-none (isPairLine key) sheet at count (ready .within); left = refl; right = refl }
+  filling-none = record { seen = lines-none (isPairLine key) sheet at count at (ready .within) refl; left = refl; right = refl }
 
   module _ (next i : ℕ) (firsts seconds : List ℕ) (p : Filling key sheet at count firsts₀ seconds₀ next i firsts seconds) where
     pub left-long : length firsts ≡ length firsts₀
@@ -80,7 +80,7 @@ pub record Filling₃ (key sheet : List ℕ) (at count : ℕ) (firsts₀ seconds
 module _ (key sheet : List ℕ) (at count : ℕ) (firsts₀ seconds₀ thirds₀ : List ℕ) (ready : TriplesReady key sheet at count firsts₀ seconds₀ thirds₀) where
   pub filling-none₃ : Filling₃ key sheet at count firsts₀ seconds₀ thirds₀ at 0 firsts₀ seconds₀ thirds₀
   unfolding eachOf
-  filling-none₃ = record { seen = lines-none (isTripleLine key) sheet at count (ready .within); left = refl; middle = refl; right = refl }
+  filling-none₃ = record { seen = lines-none (isTripleLine key) sheet at count at (ready .within) refl; left = refl; middle = refl; right = refl }
 
   module _ (next i : ℕ) (firsts seconds thirds : List ℕ) (p : Filling₃ key sheet at count firsts₀ seconds₀ thirds₀ next i firsts seconds thirds) where
     pub left-long₃ : length firsts ≡ length firsts₀

@@ -1,23 +1,10 @@
--- The lines of a sheet, and what each line must be. A line is the text before its LF.
-use Prim.Native.Nat.{ℕ, suc, zero}
+-- The keys of a run sheet, and what the lines must be that it alone has.
+use Prim.Native.Nat.{ℕ}
 use mathlib.Core.Bool.{Bool, cond, _&&_, _||_}
-use mathlib.Core.List.{List, [], _∷_}
-use lib.ListN.{length, drop}
+use mathlib.Core.List.{List}
 use lib.Dec.{leb}
-use Rattle.texts.specs.Text.{bytes, lineFeed, comma, isEmpty, has, before, behind, startsWith, isText, isNumber, isName, valueOf}
-
--- The first line of a text. Where no LF ends it there is none, and the empty line that stands for it is as described nowhere:
--- so a line that is missing and a last line without LF are refused alike.
-unfoldable pub lineOf : List ℕ → List ℕ
-lineOf text = cond (has lineFeed text) (before lineFeed text) []
-
--- What follows so many lines of a text, and the line that stands there.
-unfoldable pub afterLines : ℕ → List ℕ → List ℕ
-afterLines zero text = text
-afterLines (suc n) text = behind lineFeed (afterLines n text)
-
-abbrev pub lineAfter : ℕ → List ℕ → List ℕ
-lineAfter n text = lineOf (afterLines n text)
+use Rattle.texts.specs.Text.{bytes, isEmpty, startsWith, isText, isNumber, isName}
+use Rattle.lines.specs.Lines.{valueText, isNumberLine, numberBehind}
 
 -- The keys, the name of the rule and that of the one that is retired.
 abbrev pub tapeKey : List ℕ
@@ -50,20 +37,9 @@ leastText = bytes "least"
 abbrev pub sweepText : List ℕ
 sweepText = bytes "sweep"
 
--- What stands behind a key.
-abbrev pub valueText : List ℕ → List ℕ → List ℕ
-valueText key line = drop (length key) line
-
 -- `tape=` and a tape name.
 unfoldable pub isTapeLine : List ℕ → Bool
 isTapeLine line = startsWith tapeKey line && isName (valueText tapeKey line)
-
--- A key and a number.
-unfoldable pub isNumberLine : List ℕ → List ℕ → Bool
-isNumberLine key line = startsWith key line && isNumber (valueText key line)
-
-abbrev pub numberBehind : List ℕ → List ℕ → ℕ
-numberBehind key line = valueOf (valueText key line)
 
 -- A key and a number of lines to follow, which is limited.
 unfoldable pub isCountLine : List ℕ → ℕ → List ℕ → Bool
@@ -91,31 +67,3 @@ isRuleLine line =
 -- Whether a line is `rule=sweep`, which names the retired rule.
 unfoldable pub namesSweep : List ℕ → Bool
 namesSweep line = startsWith ruleKey line && isText sweepText (valueText ruleKey line)
-
--- Two numbers with a comma between them.
-unfoldable pub isPair : List ℕ → Bool
-isPair text = isNumber (before comma text) && isNumber (behind comma text)
-
--- A key and a pair of numbers.
-unfoldable pub isPairLine : List ℕ → List ℕ → Bool
-isPairLine key line = startsWith key line && isPair (valueText key line)
-
-abbrev pub firstIn : List ℕ → List ℕ → ℕ
-firstIn key line = valueOf (before comma (valueText key line))
-
-abbrev pub secondIn : List ℕ → List ℕ → ℕ
-secondIn key line = valueOf (behind comma (valueText key line))
-
--- Three numbers with two commas between them: a number, a comma and a pair.
-unfoldable pub isTriple : List ℕ → Bool
-isTriple text = isNumber (before comma text) && isPair (behind comma text)
-
--- A key and three numbers: the first as above, the one between the commas, and the last.
-unfoldable pub isTripleLine : List ℕ → List ℕ → Bool
-isTripleLine key line = startsWith key line && isTriple (valueText key line)
-
-abbrev pub middleIn : List ℕ → List ℕ → ℕ
-middleIn key line = valueOf (before comma (behind comma (valueText key line)))
-
-abbrev pub thirdIn : List ℕ → List ℕ → ℕ
-thirdIn key line = valueOf (behind comma (behind comma (valueText key line)))

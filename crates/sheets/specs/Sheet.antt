@@ -1,11 +1,11 @@
 -- A run sheet: which lines must stand where, the first that is not as described, and the run and the name that it holds.
 use Prim.Native.Nat.{ℕ, suc, zero, _+_}
-use mathlib.Core.Bool.{Bool, true, false, not}
-use mathlib.Core.List.{List, [], _∷_, _++_}
-use Rattle.refusals.specs.Refusals.{firstWhere}
+use mathlib.Core.Bool.{Bool, true, false}
+use mathlib.Core.List.{List, [], _∷_}
 use Rattle.runs.specs.Run.{Run, mostWants}
 use Rattle.texts.specs.Text.{isEmpty}
-use Rattle.sheets.specs.Lines.{lineOf, afterLines, lineAfter, tapeKey, headKey, filesKey, fileKey, wantsKey, wantKey, valueText, isTapeLine, isNumberLine, numberBehind, isCountLine, isTurnLine, turnWith, emptyTurn, isRuleLine, namesSweep, isPairLine, isTripleLine, firstIn, secondIn, middleIn, thirdIn}
+use Rattle.lines.specs.Lines.{lineOf, afterLines, lineAfter, valueText, isNumberLine, numberBehind, isPairLine, firstIn, secondIn, isTripleLine, middleIn, thirdIn, firstBadOf, eachOf}
+use Rattle.sheets.specs.Lines.{tapeKey, headKey, filesKey, fileKey, wantsKey, wantKey, isTapeLine, isCountLine, isTurnLine, turnWith, emptyTurn, isRuleLine, namesSweep}
 
 -- The limits of a sheet. `wants` is limited as the run is.
 abbrev pub longestSheet : ℕ
@@ -48,7 +48,7 @@ wantText sheet = afterLines 1 (wantsText sheet)
 unfoldable pub endText : List ℕ → List ℕ
 endText sheet = afterLines (sheetWants sheet) (wantText sheet)
 
--- The number of a line that is not as described, 0 where it is; and of the first such line of many, behind so many lines.
+-- The number of a line that is not as described, 0 where it is; and of the first such line of many that stand behind so many lines.
 abbrev pub unless : Bool → ℕ → ℕ
 unless true line = 0
 unless false line = line
@@ -56,9 +56,6 @@ unless false line = line
 abbrev pub shifted : ℕ → ℕ → ℕ
 shifted lines zero = 0
 shifted lines (suc i) = lines + suc i
-
-unfoldable pub firstBadOf : (List ℕ → Bool) → ℕ → List ℕ → ℕ
-firstBadOf test count text = firstWhere (λ i. not (test (lineAfter i text))) count
 
 -- The first number of a row that is not 0.
 abbrev pub firstSome : List ℕ → ℕ
@@ -89,11 +86,6 @@ firstBadBelow sheet =
 -- The first line of a sheet that is not as described; 0 where all are.
 unfoldable pub firstBadLine : List ℕ → ℕ
 firstBadLine sheet = firstSome (firstBadTop sheet ∷ firstBadBelow sheet ∷ [])
-
--- What a number of lines hold, one value for each.
-unfoldable pub eachOf : (ℕ → ℕ) → ℕ → List ℕ
-eachOf value zero = []
-eachOf value (suc n) = eachOf value n ++ (value n ∷ [])
 
 -- The run that a sheet holds, where an empty price means e: `file` is start, length and
 -- aggregate, `want` is file number and count.

@@ -15,7 +15,8 @@ use Rattle.texts.specs.declared.Found.{Found}
 use Rattle.texts.specs.Found.{FoundIn, FirstAt}
 use Rattle.texts.proofs.Bytes.{begun-long}
 use Rattle.texts.proofs.Split.{has-here}
-use Rattle.sheets.specs.Lines.{afterLines, lineAfter, turnKey}
+use Rattle.lines.specs.Lines.{afterLines, lineAfter}
+use Rattle.sheets.specs.Lines.{turnKey}
 use Rattle.sheets.proofs.Good.{tape-begun, head-begun, turn-begun, line-split, line-flat}
 use Rattle.turns.specs.Rewriting.{priceIsEmpty, bytesBefore, zeroAt, rewritten}
 use Rattle.turns.specs.Private.{Readable, LineAt, PriceFound}

@@ -8,7 +8,7 @@ use native.Mathlib.Omega.{arith}
 use native.Mathlib.Nat.{zero-add}
 use lib.ListN.{length, getD, take, drop, set, length-append, length-drop, List·getD-append}
 use lib.Seq.{take-length, length-take-le, getD-take, getD-drop, getD-at, getD-append-add}
-use Rattle.writers.proofs.Pages.{Putting, byte-put}
+use Rattle.prints.proofs.Pages.{Putting, byte-put}
 use Rattle.turns.specs.Rewriting.{zeroAt}
 use Rattle.turns.specs.Private.{priced, filledRow}
 

@@ -13,7 +13,8 @@ use borrow.Author.Tests.{eq-eqb, eqb-true}
 use Rattle.texts.specs.Text.{lineFeed, has, behind, startsWith, isText, isNumber, allOf, valueFrom}
 use Rattle.texts.proofs.Bytes.{and-true-both, begun-long, not-empty}
 use Rattle.texts.proofs.Split.{has-here, before-here, behind-here, whole-key}
-use Rattle.sheets.specs.Lines.{lineOf, afterLines, lineAfter, turnKey, valueText, isTurnLine, turnWith}
+use Rattle.lines.specs.Lines.{lineOf, afterLines, lineAfter, valueText}
+use Rattle.sheets.specs.Lines.{turnKey, isTurnLine, turnWith}
 use Rattle.sheets.specs.Sheet.{sheetHead, sheetTurnWith, saysSweep, sheetFiles, fileText, wantsText, sheetWants, wantText, endText, firstBadTop, firstBadBelow, firstBadLine, sheetRunWith, sheetName}
 use Rattle.sheets.proofs.Good.{turn-begun, no-bad-line}
 use Rattle.turns.specs.Rewriting.{priceIsEmpty, bytesBefore, rewritten}

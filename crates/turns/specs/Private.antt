@@ -8,7 +8,7 @@ use lib.Dec.{ltb}
 use Rattle.refusals.specs.declared.Refusal.the-variants.{LongSheet, ShortRow}
 use Rattle.refusals.specs.declared.Verdict.{Verdict}
 use Rattle.refusals.specs.Refusals.{isRefusal, refuseIf}
-use Rattle.sheets.specs.Lines.{afterLines}
+use Rattle.lines.specs.Lines.{afterLines}
 use Rattle.sheets.specs.Sheet.{longestSheet}
 use Rattle.sheets.specs.Reading.{sheetVerdict}
 use Rattle.turns.specs.declared.Price.{Price}

@@ -10,7 +10,8 @@ use Rattle.refusals.specs.declared.Refusal.the-variants.{LongSheet}
 use Rattle.refusals.specs.declared.Verdict.{Verdict}
 use Rattle.refusals.specs.Refusals.{refuseIf, firstOf}
 use Rattle.texts.specs.Text.{isText}
-use Rattle.sheets.specs.Lines.{afterLines, lineAfter, turnKey}
+use Rattle.lines.specs.Lines.{afterLines, lineAfter}
+use Rattle.sheets.specs.Lines.{turnKey}
 use Rattle.sheets.specs.Sheet.{longestSheet}
 use Rattle.sheets.specs.Reading.{sheetVerdict}
 use Rattle.writers.specs.declared.Written.{Written}

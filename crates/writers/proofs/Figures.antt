@@ -30,10 +30,11 @@ use Rattle.walk.proofs.Walks.{GoodList, accepted-list, list-fits}
 use Rattle.figures.specs.Figures.{figuresOf, figuresVerdict, figuresAnswer, figuresRow}
 use Rattle.figures.proofs.Answers.{figures-length}
 use Rattle.texts.specs.Text.{isName, comma, decimal}
-use Rattle.writers.specs.Writing.{pairText, numberLine, rowVerdict}
-use Rattle.writers.specs.FigureSheet.{buysKey, signed, figureLine, figureLines, figurePage, figureText, figureSheetVerdict}
-use Rattle.writers.specs.Private.{Wrote, figureMost, FigureFits}
-use Rattle.writers.proofs.Pages.{wrote-both, wrote-within}
+use Rattle.prints.specs.Printing.{numberLine, pairText, Wrote, Put}
+use Rattle.writers.specs.Writing.{rowVerdict}
+use Rattle.writers.specs.FigureSheet.{buysKey, figureLine, figureLines, figurePage, figureText, figureSheetVerdict}
+use Rattle.writers.specs.Private.{figureMost, FigureFits}
+use Rattle.prints.proofs.Pages.{wrote-on, wrote-within}
 use Rattle.writers.proofs.Sheets.{last-verdict, judged-refused, judged-passes, run-passes, good-run, name-fits}
 
 -- A signed word below zero: one less than its size, as the code takes it from -1, and then the size.
@@ -93,14 +94,14 @@ sign-short : (z : ℤ) → length (signKey z) ≤ 2
 sign-short (pos n) = omega arith
 sign-short (negsuc n) = omega arith
 
-pub figure-wrote : (page : List ℕ) (at from to : ℕ) (z : ℤ) (sign : List ℕ) → sign ≡ signKey z → (n : ℕ) → n ≡ natAbs z
-    → (page₁ : List ℕ) (next₁ : ℕ) → Wrote page at buysKey 5 page₁ next₁ → (page₂ : List ℕ) (next₂ : ℕ) → Wrote page₁ next₁ (pairText from to) 41 page₂ next₂
-    → (page₃ : List ℕ) (next₃ : ℕ) → Wrote page₂ next₂ (numberLine sign n) (length sign + 21) page₃ next₃ → Wrote page at (figureLine from to z) 69 page₃ next₃
-figure-wrote page at from to z sign is n size page₁ next₁ p page₂ next₂ q page₃ next₃ r =
-    wrote-within page at _ (5 + 41 + (length (signKey z) + 21)) page₃ next₃ 69 (omega (arith, sign-short z))
-    (subst (λ t. Wrote page at t (5 + 41 + (length (signKey z) + 21)) page₃ next₃) (figure-line from to z)
-    (wrote-both page at (buysKey ++ pairText from to) (5 + 41) page₂ next₂ (numberLine (signKey z) (natAbs z)) (length (signKey z) + 21) page₃ next₃
-    (wrote-both page at buysKey 5 page₁ next₁ (pairText from to) 41 page₂ next₂ p q) (rw (is, size) at r)))
+pub figure-wrote : (page : List ℕ) (at from to : ℕ) (z : ℤ) → at + 69 ≤ length page → (sign : List ℕ) → sign ≡ signKey z → (n : ℕ) → n ≡ natAbs z
+    → (page₁ : List ℕ) (next₁ : ℕ) → Put page at buysKey 5 page₁ next₁ → (page₂ : List ℕ) (next₂ : ℕ) → Put page₁ next₁ (pairText from to) 41 page₂ next₂
+    → (page₃ : List ℕ) (next₃ : ℕ) → Put page₂ next₂ (numberLine sign n) (length sign + 21) page₃ next₃ → Wrote page at (figureLine from to z) 69 page₃ next₃
+figure-wrote page at from to z room sign is n size page₁ next₁ p page₂ next₂ q page₃ next₃ r =
+    let short = sign-short z in
+    let last : Put page₂ next₂ (numberLine (signKey z) (natAbs z)) (length (signKey z) + 21) page₃ next₃ = rw (is, size) at r in
+    let all = wrote-on (wrote-on (p .room (omega arith)) (omega arith) q) (omega arith) last in
+    subst (λ t. Wrote page at t 69 page₃ next₃) (figure-line from to z) (wrote-within all 69 (omega arith))
 
 -- The lines that are left.
 module _ (froms tos : List ℕ) (figures : List ℤ) (even : length froms ≡ length tos) (figured : length froms ≡ length figures) (i : ℕ) where

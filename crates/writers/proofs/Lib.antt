@@ -1,5 +1,4 @@
 -- Laws that this crate's proofs share, and those that other crates cite.
-pub mod Pages
 pub mod Sheets
 pub mod Plans
 pub mod Figures

@@ -26,7 +26,8 @@ use Rattle.runs.proofs.Stops.{wants-length}
 use Rattle.texts.specs.Text.{isName}
 use Rattle.writers.specs.Writing.{rowVerdict}
 use Rattle.writers.specs.PlanSheet.{planLines, planText, planSheetVerdict}
-use Rattle.writers.specs.Private.{Wrote, planMost, PlanFits}
+use Rattle.prints.specs.Printing.{Wrote}
+use Rattle.writers.specs.Private.{planMost, PlanFits}
 use Rattle.writers.proofs.Sheets.{last-verdict, judged-refused, judged-passes, run-passes, good-run, name-fits}
 
 -- v is the run's verdict, w that of the run and the name, f whether w refuses.

@@ -1,17 +1,18 @@
 -- A refusal's two lines on a page.
-use Prim.Native.Nat.{ℕ, _+_}
+use Prim.Native.Nat.{ℕ, _≤_}
 use mathlib.Core.Path.{_≡_, subst}
 use mathlib.Core.List.{List, _++_}
+use native.Mathlib.Omega.{arith}
+use lib.ListN.{length}
 use Rattle.refusals.specs.declared.Verdict.{Verdict}
 use Rattle.refusals.specs.Refusals.{numberOf}
-use Rattle.writers.specs.Writing.{numberLine}
+use Rattle.prints.specs.Printing.{numberLine, Wrote, Put}
 use Rattle.writers.specs.RefusalLines.{refusedKey, placeKey, refusalText}
-use Rattle.writers.specs.Private.{Wrote}
-use Rattle.writers.proofs.Pages.{wrote-both}
+use Rattle.prints.proofs.Pages.{wrote-on}
 
-pub wrote-refusal : (v : Verdict) (n : ℕ) → n ≡ numberOf (v .refusal) → (page : List ℕ) (m : ℕ) (page′ : List ℕ) (at k : ℕ) (page″ : List ℕ) (last : ℕ)
-    → Wrote page 0 (numberLine refusedKey n) m page′ at → Wrote page′ at (numberLine placeKey (v .place)) k page″ last → Wrote page 0 (refusalText v) (m + k) page″ last
+pub wrote-refusal : (v : Verdict) (n : ℕ) → n ≡ numberOf (v .refusal) → (page : List ℕ) → 56 ≤ length page → (page′ : List ℕ) (at : ℕ) (page″ : List ℕ) (last : ℕ)
+    → Put page 0 (numberLine refusedKey n) 29 page′ at → Put page′ at (numberLine placeKey (v .place)) 27 page″ last → Wrote page 0 (refusalText v) 56 page″ last
 unfolding refusalText
-wrote-refusal v n e page m page′ at k page″ last p q =
-    subst (λ x. Wrote page 0 (numberLine refusedKey x ++ numberLine placeKey (v .place)) (m + k) page″ last) e
-    (wrote-both page 0 (numberLine refusedKey n) m page′ at (numberLine placeKey (v .place)) k page″ last p q)
+wrote-refusal v n e page r page′ at page″ last p q =
+    subst (λ x. Wrote page 0 (numberLine refusedKey x ++ numberLine placeKey (v .place)) 56 page″ last) e
+    (wrote-on (p .room (omega arith)) (omega arith) q)

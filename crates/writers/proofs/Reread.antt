@@ -9,9 +9,9 @@ use lib.Seq.{drop-append-seam, take-suc, take-length}
 use borrow.Author.Tests.{eq-eqb, le-leb}
 use Rattle.runs.proofs.Search.{first-all}
 use Rattle.texts.specs.Text.{lineFeed, comma, has, before, behind, startsWith, valueOf, decimal}
-use Rattle.sheets.specs.Lines.{lineOf, afterLines, lineAfter, valueText, isNumberLine, numberBehind, isCountLine, isPair, isPairLine, firstIn, secondIn, isTriple, isTripleLine, middleIn, thirdIn}
-use Rattle.sheets.specs.Sheet.{firstBadOf, eachOf}
-use Rattle.writers.specs.Writing.{line, pairText, pairLine, pairLines, tripleText, tripleLine, tripleLines}
+use Rattle.lines.specs.Lines.{lineOf, afterLines, lineAfter, valueText, isNumberLine, numberBehind, isPair, isPairLine, firstIn, secondIn, isTriple, isTripleLine, middleIn, thirdIn, firstBadOf, eachOf}
+use Rattle.sheets.specs.Lines.{isCountLine}
+use Rattle.prints.specs.Printing.{line, pairText, pairLine, tripleText, tripleLine, pairLines, tripleLines}
 use Rattle.texts.proofs.Decimals.{has-append, decimal-without, decimal-number, decimal-value}
 use Rattle.texts.proofs.Split.{has-here, before-here, behind-here}
 

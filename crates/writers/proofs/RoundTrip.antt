@@ -15,12 +15,14 @@ use Rattle.runs.proofs.Search.{first-zero, or-false-both}
 use Rattle.runs.proofs.Accepted.{GoodFile, good-file}
 use Rattle.runs.proofs.Judged.{accepted-run}
 use Rattle.texts.specs.Text.{lineFeed, has, behind, isName, isNameByte, between, allOf, isEmpty, startsWith, isNumber, decimal}
-use Rattle.sheets.specs.Lines.{lineOf, afterLines, lineAfter, tapeKey, headKey, turnKey, ruleKey, leastText, filesKey, fileKey, wantsKey, wantKey, valueText, isTapeLine, isNumberLine, numberBehind, isCountLine, isTurnLine, turnWith, emptyTurn, turnIn, isRuleLine, namesSweep, isPairLine, firstIn, secondIn, isTripleLine, middleIn, thirdIn}
-use Rattle.sheets.specs.Sheet.{longestSheet, mostSheetFiles, sheetHead, sheetTurnWith, sheetTurn, saysSweep, sheetFiles, fileText, wantsText, sheetWants, wantText, endText, firstBadOf, firstBadTop, firstBadBelow, firstBadLine, eachOf, sheetRun, sheetName}
+use Rattle.lines.specs.Lines.{lineOf, afterLines, lineAfter, valueText, isNumberLine, numberBehind, isPairLine, firstIn, secondIn, isTripleLine, middleIn, thirdIn, firstBadOf, eachOf}
+use Rattle.sheets.specs.Lines.{tapeKey, headKey, turnKey, ruleKey, leastText, filesKey, fileKey, wantsKey, wantKey, isTapeLine, isCountLine, isTurnLine, turnWith, emptyTurn, turnIn, isRuleLine, namesSweep}
+use Rattle.sheets.specs.Sheet.{longestSheet, mostSheetFiles, sheetHead, sheetTurnWith, sheetTurn, saysSweep, sheetFiles, fileText, wantsText, sheetWants, wantText, endText, firstBadTop, firstBadBelow, firstBadLine, sheetRun, sheetName}
 use Rattle.sheets.specs.Reading.{sheetVerdict, ruleVerdict, readName}
-use Rattle.writers.specs.Writing.{line, numberLine, pairText, pairLine, pairLines, tripleText, tripleLine, tripleLines, topText, sheetText}
+use Rattle.prints.specs.Printing.{line, numberLine, pairText, pairLine, tripleText, tripleLine, pairLines, tripleLines}
+use Rattle.writers.specs.Writing.{topText, sheetText}
 use Rattle.texts.proofs.Bytes.{and-true-both, not-empty}
-use Rattle.writers.proofs.Pages.{decimal-digits, decimal-short}
+use Rattle.prints.proofs.Pages.{decimal-digits, decimal-short}
 use Rattle.texts.proofs.Decimals.{has-none, decimal-without, decimal-some, decimal-number, decimal-value}
 use Rattle.writers.proofs.Sheets.{name-length}
 use Rattle.writers.proofs.Reread.{line-first, line-behind, key-begins, key-value, number-back, value-back, count-back, pairs-behind, pairs-good, firsts-back, seconds-back, triples-behind, triples-good, lefts-back, middles-back, thirds-back}

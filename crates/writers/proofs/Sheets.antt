@@ -20,7 +20,8 @@ use Rattle.writers.specs.declared.Written.{Written}
 use Rattle.texts.specs.Text.{isName, isNameByte, allOf, between}
 use Rattle.sheets.specs.Sheet.{mostSheetFiles}
 use Rattle.writers.specs.Writing.{sheetText, rowVerdict, writeVerdict, writtenAnswer, writtenRow, Handed}
-use Rattle.writers.specs.Private.{Wrote, sheetMost, SheetFits, writtenOf}
+use Rattle.prints.specs.Printing.{Wrote, Put}
+use Rattle.writers.specs.Private.{sheetMost, SheetFits, writtenOf}
 use Rattle.texts.proofs.Bytes.{and-true-both}
 
 -- A refusal: the answer is the refusal's, and the row stays.
@@ -28,12 +29,12 @@ pub refused-handed : (verdict v : Verdict) (text row : List ℕ) (n : ℕ) (r : 
 unfolding writtenAnswer writtenRow
 refused-handed verdict v text row n r e refuses r-is = record { answer = r-is ∙ rw (e, refuses); left = rw (e, refuses) }
 
-pub bytes-fit : (text row : List ℕ) (n : ℕ) → n ≤ length text → n ≤ length row → 0 + length (take n text) ≤ length row
-bytes-fit text row n l m = omega (arith, length-take-le n text l)
-
 -- A row is handed n bytes of a text: none where it is too short, else all.
-module _ (text row : List ℕ) (n : ℕ) (row′ : List ℕ) (m : ℕ) (w : Wrote row 0 (take n text) (length (take n text)) row′ m) (kept : drop m row′ ≡ drop m row)
+module _ (text row : List ℕ) (n : ℕ) (row′ : List ℕ) (m : ℕ) (put : Put row 0 (take n text) (length (take n text)) row′ m)
     (v : Verdict) (v-is : v ≡ refuseIf (ltb (length row) (length text)) ShortRow) (r : Written) (r-is : r ≡ writtenOf v (length text)) where
+  bytes-put : n ≤ length text → n ≤ length row → Wrote row 0 (take n text) (length (take n text)) row′ m
+  bytes-put l k = put .room (omega (arith, length-take-le n text l))
+
   handed-answer : r ≡ writtenAnswer (rowVerdict text row) text
   unfolding writtenAnswer rowVerdict
   handed-answer = r-is ∙ ap (λ x. writtenOf x (length text)) v-is
@@ -41,19 +42,21 @@ module _ (text row : List ℕ) (n : ℕ) (row′ : List ℕ) (m : ℕ) (w : Wrot
   pub none-handed : length row < length text → n ≡ 0 → Handed (rowVerdict text row) text row r row′
   unfolding writtenRow rowVerdict
   none-handed short none =
+      let w = bytes-put (omega arith) (omega arith) in
       let front : m ≡ 0 = w .after ∙ rw none in
-      let same : row′ ≡ row = rw front at kept in
+      let same : row′ ≡ row = rw front at (w .later) in
       record { answer = handed-answer; left = rw (lt-ltb (length row) (length text) short) same }
 
   pub all-handed : length text ≤ length row → n ≡ length text → Handed (rowVerdict text row) text row r row′
   unfolding writtenRow rowVerdict
-  all-handed room all =
+  all-handed long all =
+      let w = bytes-put (omega arith) (omega arith) in
       let whole : take n text ≡ text = rw all (take-length text) in
       let size : length text ≡ m = omega (arith, w .after, ap length whole) in
       let bytes : take m row′ ≡ text = w .bytes ∙ whole in
       record {
         answer = handed-answer;
-        left = rw (le-ltb (length row) (length text) room, size, ← kept) (sym (take-append-drop m row′) ∙ ap (λ t. t ++ drop m row′) bytes);
+        left = rw (le-ltb (length row) (length text) long, size, ← w .later) (sym (take-append-drop m row′) ∙ ap (λ t. t ++ drop m row′) bytes);
       }
 
 -- The first bytes of a page are the text put there.

@@ -10,9 +10,11 @@ use Rattle.runs.specs.Lists.{listOf}
 use Rattle.walk.specs.Detours.{startOf, endOf, unreadEnd, sweepEnd, legsOf, lastSweep}
 use Rattle.walk.specs.Price.{pricedAnswer, pricedTimes, pricedLegs}
 use Rattle.texts.specs.Text.{bytes, has, before, behind, startsWith, allOf, valueFrom, isNumber, isName, decimalIn}
-use Rattle.sheets.specs.Lines.{lineOf, afterLines, isTapeLine, isNumberLine, isCountLine, isTurnLine, turnWith, isRuleLine, isPair, isPairLine, isTriple, isTripleLine}
-use Rattle.sheets.specs.Sheet.{sheetHead, sheetTurnWith, sheetFiles, fileText, wantsText, sheetWants, wantText, endText, firstBadOf, firstBadTop, firstBadBelow, firstBadLine, eachOf, sheetRun}
-use Rattle.writers.specs.Writing.{pairLines, tripleLines, topText, sheetText}
+use Rattle.lines.specs.Lines.{lineOf, afterLines, isNumberLine, isPair, isPairLine, isTriple, isTripleLine, firstBadOf, eachOf}
+use Rattle.sheets.specs.Lines.{isTapeLine, isCountLine, isTurnLine, turnWith, isRuleLine}
+use Rattle.sheets.specs.Sheet.{sheetHead, sheetTurnWith, sheetFiles, fileText, wantsText, sheetWants, wantText, endText, firstBadTop, firstBadBelow, firstBadLine, sheetRun}
+use Rattle.prints.specs.Printing.{pairLines, tripleLines}
+use Rattle.writers.specs.Writing.{topText, sheetText}
 use Rattle.writers.specs.PlanSheet.{planTop, planLines, planText}
 
 abbrev pub sheet : List ℕ

@@ -15,7 +15,8 @@ use Rattle.figures.specs.Figures.{figuresOf}
 use Rattle.texts.specs.Text.{bytes, comma, isName, decimal}
 use Rattle.sheets.specs.Lines.{tapeKey}
 use Rattle.writers.specs.declared.Written.{Written}
-use Rattle.writers.specs.Writing.{line, numberLine, pairText, rowVerdict, Handed}
+use Rattle.prints.specs.Printing.{line, numberLine, pairText}
+use Rattle.writers.specs.Writing.{rowVerdict, Handed}
 use Rattle.writers.specs.PlanSheet.{sumKey, detoursKey}
 
 abbrev pub buysKey : List ℕ

@@ -13,7 +13,8 @@ use Rattle.walk.specs.Price.{pricedAnswer, pricedTimes, pricedLegs}
 use Rattle.texts.specs.Text.{bytes, isName}
 use Rattle.sheets.specs.Lines.{tapeKey}
 use Rattle.writers.specs.declared.Written.{Written}
-use Rattle.writers.specs.Writing.{line, numberLine, pairLines, tripleLines, rowVerdict, Handed}
+use Rattle.prints.specs.Printing.{line, numberLine, pairLines, tripleLines}
+use Rattle.writers.specs.Writing.{rowVerdict, Handed}
 
 -- The keys.
 abbrev pub sumKey : List ℕ

@@ -1,9 +1,9 @@
 -- What the functions that put a sheet on a page ask and leave. No public contract cites this file.
-use Prim.Native.Nat.{ℕ, _+_, _≤_}
+use Prim.Native.Nat.{ℕ, _≤_}
 use mathlib.Core.Path.{_≡_}
 use mathlib.Core.Bool.{cond}
-use mathlib.Core.List.{List, _++_}
-use lib.ListN.{length, take}
+use mathlib.Core.List.{List}
+use lib.ListN.{length}
 use lib.IntN.{ℤ}
 use Rattle.refusals.specs.declared.Refusal.the-variants.{Accepted}
 use Rattle.refusals.specs.declared.Verdict.{Verdict}
@@ -12,12 +12,6 @@ use Rattle.runs.specs.Run.{mostWants}
 use Rattle.sheets.specs.Sheet.{mostSheetFiles}
 use Rattle.writers.specs.declared.Written.{Written}
 use Rattle.writers.specs.Writing.{refusedWriting}
-
--- A text put on a page behind what stands before a position, in at most so many bytes.
-pub record Wrote (page : List ℕ) (at : ℕ) (text : List ℕ) (most : ℕ) (page′ : List ℕ) (next : ℕ) : Type 0 where
-  pub after : next ≡ at + length text
-  pub bytes : take next page′ ≡ take at page ++ text
-  pub within : next ≤ at + most
 
 -- No run sheet is longer than this, whatever its numbers are: 112 bytes for the first lines, 68 for each of 256 files, 27 for the number of wants and
 -- 49 for each of 64 wants. (That of an accepted run is shorter, and within the limit of a sheet: proofs/RoundTrip.)

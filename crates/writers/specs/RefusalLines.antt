@@ -5,7 +5,8 @@ use Rattle.refusals.specs.declared.Verdict.{Verdict}
 use Rattle.refusals.specs.Refusals.{numberOf}
 use Rattle.texts.specs.Text.{bytes}
 use Rattle.writers.specs.declared.Written.{Written}
-use Rattle.writers.specs.Writing.{numberLine, rowVerdict, Handed}
+use Rattle.prints.specs.Printing.{numberLine}
+use Rattle.writers.specs.Writing.{rowVerdict, Handed}
 
 -- The keys.
 abbrev pub refusedKey : List ℕ

@@ -11,40 +11,10 @@ use Rattle.refusals.specs.Refusals.{isRefusal, refuseIf, firstOf}
 use Rattle.runs.specs.Run.{Run}
 use Rattle.runs.specs.Judging.{judgeOf}
 use Rattle.writers.specs.declared.Written.{Written}
-use Rattle.texts.specs.Text.{lineFeed, comma, isName, decimal}
+use Rattle.texts.specs.Text.{isName}
+use Rattle.prints.specs.Printing.{line, numberLine, pairLines, tripleLines}
 use Rattle.sheets.specs.Lines.{tapeKey, headKey, turnKey, ruleKey, leastText, filesKey, fileKey, wantsKey, wantKey}
 use Rattle.sheets.specs.Sheet.{mostSheetFiles}
-
--- A line with its LF: a key and a text, a key and a number, a key and two or three numbers.
-abbrev pub line : List ℕ → List ℕ → List ℕ
-line key text = key ++ text ++ (lineFeed ∷ [])
-
-abbrev pub numberLine : List ℕ → ℕ → List ℕ
-numberLine key n = line key (decimal n)
-
-abbrev pub pairText : ℕ → ℕ → List ℕ
-pairText first second = decimal first ++ (comma ∷ []) ++ decimal second
-
-abbrev pub pairLine : List ℕ → ℕ → ℕ → List ℕ
-pairLine key first second = line key (pairText first second)
-
-abbrev pub tripleText : ℕ → ℕ → ℕ → List ℕ
-tripleText first second third = pairText first second ++ (comma ∷ []) ++ decimal third
-
-abbrev pub tripleLine : List ℕ → ℕ → ℕ → ℕ → List ℕ
-tripleLine key first second third = line key (tripleText first second third)
-
--- A line for each pair of two rows, and for each triple of three.
-unfoldable pub pairLines : List ℕ → List ℕ → List ℕ → List ℕ
-pairLines key [] seconds = []
-pairLines key (a ∷ firsts) [] = []
-pairLines key (a ∷ firsts) (b ∷ seconds) = pairLine key a b ++ pairLines key firsts seconds
-
-unfoldable pub tripleLines : List ℕ → List ℕ → List ℕ → List ℕ → List ℕ
-tripleLines key [] seconds thirds = []
-tripleLines key (a ∷ firsts) [] thirds = []
-tripleLines key (a ∷ firsts) (b ∷ seconds) [] = []
-tripleLines key (a ∷ firsts) (b ∷ seconds) (c ∷ thirds) = tripleLine key a b c ++ tripleLines key firsts seconds thirds
 
 -- The first five lines, and the whole sheet. A number always stands after `turn=`, and the rule is least.
 unfoldable pub topText : List ℕ → ℕ → ℕ → ℕ → List ℕ

@@ -8,6 +8,7 @@ mod refusal;
 mod writer;
 
 pub use figure::write_figures;
+pub use page::hand_out;
 pub use plan::write_plan;
 pub use refusal::write_refusal;
 pub use writer::write_sheet;

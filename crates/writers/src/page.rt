@@ -1,96 +1,25 @@
-// A page: texts put one behind the other. A sheet is put together on a page of its own, so that a row too short for it is left alone.
+// A line for each entry of two or three rows; the name's check; a page handed out. A sheet is put together on a page of its own, so that a row too
+// short for it is left alone.
 ghost use mathlib.Core.Path.{_≡_};
 ghost use mathlib.Core.Bool.{not, _||_};
 ghost use mathlib.Core.List.{[], _∷_};
 ghost use Prim.Native.Nat.{_+_, _*_, _≤_};
-ghost use lib.ListN.{length, drop};
+ghost use lib.ListN.{length};
 ghost use Rattle.refusals.specs.declared.Refusal.the-variants.{BadName};
 ghost use Rattle.refusals.specs.Refusals.{refuseIf, firstOf};
-ghost use Rattle.texts.specs.Text.{decimal, isName};
-ghost use Rattle.writers.specs.Writing.{line, numberLine, pairText, pairLine, pairLines, tripleLine, tripleLines, rowVerdict, Handed};
-ghost use Rattle.writers.specs.Private.{Wrote, writtenOf};
+ghost use Rattle.texts.specs.Text.{isName};
+ghost use Rattle.prints.specs.Printing.{pairLines, tripleLines, Wrote};
+ghost use Rattle.writers.specs.Writing.{rowVerdict, Handed};
+ghost use Rattle.writers.specs.Private.{writtenOf};
 use crate::Written;
+use prints::put;
+use prints::put_pair_line;
+use prints::put_triple_line;
 use refusals::Refusal;
 use refusals::Verdict;
 use refusals::refuse_if;
 use refusals::refused;
 use texts::is_name;
-
-pub(crate) fn put(page: &mut [u8], at: usize, text: &[u8]) -> usize
-    requires { ⌜ at + length (now text) ≤ length (now page) ⌝ }
-    ensures { λ r. ⌜ Wrote (now (page .entry)) at (now (text .entry)) (length (now (text .entry))) (now (page .exit)) r ⌝ }
-    ensures { λ r. ⌜ drop r (now (page .exit)) ≡ drop r (now (page .entry)) ⌝ }
-{
-    let mut i: usize = 0;
-    while i < text.len() {
-        page[at + i] = text[i];
-        i += 1;
-    }
-    at + text.len()
-}
-
-fn put_number(page: &mut [u8], at: usize, number: u64) -> usize
-    requires { ⌜ at + 20 ≤ length (now page) ⌝ }
-    ensures { λ r. ⌜ Wrote (now (page .entry)) at (decimal number) 20 (now (page .exit)) r ⌝ }
-{
-    let mut digits = [0u8; 20];
-    let places = io::decimal(number, &mut digits);
-    put(page, at, &digits[..places])
-}
-
-pub(crate) fn put_line(page: &mut [u8], at: usize, key: &[u8], text: &[u8]) -> usize
-    requires { ⌜ at + (length (now key) + length (now text) + 1) ≤ length (now page) ⌝ }
-    ensures { λ r. ⌜ Wrote (now (page .entry)) at (line (now (key .entry)) (now (text .entry))) (length (now (key .entry)) + length (now (text .entry)) + 1) (now (page .exit)) r ⌝ }
-{
-    let value = put(page, at, key);
-    let end = put(page, value, text);
-    put(page, end, b"\n")
-}
-
-pub(crate) fn put_number_line(page: &mut [u8], at: usize, key: &[u8], number: u64) -> usize
-    requires { ⌜ at + (length (now key) + 21) ≤ length (now page) ⌝ }
-    ensures { λ r. ⌜ Wrote (now (page .entry)) at (numberLine (now (key .entry)) number) (length (now (key .entry)) + 21) (now (page .exit)) r ⌝ }
-{
-    let value = put(page, at, key);
-    let end = put_number(page, value, number);
-    put(page, end, b"\n")
-}
-
-pub(crate) fn put_pair(page: &mut [u8], at: usize, first: u64, second: u64) -> usize
-    requires { ⌜ at + 41 ≤ length (now page) ⌝ }
-    ensures { λ r. ⌜ Wrote (now (page .entry)) at (pairText first second) 41 (now (page .exit)) r ⌝ }
-{
-    let comma = put_number(page, at, first);
-    let after = put(page, comma, b",");
-    put_number(page, after, second)
-}
-
-fn put_pair_line(page: &mut [u8], at: usize, key: &[u8], first: u64, second: u64) -> usize
-    requires { ⌜ at + (length (now key) + 42) ≤ length (now page) ⌝ }
-    ensures { λ r. ⌜ Wrote (now (page .entry)) at (pairLine (now (key .entry)) first second) (length (now (key .entry)) + 42) (now (page .exit)) r ⌝ }
-{
-    let value = put(page, at, key);
-    let end = put_pair(page, value, first, second);
-    put(page, end, b"\n")
-}
-
-fn put_triple_line(
-    page: &mut [u8],
-    at: usize,
-    key: &[u8],
-    first: u64,
-    second: u64,
-    third: u64,
-) -> usize
-    requires { ⌜ at + (length (now key) + 63) ≤ length (now page) ⌝ }
-    ensures { λ r. ⌜ Wrote (now (page .entry)) at (tripleLine (now (key .entry)) first second third) (length (now (key .entry)) + 63) (now (page .exit)) r ⌝ }
-{
-    let value = put(page, at, key);
-    let last_comma = put_pair(page, value, first, second);
-    let last = put(page, last_comma, b",");
-    let end = put_number(page, last, third);
-    put(page, end, b"\n")
-}
 
 // A line for each pair of two rows. No key is longer than 7 bytes, so no such line is longer than 49.
 pub(crate) fn put_pairs(
@@ -171,7 +100,7 @@ pub(crate) fn written(verdict: Verdict, bytes: u64) -> Written
 }
 
 // The text as a sheet in the first bytes of a row. A row too short for it takes none of it.
-pub(crate) fn hand_out(text: &[u8], out: &mut [u8]) -> Written
+pub fn hand_out(text: &[u8], out: &mut [u8]) -> Written
     ensures { λ r. ⌜ Handed (rowVerdict (now (text .entry)) (now (out .entry))) (now (text .entry)) (now (out .entry)) r (now (out .exit)) ⌝ }
 {
     let short = out.len() < text.len();

@@ -1,18 +1,18 @@
 // The plan sheet writer: it prices the list that it is given, and writes what the pricer answers.
-ghost use mathlib.Core.Path.{_≡_};
 ghost use Prim.Native.Nat.{_≤_};
 ghost use lib.ListN.{length};
 ghost use Rattle.runs.specs.Run.{runAt};
+ghost use Rattle.prints.specs.Printing.{Wrote};
 ghost use Rattle.writers.specs.PlanSheet.{planTop, planLines, PlanWritten};
-ghost use Rattle.writers.specs.Private.{Wrote, planMost, PlanFits};
+ghost use Rattle.writers.specs.Private.{planMost, PlanFits};
 use crate::Written;
 use crate::page::hand_out;
 use crate::page::judge_name;
-use crate::page::put_line;
-use crate::page::put_number_line;
 use crate::page::put_pairs;
 use crate::page::put_triples;
 use crate::page::written;
+use prints::put_line;
+use prints::put_number_line;
 use refusals::Verdict;
 use refusals::refused;
 use walk::Answer;

@@ -2,7 +2,7 @@
 ghost use Rattle.writers.specs.RefusalLines.{RefusalWritten};
 use crate::Written;
 use crate::page::hand_out;
-use crate::page::put_number_line;
+use prints::put_number_line;
 use refusals::Verdict;
 
 pub fn write_refusal(verdict: Verdict, out: &mut [u8]) -> Written

@@ -2,16 +2,17 @@
 ghost use Prim.Native.Nat.{_≤_};
 ghost use lib.ListN.{length};
 ghost use Rattle.runs.specs.Run.{runAt};
+ghost use Rattle.prints.specs.Printing.{Wrote};
 ghost use Rattle.writers.specs.Writing.{topText, sheetText, SheetWritten};
-ghost use Rattle.writers.specs.Private.{Wrote, sheetMost, SheetFits};
+ghost use Rattle.writers.specs.Private.{sheetMost, SheetFits};
 use crate::Written;
 use crate::page::hand_out;
 use crate::page::judge_name;
-use crate::page::put_line;
-use crate::page::put_number_line;
 use crate::page::put_pairs;
 use crate::page::put_triples;
 use crate::page::written;
+use prints::put_line;
+use prints::put_number_line;
 use refusals::refused;
 use sheets::MOST_SHEET_FILES;
 

@@ -2,7 +2,7 @@
 -- Assumes nothing.
 use Prim.Native.Nat.{_-_}
 use native.Mathlib.Omega.{arith}
-use Rattle.writers.proofs.Pages.{Putting, putting-none, putting-long}
+use Rattle.prints.proofs.Pages.{Putting, putting-none, putting-long}
 use Rattle.turns.specs.Private.{priced}
 use Rattle.turns.proofs.Filling.{fits, byte-filled, row-filled}
 use borrow.Author.Needs.{needs}

@@ -2,7 +2,7 @@ use borrow.Author.Needs.{needs}
 use Prim.Native.Nat.{_-_}
 use native.Mathlib.Omega.{arith}
 use Rattle.sheets.proofs.Rows.{Filling, filling-none, left-long, right-long, filled, pair-filled}
-use Rattle.sheets.proofs.Passing.{never-bad, pair-read, pair-unread}
+use Rattle.lines.proofs.Passing.{never-bad, pair-read, pair-unread}
 use Rattle.sheets.proofs.reader.fill_pair.Statement.{statement}
 use Rattle.sheets.proofs.reader.fill_pair.Tie as tie
 
@@ -19,7 +19,7 @@ loop-holds : tie.Need-loop-holds Inv-loop μ-loop
 loop-holds c = filling-none _ _ _ _ _ _ (c .before .before .before .before .pre)
 
 pair-line-requires : tie.Need-pair-line-requires Inv-loop μ-loop
-pair-line-requires c κs = (c .before .loop .inv .seen .within, c .before .before .before .before .before .before .pre .keyed)
+pair-line-requires c κs = search needs
 
 enum-known-first : tie.Need-enum-known-first Inv-loop μ-loop
 enum-known-first c = search needs

@@ -2,7 +2,7 @@ use borrow.Author.Needs.{needs}
 use Prim.Native.Nat.{_-_}
 use native.Mathlib.Omega.{arith}
 use Rattle.sheets.proofs.Rows.{Filling₃, filling-none₃, left-long₃, middle-long₃, right-long₃, filled₃, triple-filled}
-use Rattle.sheets.proofs.Passing.{never-bad, triple-read, triple-unread}
+use Rattle.lines.proofs.Passing.{never-bad, triple-read, triple-unread}
 use Rattle.sheets.proofs.reader.fill_triple.Statement.{statement}
 use Rattle.sheets.proofs.reader.fill_triple.Tie as tie
 
@@ -19,7 +19,7 @@ loop-holds : tie.Need-loop-holds Inv-loop μ-loop
 loop-holds c = filling-none₃ _ _ _ _ _ _ _ (c .before .before .before .before .before .pre)
 
 triple-line-requires : tie.Need-triple-line-requires Inv-loop μ-loop
-triple-line-requires c κs = (c .before .loop .inv .seen .within, c .before .before .before .before .before .before .before .pre .keyed)
+triple-line-requires c κs = search needs
 
 enum-known-first : tie.Need-enum-known-first Inv-loop μ-loop
 enum-known-first c = search needs

@@ -1,8 +1,9 @@
 -- `sheets::reader::read_below` meets its contract: the lines of files, then what stands below them.
 -- Assumes nothing.
 use native.Mathlib.Omega.{arith}
-use Rattle.sheets.specs.Lines.{fileKey, isTripleLine}
-use Rattle.sheets.proofs.Passing.{lines-ended, lines-failed}
+use Rattle.lines.specs.Lines.{isTripleLine}
+use Rattle.sheets.specs.Lines.{fileKey}
+use Rattle.lines.proofs.Passing.{lines-ended, lines-failed}
 use Rattle.sheets.proofs.Order.{files-bad-below, files-good-below}
 use borrow.Author.Needs.{needs}
 use Rattle.sheets.proofs.reader.read_below.Statement.{statement}

@@ -1,7 +1,6 @@
 -- `sheets::reader::read_top` meets its contract: each line in turn, the first that is not as described being the answer.
 -- Assumes nothing.
-use native.Mathlib.Omega.{arith}
-use Rattle.sheets.proofs.Order.{tape-bad, at-head, head-bad, at-turn, turn-bad, at-rule, rule-bad, at-files, files-bad, top-good}
+use Rattle.sheets.proofs.Order.{tape-bad, head-bad, turn-bad, rule-bad, files-bad, top-good}
 use borrow.Author.Needs.{needs}
 use Rattle.sheets.proofs.reader.read_top.Statement.{statement}
 use Rattle.sheets.proofs.reader.read_top.Tie as tie
@@ -22,7 +21,7 @@ slice-aggregate-number-line : tie.Need-slice-aggregate-number-line
 slice-aggregate-number-line c = search needs
 
 number-line-requires : tie.Need-number-line-requires
-number-line-requires c κs = (at-head _ _ (c .before .before .before .before .tape-line .ensures) _ _ (c .before .before .end .given .1) .within, omega arith)
+number-line-requires c κs = search needs
 
 enum-known-head : tie.Need-enum-known-head
 enum-known-head c = search needs
@@ -34,7 +33,7 @@ returns-2 : tie.Need-returns-2
 returns-2 c = head-bad _ _ (c .before .before .before .before .before .before .before .tape-line .ensures) _ _ (c .before .before .before .before .before .end .given .1) _ (c .before .before .number-line .ensures) (c .enum-told2 .given .1)
 
 turn-line-requires : tie.Need-turn-line-requires
-turn-line-requires c κs = at-turn _ _ (c .before .before .before .before .before .before .before .before .tape-line .ensures) _ _ (c .before .before .before .before .before .before .end .given .1) _ (c .before .before .before .number-line .ensures) _ _ (c .before .head .given .1) .within
+turn-line-requires c κs = search needs
 
 enum-known-turn : tie.Need-enum-known-turn
 enum-known-turn c = search needs
@@ -49,11 +48,7 @@ returns-3 c =
     turn-bad _ _ (c8 .before .before .before .tape-line .ensures) _ _ (c8 .before .end .given .1) _ (c4 .before .before .number-line .ensures) _ _ (c4 .head .given .1) _ (c .before .before .turn-line .ensures) (c .enum-told3 .given .1)
 
 rule-line-requires : tie.Need-rule-line-requires
-rule-line-requires c κs =
-    let c4 = c .before .before .before .before in
-    let c8 = c4 .before .before .before .before in
-    let c12 = c8 .before .before .before .before in
-    at-rule _ _ (c12 .tape-line .ensures) _ _ (c8 .before .before .end .given .1) _ (c4 .before .before .before .number-line .ensures) _ _ (c4 .before .head .given .1) _ (c .before .before .before .turn-line .ensures) _ _ (c .before .turn .given .1) .within
+rule-line-requires c κs = search needs
 
 enum-known-sweep : tie.Need-enum-known-sweep
 enum-known-sweep c = search needs
@@ -73,15 +68,7 @@ slice-aggregate-count-line : tie.Need-slice-aggregate-count-line
 slice-aggregate-count-line c = search needs
 
 count-line-requires : tie.Need-count-line-requires
-count-line-requires c κs =
-    let c4 = c .before .before .before .before in
-    let c8 = c4 .before .before .before .before in
-    let c12 = c8 .before .before .before .before in
-    let c16 = c12 .before .before .before .before in (
-      at-files _ _ (c16 .before .tape-line .ensures) _ _ (c12 .before .before .before .end .given .1) _ (c12 .number-line .ensures) _ _ (c8 .before .before .head .given .1) _ (c8 .turn-line .ensures) _ _ (c4 .before .before .turn .given .1)
-          _ (c4 .rule-line .ensures) _ _ (c .before .before .sweep .given .1) .within,
-      omega arith,
-    )
+count-line-requires c κs = search needs
 
 enum-known-files : tie.Need-enum-known-files
 enum-known-files c = search needs

@@ -1,9 +1,10 @@
 -- `sheets::reader::read_wants` meets its contract: the `wants` line, the lines of wants, and nothing behind them.
 -- Assumes nothing.
 use native.Mathlib.Omega.{arith}
-use Rattle.sheets.specs.Lines.{wantKey, isPairLine}
-use Rattle.sheets.proofs.Passing.{lines-ended, lines-failed}
-use Rattle.sheets.proofs.Order.{wants-bad, wants-within, wants-few, want-bad, text-behind, below-good}
+use Rattle.lines.specs.Lines.{isPairLine}
+use Rattle.sheets.specs.Lines.{wantKey}
+use Rattle.lines.proofs.Passing.{lines-ended, lines-failed}
+use Rattle.sheets.proofs.Order.{wants-bad, wants-few, want-bad, text-behind, below-good}
 use borrow.Author.Needs.{needs}
 use Rattle.sheets.proofs.reader.read_wants.Statement.{statement}
 use Rattle.sheets.proofs.reader.read_wants.Tie as tie
@@ -12,7 +13,7 @@ slice-aggregate-count-line : tie.Need-slice-aggregate-count-line
 slice-aggregate-count-line c = search needs
 
 count-line-requires : tie.Need-count-line-requires
-count-line-requires c κs = (c .before .before .pre .within, omega arith)
+count-line-requires c κs = search needs
 
 enum-known-wants : tie.Need-enum-known-wants
 enum-known-wants c = search needs
@@ -30,7 +31,7 @@ slice-aggregate-pair-lines : tie.Need-slice-aggregate-pair-lines
 slice-aggregate-pair-lines c = search needs
 
 pair-lines-requires : tie.Need-pair-lines-requires
-pair-lines-requires c κs = (wants-within _ _ _ (c .before .before .before .before .before .before .before .pre) _ (c .before .before .before .before .count-line .ensures) _ _ (c .before .before .wants .given .1), omega arith)
+pair-lines-requires c κs = search needs
 
 enum-known-line : tie.Need-enum-known-line
 enum-known-line c = search needs

@@ -1,6 +1,6 @@
 -- `writers::figure::put_figure` meets its contract: the key, the pair, the comma with the sign, the digits and the LF.
 -- Assumes nothing.
-use Prim.Native.Nat.{ℕ, _≤_}
+use Prim.Native.Nat.{_≤_}
 use mathlib.Core.Path.{_≡_, sym, _∙_}
 use mathlib.Core.Logic.{⊎-elim}
 use mathlib.Core.List.{[], _∷_}
@@ -43,20 +43,7 @@ size-of-requires : tie.Need-size-of-requires
 size-of-requires c κs = search needs
 
 put-number-line-requires : tie.Need-put-number-line-requires
-put-number-line-requires c κs =
-    let pair = c .before .before .before .before .before in
-    let key = pair .before .before .before .before in
-    let j = chosen (c .before .before) in
-    omega (
-      arith,
-      length-take-le {A = ℕ} (j .if1 .sign) (44 ∷ 45 ∷ []) (one-or-two j),
-      one-or-two j,
-      pair .put-pair .ensures .within,
-      key .put .ensures .0 .within,
-      pair .put-pair .kept .0,
-      key .put .kept .0,
-      j .before .before .pre,
-    )
+put-number-line-requires c κs = search needs
 
 same-length : tie.Need-same-length
 same-length c = search needs
@@ -68,7 +55,7 @@ returns c =
     let pair = size .before .before .before .before .before in
     let key = pair .before .before .before .before in
     let j = chosen (size .before .before) in
-    figure-wrote _ _ _ _ (j .before .before .args .figure) _ (sign j) _ (size .size-of .ensures ∙ whole-size _ (j .before .before .fits .figure)) _ _ (key .put .ensures .0) _ _ (pair .put-pair .ensures) _ _ (line .put-number-line .ensures)
+    figure-wrote _ _ _ _ (j .before .before .args .figure) (j .before .before .pre) _ (sign j) _ (size .size-of .ensures ∙ whole-size _ (j .before .before .fits .figure)) _ _ (key .put .ensures) _ _ (pair .put-pair .ensures) _ _ (line .put-number-line .ensures)
 
 pub put-figure-spec : {M : Type 1} → statement M
 put-figure-spec =

@@ -2,7 +2,7 @@
 -- Assumes nothing.
 use native.Mathlib.Omega.{arith}
 use Rattle.writers.specs.FigureSheet.{figurePage}
-use Rattle.writers.proofs.Pages.{wrote-both, wrote-within}
+use Rattle.prints.proofs.Pages.{wrote-both, wrote-long, wrote-on, wrote-within}
 use borrow.Author.Needs.{needs}
 use Rattle.writers.proofs.figure.put_figure_sheet.Statement.{statement}
 use Rattle.writers.proofs.figure.put_figure_sheet.Tie as tie
@@ -26,7 +26,14 @@ put-number-line-requires-2 : tie.Need-put-number-line-requires-2
 put-number-line-requires-2 c κs = search needs
 
 put-figures-requires : tie.Need-put-figures-requires
-put-figures-requires c κs = search needs
+put-figures-requires c κs =
+    let detours = c .before .before .before in
+    let sum = detours .before .before .before .before .before in
+    let name = sum .before .before .before .before .before in
+    let z = name .before .before .before .before .before .before .before .pre in
+    let w = wrote-on (wrote-on (name .put-line .ensures .room (omega arith)) (omega arith) (sum .put-number-line .ensures)) (omega arith) (detours .put-number-line2 .ensures) in
+    let long = wrote-long w (omega arith) in
+    (z .even, (z .figured, omega (arith, w .within, long)))
 
 same-length : tie.Need-same-length
 same-length c = search needs
@@ -39,9 +46,11 @@ returns c =
     let sum = detours .before .before .before .before .before in
     let name = sum .before .before .before .before .before in
     let s = name .before .before .before .before .before .before .before in
-    let two = wrote-both _ _ _ _ _ _ _ _ _ _ (name .put-line .ensures) (sum .put-number-line .ensures) in
-    let three = wrote-both _ _ _ _ _ _ _ _ _ _ two (detours .put-number-line2 .ensures) in
-    wrote-within _ _ _ _ _ _ _ (omega (arith, s .pre .short, s .pre .few)) (wrote-both _ _ _ _ _ _ _ _ _ _ three (lines .put-figures .ensures))
+    let z = s .pre in
+    let one = name .put-line .ensures .room (omega arith) in
+    let two = wrote-on one (omega arith) (sum .put-number-line .ensures) in
+    let three = wrote-on two (omega arith) (detours .put-number-line2 .ensures) in
+    wrote-within (wrote-both three (lines .put-figures .ensures)) _ (omega arith)
 
 pub put-figure-sheet-spec : {M : Type 1} → statement M
 put-figure-sheet-spec =

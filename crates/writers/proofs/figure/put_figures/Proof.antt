@@ -5,7 +5,7 @@ use Prim.Native.Nat.{_-_}
 use native.Mathlib.Omega.{arith}
 use lib.ListN.{length, drop}
 use Rattle.writers.specs.FigureSheet.{figureLines}
-use Rattle.writers.proofs.Pages.{LinesPut, lines-put-none, line-room, line-put, lines-put}
+use Rattle.prints.proofs.Pages.{LinesPut, lines-put-none, line-room, line-wrote, lines-put}
 use Rattle.writers.proofs.Figures.{figures-left, figures-over}
 use Rattle.writers.proofs.figure.put_figures.Statement.{statement}
 use Rattle.writers.proofs.figure.put_figures.Tie as tie
@@ -54,8 +54,8 @@ loop-again c =
     let put = c .before .before in
     let each = put .before .before .before .before .before in
     let s = each .before .before .before .before .before in
-    line-put _ _ _ _ _ (s .pre .1 .1) _ _ _ _ (each .before .loop .inv) (each .loop-test .taken) _ _
-    (figures-left _ _ _ (s .pre .0) (s .pre .1 .0) _ (each .loop-test .taken) (record { sfits = put .before .put-figure-arg2 .given })) _ (omega arith) _ _ (put .put-figure .kept .0) (put .put-figure .ensures)
+    line-wrote _ _ _ _ _ (s .pre .1 .1) _ _ _ _ (each .before .loop .inv) (each .loop-test .taken) _ _
+    (figures-left _ _ _ (s .pre .0) (s .pre .1 .0) _ (each .loop-test .taken) (record { sfits = put .before .put-figure-arg2 .given })) _ (omega arith) _ _ (put .put-figure .ensures)
 
 same-length : tie.Need-same-length Inv-loop μ-loop
 same-length c = c .before .loop .inv .long

@@ -6,7 +6,7 @@ use native.Mathlib.Omega.{arith}
 use lib.ListN.{length}
 use lib.Seq.{length-take-le}
 use borrow.Author.Tests.{ltb-true, ltb-false}
-use Rattle.writers.proofs.Sheets.{bytes-fit, none-handed, all-handed}
+use Rattle.writers.proofs.Sheets.{none-handed, all-handed}
 use borrow.Author.Needs.{needs}
 use Rattle.writers.proofs.page.hand_out.Statement.{statement}
 use Rattle.writers.proofs.page.hand_out.Tie as tie
@@ -18,10 +18,7 @@ slice-aggregate-put c =
     sym (length-take-le n (a .text .now) (⊎-elim (λ w. omega (arith, ltb-true (length (a .out .now)) (length (a .text .now)) (w .0 .taken), w .1)) (λ w. omega (arith, w .1)) (c .before .before .if1 .came)))
 
 put-requires : tie.Need-put-requires
-put-requires c κs =
-    let a = c .before .before .before .before .before .args in
-    let n = c .before .before .if1 .bytes in
-    bytes-fit (a .text .now) (a .out .now) n (⊎-elim (λ w. omega (arith, ltb-true (length (a .out .now)) (length (a .text .now)) (w .0 .taken), w .1)) (λ w. omega (arith, w .1)) (c .before .before .if1 .came)) (⊎-elim (λ w. omega (arith, w .1)) (λ w. omega (arith, ltb-false (length (a .out .now)) (length (a .text .now)) (w .0 .left), w .1)) (c .before .before .if1 .came))
+put-requires c κs = search needs
 
 refuse-if-requires : tie.Need-refuse-if-requires
 refuse-if-requires c κs = search needs
@@ -39,8 +36,8 @@ returns c =
     let a = c8 .before .before .args in
     let n = c4 .before .before .before .if1 .bytes in
     ⊎-elim
-    (λ w. none-handed (a .text .now) (a .out .now) n _ _ (c4 .put .ensures .0) (c4 .put .ensures .1) _ (c .before .refuse-if .ensures) _ (c .written .ensures) (ltb-true _ _ (w .0 .taken)) (w .1))
-    (λ w. all-handed (a .text .now) (a .out .now) n _ _ (c4 .put .ensures .0) (c4 .put .ensures .1) _ (c .before .refuse-if .ensures) _ (c .written .ensures) (ltb-false _ _ (w .0 .left)) (w .1))
+    (λ w. none-handed (a .text .now) (a .out .now) n _ _ (c4 .put .ensures) _ (c .before .refuse-if .ensures) _ (c .written .ensures) (ltb-true _ _ (w .0 .taken)) (w .1))
+    (λ w. all-handed (a .text .now) (a .out .now) n _ _ (c4 .put .ensures) _ (c .before .refuse-if .ensures) _ (c .written .ensures) (ltb-false _ _ (w .0 .left)) (w .1))
     (c4 .before .before .before .if1 .came)
 
 pub hand-out-spec : {M : Type 1} → statement M

@@ -4,8 +4,8 @@ use borrow.Author.Needs.{needs}
 use Prim.Native.Nat.{_-_}
 use native.Mathlib.Omega.{arith}
 use lib.ListN.{length, drop}
-use Rattle.writers.specs.Writing.{pairLines}
-use Rattle.writers.proofs.Pages.{LinesPut, lines-put-none, line-room, line-put, lines-put, pairs-left, pairs-over}
+use Rattle.prints.specs.Printing.{pairLines}
+use Rattle.prints.proofs.Pages.{LinesPut, lines-put-none, line-put, lines-put, pairs-left, pairs-over}
 use Rattle.writers.proofs.page.put_pairs.Statement.{statement}
 use Rattle.writers.proofs.page.put_pairs.Tie as tie
 
@@ -31,10 +31,7 @@ shared-slice-read-put-pair-line-2 : tie.Need-shared-slice-read-put-pair-line-2 I
 shared-slice-read-put-pair-line-2 c = search needs
 
 put-pair-line-requires : tie.Need-put-pair-line-requires Inv-loop μ-loop
-put-pair-line-requires c κs =
-    let c4 = c .before .before .before .before in
-    let c8 = c4 .before .before .before .before in
-    omega (arith, line-room _ _ _ _ _ (c8 .before .pre .1 .1) _ _ _ _ (c4 .loop .inv) (search needs), c8 .before .pre .0)
+put-pair-line-requires c κs = search needs
 
 add-i : tie.Need-add-i Inv-loop μ-loop
 add-i c = search needs
@@ -47,7 +44,7 @@ loop-again c =
     let c4 = c .before .before .before .before in
     let c8 = c4 .before .before .before .before in
     let c12 = c8 .before .before .before .before in
-    line-put _ _ _ _ _ (c12 .pre .1 .1) _ _ _ _ (c4 .before .before .before .loop .inv) (search needs) _ _ (pairs-left _ _ _ (c12 .pre .1 .0) _ (c4 .before .before .loop-test .taken)) _ (omega (arith, c12 .pre .0)) _ _ (c .before .before .put-pair-line .kept .0) (c .before .before .put-pair-line .ensures)
+    line-put _ _ _ _ _ (c12 .pre .1 .1) _ _ _ _ (c4 .before .before .before .loop .inv) (search needs) _ _ (pairs-left _ _ _ (c12 .pre .1 .0) _ (c4 .before .before .loop-test .taken)) _ (omega (arith, c12 .pre .0)) _ _ (c .before .before .put-pair-line .ensures)
 
 same-length : tie.Need-same-length Inv-loop μ-loop
 same-length c = c .before .loop .inv .long

@@ -4,8 +4,8 @@ use borrow.Author.Needs.{needs}
 use Prim.Native.Nat.{_-_}
 use native.Mathlib.Omega.{arith}
 use lib.ListN.{length, drop}
-use Rattle.writers.specs.Writing.{tripleLines}
-use Rattle.writers.proofs.Pages.{LinesPut, lines-put-none, line-room, line-put, lines-put, triples-left, triples-over}
+use Rattle.prints.specs.Printing.{tripleLines}
+use Rattle.prints.proofs.Pages.{LinesPut, lines-put-none, line-put, lines-put, triples-left, triples-over}
 use Rattle.writers.proofs.page.put_triples.Statement.{statement}
 use Rattle.writers.proofs.page.put_triples.Tie as tie
 
@@ -37,10 +37,7 @@ shared-slice-read-put-triple-line-3 : tie.Need-shared-slice-read-put-triple-line
 shared-slice-read-put-triple-line-3 c = search needs
 
 put-triple-line-requires : tie.Need-put-triple-line-requires Inv-loop μ-loop
-put-triple-line-requires c κs =
-    let c5 = c .before .before .before .before .before in
-    let c11 = c5 .before .before .before .before .before .before in
-    omega (arith, line-room _ _ _ _ _ (c11 .pre .1 .1 .1) _ _ _ _ (c5 .loop .inv) (search needs), c11 .pre .0)
+put-triple-line-requires c κs = search needs
 
 add-i : tie.Need-add-i Inv-loop μ-loop
 add-i c = search needs
@@ -52,7 +49,7 @@ loop-again : tie.Need-loop-again Inv-loop μ-loop
 loop-again c =
     let c7 = c .before .before .before .before .before .before .before in
     let c14 = c7 .before .before .before .before .before .before .before in
-    line-put _ _ _ _ _ (c14 .pre .1 .1 .1) _ _ _ _ (c7 .before .loop .inv) (search needs) _ _ (triples-left _ _ _ (c14 .pre .1 .0) _ _ (c14 .pre .1 .1 .0) (c7 .loop-test .taken)) _ (omega (arith, c14 .pre .0)) _ _ (c .before .before .put-triple-line .kept .0) (c .before .before .put-triple-line .ensures)
+    line-put _ _ _ _ _ (c14 .pre .1 .1 .1) _ _ _ _ (c7 .before .loop .inv) (search needs) _ _ (triples-left _ _ _ (c14 .pre .1 .0) _ _ (c14 .pre .1 .1 .0) (c7 .loop-test .taken)) _ (omega (arith, c14 .pre .0)) _ _ (c .before .before .put-triple-line .ensures)
 
 same-length : tie.Need-same-length Inv-loop μ-loop
 same-length c = c .before .loop .inv .long

@@ -2,7 +2,7 @@
 -- Assumes nothing.
 use native.Mathlib.Omega.{arith}
 use Rattle.writers.specs.PlanSheet.{planLines}
-use Rattle.writers.proofs.Pages.{wrote-both, wrote-within}
+use Rattle.prints.proofs.Pages.{wrote-both, wrote-within}
 use borrow.Author.Needs.{needs}
 use Rattle.writers.proofs.plan.put_plan.Statement.{statement}
 use Rattle.writers.proofs.plan.put_plan.Tie as tie
@@ -31,8 +31,8 @@ returns c =
     let c7 = c .before .before .before .before .before .before .before in
     let c12 = c7 .before .before .before .before .before in
     let c21 = c12 .before .before .before .before .before .before .before .before .before in
-    let two = wrote-both _ _ _ _ _ _ _ _ _ _ (c12 .put-plan-top .ensures) (c7 .put-pairs .ensures) in
-    wrote-within _ _ _ _ _ _ _ (omega (arith, c21 .pre .few, c21 .pre .wants)) (wrote-both _ _ _ _ _ _ _ _ _ _ two (c .before .before .put-triples .ensures))
+    let two = wrote-both (c12 .put-plan-top .ensures) (c7 .put-pairs .ensures) in
+    wrote-within (wrote-both two (c .before .before .put-triples .ensures)) _ (omega (arith, c21 .pre .few, c21 .pre .wants))
 
 pub put-plan-spec : {M : Type 1} → statement M
 put-plan-spec =

@@ -2,7 +2,7 @@
 -- Assumes nothing.
 use native.Mathlib.Omega.{arith}
 use Rattle.writers.specs.PlanSheet.{planTop}
-use Rattle.writers.proofs.Pages.{wrote-both, wrote-within}
+use Rattle.prints.proofs.Pages.{wrote-on, wrote-within}
 use borrow.Author.Needs.{needs}
 use Rattle.writers.proofs.plan.put_plan_top.Statement.{statement}
 use Rattle.writers.proofs.plan.put_plan_top.Tie as tie
@@ -57,11 +57,14 @@ returns c =
     let c24 = c20 .before .before .before .before in
     let c28 = c24 .before .before .before .before in
     let c32 = c28 .before .before .before .before in
-    let two = wrote-both _ _ _ _ _ _ _ _ _ _ (c24 .before .before .before .put-line .ensures) (c20 .before .before .put-number-line .ensures) in
-    let three = wrote-both _ _ _ _ _ _ _ _ _ _ two (c16 .before .put-number-line2 .ensures) in
-    let four = wrote-both _ _ _ _ _ _ _ _ _ _ three (c12 .put-number-line3 .ensures) in
-    let five = wrote-both _ _ _ _ _ _ _ _ _ _ four (c4 .before .before .before .put-number-line4 .ensures) in
-    wrote-within _ _ _ _ _ _ _ (omega (arith, c32 .pre .0)) (wrote-both _ _ _ _ _ _ _ _ _ _ five (c .before .before .put-number-line5 .ensures))
+    let short = c32 .pre .0 in
+    let wide = c32 .pre .1 in
+    let one = c24 .before .before .before .put-line .ensures .room (omega arith) in
+    let two = wrote-on one (omega arith) (c20 .before .before .put-number-line .ensures) in
+    let three = wrote-on two (omega arith) (c16 .before .put-number-line2 .ensures) in
+    let four = wrote-on three (omega arith) (c12 .put-number-line3 .ensures) in
+    let five = wrote-on four (omega arith) (c4 .before .before .before .put-number-line4 .ensures) in
+    wrote-within (wrote-on five (omega arith) (c .before .before .put-number-line5 .ensures)) _ (omega arith)
 
 pub put-plan-top-spec : {M : Type 1} → statement M
 put-plan-top-spec =

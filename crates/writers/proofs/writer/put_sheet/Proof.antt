@@ -2,7 +2,7 @@
 -- Assumes nothing.
 use native.Mathlib.Omega.{arith}
 use Rattle.writers.specs.Writing.{sheetText}
-use Rattle.writers.proofs.Pages.{wrote-both, wrote-within}
+use Rattle.prints.proofs.Pages.{wrote-both, wrote-long, wrote-on, wrote-within}
 use borrow.Author.Needs.{needs}
 use Rattle.writers.proofs.writer.put_sheet.Statement.{statement}
 use Rattle.writers.proofs.writer.put_sheet.Tie as tie
@@ -26,7 +26,14 @@ slice-aggregate-put-pairs : tie.Need-slice-aggregate-put-pairs
 slice-aggregate-put-pairs c = search needs
 
 put-pairs-requires : tie.Need-put-pairs-requires
-put-pairs-requires c κs = search needs
+put-pairs-requires c κs =
+    let wants = c .before .before .before .before in
+    let files = wants .before .before .before .before .before in
+    let top = files .before .before .before .before .before in
+    let z = top .before .before .before .before .before .before .before .before .before .pre in
+    let w = wrote-on (wrote-both (top .put-top .ensures) (files .put-triples .ensures)) (omega arith) (wants .put-number-line .ensures) in
+    let long = wrote-long w (omega arith) in
+    (omega arith, (z .pairs, omega (arith, w .within, long)))
 
 same-length : tie.Need-same-length
 same-length c = search needs
@@ -40,9 +47,10 @@ returns c =
     let c16 = c12 .before .before .before .before in
     let c20 = c16 .before .before .before .before in
     let c24 = c20 .before .before .before .before in
-    let two = wrote-both _ _ _ _ _ _ _ _ _ _ (c16 .before .put-top .ensures) (c12 .put-triples .ensures) in
-    let three = wrote-both _ _ _ _ _ _ _ _ _ _ two (c4 .before .before .before .put-number-line .ensures) in
-    wrote-within _ _ _ _ _ _ _ (omega (arith, c24 .before .before .pre .files, c24 .before .before .pre .wants)) (wrote-both _ _ _ _ _ _ _ _ _ _ three (c .before .before .put-pairs .ensures))
+    let z = c24 .before .before .pre in
+    let two = wrote-both (c16 .before .put-top .ensures) (c12 .put-triples .ensures) in
+    let three = wrote-on two (omega arith) (c4 .before .before .before .put-number-line .ensures) in
+    wrote-within (wrote-both three (c .before .before .put-pairs .ensures)) _ (omega arith)
 
 pub put-sheet-spec : {M : Type 1} → statement M
 put-sheet-spec =

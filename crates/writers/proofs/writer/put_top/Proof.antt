@@ -2,7 +2,7 @@
 -- Assumes nothing.
 use native.Mathlib.Omega.{arith}
 use Rattle.writers.specs.Writing.{topText}
-use Rattle.writers.proofs.Pages.{wrote-both, wrote-within}
+use Rattle.prints.proofs.Pages.{wrote-on, wrote-within}
 use borrow.Author.Needs.{needs}
 use Rattle.writers.proofs.writer.put_top.Statement.{statement}
 use Rattle.writers.proofs.writer.put_top.Tie as tie
@@ -52,10 +52,13 @@ returns c =
     let c16 = c12 .before .before .before .before in
     let c20 = c16 .before .before .before .before in
     let c24 = c20 .before .before .before .before in
-    let two = wrote-both _ _ _ _ _ _ _ _ _ _ (c20 .before .before .before .put-line .ensures) (c16 .before .before .put-number-line .ensures) in
-    let three = wrote-both _ _ _ _ _ _ _ _ _ _ two (c12 .before .put-number-line2 .ensures) in
-    let four = wrote-both _ _ _ _ _ _ _ _ _ _ three (c4 .before .before .before .put-line2 .ensures) in
-    wrote-within _ _ _ _ _ _ _ (omega (arith, c24 .before .before .before .before .pre .0)) (wrote-both _ _ _ _ _ _ _ _ _ _ four (c .before .before .put-number-line3 .ensures))
+    let short = c24 .before .before .before .before .pre .0 in
+    let wide = c24 .before .before .before .before .pre .1 in
+    let one = c20 .before .before .before .put-line .ensures .room (omega arith) in
+    let two = wrote-on one (omega arith) (c16 .before .before .put-number-line .ensures) in
+    let three = wrote-on two (omega arith) (c12 .before .put-number-line2 .ensures) in
+    let four = wrote-on three (omega arith) (c4 .before .before .before .put-line2 .ensures) in
+    wrote-within (wrote-on four (omega arith) (c .before .before .put-number-line3 .ensures)) _ (omega arith)
 
 pub put-top-spec : {M : Type 1} → statement M
 put-top-spec =
