@@ -134,7 +134,15 @@ fn check_list(
     ensures { λ r. ⌜ ListChecked (now (name .entry)) (runAt starts lengths aggregates numbers counts head turn) (now (plan .entry)) (now (froms .entry)) (now (tos .entry)) (now (out .entry)) r (now (out .exit)) ⌝ }
 {
     let least = least_of(
-        starts, lengths, aggregates, numbers, counts, head, turn, froms, tos,
+        starts,
+        lengths,
+        aggregates,
+        numbers,
+        counts,
+        head,
+        turn,
+        froms,
+        tos,
     );
     let verdict = least.verdict;
     if refused(verdict) {
@@ -160,7 +168,15 @@ fn check_list(
         return hand_unformed(text.place, out);
     }
     let sum = sum_of(
-        starts, lengths, aggregates, numbers, counts, head, turn, froms, tos,
+        starts,
+        lengths,
+        aggregates,
+        numbers,
+        counts,
+        head,
+        turn,
+        froms,
+        tos,
     );
     let bytes = text.bytes as usize;
     hand_verdict(plan, &expected[..bytes], least.same, sum - least.sum, out)

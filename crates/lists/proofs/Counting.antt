@@ -67,3 +67,9 @@ up-to-few most text = go (ltb most (linesIn text)) refl
     go : (b : Bool) → ltb most (linesIn text) ≡ b → linesUpTo most text ≤ most
     go true e = rw e (omega arith)
     go false e = rw e (omega (arith, ltb-false most (linesIn text) e))
+
+pub up-to-is : (most : ℕ) (text : List ℕ) (n : ℕ) → n ≡ linesUpTo most text → n ≤ most
+up-to-is most text n e = omega (arith, up-to-few most text)
+
+pub part-up-to : (most : ℕ) (text : List ℕ) (at n : ℕ) → n ≡ linesUpTo most (take (length text - at) (drop at text)) → n ≡ linesUpTo most (drop at text)
+part-up-to most text at n e = e ∙ ap (linesUpTo most) (part-rest text at)

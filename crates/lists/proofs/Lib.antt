@@ -1,4 +1,6 @@
 -- Laws that this crate's proofs share, and those that other crates cite.
 pub mod Counting
 pub mod Passing
-
+pub mod Answers
+pub mod Bounds
+pub mod RoundTrip

@@ -1,28 +1,27 @@
 -- A plan sheet and a list read line by line: the first line that is not as described.
 use Prim.Native.Nat.{ℕ, zero, suc, _+_, _≤_, _<_}
 use mathlib.Core.Path.{_≡_, refl, sym, ap, _∙_, subst}
-use mathlib.Core.Bool.{Bool, true, false, _&&_}
+use mathlib.Core.Bool.{Bool, true, false, not}
 use mathlib.Core.List.{List, [], _∷_, _++_}
 use native.Mathlib.Omega.{arith}
 use lib.ListN.{length, drop, drop-of-length-le}
 use lib.Seq.{drop-cons}
-use lib.Dec.{leb}
-use borrow.Author.Tests.{le-leb, lt-leb, leb-true}
+use borrow.Author.Tests.{le-leb, lt-leb}
 use Rattle.runs.specs.Run.{mostWants}
-use Rattle.texts.specs.Text.{lineFeed, behind, isEmpty}
-use Rattle.texts.proofs.Bytes.{and-true-both}
+use Rattle.runs.proofs.Search.{first-within}
+use Rattle.texts.specs.Text.{lineFeed, behind, isEmpty, startsWith}
 use Rattle.lines.specs.declared.NumberLine.{NumberLine}
 use Rattle.lines.specs.declared.Lines.{Lines}
 use Rattle.lines.specs.Lines.{lineOf, lineAfter, afterLines, isNumberLine, numberBehind, isPairLine, isTripleLine, firstBadOf}
 use Rattle.lines.specs.Found.{Passed, NumberLineFound, LinesPassed, LineBad, LinesFound}
 use Rattle.sheets.specs.declared.NameLine.{NameLine}
-use Rattle.sheets.specs.Lines.{isTapeLine, isCountLine}
+use Rattle.sheets.specs.Lines.{tapeKey, isTapeLine, isCountLine}
 use Rattle.sheets.specs.Found.{NameLineFound}
 use Rattle.sheets.specs.Sheet.{unless, shifted, firstSome}
-use Rattle.lists.specs.Keys.{sumKey, readsKey, finishKey, endKey, detoursKey, detourKey, timeKey}
+use Rattle.writers.specs.PlanSheet.{sumKey, readsKey, finishKey, endKey, detoursKey, detourKey, timeKey}
 use Rattle.lists.specs.declared.Top.{Top}
 use Rattle.lists.specs.declared.Form.{Form}
-use Rattle.lists.specs.Form.{mostDetours, linesUpTo, firstBadToEnd, firstFailing, planDetours, detourText, timeText, planBadTop, planBadBelow, planBadLine}
+use Rattle.lists.specs.Form.{mostDetours, linesUpTo, firstBadToEnd, firstFailing, planDetours, detourText, timeText, planBadTop, planBadBelow, planBadLine, isPlan, listBadLine, listDetours, listText}
 use Rattle.lists.specs.Private.{TopIs, LineIs, TopFound, BelowAt, FormIs, FormFound, BelowFound}
 use Rattle.lists.proofs.Counting.{up-to-few}
 
@@ -221,3 +220,25 @@ module _ (list : List ℕ) (n : ℕ) (n-is : n ≡ linesUpTo mostDetours list) w
           rest = drop-none list;
           passed = rw (← n-is, ← drop-none list) (p .none);
         }
+
+-- The first bad line stands just behind the limit at most.
+pub to-end-small : (test : List ℕ → Bool) (most : ℕ) (text : List ℕ) (line : ℕ) → line ≡ firstBadToEnd test most text → line ≤ most + 1
+unfolding firstBadToEnd firstBadOf
+to-end-small test most text line e =
+    omega (arith, up-to-few most text, two-small (firstBadOf test (linesUpTo most text) text) (linesUpTo most text) (isEmpty (afterLines (linesUpTo most text) text)) (first-within (λ i. not (test (lineAfter i text))) (linesUpTo most text)))
+  where
+    two-small : (a n : ℕ) (b : Bool) → a ≤ n → firstSome (a ∷ unless b (n + 1) ∷ []) ≤ n + 1
+    two-small zero n true l = omega arith
+    two-small zero n false l = omega (arith, first-some (n + 1) [] (omega arith))
+    two-small (suc a) n b l = omega arith
+
+-- A list that begins as a plan sheet does, and one that does not.
+module _ (list : List ℕ) (b : Bool) (is : b ≡ startsWith tapeKey list) (form : Form) where
+  pub listed-plan : b ≡ true → FormFound (planBadLine list) (planDetours list) (detourText list) list form → FormFound (listBadLine list) (listDetours list) (listText list) list form
+  unfolding isPlan listBadLine listDetours listText
+  listed-plan e h = let t : startsWith tapeKey list ≡ true = sym is ∙ e in rw t h
+
+  pub listed-bare : b ≡ false → FormFound (firstBadToEnd (isPairLine detourKey) mostDetours list) (linesUpTo mostDetours list) list list form
+      → FormFound (listBadLine list) (listDetours list) (listText list) list form
+  unfolding isPlan listBadLine listDetours listText
+  listed-bare e h = let t : startsWith tapeKey list ≡ false = sym is ∙ e in rw t h

@@ -9,7 +9,7 @@ use Rattle.texts.specs.Text.{lineFeed, isEmpty, behind, startsWith}
 use Rattle.lines.specs.Lines.{lineOf, lineAfter, afterLines, isNumberLine, numberBehind, isPairLine, firstIn, secondIn, isTripleLine, firstBadOf, eachOf}
 use Rattle.sheets.specs.Lines.{tapeKey, isTapeLine, isCountLine}
 use Rattle.sheets.specs.Sheet.{unless, shifted, firstSome}
-use Rattle.lists.specs.Keys.{sumKey, readsKey, finishKey, endKey, detoursKey, detourKey, timeKey}
+use Rattle.writers.specs.PlanSheet.{sumKey, readsKey, finishKey, endKey, detoursKey, detourKey, timeKey}
 
 -- A well-formed list has fewer detours than there are stops, so at most 63.
 abbrev pub mostDetours : ℕ

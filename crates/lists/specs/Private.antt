@@ -7,9 +7,10 @@ use lib.ListN.{length, drop}
 use Rattle.refusals.specs.declared.Refusal.the-variants.{BadLine, ShortRow}
 use Rattle.refusals.specs.declared.Verdict.{Verdict}
 use Rattle.refusals.specs.Refusals.{isRefusal, refuseIf, refuseAt, accepted}
-use Rattle.lines.specs.Lines.{lineAfter, isPairLine, firstIn, secondIn, firstBadOf, eachOf}
+use Rattle.lines.specs.Lines.{isPairLine, firstBadOf}
 use Rattle.sheets.specs.Reading.{shortPairRows}
-use Rattle.lists.specs.Keys.{detourKey}
+use Rattle.sheets.specs.Private.{PairsReady}
+use Rattle.writers.specs.PlanSheet.{detourKey}
 use Rattle.lists.specs.declared.ListReading.{ListReading}
 use Rattle.lists.specs.declared.Top.{Top}
 use Rattle.lists.specs.declared.Form.{Form}
@@ -58,14 +59,8 @@ abbrev pub BelowFound : List ℕ → Form → Type 0
 BelowFound plan form = FormFound (planBadBelow plan) (planDetours plan) (detourText plan) plan form
 
 -- Lines of detours that are all as described, and rows with room for them.
-pub record FillReady (text : List ℕ) (at detours : ℕ) (froms tos : List ℕ) : Type 0 where
-  pub within : at ≤ length text
-  pub none : firstBadOf (isPairLine detourKey) detours (drop at text) ≡ 0
-  pub room : detours ≤ length froms
-  pub space : detours ≤ length tos
-
-abbrev pub filledRow : (List ℕ → ℕ) → List ℕ → ℕ → List ℕ → List ℕ
-filledRow value text count row = eachOf (λ i. value (lineAfter i text)) count ++ drop count row
+abbrev pub FillReady : List ℕ → ℕ → ℕ → List ℕ → List ℕ → Type 0
+FillReady text at detours froms tos = PairsReady detourKey text at detours froms tos
 
 -- A form that some text has.
 abbrev pub FormWithin : List ℕ → Form → Type 0

@@ -5,10 +5,11 @@ ghost use Prim.Native.Nat.{_≤_};
 ghost use lib.ListN.{length, drop};
 ghost use Rattle.lines.specs.Lines.{firstIn, secondIn, isPairLine, isTripleLine};
 ghost use Rattle.runs.specs.Run.{mostWants};
-ghost use Rattle.lists.specs.Keys.{detourKey, timeKey};
+ghost use Rattle.writers.specs.PlanSheet.{detourKey, timeKey};
 ghost use Rattle.lists.specs.Form.{mostDetours, linesIn, linesUpTo, firstBadToEnd, planDetours, detourText, planBadLine, listDetours, listText, listBadLine};
 ghost use Rattle.lists.specs.Reading.{PlanRead, ListRead};
-ghost use Rattle.lists.specs.Private.{TopFound, BelowAt, BelowFound, FormFound, FillReady, filledRow, FormWithin, ReadAs};
+ghost use Rattle.sheets.specs.Private.{filledRow};
+ghost use Rattle.lists.specs.Private.{TopFound, BelowAt, BelowFound, FormFound, FillReady, FormWithin, ReadAs};
 use lines::Lines;
 use lines::NumberLine;
 use lines::PairLine;
@@ -110,13 +111,7 @@ fn bad_time(plan: &[u8], at: usize) -> u64
     let times = lines_up_to(&plan[at..], MOST_TIMES);
     match triple_lines(plan, at, b"time=", times) {
         Lines::Bad(line) => line,
-        Lines::End(next) => {
-            if next < plan.len() {
-                times + 1
-            } else {
-                0
-            }
-        }
+        Lines::End(next) => { if next < plan.len() { times + 1 } else { 0 } }
     }
 }
 
@@ -207,8 +202,13 @@ fn read_as(list: &[u8], form: Form, froms: &mut [u64], tos: &mut [u64]) -> ListR
             detours: 0,
         },
         Form::Good { at, detours } => {
-            let short = (froms.len() as u64) < detours || (tos.len() as u64) < detours;
-            if short {
+            if (froms.len() as u64) < detours {
+                return ListReading {
+                    verdict: refuse_if(true, Refusal::ShortRow),
+                    detours: 0,
+                };
+            }
+            if (tos.len() as u64) < detours {
                 return ListReading {
                     verdict: refuse_if(true, Refusal::ShortRow),
                     detours: 0,

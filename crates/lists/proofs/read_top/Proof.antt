@@ -1,7 +1,7 @@
 -- `lists::read_top` meets its contract: each line in turn, the first that is not as described being the answer.
 -- Assumes nothing.
 use Rattle.lists.proofs.Passing.{tape-bad, tape-good, number-bad, number-good, detours-bad, detours-over, detours-good}
-use Rattle.lists.specs.Keys.{sumKey, readsKey, finishKey, endKey}
+use Rattle.writers.specs.PlanSheet.{sumKey, readsKey, finishKey, endKey}
 use borrow.Author.Needs.{needs}
 use Rattle.lists.proofs.read_top.Statement.{statement}
 use Rattle.lists.proofs.read_top.Tie as tie
@@ -115,21 +115,21 @@ returns-6 c =
 
 returns-7 : tie.Need-returns-7
 returns-7 c =
-    let r1 = tape-good _ _ (c .before .before .before .before .before .before .before .before .before .before .before .before .before .before .before .before .before .before .before .before .before .before .before .before .before .before .before .before .tape-line .ensures) _ _ (c .before .before .before .before .before .before .before .before .before .before .before .before .before .before .before .before .before .before .before .before .before .before .before .before .before .before .next .given .1) in
-    let r2 = number-good _ 1 sumKey _ _ r1 _ (c .before .before .before .before .before .before .before .before .before .before .before .before .before .before .before .before .before .before .before .before .before .before .before .number-line .ensures) _ _ (c .before .before .before .before .before .before .before .before .before .before .before .before .before .before .before .before .before .before .before .before .before .next2 .given .1) in
-    let r3 = number-good _ 2 readsKey _ _ r2 _ (c .before .before .before .before .before .before .before .before .before .before .before .before .before .before .before .before .before .before .number-line2 .ensures) _ _ (c .before .before .before .before .before .before .before .before .before .before .before .before .before .before .before .before .next3 .given .1) in
-    let r4 = number-good _ 3 finishKey _ _ r3 _ (c .before .before .before .before .before .before .before .before .before .before .before .before .before .number-line3 .ensures) _ _ (c .before .before .before .before .before .before .before .before .before .before .before .next4 .given .1) in
-    let r5 = number-good _ 4 endKey _ _ r4 _ (c .before .before .before .before .before .before .before .before .number-line4 .ensures) _ _ (c .before .before .before .before .before .before .next5 .given .1) in
-    detours-over _ _ r5 _ (c .before .before .before .number-line5 .ensures) _ _ (c .before .detours .given .1) (c .if1 .taken)
+    let r1 = tape-good _ _ (c .before .before .before .before .before .before .before .before .before .before .before .before .before .before .before .before .before .before .before .before .before .before .before .before .before .before .before .before .before .tape-line .ensures) _ _ (c .before .before .before .before .before .before .before .before .before .before .before .before .before .before .before .before .before .before .before .before .before .before .before .before .before .before .before .next .given .1) in
+    let r2 = number-good _ 1 sumKey _ _ r1 _ (c .before .before .before .before .before .before .before .before .before .before .before .before .before .before .before .before .before .before .before .before .before .before .before .before .number-line .ensures) _ _ (c .before .before .before .before .before .before .before .before .before .before .before .before .before .before .before .before .before .before .before .before .before .before .next2 .given .1) in
+    let r3 = number-good _ 2 readsKey _ _ r2 _ (c .before .before .before .before .before .before .before .before .before .before .before .before .before .before .before .before .before .before .before .number-line2 .ensures) _ _ (c .before .before .before .before .before .before .before .before .before .before .before .before .before .before .before .before .before .next3 .given .1) in
+    let r4 = number-good _ 3 finishKey _ _ r3 _ (c .before .before .before .before .before .before .before .before .before .before .before .before .before .before .number-line3 .ensures) _ _ (c .before .before .before .before .before .before .before .before .before .before .before .before .next4 .given .1) in
+    let r5 = number-good _ 4 endKey _ _ r4 _ (c .before .before .before .before .before .before .before .before .before .number-line4 .ensures) _ _ (c .before .before .before .before .before .before .before .next5 .given .1) in
+    detours-over _ _ r5 _ (c .before .before .before .before .number-line5 .ensures) _ _ (c .before .before .detours .given .1) (c .if1 .taken)
 
 returns-8 : tie.Need-returns-8
 returns-8 c =
-    let r1 = tape-good _ _ (c .before .before .before .before .before .before .before .before .before .before .before .before .before .before .before .before .before .before .before .before .before .before .before .before .before .before .before .before .tape-line .ensures) _ _ (c .before .before .before .before .before .before .before .before .before .before .before .before .before .before .before .before .before .before .before .before .before .before .before .before .before .before .next .given .1) in
-    let r2 = number-good _ 1 sumKey _ _ r1 _ (c .before .before .before .before .before .before .before .before .before .before .before .before .before .before .before .before .before .before .before .before .before .before .before .number-line .ensures) _ _ (c .before .before .before .before .before .before .before .before .before .before .before .before .before .before .before .before .before .before .before .before .before .next2 .given .1) in
-    let r3 = number-good _ 2 readsKey _ _ r2 _ (c .before .before .before .before .before .before .before .before .before .before .before .before .before .before .before .before .before .before .number-line2 .ensures) _ _ (c .before .before .before .before .before .before .before .before .before .before .before .before .before .before .before .before .next3 .given .1) in
-    let r4 = number-good _ 3 finishKey _ _ r3 _ (c .before .before .before .before .before .before .before .before .before .before .before .before .before .number-line3 .ensures) _ _ (c .before .before .before .before .before .before .before .before .before .before .before .next4 .given .1) in
-    let r5 = number-good _ 4 endKey _ _ r4 _ (c .before .before .before .before .before .before .before .before .number-line4 .ensures) _ _ (c .before .before .before .before .before .before .next5 .given .1) in
-    detours-good _ _ r5 _ (c .before .before .before .number-line5 .ensures) _ _ (c .before .detours .given .1) (c .if1 .left)
+    let r1 = tape-good _ _ (c .before .before .before .before .before .before .before .before .before .before .before .before .before .before .before .before .before .before .before .before .before .before .before .before .before .before .before .before .before .tape-line .ensures) _ _ (c .before .before .before .before .before .before .before .before .before .before .before .before .before .before .before .before .before .before .before .before .before .before .before .before .before .before .before .next .given .1) in
+    let r2 = number-good _ 1 sumKey _ _ r1 _ (c .before .before .before .before .before .before .before .before .before .before .before .before .before .before .before .before .before .before .before .before .before .before .before .before .number-line .ensures) _ _ (c .before .before .before .before .before .before .before .before .before .before .before .before .before .before .before .before .before .before .before .before .before .before .next2 .given .1) in
+    let r3 = number-good _ 2 readsKey _ _ r2 _ (c .before .before .before .before .before .before .before .before .before .before .before .before .before .before .before .before .before .before .before .number-line2 .ensures) _ _ (c .before .before .before .before .before .before .before .before .before .before .before .before .before .before .before .before .before .next3 .given .1) in
+    let r4 = number-good _ 3 finishKey _ _ r3 _ (c .before .before .before .before .before .before .before .before .before .before .before .before .before .before .number-line3 .ensures) _ _ (c .before .before .before .before .before .before .before .before .before .before .before .before .next4 .given .1) in
+    let r5 = number-good _ 4 endKey _ _ r4 _ (c .before .before .before .before .before .before .before .before .before .number-line4 .ensures) _ _ (c .before .before .before .before .before .before .before .next5 .given .1) in
+    detours-good _ _ r5 _ (c .before .before .before .before .number-line5 .ensures) _ _ (c .before .before .detours .given .1) (c .if1 .left)
 
 pub read-top-spec : {M : Type 1} → statement M
 read-top-spec =
