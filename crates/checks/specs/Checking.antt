@@ -13,9 +13,9 @@ use Rattle.runs.specs.Lists.{Detour, listOf, firstBadEntry}
 use Rattle.walk.specs.Price.{pricedAnswer}
 use Rattle.least.specs.Least.{LeastForRun}
 use Rattle.texts.specs.Text.{bytes, lineFeed, isText}
-use Rattle.sheets.specs.Lines.{lineOf}
+use Rattle.lines.specs.Lines.{lineOf}
 use Rattle.sheets.specs.Sheet.{sheetRun, sheetName}
-use Rattle.writers.specs.Writing.{line, numberLine}
+use Rattle.prints.specs.Printing.{line, numberLine}
 use Rattle.writers.specs.PlanSheet.{planText}
 use Rattle.writers.specs.RefusalLines.{refusalText}
 use Rattle.recalls.specs.Recall.{runChecks, verdictBy}

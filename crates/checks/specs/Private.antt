@@ -5,20 +5,14 @@ use mathlib.Core.Bool.{Bool, true, false, cond}
 use mathlib.Core.List.{List, _++_}
 use lib.ListN.{length}
 use Rattle.refusals.specs.Refusals.{isRefusal, firstOf}
-use Rattle.runs.specs.Run.{Run, stopsOf}
-use Rattle.runs.specs.Judging.{judgeOf}
-use Rattle.runs.specs.Lists.{Detour, listVerdict}
+use Rattle.runs.specs.Run.{Run}
+use Rattle.runs.specs.Lists.{Detour}
 use Rattle.walk.specs.Price.{pricedAnswer}
 use Rattle.least.specs.Least.{LeastForRun}
 use Rattle.prints.specs.Printing.{numberLine}
 use Rattle.recalls.specs.Recall.{runChecks}
 use Rattle.checks.specs.declared.checking.Least.{Least}
 use Rattle.checks.specs.Checking.{formedYes, leastYes, leastNo, walkLine, differenceLines, sameList, Checked}
-
--- A run and a list that the pricer accepts.
-pub record Priceable (r : Run) (froms tos : List ℕ) : Type 0 where
-  pub run : isRefusal (judgeOf r .refusal) ≡ false
-  pub list : isRefusal (listVerdict (stopsOf r) froms tos .refusal) ≡ false
 
 -- The least list of an accepted run, beside another.
 pub record LeastIs (run : Run) (froms tos : List ℕ) (r : Least) : Type 0 where

@@ -8,12 +8,12 @@ ghost use Rattle.runs.specs.Lists.{listOf};
 ghost use Rattle.walk.specs.Price.{pricedAnswer};
 ghost use Rattle.texts.specs.Text.{isName};
 ghost use Rattle.checks.specs.Checking.{RunChecked, SheetChecked};
-ghost use Rattle.checks.specs.Private.{LeastFound, Priceable, ListChecked};
+ghost use Rattle.figures.specs.Private.{Priceable};
+ghost use Rattle.checks.specs.Private.{LeastFound, ListChecked};
 use crate::verdict::hand_unformed;
 use crate::verdict::hand_verdict;
 use crate::verdict::same_rows;
 use refusals::Verdict;
-use refusals::number;
 use refusals::refused;
 
 // What the planner finds: its verdict on the run, whether a list is the one that it finds, and the sum of that one.
@@ -164,8 +164,10 @@ fn check_list(
         &mut expected,
     );
     let refusal = text.refusal;
-    if number(refusal) != 0 {
-        return hand_unformed(text.place, out);
+    let place = text.place;
+    let formed = Verdict { refusal, place };
+    if refused(formed) {
+        return hand_unformed(place, out);
     }
     let sum = sum_of(
         starts,

@@ -5,7 +5,6 @@ ghost use Rattle.runs.specs.Run.{runAt};
 ghost use Rattle.texts.specs.Text.{isName};
 ghost use Rattle.checks.specs.Pricing.{RunPriced, SheetPriced};
 use refusals::Verdict;
-use refusals::number;
 use refusals::refused;
 
 // The answer to a run and the bytes of a list.
@@ -33,6 +32,7 @@ fn price_list(
         return lines.bytes;
     }
     let n = read.detours as usize;
+    let mut page = [0u8; 7644];
     let text = writers::write_plan(
         name,
         starts,
@@ -44,25 +44,20 @@ fn price_list(
         turn,
         &froms[..n],
         &tos[..n],
-        out,
+        &mut page,
     );
     let refusal = text.refusal;
-    let kind = number(refusal);
-    // Accepted, or a row too short for the sheet.
-    if kind == 0 {
-        return text.bytes;
+    let verdict = Verdict {
+        refusal,
+        place: text.place,
+    };
+    if refused(verdict) {
+        let lines = writers::write_refusal(verdict, out);
+        return lines.bytes;
     }
-    if kind == 8 {
-        return 0;
-    }
-    let lines = writers::write_refusal(
-        Verdict {
-            refusal,
-            place: text.place,
-        },
-        out,
-    );
-    lines.bytes
+    let bytes = text.bytes as usize;
+    let sheet = writers::hand_out(&page[..bytes], out);
+    sheet.bytes
 }
 
 // The plan sheet of a run sheet and a list, in the first bytes of a row: how many they are. A row shorter than the answer takes none of it, and the
