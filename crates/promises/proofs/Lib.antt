@@ -1,0 +1,2 @@
+-- Laws and proofs of the statements.
+pub mod Checks
