@@ -67,12 +67,19 @@ fn put_line_at(page: &mut [u8], at: usize, key: &[u8], text: &[u8], start: usize
     put_line(page, at, key, &text[from..end])
 }
 
+// Whether a sheet is the one that is expected, byte for byte.
+fn is_walk(plan: &[u8], expected: &[u8]) -> bool
+    ensures { λ r. ⌜ r ≡ isText (now (expected .entry)) (now (plan .entry)) ⌝ }
+{
+    same(plan, expected)
+}
+
 // Whether the sheet is the walk's, in at most 29 bytes.
 fn put_walk(page: &mut [u8], at: usize, plan: &[u8], expected: &[u8]) -> usize
     requires { ⌜ at + 29 ≤ length (now page) ⌝ }
     ensures { λ r. ⌜ Wrote (now (page .entry)) at (walkLine (now (plan .entry)) (now (expected .entry))) 29 (now (page .exit)) r ⌝ }
 {
-    if same(plan, expected) {
+    if is_walk(plan, expected) {
         return put(page, at, b"walk=yes\n");
     }
     let first = difference(plan, expected);
@@ -95,7 +102,7 @@ fn put_difference(page: &mut [u8], at: usize, plan: &[u8], expected: &[u8]) -> u
     requires { ⌜ at + differenceMost (now plan) (now expected) ≤ length (now page) ⌝ }
     ensures { λ r. ⌜ Wrote (now (page .entry)) at (differenceLines (now (plan .entry)) (now (expected .entry))) (differenceMost (now (plan .entry)) (now (expected .entry))) (now (page .exit)) r ⌝ }
 {
-    if same(plan, expected) {
+    if is_walk(plan, expected) {
         return put(page, at, b"");
     }
     let first = difference(plan, expected);

@@ -5,8 +5,8 @@ use borrow.Author.Needs.{needs}
 use Rattle.checks.proofs.verdict.put_difference.Statement.{statement}
 use Rattle.checks.proofs.verdict.put_difference.Tie as tie
 
-same-requires : tie.Need-same-requires
-same-requires c κs = search needs
+is-walk-requires : tie.Need-is-walk-requires
+is-walk-requires c κs = search needs
 
 slice-aggregate-put : tie.Need-slice-aggregate-put
 slice-aggregate-put c = search needs
@@ -18,7 +18,7 @@ same-length : tie.Need-same-length
 same-length c = search needs
 
 returns : tie.Need-returns
-returns c = kind-put _ _ _ _ _ _ _ _ (no-difference _ _ _ (c .before .before .before .before .before .before .same .ensures) (c .before .before .before .before .before .if1 .taken)) (omega arith) (c .before .before .before .before .before .before .before .before .before .before .pre) (c .before .before .put .ensures)
+returns c = kind-put _ _ _ _ _ _ _ _ (no-difference _ _ _ (c .before .before .before .before .before .before .is-walk .ensures) (c .before .before .before .before .before .if1 .taken)) (omega arith) (c .before .before .before .before .before .before .before .before .before .before .pre) (c .before .before .put .ensures)
 
 difference-requires : tie.Need-difference-requires
 difference-requires c κs = search needs
@@ -39,13 +39,13 @@ same-length-2 : tie.Need-same-length-2
 same-length-2 c = search needs
 
 returns-2 : tie.Need-returns-2
-returns-2 c = both-put _ _ _ _ _ _ _ _ _ _ _ (difference-is _ _ _ (c .before .before .before .before .before .before .before .before .before .before .before .before .same .ensures) (c .before .before .before .before .before .before .before .before .before .before .before .if1 .left) _ (c .before .before .before .before .before .before .before .before .before .before .difference .ensures)) (c .before .before .before .before .before .before .before .put-line-at .ensures) (c .before .before .put-line-at2 .ensures)
+returns-2 c = both-put _ _ _ _ _ _ _ _ _ _ _ (difference-is _ _ _ (c .before .before .before .before .before .before .before .before .before .before .before .before .is-walk .ensures) (c .before .before .before .before .before .before .before .before .before .before .before .if1 .left) _ (c .before .before .before .before .before .before .before .before .before .before .difference .ensures)) (c .before .before .before .before .before .before .before .put-line-at .ensures) (c .before .before .put-line-at2 .ensures)
 
 pub put-difference-spec : {M : Type 1} → statement M
 put-difference-spec =
     tie.close
     (tie.spec
-    same-requires
+    is-walk-requires
     slice-aggregate-put
     put-requires
     same-length
