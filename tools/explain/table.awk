@@ -21,7 +21,7 @@ function widest(a, b) {
 
 END {
     lay_legs()
-    printf "tape %s: %s of %s, head at %s", tape, several(reads, "read", "reads"), several(reads_done, "file", "files"), whole(head)
+    printf "tape %s: %s of %s, head at %s", tape, several(reads, "read", "reads"), several(reads_done + 0, "file", "files"), whole(head)
     if (legs == 0) {
         printf "\n\nNothing is wanted: the head stays where it is.\n"
         exit

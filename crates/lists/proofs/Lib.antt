@@ -2,5 +2,6 @@
 pub mod Counting
 pub mod Passing
 pub mod Answers
+pub mod Determined
 pub mod Bounds
 pub mod RoundTrip

@@ -194,9 +194,9 @@ module _ (name : List ℕ) (run : Run) (plan froms tos : List ℕ) (even : lengt
         ⊎-elim
         (λ (e : sameList froms tos list ≡ true). absurd (not-least-yes (decimal n) (sym h ∙ ap (lineAfter 2) (formed-so w) ∙ least-so plan expected run froms tos list e)))
         (λ (e : sameList froms tos list ≡ false).
-            let same : decimal n ≡ decimal (more plan expected run froms tos list) = ap (drop 9) (sym h ∙ ap (lineAfter 2) (formed-so w) ∙ least-not plan expected run froms tos list e) in
-            let is : n ≡ more plan expected run froms tos list = sym (decimal-value n) ∙ ap valueOf same ∙ decimal-value (more plan expected run froms tos list) in
-            record { least = list; is = least; sum = omega (arith, is, least .smallest (listOf froms tos) w) })
+        let same : decimal n ≡ decimal (more plan expected run froms tos list) = ap (drop 9) (sym h ∙ ap (lineAfter 2) (formed-so w) ∙ least-not plan expected run froms tos list e) in
+        let is : n ≡ more plan expected run froms tos list = sym (decimal-value n) ∙ ap valueOf same ∙ decimal-value (more plan expected run froms tos list) in
+        record { least = list; is = least; sum = omega (arith, is, least .smallest (listOf froms tos) w) })
         (true-or-false (sameList froms tos list))
 
 pub check-tells : CheckTells
@@ -296,8 +296,7 @@ pub price-tells : PriceTells
 unfolding priceText verdictBy
 price-tells sheet list row n row′ p e =
     let all = all-accept (sheetVerdict sheet ∷ ruleVerdict sheet ∷ priceChecks list (sheetRun sheet)) e in
-    let is : priceText (priceVerdict sheet list) (sheetName sheet) (sheetRun sheet) list ≡ planText (sheetName sheet) (sheetRun sheet) (listFroms list) (listTos list) = rw e in
-    (
+    let is : priceText (priceVerdict sheet list) (sheetName sheet) (sheetRun sheet) list ≡ planText (sheetName sheet) (sheetRun sheet) (listFroms list) (listTos list) = rw e in (
       list-formed (stopsOf (sheetRun sheet)) (listFroms list) (listTos list) (all .1 .1 .1 .1 .0),
       λ l. put-whole (planText (sheetName sheet) (sheetRun sheet) (listFroms list) (listTos list)) row n row′
           (p .bytes ∙ ap (λ t. bytesPut t row) is) (p .left ∙ ap (λ t. rowPut t row) is) l,
