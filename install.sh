@@ -35,7 +35,7 @@ case $prefix in
     *) fail "PREFIX must be an absolute path, not '$prefix'" ;;
 esac
 [ -f "$archive" ] || fail "no archive at $archive; 'rt staticlib boundary' makes it"
-for program in cmd_plan cmd_field cmd_buys cmd_rewrite cmd_mend cmd_month cmd_ltfs; do
+for program in cmd_plan cmd_field cmd_buys cmd_price cmd_check cmd_rewrite cmd_mend cmd_month cmd_ltfs; do
     [ -f "$here/target/bin/$program" ] || fail "no program at $here/target/bin/$program; 'rt check $program' makes it"
 done
 
@@ -88,13 +88,18 @@ put "$here/violstream" bin/violstream 755
 put "$here/target/bin/cmd_plan" "$own/cmd_plan" 755
 put "$here/target/bin/cmd_field" "$own/cmd_field" 755
 put "$here/target/bin/cmd_buys" "$own/cmd_buys" 755
+put "$here/target/bin/cmd_price" "$own/cmd_price" 755
+put "$here/target/bin/cmd_check" "$own/cmd_check" 755
 put "$here/target/bin/cmd_rewrite" "$own/cmd_rewrite" 755
 put "$here/target/bin/cmd_mend" "$own/cmd_mend" 755
 put "$here/target/bin/cmd_month" "$own/cmd_month" 755
 put "$here/target/bin/cmd_ltfs" "$own/cmd_ltfs" 755
 put "$here/tools/machine.sh" "$own/machine.sh"
-for words in shared sheet ltfs; do
+for words in shared sheet list ltfs; do
     put "$here/tools/words/$words.awk" "$own/words/$words.awk"
+done
+for script in shared table picture; do
+    put "$here/tools/explain/$script.awk" "$own/explain/$script.awk"
 done
 "$here/violstream" version > "$made/version"
 put "$made/version" "$own/version"

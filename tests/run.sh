@@ -128,6 +128,14 @@ command_installed() {
     same "the installed command's plain engine" "$here/examples/VX0041.plan" "$out/field.is"
     step "the installed command's figures" env -u RATTLE_HOME PATH="${path%:}" "$prefix/bin/violstream" buys "$here/examples/VX0041.run" > "$out/buys.is"
     same "the installed command's figures" "$here/crates/cmd_buys/stdout" "$out/buys.is"
+    step "the installed command's price" env -u RATTLE_HOME PATH="${path%:}" "$prefix/bin/violstream" price "$here/examples/VX0041.run" "$here/examples/VX0041.list" > "$out/price.is"
+    same "the installed command's price" "$here/crates/cmd_price/stdout" "$out/price.is"
+    printf 'formed=yes\nwalk=yes\nleast=yes\n' > "$out/check.must"
+    step "the installed command's check" env -u RATTLE_HOME PATH="${path%:}" "$prefix/bin/violstream" check "$here/examples/VX0041.run" "$here/examples/VX0041.plan" > "$out/check.is"
+    same "the installed command's check" "$out/check.must" "$out/check.is"
+    step "the installed command's explanation" env -u RATTLE_HOME PATH="${path%:}" "$prefix/bin/violstream" explain --svg "$out/picture.svg" "$here/examples/VX0041.run" > "$out/explained.is"
+    grep -q 'detour 2,2 buys 40' "$out/explained.is" || fail "the installed command does not explain a plan"
+    grep -q '</svg>' "$out/picture.svg" || fail "the installed command draws no picture"
     sed 's/^turn=$/turn=0/' "$here/examples/no-wants.run" > "$out/sheet.must"
     step "the installed command's rewriting" env -u RATTLE_HOME PATH="${path%:}" "$prefix/bin/violstream" rewrite "$here/examples/no-wants.run" > "$out/sheet.is"
     same "the installed command's rewriting" "$out/sheet.must" "$out/sheet.is"
@@ -249,6 +257,7 @@ run python/plan
 run python/field
 [ -n "$only" ] || run python/field --sheets "$out/c.sheets" --sheets "$out/rust.sheets"
 run python/buys
+run python/check
 run python/rewrite
 run python/mend
 run python/month

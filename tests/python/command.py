@@ -49,7 +49,7 @@ class Checkout:
             (shutil.copytree if os.path.isdir(source) else shutil.copy2)(source, to)
         os.makedirs(os.path.join(self.root, "crates/refusals"))
         os.makedirs(os.path.join(self.root, "target/bin"))
-        for name in ("cmd_plan", "cmd_field", "cmd_buys", "cmd_rewrite", "cmd_mend", "cmd_month", "cmd_ltfs"):
+        for name in ("cmd_plan", "cmd_field", "cmd_buys", "cmd_price", "cmd_check", "cmd_rewrite", "cmd_mend", "cmd_month", "cmd_ltfs"):
             source = os.path.join(programs.ROOT, "target/bin", name)
             if not os.path.exists(source):
                 sys.exit(f"command.py: no program {source}; 'rt check {name}' makes it")
@@ -129,6 +129,46 @@ def figures(at):
     at.must("./violstream buys examples/VX0041.run > /dev/full", 1, b"", ["cannot write to standard output"])
 
 
+def pairs(at):
+    """Two files: a list priced, a plan sheet checked. The words say which of the two is refused; a check that answers no ends with 3."""
+    run, plan, damaged = "examples/VX0041.run", "examples/VX0041.plan", "examples/VX0041-damaged.plan"
+    priced = contents("crates/cmd_price/stdout")
+    at.must(f"./violstream price {run} examples/VX0041.list", 0, priced, silent=True)
+    at.must(f"./violstream price - examples/VX0041.list < {run}", 0, priced, silent=True)
+    at.must(f"./violstream price {run} {damaged}", 0, PLAN, silent=True)
+    at.must(f"./violstream price {run} /dev/null", 0)
+    at.must(f"printf 'detour=2,2\\ndetour=3,3\\n' | ./violstream price {run} -", 3, refusal(10, 2), ['refused (10): detour 2 of standard input, "detour=3,3",'])
+    at.must(f"printf 'detour=2,2\\nx\\n' | ./violstream price {run} -", 3, refusal(11, 2), ['refused (11): line 2 of standard input is not as described: "x"'])
+    at.must(f"./violstream price {plan} /dev/null", 3, refusal(11, 2), ["refused (11): line 2: expected head=NUMBER"])
+    at.must(f"head -c 20000 /dev/zero | ./violstream price {run} -", 3, refusal(12), ["refused (12): standard input is over 16,384 bytes"])
+    at.must(f"./violstream price no-such {run}", 1, b"", ["cannot read no-such"])
+    yes = b"formed=yes\nwalk=yes\nleast=yes\n"
+    at.must(f"./violstream check {run} {plan}", 0, yes, silent=True)
+    at.must(f"./violstream plan {run} | ./violstream check {run} -", 0, yes, silent=True)
+    at.must(f"./violstream check {run} {damaged}", 3, contents("crates/cmd_check/stdout"), silent=True)
+    at.must(f"./violstream price {run} examples/VX0041.list | ./violstream check {run} -", 3, b"formed=yes\nwalk=yes\nleast=no,198\n", silent=True)
+    at.must(f"sed 's/^detour=2,2/detour=1,2/' {plan} | ./violstream check {run} -", 3, b"formed=no,1\n", silent=True)
+    at.must(f"./violstream check {run} {run}", 3, refusal(11, 2), [f'refused (11): line 2 of {run} is not as described: "head=60"'])
+    at.must(f"./violstream check examples/head-too-far-left.run {plan}", 3, refusal(7), ["refused (7)"])
+    at.must(f"./violstream check {run} {plan} > /dev/full", 1, b"", ["cannot write to standard output"])
+
+
+def explained(at):
+    """A plan for a person, and its picture."""
+    text = at.shell("./violstream explain examples/VX0041.run")[0]
+    for part in (b"    1        60        10        51        14        55  2 at 55 (3)\n", b"sweep        14         0        71        50       121  1 at 81 (1), 3 at 121 (1)\n",
+                 b"detour 2,2 buys 40\n", b"sum of this plan      367\n", b"sum without detours   407\n"):
+        if part not in text:
+            raise Wrong(f"./violstream explain prints {text!r}, without {part!r}")
+    at.must("./violstream explain --svg picture.svg examples/VX0041.run", 0, text, silent=True)
+    picture = open(at.path("picture.svg"), "rb").read()
+    if picture.count(b'class="read"') != 3 or picture.count(b'class="wanted"') != 3 or not picture.endswith(b"</svg>\n"):
+        raise Wrong(f"the picture is {picture!r}")
+    at.must("./violstream explain examples/retired-rule.run", 3, refusal(19, 4), ["refused (19)"])
+    at.must("./violstream explain --svg no-such/picture.svg examples/VX0041.run", 1, b"", ["cannot write no-such/picture.svg"])
+    at.must("./violstream explain examples/no-wants.run", 0, silent=True)
+
+
 def rewriting(at):
     """An old sheet comes back with turn=0 where nothing stood; any other as it is. Files, statuses and words as for plan."""
     old, new = changed(3, b"turn="), changed(3, b"turn=0")
@@ -203,7 +243,7 @@ def statuses(at):
     at.must(f"./violstream ltfs vx0041 {LABEL} {INDEX}", 3, refusal(13))
     at.must(f"set -o pipefail; ./violstream ltfs VX0041 {INDEX} {INDEX} | ./violstream plan", 3, refusal(11, 1))
     at.must("./violstream help", 0, silent=True)
-    for line in ("nothing", "plan -x", "plan - -", "field -x", "field - -", "buys -x", "buys - -", "rewrite -x", "rewrite - -", "mend -x", "mend - -", "month -x", "month a b", "ltfs", "ltfs A B", "ltfs A B C D", "ltfs A - -", "ltfs -A B C", "install a", "install /a /b",
+    for line in ("nothing", "plan -x", "plan - -", "field -x", "field - -", "buys -x", "buys - -", "price", "price A", "price A B C", "price -x A", "check A", "check - -", "explain", "explain A B", "explain --svg", "explain -x", "rewrite -x", "rewrite - -", "mend -x", "mend - -", "month -x", "month a b", "ltfs", "ltfs A B", "ltfs A B C D", "ltfs A - -", "ltfs -A B C", "install a", "install /a /b",
                  "uninstall a", "install -x", "build x", "test x"):
         at.must(f"./violstream {line}", 2, b"", ["violstream: ", "\nusage: ./violstream "])
         said = at.shell(f"./violstream {line}")[1]
@@ -219,7 +259,7 @@ def help_and_version(at):
     text = at.shell("./violstream help")[0]
     if not text.startswith(b"usage: ./violstream plan"):
         raise Wrong(f"./violstream help prints {text!r}")
-    for line in ("--help", "-h", "", "plan --help", "field --help", "buys --help", "rewrite --help", "mend --help", "month --help", "ltfs -h", "build --help", "test --help", "install --help", "version --help"):
+    for line in ("--help", "-h", "", "plan --help", "field --help", "buys --help", "price --help", "check -h", "explain --help", "rewrite --help", "mend --help", "month --help", "ltfs -h", "build --help", "test --help", "install --help", "version --help"):
         at.must(f"./violstream {line}", 0, text, silent=True)
     version = at.shell("./violstream --version")[0]
     if re.fullmatch(rb"violstream [0-9]+\.[0-9]+\.[0-9]+ \(rattle-kit-\S+ logic [0-9a-f]{16}\)\n", version) is None:
@@ -227,7 +267,7 @@ def help_and_version(at):
     for line in ("version", "plan --version", "ltfs --version", "test --version"):
         at.must(f"./violstream {line}", 0, version, silent=True)
     at.must("./violstream version > /dev/full", 1, b"", ["cannot write to standard output"])
-    for number in (2, 4, 5, 6, 7, 9, 11, 12, 13, 20, 21, 22, 23):
+    for number in (2, 4, 5, 6, 7, 9, 10, 11, 12, 13, 20, 21, 22, 23):
         if re.search(rb"\n +%d  \S" % number, text) is None:
             raise Wrong(f"./violstream help does not list refusal {number}")
 
@@ -475,7 +515,7 @@ def manual(at):
     if f'"{version}"' not in page:
         raise Wrong(f"docs/violstream.1 is not of {version}")
     text = " ".join(at.shell("./violstream help")[0].decode().split())
-    for number in (2, 4, 5, 6, 7, 9, 11, 12, 13, 20, 21, 22, 23):
+    for number in (2, 4, 5, 6, 7, 9, 10, 11, 12, 13, 20, 21, 22, 23):
         words = re.search(r"\n%d\n([^.]*)\n\." % number, page)
         if words is None or " ".join(words[1].split()) not in text:
             raise Wrong(f"docs/violstream.1 does not say of refusal {number} what the help says: {words and words[1]!r}")
@@ -551,12 +591,12 @@ def building(at):
     below(at, "cmd_plan")
     at.must(f"./violstream ltfs VX0041 {LABEL} {INDEX}", 0, SHEET, ["building cmd_ltfs"])
     at.must("rm target/bin/cmd_plan && ./violstream plan examples/VX0041.run", 0, PLAN, ["building cmd_plan"])
-    at.must("./violstream build", 0, b"", ["building cmd_field", "building cmd_buys", "building cmd_rewrite", "building cmd_mend", "building cmd_month", "building libboundary.a"])
-    at.must("touch -d '+1 minute' crates/refusals/newer && ./violstream build", 0, b"", ["cmd_plan", "cmd_field", "cmd_buys", "cmd_rewrite", "cmd_mend", "cmd_month", "cmd_ltfs", "libboundary.a"])
+    at.must("./violstream build", 0, b"", ["building cmd_field", "building cmd_buys", "building cmd_price", "building cmd_check", "building cmd_rewrite", "building cmd_mend", "building cmd_month", "building libboundary.a"])
+    at.must("touch -d '+1 minute' crates/refusals/newer && ./violstream build", 0, b"", ["cmd_plan", "cmd_field", "cmd_buys", "cmd_price", "cmd_check", "cmd_rewrite", "cmd_mend", "cmd_month", "cmd_ltfs", "libboundary.a"])
     at.must("rm crates/refusals/newer && ./violstream build", 0, b"", ["violstream: built"])
     at.must("./violstream build more", 2, b"")
-    every = ["check cmd_plan", "check cmd_field", "check cmd_buys", "check cmd_rewrite", "check cmd_mend", "check cmd_month", "check cmd_ltfs", "staticlib boundary"]
-    if called(at) != ["check cmd_plan", "check cmd_ltfs", "check cmd_plan", "check cmd_field", "check cmd_buys", "check cmd_rewrite", "check cmd_mend", "check cmd_month", "staticlib boundary"] + every:
+    every = ["check cmd_plan", "check cmd_field", "check cmd_buys", "check cmd_price", "check cmd_check", "check cmd_rewrite", "check cmd_mend", "check cmd_month", "check cmd_ltfs", "staticlib boundary"]
+    if called(at) != ["check cmd_plan", "check cmd_ltfs", "check cmd_plan", "check cmd_field", "check cmd_buys", "check cmd_price", "check cmd_check", "check cmd_rewrite", "check cmd_mend", "check cmd_month", "staticlib boundary"] + every:
         raise Wrong(f"rt was called so: {called(at)}")
 
 
@@ -632,7 +672,7 @@ def until(true, otherwise):
     raise Wrong(otherwise)
 
 
-TESTS = (answers, fielding, figures, rewriting, mending, monthly, statuses, help_and_version, nothing_lost, broken_program, several, ltfs_inputs, words_of_sheets, words_of_damaged_sheets,
+TESTS = (answers, fielding, figures, pairs, explained, rewriting, mending, monthly, statuses, help_and_version, nothing_lost, broken_program, several, ltfs_inputs, words_of_sheets, words_of_damaged_sheets,
          words_of_tapes, keyboard, transcripts, manual, interrupted, building, building_fails, building_twice, building_interrupted)
 
 

@@ -1,5 +1,6 @@
 -- The proofs of the promises. Request L6: by single calls (DeskSteps), by days (Desk), its refusals, its wants and its worked cases. Request L11: laws
--- of what is gathered, copied and read again, then its promises (Mends). Request L13: totals, names, the input's division, the order of the sheets.
+-- of what is gathered, copied and read again, then its promises (Mends). Request L13: totals, names, the input's division, the order of the sheets. The
+-- auditor's commands: Checks.
 pub mod DeskSteps
 pub mod Desk
 pub mod DeskRefusals
@@ -13,3 +14,4 @@ pub mod MonthTotals
 pub mod MonthNames
 pub mod MonthInput
 pub mod MonthOrder
+pub mod Checks

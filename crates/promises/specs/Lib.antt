@@ -5,3 +5,4 @@ pub mod DeskWants
 pub mod DeskCases
 pub mod Mends
 pub mod Months
+pub mod Checks

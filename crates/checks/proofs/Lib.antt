@@ -1,0 +1,7 @@
+-- Laws that this crate's proofs share, and those that other crates cite.
+pub mod Differing
+pub mod Pages
+pub mod Formed
+pub mod Sheets
+pub mod Checked
+pub mod Determined

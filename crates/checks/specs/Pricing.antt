@@ -1,0 +1,40 @@
+-- What is answered to a run sheet and a detour list, whatever their bytes are: the plan sheet of that list, or the two lines of the first refusal
+-- that applies; and the row that takes the answer.
+use Prim.Native.Nat.{ℕ}
+use mathlib.Core.Path.{_≡_}
+use mathlib.Core.Bool.{cond}
+use mathlib.Core.List.{List, [], _∷_}
+use Rattle.refusals.specs.declared.Verdict.{Verdict}
+use Rattle.refusals.specs.Refusals.{isRefusal, firstOf}
+use Rattle.runs.specs.Run.{Run, stopsOf}
+use Rattle.runs.specs.Judging.{judgeOf}
+use Rattle.runs.specs.Lists.{listVerdict}
+use Rattle.sheets.specs.Sheet.{sheetRun, sheetName}
+use Rattle.writers.specs.PlanSheet.{planText}
+use Rattle.writers.specs.RefusalLines.{refusalText}
+use Rattle.recalls.specs.Recall.{verdictBy, bytesPut, rowPut}
+use Rattle.lists.specs.Form.{listFroms, listTos}
+use Rattle.lists.specs.Reading.{listForm}
+
+-- The list's 12 and 11, then 1 to 7, then 10. Behind a sheet's own 12, 11 and 19.
+abbrev pub priceChecks : List ℕ → Run → List Verdict
+priceChecks list run = listForm list ∷ judgeOf run ∷ listVerdict (stopsOf run) (listFroms list) (listTos list) ∷ []
+
+abbrev pub priceVerdict : List ℕ → List ℕ → Verdict
+priceVerdict sheet list = verdictBy (priceChecks list) sheet
+
+-- The text of the answer, under a verdict.
+unfoldable pub priceText : Verdict → List ℕ → Run → List ℕ → List ℕ
+priceText v name run list = cond (isRefusal (v .refusal)) (refusalText v) (planText name run (listFroms list) (listTos list))
+
+-- A text in the first bytes of a row, and how many they are. A row shorter than the text takes none of it, and the number is then 0.
+pub record Holds (text row : List ℕ) (n : ℕ) (row′ : List ℕ) : Type 0 where
+  pub bytes : n ≡ bytesPut text row
+  pub left : row′ ≡ rowPut text row
+
+-- The answer to a run, a tape name and a list, and to a sheet and a list.
+abbrev pub RunPriced : List ℕ → Run → List ℕ → List ℕ → ℕ → List ℕ → Type 0
+RunPriced name run list row n row′ = Holds (priceText (firstOf (priceChecks list run)) name run list) row n row′
+
+abbrev pub SheetPriced : List ℕ → List ℕ → List ℕ → ℕ → List ℕ → Type 0
+SheetPriced sheet list row n row′ = Holds (priceText (priceVerdict sheet list) (sheetName sheet) (sheetRun sheet) list) row n row′

@@ -1,0 +1,303 @@
+-- Proofs of the statements on pricing and checking.
+use Prim.Native.Nat.{ℕ, zero, suc, _+_, _-_, _≤_, _<_}
+use mathlib.Core.Path.{_≡_, refl, sym, ap, _∙_, subst}
+use mathlib.Core.Bool.{Bool, true, false, cond, true≢false, _&&_}
+use mathlib.Core.List.{List, [], _∷_, _++_, map, append-assoc, append-nil}
+use mathlib.Core.Logic.{_↔_, ⊎-elim}
+use native.Mathlib.Omega.{arith}
+use lib.ListN.{length, take, drop, getD}
+use lib.Seq.{take-append-seam}
+use lib.Dec.{ltb, eqb}
+use borrow.Author.Tests.{eq-eqb, ne-eqb, eqb-true, le-ltb, ltb-false}
+use Rattle.refusals.specs.declared.Verdict.{Verdict}
+use Rattle.refusals.specs.Refusals.{firstOf, accepted}
+use Rattle.refusals.proofs.Verdicts.{refuses, all-accept}
+use Rattle.runs.specs.Run.{Run, stopsOf}
+use Rattle.runs.specs.Judging.{judgeOf}
+use Rattle.runs.specs.Lists.{Detour, WellFormed, listOf, listVerdict, firstBadEntry}
+use Rattle.runs.proofs.Search.{true-or-false}
+use Rattle.walk.specs.Price.{pricedAnswer}
+use Rattle.least.specs.Least.{LeastForRun, listSum}
+use Rattle.least.proofs.LeastList.{least-unique}
+use Rattle.figures.proofs.Answers.{list-formed}
+use Rattle.joins.proofs.Halves.{list-accepted, list-of-halves, halves-even}
+use Rattle.texts.specs.Text.{bytes, lineFeed, has, behind, isText, startsWith, isName, valueOf, decimal}
+use Rattle.texts.proofs.Bytes.{and-true-both}
+use Rattle.texts.proofs.Decimals.{decimal-without, decimal-value}
+use Rattle.texts.proofs.Split.{whole-key}
+use Rattle.lines.specs.Lines.{lineOf, afterLines, lineAfter, firstIn, secondIn}
+use Rattle.prints.specs.Printing.{line, numberLine}
+use Rattle.sheets.specs.Sheet.{sheetRun, sheetName}
+use Rattle.sheets.specs.Reading.{sheetVerdict, ruleVerdict}
+use Rattle.sheets.proofs.Good.{good-name}
+use Rattle.sheets.proofs.Rows.{length-each}
+use Rattle.writers.specs.PlanSheet.{planText, detourKey}
+use Rattle.writers.proofs.Reread.{line-first, line-behind, key-begins}
+use Rattle.recalls.specs.Recall.{runChecks, verdictBy, recallVerdict, SheetRecalled, bytesPut, rowPut}
+use Rattle.lists.specs.Form.{planDetours, detourText, planFroms, planTos, listFroms, listTos}
+use Rattle.lists.specs.Reading.{planForm, listForm}
+use Rattle.lists.proofs.RoundTrip.{plan-formed, froms-back, tos-back}
+use Rattle.checks.specs.Pricing.{priceChecks, priceVerdict, priceText, SheetPriced}
+use Rattle.checks.specs.Checking.{formedYes, formedNo, walkYes, walkNo, leastYes, leastNo, firstDifference, walkLine, differenceLines, sameList, leastLine, verdictLines, checkText, checkChecks, checkVerdict, SheetChecked}
+use Rattle.promises.specs.Checks.{Larger, Told, CheckTells, PlanChecks, PriceTells}
+
+-- Two texts are the same exactly where the test says so.
+text-same : (a b : List ℕ) → isText a b ≡ true → b ≡ a
+text-same a b e = let both = and-true-both (eqb (length a) (length b)) (startsWith a b) e in whole-key a b (eqb-true (length a) (length b) (both .0)) (both .1)
+
+starts-itself : (a : List ℕ) → startsWith a a ≡ true
+unfolding startsWith
+starts-itself [] = refl
+starts-itself (x ∷ a) = rw (eq-eqb x x refl, starts-itself a)
+
+same-text : (a b : List ℕ) → b ≡ a → isText a b ≡ true
+same-text a b e = rw (e, eq-eqb (length a) (length a) refl, starts-itself a)
+
+-- Two rows of one length and the list that they hold.
+starts-of : (froms tos : List ℕ) → length froms ≡ length tos → map (λ d. d .from) (listOf froms tos) ≡ froms
+unfolding listOf
+starts-of [] tos e = refl
+starts-of (a ∷ froms) [] e = absurd (omega arith)
+starts-of (a ∷ froms) (b ∷ tos) e = ap (λ l. a ∷ l) (starts-of froms tos (omega arith))
+
+ends-of : (froms tos : List ℕ) → length froms ≡ length tos → map (λ d. d .to) (listOf froms tos) ≡ tos
+unfolding listOf
+ends-of [] [] e = refl
+ends-of [] (b ∷ tos) e = absurd (omega arith)
+ends-of (a ∷ froms) [] e = absurd (omega arith)
+ends-of (a ∷ froms) (b ∷ tos) e = ap (λ l. b ∷ l) (ends-of froms tos (omega arith))
+
+module _ (froms tos : List ℕ) (even : length froms ≡ length tos) (list : List Detour) where
+  list-same : sameList froms tos list ≡ true → listOf froms tos ≡ list
+  list-same e =
+      let both = and-true-both (isText (map (λ d. d .from) list) froms) (isText (map (λ d. d .to) list) tos) e in
+      rw (text-same (map (λ d. d .from) list) froms (both .0), text-same (map (λ d. d .to) list) tos (both .1)) (list-of-halves list)
+
+  same-list : listOf froms tos ≡ list → sameList froms tos list ≡ true
+  same-list e =
+      rw (same-text (map (λ d. d .from) list) froms (sym (starts-of froms tos even) ∙ ap (map (λ d. d .from)) e), same-text (map (λ d. d .to) list) tos (sym (ends-of froms tos even) ∙ ap (map (λ d. d .to)) e))
+
+even-plan : (plan : List ℕ) → length (planFroms plan) ≡ length (planTos plan)
+unfolding planFroms planTos
+even-plan plan = length-each (λ i. firstIn detourKey (lineAfter i (detourText plan))) (planDetours plan) ∙ sym (length-each (λ i. secondIn detourKey (lineAfter i (detourText plan))) (planDetours plan))
+
+-- A line with its LF at the front of a text.
+module _ (key text rest : List ℕ) (plain : has lineFeed key ≡ false) (flat : has lineFeed text ≡ false) where
+  front-line : lineOf (line key text ++ rest) ≡ key ++ text
+  front-line = line-first key text rest plain flat
+
+  front-rest : behind lineFeed (line key text ++ rest) ≡ rest
+  front-rest = line-behind key text rest plain flat
+
+-- The lines of a verdict on a well-formed list.
+module _ (plan expected : List ℕ) (run : Run) (froms tos : List ℕ) (list : List Detour) where
+  abbrev text : List ℕ
+  text = verdictLines plan expected run froms tos list
+
+  text-is : text ≡ line (bytes "formed=") (bytes "yes") ++ (walkLine plan expected ++ (leastLine run froms tos list ++ differenceLines plan expected))
+  unfolding verdictLines
+  text-is = simp append-assoc
+
+  line₀ : lineAfter 0 text ≡ bytes "formed=yes"
+  unfolding afterLines has
+  line₀ = ap lineOf text-is ∙ front-line (bytes "formed=") (bytes "yes") (walkLine plan expected ++ (leastLine run froms tos list ++ differenceLines plan expected)) refl refl
+
+  rest₁ : afterLines 1 text ≡ walkLine plan expected ++ (leastLine run froms tos list ++ differenceLines plan expected)
+  unfolding afterLines has
+  rest₁ = ap (behind lineFeed) text-is ∙ front-rest (bytes "formed=") (bytes "yes") (walkLine plan expected ++ (leastLine run froms tos list ++ differenceLines plan expected)) refl refl
+
+  flat : (n : ℕ) → has lineFeed (decimal n) ≡ false
+  flat n = decimal-without lineFeed n refl
+
+  -- The walk's line, by cases.
+  walk-so : isText expected plan ≡ true → lineAfter 1 text ≡ bytes "walk=yes"
+  unfolding walkLine has
+  walk-so e = ap lineOf (rest₁ ∙ rw e refl) ∙ front-line (bytes "walk=") (bytes "yes") (leastLine run froms tos list ++ differenceLines plan expected) refl refl
+
+  walk-not : isText expected plan ≡ false → lineAfter 1 text ≡ walkNo ++ decimal (firstDifference plan expected .line)
+  unfolding walkLine has
+  walk-not e = ap lineOf (rest₁ ∙ rw e refl) ∙ front-line walkNo (decimal (firstDifference plan expected .line)) (leastLine run froms tos list ++ differenceLines plan expected) refl (flat (firstDifference plan expected .line))
+
+  rest₂ : afterLines 2 text ≡ leastLine run froms tos list ++ differenceLines plan expected
+  unfolding afterLines walkLine has
+  rest₂ =
+      ⊎-elim
+      (λ (e : isText expected plan ≡ true). ap (behind lineFeed) (rest₁ ∙ rw e refl) ∙ front-rest (bytes "walk=") (bytes "yes") (leastLine run froms tos list ++ differenceLines plan expected) refl refl)
+      (λ (e : isText expected plan ≡ false). ap (behind lineFeed) (rest₁ ∙ rw e refl) ∙ front-rest walkNo (decimal (firstDifference plan expected .line)) (leastLine run froms tos list ++ differenceLines plan expected) refl (flat (firstDifference plan expected .line)))
+      (true-or-false (isText expected plan))
+
+  least-so : sameList froms tos list ≡ true → lineAfter 2 text ≡ bytes "least=yes"
+  unfolding leastLine has
+  least-so e = ap lineOf (rest₂ ∙ rw e refl) ∙ front-line (bytes "least=") (bytes "yes") (differenceLines plan expected) refl refl
+
+  abbrev more : ℕ
+  more = pricedAnswer run (listOf froms tos) .sum - pricedAnswer run list .sum
+
+  least-not : sameList froms tos list ≡ false → lineAfter 2 text ≡ leastNo ++ decimal more
+  unfolding leastLine has
+  least-not e = ap lineOf (rest₂ ∙ rw e refl) ∙ front-line leastNo (decimal more) (differenceLines plan expected) refl (flat more)
+
+-- No line says both.
+not-walk-yes : (rest : List ℕ) → walkNo ++ rest ≡ bytes "walk=yes" → ⊥
+not-walk-yes rest e = let z : _≡_ {A = ℕ} 110 121 = ap (λ l. getD l 5 0) e in omega arith
+
+not-least-yes : (rest : List ℕ) → leastNo ++ rest ≡ bytes "least=yes" → ⊥
+not-least-yes rest e = let z : _≡_ {A = ℕ} 110 121 = ap (λ l. getD l 6 0) e in omega arith
+
+not-formed-yes : (rest : List ℕ) → formedNo ++ rest ≡ bytes "formed=yes" → ⊥
+not-formed-yes rest e = let z : _≡_ {A = ℕ} 110 121 = ap (λ l. getD l 7 0) e in omega arith
+
+-- What a verdict says, by the least list.
+module _ (name : List ℕ) (run : Run) (plan froms tos : List ℕ) (even : length froms ≡ length tos) (list : List Detour) (least : LeastForRun run list) where
+  abbrev expected : List ℕ
+  expected = planText name run froms tos
+
+  abbrev said : List ℕ
+  said = checkText name run plan froms tos list
+
+  formed-so : WellFormed (stopsOf run) (listOf froms tos) → said ≡ verdictLines plan expected run froms tos list
+  unfolding checkText
+  formed-so w = rw (eq-eqb (firstBadEntry (stopsOf run) (listOf froms tos)) 0 w)
+
+  formed-not : eqb (firstBadEntry (stopsOf run) (listOf froms tos)) 0 ≡ false → lineAfter 0 (said ++ []) ≡ formedNo ++ decimal (firstBadEntry (stopsOf run) (listOf froms tos))
+  unfolding checkText afterLines has
+  formed-not e =
+      let is : said ≡ numberLine formedNo (firstBadEntry (stopsOf run) (listOf froms tos)) = rw e in
+      ap (λ t. lineOf (t ++ [])) is
+      ∙ front-line formedNo (decimal (firstBadEntry (stopsOf run) (listOf froms tos))) [] refl (decimal-without lineFeed (firstBadEntry (stopsOf run) (listOf froms tos)) refl)
+
+  tells-formed : (lineAfter 0 said ≡ bytes "formed=yes") ↔ WellFormed (stopsOf run) (listOf froms tos)
+  tells-formed = (
+    λ h. ⊎-elim
+        (λ (e : eqb (firstBadEntry (stopsOf run) (listOf froms tos)) 0 ≡ true). eqb-true (firstBadEntry (stopsOf run) (listOf froms tos)) 0 e)
+        (λ (e : eqb (firstBadEntry (stopsOf run) (listOf froms tos)) 0 ≡ false). absurd (not-formed-yes (decimal (firstBadEntry (stopsOf run) (listOf froms tos))) (sym (formed-not e) ∙ ap (lineAfter 0) (append-nil said) ∙ h)))
+        (true-or-false (eqb (firstBadEntry (stopsOf run) (listOf froms tos)) 0)),
+    λ w. ap (lineAfter 0) (formed-so w) ∙ line₀ plan expected run froms tos list,
+  )
+
+  module _ (w : WellFormed (stopsOf run) (listOf froms tos)) where
+    tells-walk : (lineAfter 1 said ≡ bytes "walk=yes") ↔ (plan ≡ planText name run froms tos)
+    tells-walk = (
+      λ h. ⊎-elim (λ (e : isText expected plan ≡ true). text-same expected plan e) (λ (e : isText expected plan ≡ false). absurd (not-walk-yes _ (sym (walk-not plan expected run froms tos list e) ∙ sym (ap (lineAfter 1) (formed-so w)) ∙ h))) (true-or-false (isText expected plan)),
+      λ e. ap (lineAfter 1) (formed-so w) ∙ walk-so plan expected run froms tos list (same-text expected plan e),
+    )
+
+    tells-least : (lineAfter 2 said ≡ bytes "least=yes") ↔ LeastForRun run (listOf froms tos)
+    tells-least = (
+      λ h. ⊎-elim (λ (e : sameList froms tos list ≡ true). subst (λ l. LeastForRun run l) (sym (list-same froms tos even list e)) least) (λ (e : sameList froms tos list ≡ false). absurd (not-least-yes _ (sym (least-not plan expected run froms tos list e) ∙ sym (ap (lineAfter 2) (formed-so w)) ∙ h))) (true-or-false (sameList froms tos list)),
+      λ e. ap (lineAfter 2) (formed-so w) ∙ least-so plan expected run froms tos list (same-list froms tos even list (least-unique (run .turn) (run .head) (stopsOf run) (listOf froms tos) list e least)),
+    )
+
+    tells-by : (n : ℕ) → lineAfter 2 said ≡ bytes "least=no," ++ decimal n → Larger run (listOf froms tos) n
+    unfolding pricedAnswer
+    tells-by n h =
+        ⊎-elim
+        (λ (e : sameList froms tos list ≡ true). absurd (not-least-yes (decimal n) (sym h ∙ ap (lineAfter 2) (formed-so w) ∙ least-so plan expected run froms tos list e)))
+        (λ (e : sameList froms tos list ≡ false).
+        let same : decimal n ≡ decimal (more plan expected run froms tos list) = ap (drop 9) (sym h ∙ ap (lineAfter 2) (formed-so w) ∙ least-not plan expected run froms tos list e) in
+        let is : n ≡ more plan expected run froms tos list = sym (decimal-value n) ∙ ap valueOf same ∙ decimal-value (more plan expected run froms tos list) in
+        record { least = list; is = least; sum = omega (arith, is, least .smallest (listOf froms tos) w) })
+        (true-or-false (sameList froms tos list))
+
+pub check-tells : CheckTells
+check-tells sheet plan row n row′ c e =
+    let v = c .answers .checked e in
+    subst (λ t. Told (sheetName sheet) (sheetRun sheet) plan (planFroms plan) (planTos plan) t) (sym (v .says))
+    (record {
+      formed = tells-formed (sheetName sheet) (sheetRun sheet) plan (planFroms plan) (planTos plan) (even-plan plan) (v .list) (v .least);
+      walk = tells-walk (sheetName sheet) (sheetRun sheet) plan (planFroms plan) (planTos plan) (even-plan plan) (v .list) (v .least);
+      least = tells-least (sheetName sheet) (sheetRun sheet) plan (planFroms plan) (planTos plan) (even-plan plan) (v .list) (v .least);
+      by = tells-by (sheetName sheet) (sheetRun sheet) plan (planFroms plan) (planTos plan) (even-plan plan) (v .list) (v .least);
+    })
+
+-- A text that was put into a row with room for it.
+put-whole : (text row : List ℕ) (n : ℕ) (row′ : List ℕ) → n ≡ bytesPut text row → row′ ≡ rowPut text row → length text ≤ length row → take n row′ ≡ text
+unfolding bytesPut rowPut
+put-whole text row n row′ e f l = rw (e, f, le-ltb (length row) (length text) l) (take-append-seam text (drop (length text) row))
+
+put-some : (text row : List ℕ) (n : ℕ) → n ≡ bytesPut text row → 0 < n → length text ≤ length row
+unfolding bytesPut
+put-some text row n e l =
+    ⊎-elim
+    (λ (t : ltb (length row) (length text) ≡ true). let z : n ≡ 0 = e ∙ rw t in absurd (omega arith))
+    (λ (t : ltb (length row) (length text) ≡ false). ltb-false (length row) (length text) t)
+    (true-or-false (ltb (length row) (length text)))
+
+-- The verdict on the plan sheet of the least list.
+module _ (name : List ℕ) (run : Run) (list : List Detour) (least : LeastForRun run list) where
+  abbrev froms : List ℕ
+  froms = map (λ d. d .from) list
+
+  abbrev tos : List ℕ
+  tos = map (λ d. d .to) list
+
+  well-formed : WellFormed (stopsOf run) (listOf froms tos)
+  well-formed = rw (list-of-halves list) (least .formed)
+
+  pub rows-accepted : refuses (listVerdict (stopsOf run) froms tos) ≡ false
+  rows-accepted = list-accepted (stopsOf run) froms tos (halves-even (λ d. d .from) (λ d. d .to) list) well-formed
+
+  pub all-yes : checkText name run (planText name run froms tos) froms tos list ≡ bytes "formed=yes\nwalk=yes\nleast=yes\n"
+  unfolding checkText verdictLines walkLine leastLine differenceLines
+  all-yes =
+      rw (
+        eq-eqb (firstBadEntry (stopsOf run) (listOf froms tos)) 0 well-formed,
+        same-text (planText name run froms tos) (planText name run froms tos) refl,
+        same-list froms tos (halves-even (λ d. d .from) (λ d. d .to) list) list (list-of-halves list),
+      )
+
+-- What is accepted of a sheet that can be planned.
+module _ (sheet : List ℕ) (e : refuses (recallVerdict sheet) ≡ false) where
+  sheet-good : refuses (sheetVerdict sheet) ≡ false
+  unfolding verdictBy
+  sheet-good = all-accept (sheetVerdict sheet ∷ ruleVerdict sheet ∷ runChecks (sheetRun sheet)) e .0
+
+  run-good : refuses (judgeOf (sheetRun sheet)) ≡ false
+  unfolding verdictBy
+  run-good = all-accept (sheetVerdict sheet ∷ ruleVerdict sheet ∷ runChecks (sheetRun sheet)) e .1 .1 .0
+
+  check-accepts : (plan : List ℕ) → planForm plan ≡ accepted → refuses (checkVerdict sheet plan) ≡ false
+  unfolding verdictBy
+  check-accepts plan f =
+      let all = all-accept (sheetVerdict sheet ∷ ruleVerdict sheet ∷ runChecks (sheetRun sheet)) e in
+      rw (all .0, all .1 .0, f, all .1 .1 .0, all .1 .1 .1 .0)
+
+  module _ (list : List Detour) (least : LeastForRun (sheetRun sheet) list) (plan : List ℕ) (is : plan ≡ planText (sheetName sheet) (sheetRun sheet) (map (λ d. d .from) list) (map (λ d. d .to) list)) where
+    named : isName (sheetName sheet) ≡ true
+    named = good-name sheet sheet-good
+
+    starts-back : planFroms plan ≡ map (λ d. d .from) list
+    starts-back = ap planFroms is ∙ froms-back (sheetRun sheet) (map (λ d. d .from) list) (map (λ d. d .to) list) run-good (rows-accepted (sheetName sheet) (sheetRun sheet) list least) (sheetName sheet) named
+
+    ends-back : planTos plan ≡ map (λ d. d .to) list
+    ends-back = ap planTos is ∙ tos-back (sheetRun sheet) (map (λ d. d .from) list) (map (λ d. d .to) list) run-good (rows-accepted (sheetName sheet) (sheetRun sheet) list least) (sheetName sheet) named
+
+    form-back : planForm plan ≡ accepted
+    form-back = ap planForm is ∙ plan-formed (sheetRun sheet) (map (λ d. d .from) list) (map (λ d. d .to) list) run-good (rows-accepted (sheetName sheet) (sheetRun sheet) list least) (sheetName sheet) named
+
+    pub said-all : (out : List ℕ) (m : ℕ) (out′ : List ℕ) (c : SheetChecked sheet plan out m out′) → c .text ≡ bytes "formed=yes\nwalk=yes\nleast=yes\n"
+    said-all out m out′ c =
+        let v = c .answers .checked (check-accepts plan form-back) in
+        let one = least-unique (sheetRun sheet .turn) (sheetRun sheet .head) (stopsOf (sheetRun sheet)) (v .list) list (v .least) least in
+        v .says
+        ∙ ap (λ l. checkText (sheetName sheet) (sheetRun sheet) plan (planFroms plan) (planTos plan) l) one
+        ∙ ap (λ x. checkText (sheetName sheet) (sheetRun sheet) plan x (planTos plan) list) starts-back
+        ∙ ap (λ x. checkText (sheetName sheet) (sheetRun sheet) plan (map (λ d. d .from) list) x list) ends-back
+        ∙ ap (λ x. checkText (sheetName sheet) (sheetRun sheet) x (map (λ d. d .from) list) (map (λ d. d .to) list) list) is
+        ∙ all-yes (sheetName sheet) (sheetRun sheet) list least
+
+pub plan-checks : PlanChecks
+plan-checks sheet row n row′ r e some out m out′ c =
+    let p = r .answers .planned e in
+    let fits = put-some (r .text) row n (r .bytes) some in
+    said-all sheet e (p .list) (p .least) (take n row′) (put-whole (r .text) row n row′ (r .bytes) (r .left) fits ∙ p .says) out m out′ c
+
+pub price-tells : PriceTells
+unfolding priceText verdictBy
+price-tells sheet list row n row′ p e =
+    let all = all-accept (sheetVerdict sheet ∷ ruleVerdict sheet ∷ priceChecks list (sheetRun sheet)) e in
+    let is : priceText (priceVerdict sheet list) (sheetName sheet) (sheetRun sheet) list ≡ planText (sheetName sheet) (sheetRun sheet) (listFroms list) (listTos list) = rw e in (
+      list-formed (stopsOf (sheetRun sheet)) (listFroms list) (listTos list) (all .1 .1 .1 .1 .0),
+      λ l. put-whole (planText (sheetName sheet) (sheetRun sheet) (listFroms list) (listTos list)) row n row′
+          (p .bytes ∙ ap (λ t. bytesPut t row) is) (p .left ∙ ap (λ t. rowPut t row) is) l,
+    )

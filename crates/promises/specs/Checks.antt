@@ -1,0 +1,61 @@
+-- Pricing a list and checking a plan sheet. `check` says `walk=yes` exactly when the sheet handed in is the plan sheet of its list, and `least=yes`
+-- exactly when that list is the least one, and else by how much its sum is larger; what `plan` prints for a run checks as both. `price` answers with
+-- the plan sheet of the list handed in.
+use Prim.Native.Nat.{ℕ, _+_, _≤_, _<_}
+use mathlib.Core.Path.{_≡_}
+use mathlib.Core.Logic.{_↔_}
+use mathlib.Core.Bool.{false}
+use mathlib.Core.List.{List, _++_}
+use lib.ListN.{length, take}
+use Rattle.refusals.specs.Refusals.{isRefusal}
+use Rattle.runs.specs.Run.{Run, stopsOf}
+use Rattle.runs.specs.Lists.{Detour, WellFormed, listOf}
+use Rattle.least.specs.Least.{LeastForRun, listSum}
+use Rattle.texts.specs.Text.{bytes, decimal}
+use Rattle.lines.specs.Lines.{lineAfter}
+use Rattle.sheets.specs.Sheet.{sheetRun, sheetName}
+use Rattle.writers.specs.PlanSheet.{planText}
+use Rattle.recalls.specs.Recall.{recallVerdict, SheetRecalled}
+use Rattle.lists.specs.Form.{planFroms, planTos, listFroms, listTos}
+use Rattle.checks.specs.Pricing.{priceVerdict, SheetPriced}
+use Rattle.checks.specs.Checking.{checkVerdict, SheetChecked}
+
+-- A list is the least one of a run, or another sum is so much smaller.
+pub record Larger (run : Run) (list : List Detour) (by : ℕ) : Type 0 where
+  pub least : List Detour
+  pub is : LeastForRun run least
+  pub sum : listSum (run .turn) (run .head) (stopsOf run) list ≡ listSum (run .turn) (run .head) (stopsOf run) least + by
+
+-- What the lines of a verdict say of a plan sheet, for a tape name and a run.
+pub record Told (name : List ℕ) (run : Run) (plan froms tos text : List ℕ) : Type 0 where
+  pub formed : (lineAfter 0 text ≡ bytes "formed=yes") ↔ WellFormed (stopsOf run) (listOf froms tos)
+  pub walk : WellFormed (stopsOf run) (listOf froms tos) → ((lineAfter 1 text ≡ bytes "walk=yes") ↔ (plan ≡ planText name run froms tos))
+  pub least : WellFormed (stopsOf run) (listOf froms tos) → ((lineAfter 2 text ≡ bytes "least=yes") ↔ LeastForRun run (listOf froms tos))
+  pub by : WellFormed (stopsOf run) (listOf froms tos) → (n : ℕ) → lineAfter 2 text ≡ bytes "least=no," ++ decimal n → Larger run (listOf froms tos) n
+
+-- Whatever is handed in and not refused, and whatever answer fits the contract.
+abbrev pub CheckTells : Type 0
+CheckTells =
+    (sheet plan row : List ℕ) (n : ℕ) (row′ : List ℕ) (c : SheetChecked sheet plan row n row′)
+    → isRefusal (checkVerdict sheet plan .refusal) ≡ false
+    → Told (sheetName sheet) (sheetRun sheet) plan (planFroms plan) (planTos plan) (c .text)
+
+-- The sheet that `plan` prints for a run sheet, in a row with room for it, checks as well formed, the walk's and the least.
+abbrev pub PlanChecks : Type 0
+PlanChecks =
+    (sheet row : List ℕ) (n : ℕ) (row′ : List ℕ)
+    → SheetRecalled sheet row n row′
+    → isRefusal (recallVerdict sheet .refusal) ≡ false
+    → 0 < n
+    → (out : List ℕ) (m : ℕ) (out′ : List ℕ) (c : SheetChecked sheet (take n row′) out m out′)
+    → c .text ≡ bytes "formed=yes\nwalk=yes\nleast=yes\n"
+
+-- The price of a list that is not refused: it is well formed, and a row with room for it begins with its plan sheet.
+abbrev pub PriceTells : Type 0
+PriceTells =
+    (sheet list row : List ℕ) (n : ℕ) (row′ : List ℕ)
+    → SheetPriced sheet list row n row′
+    → isRefusal (priceVerdict sheet list .refusal) ≡ false
+    → WellFormed (stopsOf (sheetRun sheet)) (listOf (listFroms list) (listTos list))
+    × (length (planText (sheetName sheet) (sheetRun sheet) (listFroms list) (listTos list)) ≤ length row
+    → take n row′ ≡ planText (sheetName sheet) (sheetRun sheet) (listFroms list) (listTos list))
