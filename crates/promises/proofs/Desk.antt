@@ -14,7 +14,7 @@ use Rattle.refusals.proofs.Verdicts.{refuses}
 use Rattle.runs.proofs.Search.{true-or-false}
 use Rattle.walk.specs.Price.{pricedAnswer}
 use Rattle.tickets.specs.declared.Ticket.{Ticket}
-use Rattle.tickets.specs.Table.{waiting, rowVerdict, Waits}
+use Rattle.tickets.specs.Table.{waiting, rowVerdict, Waits, Sound}
 use Rattle.tickets.specs.Filings.{ticketOf, fileVerdict, fileRow}
 use Rattle.tickets.proofs.Storing.{file-accepted, office-is, range-office}
 use borrow.Author.Tests.{eq-eqb}
@@ -31,10 +31,13 @@ stays table (then fits day) = stays (step 1 (inl refl) table fits .1) day
 pub table-stays : TableStays
 table-stays row last cs table day = stays table day
 
-pub table-from-empty : TableFromEmpty
-table-from-empty last cs day =
+pub empty-sound : Sound [] [] emptyTable
+empty-sound =
     let none : (office : ℕ) → Waits office [] = λ office. record { few = omega arith; each = λ i l. absurd (omega arith) } in
-    stays (table-of [] [] emptyTable (record { one = none 1; two = none 2; is = refl })) day
+    record { one = none 1; two = none 2; is = refl }
+
+pub table-from-empty : TableFromEmpty
+table-from-empty last cs day = stays (table-of [] [] emptyTable empty-sound) day
 
 -- One office's tickets, in order.
 in-order-of : (office : ℕ) → IsOffice office → {row last : List Ticket} {cs : List Call} → IsTable row → Day row cs last
