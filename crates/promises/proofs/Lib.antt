@@ -2,4 +2,6 @@
 pub mod Gathered
 pub mod Copied
 pub mod Again
+pub mod Canonical
+pub mod Same
 pub mod Mends
