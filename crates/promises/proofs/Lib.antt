@@ -4,4 +4,5 @@ pub mod Copied
 pub mod Again
 pub mod Canonical
 pub mod Same
+pub mod Taken
 pub mod Mends
