@@ -476,9 +476,9 @@ def blocks(name):
 
 
 def transcripts(at):
-    """The examples of README and OPERATOR, as pasted, print what stands below them."""
+    """The examples of README, OPERATOR and AUDIT, as pasted, print what stands below them."""
     tried = 0
-    for block in blocks("docs/OPERATOR.md"):
+    for block in [*blocks("docs/OPERATOR.md"), *blocks("docs/AUDIT.md")]:
         lines, must = [], []
         for line in block + ["$ "]:
             if not line.startswith("$ "):
@@ -489,12 +489,12 @@ def transcripts(at):
                     printed = out.decode() + (said if not out.startswith(b"refused") else "")
                     tried += 1
                     if printed != "\n".join(must) + "\n":
-                        raise Wrong(f"OPERATOR.md: {lines} prints {printed!r}, and the document has {must}")
+                        raise Wrong(f"OPERATOR.md or AUDIT.md: {lines} prints {printed!r}, and the document has {must}")
                 lines, must = [], []
             if line.startswith("$ "):
                 lines.append(line[2:])
     if tried < 13:
-        raise Wrong(f"OPERATOR.md has only {tried} examples that can be tried")
+        raise Wrong(f"OPERATOR.md and AUDIT.md have only {tried} examples that can be tried")
     readme = list(blocks("README.md"))
     at.must("\n".join(readme[0]), 0, ("\n".join(readme[1]) + "\n").encode(), silent=True)
     said = [block[0] for block in readme if block[0].startswith("violstream: ")]
