@@ -21,10 +21,11 @@ use Rattle.writers.proofs.Reread.{line-first, line-behind, key-begins, key-valu
 use Rattle.loose.specs.Loose.{linesBefore, looseFiles, looseWantsText, looseWantText, looseWants, looseEnd, wantsSaid, priceLeftOut, firstBadTop, firstBadBelow, firstBadLoose, wantedFiles, wantedCounts}
 use Rattle.loose.proofs.Wants.{lines-good, want-lines-good}
 use Rattle.sheets.proofs.Rows.{length-each}
-use Rattle.mends.specs.Wants.{sumOf, enter, remaining, readsIn, askedOf, readsOf}
+use Rattle.mends.specs.declared.wants.Fate.the-variants.{Stays}
+use Rattle.mends.specs.Wants.{sumOf, enter, remaining, readsIn, askedOf, readsOf, readsEach, fateOf}
 use Rattle.mends.proofs.Counting.{sum-below, asked-within}
 use Rattle.mends.proofs.Texts.{each-long, each-at, few-files}
-use Rattle.mends.specs.Mending.{firstLines, sheetRemaining, sheetReads, mendedText}
+use Rattle.mends.specs.Mending.{firstLines, sheetRemaining, sheetReads, mendedText, fateLines}
 use Rattle.promises.proofs.Copied.{Ended, ended-all, copied-after, copied-line, copied-again}
 
 -- A line that is not empty has its LF.
@@ -41,7 +42,7 @@ unfolding startsWith
 key-ended k key text begun = line-ended text (λ e. true≢false (sym begun ∙ ap (startsWith (k ∷ key)) e))
 
 -- So many lines that pass a test, and one that does not, are so many that come.
-come-so-many : (test : List ℕ → Bool) (most n : ℕ) (text : List ℕ) → n ≤ most → ((i : ℕ) → i < n → test (lineAfter i text) ≡ true) → (n < most → test (lineAfter n text) ≡ false)
+pub come-so-many : (test : List ℕ → Bool) (most n : ℕ) (text : List ℕ) → n ≤ most → ((i : ℕ) → i < n → test (lineAfter i text) ≡ true) → (n < most → test (lineAfter n text) ≡ false)
     → linesBefore most (firstBadOf test most text) ≡ n
 unfolding firstBadOf
 come-so-many test most n text l good bad = go (ltb n most) refl
@@ -64,11 +65,11 @@ come-so-many test most n text l good bad = go (ltb n most) refl
         rw none (sym e)
 
 -- Three numbers behind one key are not a number behind another.
-not-file : (text : List ℕ) → isTripleLine fileKey (wantsKey ++ text) ≡ false
+pub not-file : (text : List ℕ) → isTripleLine fileKey (wantsKey ++ text) ≡ false
 unfolding isTripleLine startsWith
 not-file text = refl
 
-not-want : isPairLine wantKey (lineOf []) ≡ false
+pub not-want : isPairLine wantKey (lineOf []) ≡ false
 unfolding isPairLine startsWith lineOf has
 not-want = refl
 
@@ -162,16 +163,30 @@ all-remaining m files counts h (suc n) = go (all-remaining m files counts h n) (
     go p true = p
     go p false = all-enter m (getD files n 0) (remaining files counts n) (h n) p
 
-none-more : (n : ℕ) (ns : List ℕ) → firstSome (n ∷ ns) ≡ 0 → (n ≡ 0) × (firstSome ns ≡ 0)
+pub none-more : (n : ℕ) (ns : List ℕ) → firstSome (n ∷ ns) ≡ 0 → (n ≡ 0) × (firstSome ns ≡ 0)
 none-more zero ns e = (refl, e)
 none-more (suc n) ns e = absurd (omega (arith, e))
 
-line-good : (b : Bool) (line : ℕ) → unless b (suc line) ≡ 0 → b ≡ true
+pub line-good : (b : Bool) (line : ℕ) → unless b (suc line) ≡ 0 → b ≡ true
 line-good true line e = refl
 line-good false line e = absurd (omega (arith, e))
 
-regroup : (a b c d e f g : List ℕ) → a ++ b ++ c ++ d ++ e ++ f ++ g ≡ a ++ (b ++ (c ++ (d ++ (e ++ (f ++ g)))))
+pub regroup : (a b c d e f g : List ℕ) → a ++ b ++ c ++ d ++ e ++ f ++ g ≡ a ++ (b ++ (c ++ (d ++ (e ++ (f ++ g)))))
 regroup a b c d e f g = simp append-assoc
+
+-- Wants gathered once more, and lines that all stay.
+pub remaining-once : (t row asked : List ℕ) → wantedFiles t ≡ row → wantedCounts t ≡ asked → remaining row asked (length row) ≡ row → sheetRemaining t ≡ row
+unfolding sheetRemaining
+remaining-once t row asked e f g = rw (e, f) g
+
+pub reads-once : (t row asked : List ℕ) → wantedFiles t ≡ row → wantedCounts t ≡ asked → sheetRemaining t ≡ row → readsEach row asked row ≡ asked → sheetReads t ≡ asked
+unfolding sheetReads
+reads-once t row asked e f g h = rw (g, e, f) h
+
+pub fates-none : (above : ℕ) (files counts : List ℕ) (n : ℕ) → ((i : ℕ) → i < n → fateOf files counts i ≡ Stays) → fateLines above files counts n ≡ []
+unfolding fateLines
+fates-none above files counts zero h = refl
+fates-none above files counts (suc n) h = rw (fates-none above files counts n (λ i l. h i (omega arith)), h n (omega arith))
 
 -- The mended sheet of one whose lines are as described, with at most 64 wants and 1,024 reads.
 module _ (sheet : List ℕ) (good : firstBadLoose sheet ≡ 0) (few : length (sheetRemaining sheet) ≤ mostWants) (reads : readsIn (wantedCounts sheet) ≤ mostReads) where

@@ -10,6 +10,8 @@ pub mod DeskCases
 pub mod Gathered
 pub mod Copied
 pub mod Again
+pub mod Canonical
+pub mod Same
 pub mod Mends
 pub mod MonthTotals
 pub mod MonthNames

@@ -18,7 +18,7 @@ use Rattle.runs.specs.Lists.{anyBelow}
 use Rattle.runs.proofs.Search.{any-here}
 use Rattle.sheets.specs.Reading.{readRow}
 use Rattle.texts.specs.Text.{bytes}
-use Rattle.sheets.specs.Sheet.{longestSheet, sheetTurn, saysSweep, sheetFiles, fileText}
+use Rattle.sheets.specs.Sheet.{longestSheet, sheetTurn, saysSweep, sheetFiles, fileText, sheetRun}
 use Rattle.loose.specs.Loose.{looseFiles, wantsSaid, priceLeftOut, firstBadLoose, wantedFiles, wantedCounts}
 use Rattle.loose.specs.Reading.{looseVerdict}
 use Rattle.mends.specs.declared.Mended.{Mended}
@@ -27,9 +27,13 @@ use Rattle.mends.specs.declared.wants.Fate.the-variants.{Stays, Moved, Added, D
 use Rattle.mends.specs.Wants.{remaining, readsIn, askedOf, readsOf, readsEach, sameAbove, higherAbove, fateOf}
 use Rattle.mends.specs.Mending.{firstLines, sheetRemaining, sheetReads, mendedText, changeIf, changesText, fateLine, fateLines, wantsVerdicts, textsVerdicts, mendVerdict, SheetMended}
 use Rattle.mends.proofs.Answers.{mend-determined}
-use Rattle.promises.specs.Mends.{InRows, MendedRows, MendingDetermined, WasMended, SameReads, ReadsKept, Orderly, InOrder, MendedInOrder, SameFile, HigherFile, FateBy, FatesByConditions, SaidOf, EveryFateListed, OnceIsEnough}
+use Rattle.promises.specs.Mends.{InRows, MendedRows, MendingDetermined, WasMended, SameReads, ReadsKept, Orderly, InOrder, MendedInOrder, SameFile, HigherFile, FateBy, FatesByConditions, SaidOf, EveryFateListed, OnceIsEnough, ComesBack, AcceptedComesBack}
 use Rattle.promises.proofs.Gathered.{rising-at, Clean, remaining-clean, clean-remaining, clean-each, clean-stays, reads-kept, total-kept}
-use Rattle.promises.proofs.Again.{lines-even, upper-again, turn-again, price-there, rule-there, files-said, files-again, table-again, wants-said, wants-again, named-again, asked-again, good-again}
+use Rattle.runs.specs.Judging.{judgeOf}
+use Rattle.lines.specs.Lines.{afterLines}
+use Rattle.sheets.specs.Reading.{sheetVerdict}
+use Rattle.promises.proofs.Same.{old-sheet, new-sheet, same-sheet, one-change}
+use Rattle.promises.proofs.Again.{lines-even, upper-again, turn-again, price-there, rule-there, files-said, files-again, table-again, wants-said, wants-again, named-again, asked-again, good-again, remaining-once, reads-once, fates-none}
 
 accepted-passes : (kind : Refusal) → kind ≡ Accepted → isRefusal kind ≡ false
 accepted-passes kind e = rw e
@@ -143,23 +147,10 @@ pub mended-in-order : MendedInOrder
 mended-in-order sheet text m = in-order sheet text m
 
 -- A sheet with the parts of another has its mended text; one with nothing to change lists none.
-remaining-once : (t row asked : List ℕ) → wantedFiles t ≡ row → wantedCounts t ≡ asked → remaining row asked (length row) ≡ row → sheetRemaining t ≡ row
-unfolding sheetRemaining
-remaining-once t row asked e f g = rw (e, f) g
-
-reads-once : (t row asked : List ℕ) → wantedFiles t ≡ row → wantedCounts t ≡ asked → sheetRemaining t ≡ row → readsEach row asked row ≡ asked → sheetReads t ≡ asked
-unfolding sheetReads
-reads-once t row asked e f g h = rw (g, e, f) h
-
 same-parts : (t sheet : List ℕ) → firstLines 2 t ≡ firstLines 2 sheet → sheetTurn t ≡ sheetTurn sheet → firstLines (looseFiles t) (fileText t) ≡ firstLines (looseFiles sheet) (fileText sheet)
     → looseFiles t ≡ looseFiles sheet → sheetRemaining t ≡ sheetRemaining sheet → sheetReads t ≡ sheetReads sheet → mendedText t ≡ mendedText sheet
 unfolding mendedText
 same-parts t sheet upper turn table files wants reads = rw (upper, turn, table, files, wants, reads)
-
-fates-none : (above : ℕ) (files counts : List ℕ) (n : ℕ) → ((i : ℕ) → i < n → fateOf files counts i ≡ Stays) → fateLines above files counts n ≡ []
-unfolding fateLines
-fates-none above files counts zero h = refl
-fates-none above files counts (suc n) h = rw (fates-none above files counts n (λ i l. h i (omega arith)), h n (omega arith))
 
 no-changes : (t : List ℕ) → priceLeftOut t ≡ false → saysSweep t ≡ false → sheetFiles t ≡ looseFiles t → wantsSaid t ≡ length (sheetRemaining t)
     → fateLines (looseFiles t + 6) (wantedFiles t) (wantedCounts t) (length (wantedFiles t)) ≡ [] → changesText t ≡ []
@@ -324,3 +315,16 @@ said-of sheet listed above line files counts top e l =
 pub every-fate-listed : EveryFateListed
 unfolding changesText
 every-fate-listed sheet line l = said-of sheet (changesText sheet) (looseFiles sheet + 6) line (wantedFiles sheet) (wantedCounts sheet) (topChanges sheet) refl l
+
+pub accepted-comes-back : AcceptedComesBack
+accepted-comes-back sheet read least fair =
+    let good : isRefusal (sheetVerdict sheet .refusal) ≡ false = rw read in
+    let run : isRefusal (judgeOf (sheetRun sheet) .refusal) ≡ false = rw fair in
+    record {
+      above = firstLines 2 sheet;
+      back = afterLines 3 sheet;
+      old = old-sheet sheet good run least;
+      new = new-sheet sheet good run least;
+      given = same-sheet sheet good run least;
+      listed = one-change sheet good run least;
+    }

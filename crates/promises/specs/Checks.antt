@@ -20,7 +20,7 @@ use Rattle.lists.specs.Form.{planFroms, planTos, listFroms, listTos}
 use Rattle.checks.specs.Pricing.{priceVerdict, SheetPriced}
 use Rattle.checks.specs.Checking.{checkVerdict, SheetChecked}
 
--- A list is the least one of a run, or another sum is so much smaller.
+-- By how much the sum of a list is larger than the least sum of a run.
 pub record Larger (run : Run) (list : List Detour) (by : ℕ) : Type 0 where
   pub least : List Detour
   pub is : LeastForRun run least

@@ -1,18 +1,27 @@
 -- The request on mending (L11): what stands in the two rows; the reads of every file are kept; the wants written ascend, none repeats, none is 0; each
--- want line's fate, by conditions of its own; every change is listed and nothing else; what is written needs no second mending.
+-- want line's fate, by conditions of its own; every change is listed and nothing else; what is written needs no second mending; the sheet of an accepted
+-- run comes back.
 use Prim.Native.Nat.{ℕ, _+_, _≤_, _<_}
 use mathlib.Core.Path.{_≡_}
+use mathlib.Core.Bool.{false}
 use mathlib.Core.List.{List, [], _++_}
 use lib.ListN.{length, take, drop, getD}
 use Rattle.refusals.specs.declared.Refusal.the-variants.{Accepted}
+use Rattle.refusals.specs.Refusals.{accepted}
 use Rattle.runs.specs.Run.{mostWants}
-use Rattle.sheets.specs.Sheet.{sheetFiles}
-use Rattle.loose.specs.Loose.{looseFiles, looseWants, wantsSaid, firstBadLoose, wantedFiles, wantedCounts}
+use Rattle.runs.specs.Judging.{judgeOf}
+use Rattle.texts.specs.Text.{bytes}
+use Rattle.lines.specs.Lines.{lineAfter, valueText}
+use Rattle.sheets.specs.Lines.{turnKey}
+use Rattle.sheets.specs.Sheet.{sheetTurn, saysSweep, sheetFiles, sheetRun}
+use Rattle.sheets.specs.Reading.{sheetVerdict}
+use Rattle.prints.specs.Printing.{line, numberLine}
+use Rattle.loose.specs.Loose.{looseFiles, looseWants, wantsSaid, priceLeftOut, firstBadLoose, wantedFiles, wantedCounts}
 use Rattle.mends.specs.declared.Mended.{Mended}
 use Rattle.mends.specs.declared.wants.Fate.{Fate}
 use Rattle.mends.specs.declared.wants.Fate.the-variants.{Stays, Moved, Added, Dropped}
 use Rattle.mends.specs.Wants.{readsIn, readsOf, fateOf}
-use Rattle.mends.specs.Mending.{mendedText, changesText, fateLine, SheetMended}
+use Rattle.mends.specs.Mending.{mendedText, changeIf, changesText, fateLine, SheetMended}
 
 -- An accepted mending: the mended sheet and the changes stand in the first bytes of the rows, and the later bytes are as they were.
 pub record InRows (sheet out notes : List ℕ) (answer : Mended) (out′ notes′ : List ℕ) : Type 0 where
@@ -116,3 +125,21 @@ OnceIsEnough =
     → SheetMended text out notes answer out′ notes′
     → length text ≤ length out
     → (answer ≡ record { refusal = Accepted; place = 0; bytes = length text; noted = 0 }) × (take (length text) out′ ≡ text)
+
+-- The sheet of an accepted run comes back the same, byte for byte, apart from an empty turn price written out: what stands above the third line and
+-- below it is as it was, and that price is the one change listed.
+pub record ComesBack (sheet : List ℕ) : Type 0 where
+  pub above : List ℕ
+  pub back : List ℕ
+  pub old : sheet ≡ above ++ (line turnKey (valueText turnKey (lineAfter 2 sheet)) ++ back)
+  pub new : mendedText sheet ≡ above ++ (numberLine turnKey (sheetTurn sheet) ++ back)
+  pub given : priceLeftOut sheet ≡ false → mendedText sheet ≡ sheet
+  pub listed : changesText sheet ≡ changeIf (priceLeftOut sheet) 3 (bytes "turn")
+
+abbrev pub AcceptedComesBack : Type 0
+AcceptedComesBack =
+    (sheet : List ℕ)
+    → sheetVerdict sheet ≡ accepted
+    → saysSweep sheet ≡ false
+    → judgeOf (sheetRun sheet) ≡ accepted
+    → ComesBack sheet
