@@ -267,7 +267,7 @@ def help_and_version(at):
     for line in ("version", "plan --version", "ltfs --version", "test --version"):
         at.must(f"./violstream {line}", 0, version, silent=True)
     at.must("./violstream version > /dev/full", 1, b"", ["cannot write to standard output"])
-    for number in (2, 4, 5, 6, 7, 9, 10, 11, 12, 13, 20, 21, 22, 23):
+    for number in (2, 3, 4, 5, 6, 7, 9, 10, 11, 12, 13, 19, 20, 21, 22, 23, 24, 25):
         if re.search(rb"\n +%d  \S" % number, text) is None:
             raise Wrong(f"./violstream help does not list refusal {number}")
 
@@ -476,9 +476,9 @@ def blocks(name):
 
 
 def transcripts(at):
-    """The examples of README and OPERATOR, as pasted, print what stands below them."""
+    """The examples of README, OPERATOR and AUDIT, as pasted, print what stands below them."""
     tried = 0
-    for block in blocks("docs/OPERATOR.md"):
+    for block in [*blocks("docs/OPERATOR.md"), *blocks("docs/AUDIT.md")]:
         lines, must = [], []
         for line in block + ["$ "]:
             if not line.startswith("$ "):
@@ -489,12 +489,12 @@ def transcripts(at):
                     printed = out.decode() + (said if not out.startswith(b"refused") else "")
                     tried += 1
                     if printed != "\n".join(must) + "\n":
-                        raise Wrong(f"OPERATOR.md: {lines} prints {printed!r}, and the document has {must}")
+                        raise Wrong(f"OPERATOR.md or AUDIT.md: {lines} prints {printed!r}, and the document has {must}")
                 lines, must = [], []
             if line.startswith("$ "):
                 lines.append(line[2:])
     if tried < 13:
-        raise Wrong(f"OPERATOR.md has only {tried} examples that can be tried")
+        raise Wrong(f"OPERATOR.md and AUDIT.md have only {tried} examples that can be tried")
     readme = list(blocks("README.md"))
     at.must("\n".join(readme[0]), 0, ("\n".join(readme[1]) + "\n").encode(), silent=True)
     said = [block[0] for block in readme if block[0].startswith("violstream: ")]
@@ -515,7 +515,7 @@ def manual(at):
     if f'"{version}"' not in page:
         raise Wrong(f"docs/violstream.1 is not of {version}")
     text = " ".join(at.shell("./violstream help")[0].decode().split())
-    for number in (2, 4, 5, 6, 7, 9, 10, 11, 12, 13, 20, 21, 22, 23):
+    for number in (2, 3, 4, 5, 6, 7, 9, 10, 11, 12, 13, 19, 20, 21, 22, 23, 24, 25):
         words = re.search(r"\n%d\n([^.]*)\n\." % number, page)
         if words is None or " ".join(words[1].split()) not in text:
             raise Wrong(f"docs/violstream.1 does not say of refusal {number} what the help says: {words and words[1]!r}")
