@@ -1,7 +1,7 @@
 -- A filing: the store that the code makes is one ticket more at its office, and the answer by the verdict.
-use Prim.Native.Nat.{ℕ, suc, _+_, _-_, _≤_, _<_}
-use mathlib.Core.Path.{_≡_, refl, sym, ap, _∙_}
-use mathlib.Core.Bool.{Bool, true, false, not, cond, _&&_, true≢false}
+use Prim.Native.Nat.{ℕ, _+_, _<_}
+use mathlib.Core.Path.{_≡_, refl, ap, _∙_}
+use mathlib.Core.Bool.{true, false, not, cond, _&&_}
 use mathlib.Core.List.{List, [], _∷_, _++_}
 use mathlib.Core.Logic.{⊎-elim, _⊎_, inl, inr}
 use native.Mathlib.Omega.{arith}
@@ -12,7 +12,7 @@ use lib.ListN.{length, getD, set}
 use borrow.Author.Tests.{leb-true, leb-false, eqb-false, not-true, not-false, eq-eqb, ne-eqb}
 use Rattle.refusals.specs.declared.Refusal.the-variants.{ShortRow, BadRecord, BadTicket, OfficeFull, NumbersSpent}
 use Rattle.refusals.specs.declared.Verdict.{Verdict}
-use Rattle.refusals.specs.Refusals.{isRefusal, refuseIf, refuseAt, firstOf, firstWhere}
+use Rattle.refusals.specs.Refusals.{refuseIf, refuseAt, firstWhere}
 use Rattle.refusals.proofs.Verdicts.{refuses, all-accept, accepts-if, accepts-at}
 use Rattle.tickets.specs.declared.Ticket.{Ticket}
 use Rattle.tickets.specs.declared.Lasts.{Lasts}

@@ -1,31 +1,32 @@
+-- `boardings::boarded_by` meets its contract: a refusal leaves the row; else those that stay are the sound row without the first of each office.
+-- Assumes nothing.
+use mathlib.Core.Path.{_≡_, _∙_}
+use lib.ListN.{length}
 use borrow.Author.Needs.{needs}
+use Rattle.boardings.proofs.Who.{staying}
+use Rattle.boardings.proofs.Answers.{nobody, somebody}
 use Rattle.boardings.proofs.boarded_by.Statement.{statement}
 use Rattle.boardings.proofs.boarded_by.Tie as tie
-use Rattle.boardings.proofs.boarded_by.Reads as reads
-use Rattle.boardings.proofs.boarded_by.Lts as lts
-use Rattle.boardings.proofs.not_boarded.Reads as not-boarded-reads
-use Rattle.refusals.proofs.number.Reads as number-reads
-use Rattle.tickets.proofs.without_first.Reads as without-first-reads
 
--- src/lib.rt:107:8
 number-requires : tie.Need-number-requires
 number-requires c κs = search needs
 
--- src/lib.rt:108:9
 not-boarded-requires : tie.Need-not-boarded-requires
 not-boarded-requires c κs = search needs
 
--- src/lib.rt:108:9
-returns : tie.Need-returns
-returns c = ?
+long : (s : tie.Start) → length (s .args .row) ≡ 32
+long s = search needs
 
--- src/lib.rt:110:9
+returns : tie.Need-returns
+returns c = let n = c .before .before in let a = n .before .args in nobody (a .row) (a .answer) (n .number .result) (n .number .ensures) (c .before .if1 .taken) (c .not-boarded .result) (c .not-boarded .ensures)
+
 without-first-requires : tie.Need-without-first-requires
 without-first-requires c κs = search needs
 
--- src/lib.rt:100:1
 returns-2 : tie.Need-returns-2
-returns-2 c = ?
+returns-2 c = let n = c .before .before in let s = n .before in let a = s .args in
+    somebody (a .row) (a .answer) (n .number .result) (n .number .ensures) (c .before .if1 .left) (a .taken) (a .wants) (c .without-first .result) (s .pre .1 .0) (s .pre .1 .1)
+    (c .without-first .ensures ∙ staying (a .row) (long s) (s .pre .0) (a .taken) (s .pre .1 .0))
 
 pub boarded-by-spec : {M : Type 1} → statement M
 boarded-by-spec =

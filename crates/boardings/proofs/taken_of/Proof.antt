@@ -1,30 +1,33 @@
+-- `boardings::taken_of` meets its contract: the two shares, by how many wait.
+-- Assumes nothing.
+use Prim.Native.Nat.{ℕ}
+use mathlib.Core.Path.{_≡_, _∙_}
+use Rattle.boardings.specs.declared.Taken.{Taken}
+use Rattle.boardings.specs.Boarders.{share}
 use borrow.Author.Needs.{needs}
 use Rattle.boardings.proofs.taken_of.Statement.{statement}
 use Rattle.boardings.proofs.taken_of.Tie as tie
-use Rattle.boardings.proofs.taken_of.Reads as reads
-use Rattle.boardings.proofs.taken_of.Lts as lts
-use Rattle.boardings.proofs.share_of.Reads as share-of-reads
-use Rattle.tickets.proofs.count_waiting.Reads as count-waiting-reads
 
--- src/lib.rt:72:9
 count-waiting-requires : tie.Need-count-waiting-requires
 count-waiting-requires c κs = search needs
 
--- src/lib.rt:73:9
 count-waiting-requires-2 : tie.Need-count-waiting-requires-2
 count-waiting-requires-2 c κs = search needs
 
--- src/lib.rt:75:14
 share-of-requires : tie.Need-share-of-requires
 share-of-requires c κs = search needs
 
--- src/lib.rt:76:14
 share-of-requires-2 : tie.Need-share-of-requires-2
 share-of-requires-2 c κs = search needs
 
--- src/lib.rt:69:1
+made : {a b x y : ℕ} → a ≡ x → b ≡ y → _≡_ {A = Taken} (record { one = a; two = b }) (record { one = x; two = y })
+made e f = cc
+
+shares : {a b x y : ℕ} → a ≡ x → b ≡ y → share a b ≡ share x y
+shares e f = cc
+
 returns : tie.Need-returns
-returns c = ?
+returns c = let t = c .before .before in let o = t .before .count-waiting .ensures in let w = t .count-waiting2 .ensures in made (c .before .share-of .ensures ∙ shares o w) (c .share-of2 .ensures ∙ shares w o)
 
 pub taken-of-spec : {M : Type 1} → statement M
 taken-of-spec =
