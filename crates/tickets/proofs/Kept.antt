@@ -1,7 +1,7 @@
 -- What a filing, a withdrawal and a boarding leave of an office's tickets: numbers that ascend, none above the last that was given.
-use Prim.Native.Nat.{ℕ, zero, suc, _+_, _-_, _≤_, _<_}
-use mathlib.Core.Path.{_≡_, refl, sym, ap, _∙_}
-use mathlib.Core.Bool.{Bool, true, false, not, cond, _&&_, true≢false}
+use Prim.Native.Nat.{ℕ, suc, _+_, _-_, _≤_, _<_}
+use mathlib.Core.Path.{_≡_, refl, ap, _∙_}
+use mathlib.Core.Bool.{true, false, not, cond, _&&_}
 use mathlib.Core.List.{List, [], _∷_, _++_}
 use mathlib.Core.Logic.{⊎-elim, _⊎_, inl, inr}
 use native.Mathlib.Omega.{arith}
@@ -10,20 +10,19 @@ use lib.Dec.{eqb, leb}
 use lib.ListN.{length, getD, take, drop, length-append, length-drop, List·getD-append}
 use lib.Seq.{getD-drop, getD-append-seam}
 use borrow.Author.Tests.{eqb-false, leb-true, le-leb, eq-eqb, ne-eqb, not-true}
-use Rattle.refusals.specs.Refusals.{isRefusal}
 use Rattle.refusals.proofs.Verdicts.{refuses}
 use Rattle.tickets.specs.declared.Ticket.{Ticket}
 use Rattle.tickets.specs.declared.Lasts.{Lasts}
 use Rattle.tickets.specs.declared.Filing.{Filing}
 use Rattle.tickets.specs.declared.Withdrawal.{Withdrawal}
-use Rattle.tickets.specs.Table.{offices, places, mostCount, noTicket, upTo, isTicket, lastOf, waiting, rowOf, rowWithout, Waits, Sound}
+use Rattle.tickets.specs.Table.{offices, places, noTicket, upTo, isTicket, lastOf, waiting, rowOf, Waits, Sound}
 use Rattle.tickets.specs.Filings.{inRange, fileVerdict, numberFor, lastsWith, ticketOf, withTicket, rowWith, notFiled, filedIn, fileRow}
 use Rattle.tickets.specs.Withdrawals.{hasNumber, withoutNumber, withdrawVerdict, withoutTicket, rowLeft, withdrawRow}
 use Rattle.tickets.specs.Private.{leaving, indexOf}
 use Rattle.tickets.proofs.Sound.{and-true-both}
-use Rattle.tickets.proofs.Placed.{leaving-long, leaving-before, leaving-behind, waiting-one, waiting-two, sound-without}
-use Rattle.tickets.proofs.Storing.{Accepted, file-accepted, office-is, range-office}
-use Rattle.tickets.proofs.Leaving.{without-index, index-in, Taken, withdraw-accepted}
+use Rattle.tickets.proofs.Placed.{leaving-before, leaving-behind, waiting-one, waiting-two}
+use Rattle.tickets.proofs.Storing.{office-is, range-office}
+use Rattle.tickets.proofs.Leaving.{without-index, index-in}
 
 -- A ticket's number is at least 1 and at most the last; a later last does no harm.
 module _ (office last : ℕ) (t : Ticket) (is : isTicket office last t ≡ true) where

@@ -1,7 +1,7 @@
 -- A withdrawal: where the ticket stands, as a loop finds it, and the row without it.
-use Prim.Native.Nat.{ℕ, zero, suc, _+_, _-_, _≤_, _<_}
+use Prim.Native.Nat.{ℕ, suc, _+_, _≤_, _<_}
 use mathlib.Core.Path.{_≡_, refl, sym, ap, _∙_}
-use mathlib.Core.Bool.{Bool, true, false, not, cond, _&&_, _||_, true≢false}
+use mathlib.Core.Bool.{Bool, true, false, not, cond, true≢false}
 use mathlib.Core.List.{List, [], _∷_, _++_, append-nil}
 use mathlib.Core.Logic.{⊎-elim, _⊎_}
 use native.Mathlib.Omega.{arith}
@@ -12,15 +12,15 @@ use lib.Seq.{drop-cons, drop-at, take-all, paste}
 use borrow.Author.Tests.{lt-ltb, le-ltb, ltb-true, not-false}
 use Rattle.refusals.specs.declared.Refusal.the-variants.{NotWaiting}
 use Rattle.refusals.specs.declared.Verdict.{Verdict}
-use Rattle.refusals.specs.Refusals.{isRefusal, refuseIf, firstOf}
+use Rattle.refusals.specs.Refusals.{refuseIf}
 use Rattle.refusals.proofs.Verdicts.{refuses, all-accept, accepts-if}
 use Rattle.runs.proofs.Search.{ltb-same}
 use Rattle.tickets.specs.declared.Ticket.{Ticket}
 use Rattle.tickets.specs.declared.Lasts.{Lasts}
 use Rattle.tickets.specs.declared.Withdrawal.{Withdrawal}
 use Rattle.tickets.specs.declared.WithdrawnRow.{WithdrawnRow}
-use Rattle.tickets.specs.Table.{offices, places, allPlaces, noTicket, upTo, firstPlace, half, ticketsIn, waiting, placed, rowOf, rowVerdict, Sound}
-use Rattle.tickets.specs.Withdrawals.{hasNumber, withoutNumber, isWaiting, withdrawVerdict, withoutTicket, rowLeft, withdrawRow}
+use Rattle.tickets.specs.Table.{offices, places, allPlaces, noTicket, upTo, firstPlace, waiting, placed, rowOf, rowVerdict, Sound}
+use Rattle.tickets.specs.Withdrawals.{hasNumber, withoutNumber, isWaiting, withdrawVerdict, withdrawRow}
 use Rattle.tickets.specs.Private.{leaving, closedUp, indexOf}
 use Rattle.tickets.proofs.Halves.{tickets-at, tickets-fit, placesFrom, places-long, place-in-row, first-place-within}
 use Rattle.tickets.proofs.Sound.{and-true-both}

@@ -6,14 +6,13 @@ use mathlib.Core.List.{List, [], _∷_, _++_, append-nil}
 use native.Mathlib.Omega.{arith}
 use native.Mathlib.Decide.{decLt}
 use lib.ListN.{length, getD, set, take, drop, replicate, length-append, length-drop, length-replicate, List·getD-append, List·getD-eq-default, drop-of-length-le, take-append-drop}
-use lib.Seq.{ext-getD, getD-take, take-at, drop-at, set-at, set-append-left, getD-append-add, getD-drop, append-snoc, paste, paste-zero, paste-suc, take-all}
-use borrow.Author.Tests.{eq-eqb, ne-eqb, lt-ltb, le-ltb}
-use native.Mathlib.Numerals.{add-one}
+use lib.Seq.{ext-getD, getD-take, take-at, drop-at, set-at, set-append-left, getD-append-add, getD-drop, append-snoc, paste, take-all}
+use borrow.Author.Tests.{lt-ltb, le-ltb}
 use Rattle.refusals.specs.Refusals.{firstWhere}
 use Rattle.runs.proofs.Search.{first-all}
 use Rattle.tickets.specs.declared.Ticket.{Ticket}
 use Rattle.tickets.specs.declared.Lasts.{Lasts}
-use Rattle.tickets.specs.Table.{places, allPlaces, noTicket, isEmpty, isTicket, follows, lastOf, officeAt, isFirstPlace, isOutOfTurn, badRecord, half, ticketsIn, waiting, placed, rowOf, Waits, Sound, rowWithout}
+use Rattle.tickets.specs.Table.{places, allPlaces, noTicket, isEmpty, isTicket, lastOf, officeAt, isFirstPlace, isOutOfTurn, badRecord, half, ticketsIn, waiting, placed, rowOf, Waits, Sound, rowWithout}
 use Rattle.tickets.specs.Private.{leaving, closedUp}
 use Rattle.tickets.proofs.Halves.{tickets-none, tickets-one, tickets-end, placesFrom, places-long, place-in-row}
 use Rattle.tickets.proofs.Sound.{ticket-not-empty}

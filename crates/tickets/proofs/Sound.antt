@@ -5,17 +5,16 @@ use mathlib.Core.Bool.{Bool, true, false, not, true≢false, _&&_, _||_}
 use mathlib.Core.List.{List, [], _∷_, _++_}
 use mathlib.Core.Logic.{⊎-elim}
 use native.Mathlib.Omega.{arith}
-use native.Mathlib.Nat.{suc-sub-suc, sub-zero, zero-sub}
-use native.Mathlib.Decide.{decLt}
-use lib.Dec.{eqb, ltb, leb}
-use lib.ListN.{length, getD, take, drop, replicate, length-append, length-replicate, getD-replicate, List·getD-append, take-append-drop}
-use lib.Seq.{ext-getD, take-at, drop-at, getD-append-add, take-all}
-use borrow.Author.Tests.{eqb-true, eq-eqb, ne-eqb, lt-ltb, le-ltb, ltb-true, not-true, not-false}
+use native.Mathlib.Nat.{suc-sub-suc, sub-zero}
+use lib.Dec.{eqb, ltb}
+use lib.ListN.{length, getD, take, drop, replicate, length-replicate, getD-replicate, take-append-drop}
+use lib.Seq.{ext-getD, take-all}
+use borrow.Author.Tests.{eqb-true, ne-eqb, lt-ltb, le-ltb, ltb-true, not-true, not-false}
 use Rattle.refusals.specs.Refusals.{firstWhere}
 use Rattle.runs.proofs.Search.{true-or-false, first-zero}
 use Rattle.tickets.specs.declared.Ticket.{Ticket}
 use Rattle.tickets.specs.declared.Lasts.{Lasts}
-use Rattle.tickets.specs.Table.{places, allPlaces, noTicket, isEmpty, isTicket, follows, lastOf, officeAt, isFirstPlace, isOutOfTurn, badRecord, half, ticketsIn, waiting, placed, rowOf, Waits, Sound, upTo}
+use Rattle.tickets.specs.Table.{places, allPlaces, noTicket, isEmpty, isTicket, follows, lastOf, officeAt, isFirstPlace, isOutOfTurn, badRecord, ticketsIn, waiting, placed, Waits, Sound, upTo}
 use Rattle.tickets.proofs.Halves.{tickets-none, tickets-one, tickets-end, tickets-at, tickets-fit, placesFrom, places-long, place-in-row}
 
 pub and-true-both : (a b : Bool) → (a && b) ≡ true → (a ≡ true) × (b ≡ true)

@@ -1,5 +1,5 @@
 -- A filing: the store that the code makes is one ticket more at its office, and the answer by the verdict.
-use Prim.Native.Nat.{ℕ, _+_, _<_}
+use Prim.Native.Nat.{ℕ, suc, _+_, _<_}
 use mathlib.Core.Path.{_≡_, refl, ap, _∙_}
 use mathlib.Core.Bool.{true, false, not, cond, _&&_}
 use mathlib.Core.List.{List, [], _∷_, _++_}
@@ -8,8 +8,8 @@ use native.Mathlib.Omega.{arith}
 use native.Mathlib.Decide.{decLt}
 use native.Mathlib.Numerals.{add-one}
 use lib.Dec.{leb, eqb, ltb}
-use lib.ListN.{length, getD, set}
-use borrow.Author.Tests.{leb-true, leb-false, eqb-false, not-true, not-false, eq-eqb, ne-eqb}
+use lib.ListN.{length, set}
+use borrow.Author.Tests.{leb-true, leb-false, eqb-false, not-true, not-false}
 use Rattle.refusals.specs.declared.Refusal.the-variants.{ShortRow, BadRecord, BadTicket, OfficeFull, NumbersSpent}
 use Rattle.refusals.specs.declared.Verdict.{Verdict}
 use Rattle.refusals.specs.Refusals.{refuseIf, refuseAt, firstWhere}
@@ -19,7 +19,7 @@ use Rattle.tickets.specs.declared.Lasts.{Lasts}
 use Rattle.tickets.specs.declared.Filing.{Filing}
 use Rattle.tickets.specs.declared.FiledRow.{FiledRow}
 use Rattle.tickets.specs.Table.{offices, places, allPlaces, upTo, lastOf, waiting, rowOf, badRecord, rowVerdict, firstPlace, Sound}
-use Rattle.tickets.specs.Filings.{inRange, isFull, mostNumber, isSpent, fileVerdict, numberFor, lastsWith, ticketOf, withTicket, rowWith, notFiled, fileRow}
+use Rattle.tickets.specs.Filings.{inRange, isFull, mostNumber, isSpent, fileVerdict, numberFor, lastsWith, ticketOf, notFiled, fileRow}
 use Rattle.tickets.proofs.Sound.{row-sound, and-true-both}
 use Rattle.tickets.proofs.Placed.{row-more-one, row-more-two}
 

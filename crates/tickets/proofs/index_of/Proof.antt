@@ -1,15 +1,11 @@
 -- `tickets::index_of` meets its contract: before each turn the number is not among the tickets looked at.
 -- Assumes nothing.
-use Prim.Native.Nat.{ℕ, _+_, _-_, _<_}
+use Prim.Native.Nat.{_+_, _-_, _<_}
 use mathlib.Core.Path.{_≡_, ap, _∙_}
-use mathlib.Core.Bool.{Bool, true, false}
-use mathlib.Core.List.{List}
 use native.Mathlib.Omega.{arith}
 use lib.ListN.{length, getD}
-use lib.Dec.{eqb}
 use borrow.Author.Needs.{needs}
 use borrow.Author.Tests.{eq-eqb, ne-eqb}
-use Rattle.tickets.specs.declared.Ticket.{Ticket}
 use Rattle.tickets.specs.Table.{noTicket, waiting}
 use Rattle.tickets.proofs.Halves.{first-place-within}
 use Rattle.tickets.proofs.Leaving.{Sought, sought-none, sought-more, sought-here, sought-all, waiting-few, waiting-at}

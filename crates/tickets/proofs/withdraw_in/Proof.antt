@@ -1,7 +1,6 @@
 -- `tickets::withdraw_in` meets its contract: a refusal leaves the row; else its office's places are closed up over the ticket.
 -- Assumes nothing.
 use mathlib.Core.Path.{_≡_, sym, _∙_}
-use native.Mathlib.Omega.{arith}
 use lib.ListN.{length}
 use Rattle.tickets.proofs.Halves.{first-place-within}
 use Rattle.tickets.proofs.Leaving.{withdraw-refused, withdraw-left}
