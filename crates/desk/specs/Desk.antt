@@ -18,4 +18,4 @@ withTable table ts = take (length ts) table ++ drop allPlaces ts
 
 -- An answer to a boarding with the table afterwards: who boards leaves only when the plan is accepted.
 abbrev pub boardedRow : List Ticket → Boarded → BoardedRow
-boardedRow table b = record { boarded = b; row = boardedBy table (b .answer) .row }
+boardedRow table b = record { boarded = b; row = boardedBy table (b .lasts) (b .answer) .row }
