@@ -85,6 +85,10 @@ slice-aggregate-plan-2 c = sym (length-take-le _ _ (array-share-prefix-counts (c
 plan-requires : tie.Need-plan-requires
 plan-requires c κs = search needs
 
+-- The rows as the plan leaves them.
+abbrev left : tie.After-plan → Rows
+left p = let l = p .plan .last .1 .1 .1 .1 .1 .1 .1 in rowsOf (l .0) (l .1 .0) (l .1 .1 .0) (l .1 .1 .1 .0) (l .1 .1 .1 .1 .0)
+
 -- From the last step back to the plan, and to the two rows of wants.
 abbrev planned : tie.After-slice-known10 → tie.After-plan
 planned k = k .before .before .before .before .before .before .before .before .before .before
@@ -113,7 +117,7 @@ same-length-5 c = search needs
 returns-2 : tie.Need-returns-2
 returns-2 c = let p = planned (c .before) in let w = gathered (counted p) in let e = w .before .before in let f = e .before in let j = judged f in let a = start j .args in
     run-boarded (a .len) (tape j) (a .row) (a .boarding) (rows j) (c .boarded-by .result) (j .judge-row .result) (j .judge-row .ensures) (f .refused .result) (f .refused .ensures)
-    (e .if1 .left) _ (p .plan .result) (w .wants-of .result) (wanted w) (p .plan .ensures) (c .boarded-by .ensures)
+    (e .if1 .left) (left p) (p .plan .result) (w .wants-of .result) (wanted w) (p .plan .ensures) (c .boarded-by .ensures)
 
 pub board-in-spec : {M : Type 1} → statement M
 board-in-spec =

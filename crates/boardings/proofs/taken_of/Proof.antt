@@ -27,7 +27,11 @@ shares : {a b x y : ℕ} → a ≡ x → b ≡ y → share a b ≡ share x y
 shares e f = cc
 
 returns : tie.Need-returns
-returns c = let t = c .before .before in let o = t .before .count-waiting .ensures in let w = t .count-waiting2 .ensures in made (c .before .share-of .ensures ∙ shares o w) (c .share-of2 .ensures ∙ shares w o)
+returns c =
+    let t = c .before .before in
+    let o = t .before .count-waiting .ensures in
+    let w = t .count-waiting2 .ensures in
+    made (c .before .share-of .ensures ∙ shares o w) (c .share-of2 .ensures ∙ shares w o)
 
 pub taken-of-spec : {M : Type 1} → statement M
 taken-of-spec =

@@ -25,7 +25,9 @@ first-place-requires : tie.Need-first-place-requires Inv-loop μ-loop
 first-place-requires c κs = search needs
 
 loop-holds : tie.Need-loop-holds Inv-loop μ-loop
-loop-holds c = let s = c .before in record { begins = c .first-place .ensures; in-row = rw (c .first-place .ensures) (first-place-within (s .args .office)); so-far = counted-none (placesFrom (c .first-place .result) (s .args .t1)) }
+loop-holds c =
+    let s = c .before in
+    record { begins = c .first-place .ensures; in-row = rw (c .first-place .ensures) (first-place-within (s .args .office)); so-far = counted-none (placesFrom (c .first-place .result) (s .args .t1)) }
 
 add-t : tie.Need-add-t Inv-loop μ-loop
 add-t c = omega (arith, c .before .loop .inv .in-row)
@@ -56,7 +58,10 @@ below : (e : tie.After-is-empty Inv-loop μ-loop) → at e .loop .n < length (pl
 below e = let a = at e in rw (places-long (first a) (row a) (a .loop .inv .in-row) (long (a .before .before))) (e .before .before .loop-test .taken)
 
 returns : tie.Need-returns Inv-loop μ-loop
-returns c = let e = c .before in let a = at e in rw (← a .loop .inv .begins) (counted-to-empty (placesFrom (first a) (row a)) (a .loop .n) (a .loop .inv .so-far) (below e) (here mathlib.Core.Bool.true e (c .if1 .taken)))
+returns c =
+    let e = c .before in
+    let a = at e in
+    rw (← a .loop .inv .begins) (counted-to-empty (placesFrom (first a) (row a)) (a .loop .n) (a .loop .inv .so-far) (below e) (here mathlib.Core.Bool.true e (c .if1 .taken)))
 
 add-n : tie.Need-add-n Inv-loop μ-loop
 add-n c = search needs
@@ -65,10 +70,15 @@ loop-less : tie.Need-loop-less Inv-loop μ-loop
 loop-less c = search needs
 
 loop-again : tie.Need-loop-again Inv-loop μ-loop
-loop-again c = let e = c .before in let a = at e in record { begins = a .loop .inv .begins; in-row = a .loop .inv .in-row; so-far = counted-more (placesFrom (first a) (row a)) (a .loop .n) (a .loop .inv .so-far) (below e) (here mathlib.Core.Bool.false e (c .if1 .left)) }
+loop-again c =
+    let e = c .before in
+    let a = at e in
+    record { begins = a .loop .inv .begins; in-row = a .loop .inv .in-row; so-far = counted-more (placesFrom (first a) (row a)) (a .loop .n) (a .loop .inv .so-far) (below e) (here mathlib.Core.Bool.false e (c .if1 .left)) }
 
 returns-2 : tie.Need-returns-2 Inv-loop μ-loop
-returns-2 c = let a = c .before in rw (← a .loop .inv .begins) (counted-all (placesFrom (first a) (row a)) (a .loop .n) (a .loop .inv .so-far) (rw (places-long (first a) (row a) (a .loop .inv .in-row) (long (a .before .before))) (c .loop-test .left)))
+returns-2 c =
+    let a = c .before in
+    rw (← a .loop .inv .begins) (counted-all (placesFrom (first a) (row a)) (a .loop .n) (a .loop .inv .so-far) (rw (places-long (first a) (row a) (a .loop .inv .in-row) (long (a .before .before))) (c .loop-test .left)))
 
 pub count-waiting-spec : {M : Type 1} → statement M
 count-waiting-spec =

@@ -19,10 +19,17 @@ up-to-requires-4 : tie.Need-up-to-requires-4
 up-to-requires-4 c κs = search needs
 
 returns : tie.Need-returns
-returns c = let h = c .before in let g = h .before .before in let e = g .before .before in range-count (e .before .before .args .filing) (sym (e .before .up-to .ensures) ∙ e .if1 .taken) (sym (g .before .up-to2 .ensures) ∙ g .if2 .taken) (sym (h .before .up-to3 .ensures) ∙ h .if3 .taken) (c .up-to4 .ensures)
+returns c =
+    let h = c .before in
+    let g = h .before .before in
+    let e = g .before .before in
+    range-count (e .before .before .args .filing) (sym (e .before .up-to .ensures) ∙ e .if1 .taken) (sym (g .before .up-to2 .ensures) ∙ g .if2 .taken) (sym (h .before .up-to3 .ensures) ∙ h .if3 .taken) (c .up-to4 .ensures)
 
 returns-2 : tie.Need-returns-2
-returns-2 c = let g = c .before .before in let e = g .before .before in range-file (e .before .before .args .filing) (sym (e .before .up-to .ensures) ∙ e .if1 .taken) (sym (g .before .up-to2 .ensures) ∙ g .if2 .taken) (sym (c .before .up-to3 .ensures) ∙ c .if3 .left)
+returns-2 c =
+    let g = c .before .before in
+    let e = g .before .before in
+    range-file (e .before .before .args .filing) (sym (e .before .up-to .ensures) ∙ e .if1 .taken) (sym (g .before .up-to2 .ensures) ∙ g .if2 .taken) (sym (c .before .up-to3 .ensures) ∙ c .if3 .left)
 
 returns-3 : tie.Need-returns-3
 returns-3 c = let e = c .before .before in range-tape (e .before .before .args .filing) (sym (e .before .up-to .ensures) ∙ e .if1 .taken) (sym (c .before .up-to2 .ensures) ∙ c .if2 .left)

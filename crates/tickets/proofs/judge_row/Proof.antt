@@ -26,7 +26,10 @@ refuse-at-requires c κs = search needs
 
 returns-2 : tie.Need-returns-2
 unfolding rowVerdict
-returns-2 c = let e = c .before .before in let is = e .before .before .refuse-if .ensures in rw (test-says is (e .before .refused .ensures) (e .if1 .left)) (last-at BadRecord refl (c .refuse-at .ensures) (c .before .first-bad-record .ensures))
+returns-2 c =
+    let e = c .before .before in
+    let is = e .before .before .refuse-if .ensures in
+    rw (test-says is (e .before .refused .ensures) (e .if1 .left)) (last-at BadRecord refl (c .refuse-at .ensures) (c .before .first-bad-record .ensures))
 
 pub judge-row-spec : {M : Type 1} → statement M
 judge-row-spec =

@@ -17,7 +17,9 @@ close-up-requires-2 : tie.Need-close-up-requires-2
 close-up-requires-2 c κs = search needs
 
 returns : tie.Need-returns
-returns c = let s = c .before .before in closed-both (s .args .row) (s .args .one) (s .args .two) (long s) (c .before .close-up .result) (c .before .close-up .ensures) (c .close-up2 .result) (c .close-up2 .ensures)
+returns c =
+    let s = c .before .before in
+    closed-both (s .args .row) (s .args .one) (s .args .two) (long s) (c .before .close-up .result) (c .before .close-up .ensures) (c .close-up2 .result) (c .close-up2 .ensures)
 
 pub without-first-spec : {M : Type 1} → statement M
 without-first-spec = tie.close (tie.spec close-up-requires close-up-requires-2 returns)

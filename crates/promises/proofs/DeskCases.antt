@@ -1,0 +1,22 @@
+-- The worked cases of request L6 compute.
+use mathlib.Core.Path.{refl}
+use Rattle.refusals.specs.Refusals.{firstWhere}
+use Rattle.tickets.specs.Table.{ticketsIn, rowVerdict}
+use Rattle.tickets.specs.Filings.{fileVerdict}
+use Rattle.boardings.specs.Boarders.{addWant, withWants}
+use Rattle.promises.specs.DeskCases.{ShareCases, WantsCase, RowCases, FilingCases}
+
+pub share-cases : ShareCases
+share-cases = (refl, refl, refl, refl, refl, refl, refl)
+
+pub wants-case : WantsCase
+unfolding addWant withWants
+wants-case = refl
+
+pub row-cases : RowCases
+unfolding firstWhere rowVerdict
+row-cases = (refl, refl, refl, refl, refl, refl, refl)
+
+pub filing-cases : FilingCases
+unfolding firstWhere rowVerdict ticketsIn fileVerdict
+filing-cases = (refl, refl, refl, refl, refl, refl, refl)

@@ -1,0 +1,55 @@
+-- Request L6: the wants of a boarding are the counts of the tickets taken, added by file; and for a tape table that 1 and 2 accept, whose files the
+-- tickets name, a boarding is refused only by 6, 7, 8 or 9.
+use Prim.Native.Nat.{ℕ, _+_, _≤_, _<_}
+use mathlib.Core.Path.{_≡_}
+use mathlib.Core.Bool.{false, cond}
+use mathlib.Core.List.{List, [], _∷_}
+use lib.Dec.{eqb}
+use lib.ListN.{length, getD}
+use Rattle.refusals.specs.declared.Refusal.{Refusal}
+use Rattle.refusals.specs.declared.Refusal.the-variants.{Accepted, TurnPrice, HeadPlace, ShortRow, ShortRoom}
+use Rattle.refusals.specs.Refusals.{isRefusal, firstOf}
+use Rattle.runs.specs.Judging.{tableChecks}
+use Rattle.least.specs.Wants.{readsOfFile}
+use Rattle.planner.specs.Plan.{Rows}
+use Rattle.tickets.specs.declared.Ticket.{Ticket}
+use Rattle.tickets.specs.Table.{noTicket, waiting}
+use Rattle.boardings.specs.declared.Boarding.{Boarding}
+use Rattle.boardings.specs.declared.BoardedRow.{BoardedRow}
+use Rattle.boardings.specs.Boarders.{boarders}
+use Rattle.boardings.specs.Boardings.{Tape, boardRun, Boards}
+use Rattle.promises.specs.Desk.{IsTable, IsOffice}
+
+-- The reads of a file that some tickets ask for.
+unfoldable pub asked : ℕ → List Ticket → ℕ
+asked f [] = 0
+asked f (t ∷ ts) = cond (eqb (t .file) f) (t .count) 0 + asked f ts
+
+abbrev pub WantsAdded : Type 0
+WantsAdded =
+    (tape : Tape) (row : List Ticket) (b : Boarding) (f : ℕ)
+    → readsOfFile (boardRun tape row b .numbers) (boardRun tape row b .counts) f ≡ asked f (boarders row)
+
+-- The tape table passes 1 and 2, and every ticket that waits names one of its files.
+abbrev pub TapeAccepted : Tape → Type 0
+TapeAccepted tape = isRefusal (firstOf (tableChecks (tape .starts) (tape .lengths) (tape .aggregates)) .refusal) ≡ false
+
+abbrev pub NamesItsFiles : Tape → List Ticket → Type 0
+NamesItsFiles tape row = (office i : ℕ) → IsOffice office → i < length (waiting office row) → getD (waiting office row) i noTicket .file ≤ length (tape .starts)
+
+-- The head's place, the turn price, a row, the room: or nothing.
+pub data OnlyTheRun : Refusal → Type 0 where
+  nothing : OnlyTheRun Accepted
+  turn-price : OnlyTheRun TurnPrice
+  head-place : OnlyTheRun HeadPlace
+  short-row : OnlyTheRun ShortRow
+  short-room : OnlyTheRun ShortRoom
+
+abbrev pub RefusedForTheRun : Type 0
+RefusedForTheRun =
+    (len : ℕ) (tape : Tape) (row : List Ticket) (b : Boarding) (before after : Rows) (r : BoardedRow)
+    → IsTable row
+    → TapeAccepted tape
+    → NamesItsFiles tape row
+    → Boards len tape row b before r after
+    → OnlyTheRun (r .boarded .answer .refusal)
