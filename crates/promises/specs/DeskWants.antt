@@ -48,7 +48,7 @@ pub data OnlyTheRun : Refusal → Type 0 where
 abbrev pub RefusedForTheRun : Type 0
 RefusedForTheRun =
     (len : ℕ) (tape : Tape) (row : List Ticket) (b : Boarding) (before after : Rows) (r : BoardedRow)
-    → IsTable row
+    → IsTable (record { row = row; lasts = b .lasts })
     → TapeAccepted tape
     → NamesItsFiles tape row
     → Boards len tape row b before r after
