@@ -19,14 +19,17 @@ use Rattle.tickets.specs.declared.Ticket.{Ticket}
 use Rattle.tickets.specs.declared.Lasts.{Lasts}
 use Rattle.tickets.specs.declared.Filing.{Filing}
 use Rattle.tickets.specs.declared.FiledRow.{FiledRow}
+use Rattle.tickets.specs.declared.Withdrawal.{Withdrawal}
+use Rattle.tickets.specs.declared.WithdrawnRow.{WithdrawnRow}
 use Rattle.tickets.specs.Table.{places, allPlaces, noTicket, lastOf, waiting, rowVerdict, Waits}
-use Rattle.tickets.specs.Filings.{inRange, mostNumber, ticketOf, fileVerdict, notFiled, filedIn}
+use Rattle.tickets.specs.Filings.{inRange, mostNumber, numberFor, ticketOf, fileVerdict, notFiled, filedIn, fileRow}
+use Rattle.tickets.specs.Withdrawals.{withdrawVerdict, withdrawRow}
 use Rattle.tickets.proofs.Storing.{file-accepted, office-is, range-office}
 use Rattle.tickets.proofs.Placed.{none-bad}
-use Rattle.tickets.proofs.Kept.{Stands, sound-stands, filed-so, not-filed-so}
+use Rattle.tickets.proofs.Kept.{Stands, sound-stands, filed-so, not-filed-so, withdrawn-so, not-withdrawn-so}
 use Rattle.demands.proofs.Demand2.{demand2-walk, demand2-least}
 use Rattle.demands.proofs.Demand3.{demand3-same}
-use Rattle.promises.specs.Desk.{Kept, atFirst, IsTable, IsOffice, Call, filing, Fits, files, Day, over, then, departs, departures, leaving, joining, withdrawn, withdrawnIn, queueIn, givenBy, given, countedFrom, Fate, LeavesOn, TableStays, TableFromEmpty, NumbersCountUp, NoneGivenTwice, InOrder, FreedPlaceServes, OnlyTheseTakeAway, LeavesInTime, FiledBehind, BoardingTakes, RefusalKeeps, OwnOfficeDecides, BoardedRunHolds}
+use Rattle.promises.specs.Desk.{Kept, atFirst, IsTable, IsOffice, Call, filing, Fits, files, withdraws, boards, Day, over, then, departs, departures, leaving, joining, withdrawn, withdrawnIn, queueIn, givenBy, given, countedFrom, Fate, LeavesOn, TableStays, TableFromEmpty, NumbersCountUp, NoneGivenTwice, InOrder, FreedPlaceServes, OnlyTheseTakeAway, LeavesInTime, FiledBehind, answered, RefusedChangesNothing, BoardingTakes, RefusalKeeps, OwnOfficeDecides, BoardedRunHolds}
 use Rattle.promises.proofs.DeskSteps.{step, gives, fate, not-accepted, takes, refused-is, board-accepted}
 
 stays : {k last : Kept} {cs : List Call} → IsTable k → Day k cs last → IsTable last
@@ -195,19 +198,42 @@ leaves-in-time office n j k last cs o table day l is h =
     ⊎-elim (λ w. inl w) (λ x. inr (x .0, quotient (departures (x .0 .before)) j (x .1)))
     (in-time office n o j table day l is (omega (arith, div-lt-iff-lt-mul {k = 4} {x = j} {y = departures cs} (omega arith) .0 (omega arith))))
 
-filed-office : {len : ℕ} {k next : Kept} {f : Filing} {r : FiledRow} → r .filed .verdict .refusal ≡ Accepted → Fits k (filing len f r) next → IsOffice (f .office)
-filed-office accepts (files {len} {k} {f} {r} l e) =
-    ⊎-elim (λ t. absurd (true≢false (sym t ∙ verdict t))) (λ p. office-is (f .office) (range-office f (file-accepted len (k .row) f p .ranged)))
-    (true-or-false (refuses (fileVerdict len (k .row) f)))
-  where
-    verdict : refuses (fileVerdict len (k .row) f) ≡ true → refuses (fileVerdict len (k .row) f) ≡ false
-    verdict t = ap (λ x. isRefusal (x .filed .verdict .refusal)) (sym (e ∙ not-filed-so len (k .row) f t)) ∙ ap isRefusal accepts
+-- Whether a filing's verdict refuses is told by its answer.
+told : (len : ℕ) (row : List Ticket) (f : Filing) (r : FiledRow) → r ≡ fileRow len row f → refuses (fileVerdict len row f) ≡ isRefusal (r .filed .verdict .refusal)
+told len row f r e =
+    ⊎-elim (λ t. ap (λ x. isRefusal (x .filed .verdict .refusal)) (sym (e ∙ not-filed-so len row f t))) (λ p. ap (λ x. isRefusal (x .filed .verdict .refusal)) (sym (e ∙ filed-so len row f p)))
+    (true-or-false (refuses (fileVerdict len row f)))
+
+told-withdrawn : (len : ℕ) (row : List Ticket) (w : Withdrawal) (r : WithdrawnRow) → r ≡ withdrawRow len row w → refuses (withdrawVerdict len row w) ≡ isRefusal (r .withdrawn .verdict .refusal)
+told-withdrawn len row w r e =
+    ⊎-elim (λ t. ap (λ x. isRefusal (x .withdrawn .verdict .refusal)) (sym (e ∙ not-withdrawn-so len row w t))) (λ p. ap (λ x. isRefusal (x .withdrawn .verdict .refusal)) (sym (e ∙ withdrawn-so len row w p)))
+    (true-or-false (refuses (withdrawVerdict len row w)))
+
+accepted-filing : {len : ℕ} {k next : Kept} {f : Filing} {r : FiledRow} → r .filed .verdict .refusal ≡ Accepted → Fits k (filing len f r) next → IsOffice (f .office) × (r .filed .number ≡ numberFor f)
+accepted-filing accepts (files {len} {k} {f} {r} l e) =
+    let passes = told len (k .row) f r e ∙ ap isRefusal accepts in
+    (office-is (f .office) (range-office f (file-accepted len (k .row) f passes .ranged)), ap (λ x. x .filed .number) (e ∙ filed-so len (k .row) f passes))
 
 pub filed-behind : FiledBehind
 filed-behind len k next f r table fits accepts =
-    let s = step (f .office) (filed-office accepts fits) table fits in
+    let a = accepted-filing accepts fits in
+    let s = step (f .office) (a .0) table fits in
     let joins : joining (f .office) (filing len f r) ≡ ticketOf f ∷ [] = rw (ap isRefusal accepts, eq-eqb (f .office) (f .office) refl) in
-    s .0 .queue ∙ ap (λ ts. waiting (f .office) (k .row) ++ ts) joins
+    (s .0 .queue ∙ ap (λ ts. waiting (f .office) (k .row) ++ ts) joins, a .1)
+
+refused-changes : {k next : Kept} {c : Call} → Fits k c next → isRefusal (answered c) ≡ true → (next .row ≡ k .row) × (next .lasts ≡ k .lasts)
+refused-changes (files {len} {k} {f} {r} l e) t =
+    let is = e ∙ not-filed-so len (k .row) f (told len (k .row) f r e ∙ t) in
+    (ap (λ x. x .row) is, ap (λ x. x .filed .lasts) is ∙ l)
+refused-changes (withdraws {len} {k} {w} {r} l e) t =
+    let is = e ∙ not-withdrawn-so len (k .row) w (told-withdrawn len (k .row) w r e ∙ t) in
+    (ap (λ x. x .row) is, ap (λ x. x .withdrawn .lasts) is ∙ l)
+refused-changes (boards {len} {tape} {k} {b} {before} {after} {r} l e) t =
+    let is = refused-is len tape (k .row) b before after r e t in
+    (ap (λ x. x .row) is, ap (λ x. x .boarded .lasts) is ∙ l)
+
+pub refused-changes-nothing : RefusedChangesNothing
+refused-changes-nothing k next c fits some = refused-changes fits (not-accepted (answered c) some)
 
 pub boarding-takes : BoardingTakes
 boarding-takes len tape row b before after r table fits accepts = takes len tape row b before after r fits table (ap isRefusal accepts)

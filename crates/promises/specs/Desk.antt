@@ -7,6 +7,7 @@ use mathlib.Core.Logic.{_⊎_}
 use mathlib.Core.List.{List, [], _∷_, _++_}
 use lib.Dec.{eqb}
 use lib.ListN.{length, getD, drop, replicate}
+use Rattle.refusals.specs.declared.Refusal.{Refusal}
 use Rattle.refusals.specs.declared.Refusal.the-variants.{Accepted}
 use Rattle.refusals.specs.Refusals.{isRefusal}
 use Rattle.runs.specs.Run.{Run, stopsOf}
@@ -223,14 +224,23 @@ LeavesInTime =
     → j / 4 + 1 ≤ departures cs
     → (withdrawnIn office n cs ≡ true) ⊎ ((leaves : LeavesOn office n k last cs) × (departures (leaves .before) ≤ j / 4))
 
--- From its filing: the ticket stands behind its own office's tickets, as many as are ahead of it.
+-- From its filing: the ticket, with the number that the answer names, stands behind its own office's tickets, as many as are ahead of it.
 abbrev pub FiledBehind : Type 0
 FiledBehind =
     (len : ℕ) (k next : Kept) (f : Filing) (r : FiledRow)
     → IsTable k
     → Fits k (filing len f r) next
     → r .filed .verdict .refusal ≡ Accepted
-    → waiting (f .office) (next .row) ≡ waiting (f .office) (k .row) ++ ticketOf f ∷ []
+    → (waiting (f .office) (next .row) ≡ waiting (f .office) (k .row) ++ ticketOf f ∷ []) × (r .filed .number ≡ ticketOf f .number)
+
+-- What a call answers; refused, it leaves the table and the last numbers as they went in.
+abbrev pub answered : Call → Refusal
+answered (filing len f r) = r .filed .verdict .refusal
+answered (withdrawal len w r) = r .withdrawn .verdict .refusal
+answered (boarding len tape b before after r) = r .boarded .answer .refusal
+
+abbrev pub RefusedChangesNothing : Type 0
+RefusedChangesNothing = (k next : Kept) (c : Call) → Fits k c next → (answered c ≡ Accepted → ⊥) → (next .row ≡ k .row) × (next .lasts ≡ k .lasts)
 
 -- What one boarding does: accepted, it takes the first tickets of each office, four or all it has, at most eight in all, and eight where so many wait;
 -- refused, none.
