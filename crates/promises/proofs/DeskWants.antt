@@ -59,7 +59,7 @@ unfolding wantsOf readsOfFile
 wants-added tape row b f = reads-with [] (boarders row) f ∙ omega arith
 
 -- Each ticket of a list.
-Each : (Ticket → Type 0) → List Ticket → Type 0
+unfoldable pub Each : (Ticket → Type 0) → List Ticket → Type 0
 Each P [] = Unit {0}
 Each P (t ∷ ts) = P t × Each P ts
 
@@ -75,7 +75,7 @@ module _ (P : Ticket → Type 0) where
   each-take (suc n) [] e = tt
   each-take (suc n) (t ∷ ts) e = (e .0, each-take n ts (e .1))
 
-  each-append : (ts us : List Ticket) → Each P ts → Each P us → Each P (ts ++ us)
+  pub each-append : (ts us : List Ticket) → Each P ts → Each P us → Each P (ts ++ us)
   unfolding Each
   each-append [] us a b = b
   each-append (t ∷ ts) us a b = (a .0, each-append ts us (a .1) b)

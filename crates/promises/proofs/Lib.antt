@@ -3,4 +3,5 @@ pub mod DeskSteps
 pub mod Desk
 pub mod DeskRefusals
 pub mod DeskWants
+pub mod DeskTape
 pub mod DeskCases
