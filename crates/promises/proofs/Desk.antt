@@ -21,7 +21,7 @@ use Rattle.tickets.specs.declared.Filing.{Filing}
 use Rattle.tickets.specs.declared.FiledRow.{FiledRow}
 use Rattle.tickets.specs.declared.Withdrawal.{Withdrawal}
 use Rattle.tickets.specs.declared.WithdrawnRow.{WithdrawnRow}
-use Rattle.tickets.specs.Table.{places, allPlaces, noTicket, lastOf, waiting, rowVerdict, Waits}
+use Rattle.tickets.specs.Table.{places, allPlaces, noTicket, lastOf, waiting, rowVerdict, Waits, Sound}
 use Rattle.tickets.specs.Filings.{inRange, mostNumber, numberFor, ticketOf, fileVerdict, notFiled, filedIn, fileRow}
 use Rattle.tickets.specs.Withdrawals.{withdrawVerdict, withdrawRow}
 use Rattle.tickets.proofs.Storing.{file-accepted, office-is, range-office}
@@ -39,10 +39,13 @@ stays table (then fits day) = stays (step 1 (inl refl) table fits .1) day
 pub table-stays : TableStays
 table-stays k last cs table day = stays table day
 
-empty-table : IsTable atFirst
-empty-table =
+pub empty-sound : Sound (atFirst .lasts) [] [] (atFirst .row)
+empty-sound =
     let none : (office : ℕ) → Waits office 0 [] = λ office. record { few = omega arith; each = λ i l. absurd (omega arith); ascends = λ i l. absurd (omega arith) } in
-    sound-stands (atFirst .lasts) [] [] (atFirst .row) (record { one = none 1; two = none 2; is = refl })
+    record { one = none 1; two = none 2; is = refl }
+
+pub empty-table : IsTable atFirst
+empty-table = sound-stands (atFirst .lasts) [] [] (atFirst .row) empty-sound
 
 pub table-from-empty : TableFromEmpty
 table-from-empty last cs day = stays empty-table day
@@ -199,7 +202,7 @@ leaves-in-time office n j k last cs o table day l is h =
     (in-time office n o j table day l is (omega (arith, div-lt-iff-lt-mul {k = 4} {x = j} {y = departures cs} (omega arith) .0 (omega arith))))
 
 -- Whether a filing's verdict refuses is told by its answer.
-told : (len : ℕ) (row : List Ticket) (f : Filing) (r : FiledRow) → r ≡ fileRow len row f → refuses (fileVerdict len row f) ≡ isRefusal (r .filed .verdict .refusal)
+pub told : (len : ℕ) (row : List Ticket) (f : Filing) (r : FiledRow) → r ≡ fileRow len row f → refuses (fileVerdict len row f) ≡ isRefusal (r .filed .verdict .refusal)
 told len row f r e =
     ⊎-elim (λ t. ap (λ x. isRefusal (x .filed .verdict .refusal)) (sym (e ∙ not-filed-so len row f t))) (λ p. ap (λ x. isRefusal (x .filed .verdict .refusal)) (sym (e ∙ filed-so len row f p)))
     (true-or-false (refuses (fileVerdict len row f)))
