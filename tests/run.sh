@@ -253,6 +253,8 @@ run python/rewrite
 run python/ltfs --cases 2000
 run python/prices
 run python/figures
+run python/desk
+run python/desk_rows
 run python/pricer_rows
 run python/command
 

@@ -11,12 +11,13 @@ trusted: a mistake of this program is a proof that is refused.
 
 The functions stand in src/lib.rt, at the left margin, each clause on a line of its own. Those with a loop are printed from a
 twin in which the struct is an array everywhere, by value too, since an entry goes from the slice to an array. The others are
-printed from a twin in which it is one behind a reference alone; there the loops have no body. A twin's clauses say nothing, but
-are as many as the function's: a walk cites a clause by its number.
+printed from a twin in which it is one behind a reference alone; there a loop has no body but `blank()`, an array for its answer.
+A twin's clauses say nothing, but are as many as the function's: a walk cites a clause by its number.
 
 Written are, for a function `copy_out`, proofs/Walks/CopyOutKinds.antt and CopyOutReads.antt, which its callers cite too, and
 proofs/copy_out/Proof/Lts.antt and Tie.antt; then `rt fmt` lays them out. After any change of such a function's text, of the
-struct's fields or of a callee's parameters: run this again.
+struct's fields or of a callee's parameters: run this again. It takes half a minute where `rt check` has proved what the crate
+stands on; else that is proved first, in the copy.
 """
 import os
 import re
@@ -82,9 +83,8 @@ def crate_lines(root):
     return {line.split(":")[0].strip(): line for line in lines if ":" in line}
 
 
-def printed(root, crate, source, alone):
-    """A folder with what the check writes for the crate with another source: in a copy of what it stands on, with what is proved of that."""
-    copy = tempfile.mkdtemp(prefix="twin.")
+def printed(root, crate, source, alone, copy):
+    """The folder with what the check writes for the crate with another source, in a copy of what it stands on and of what is proved of that."""
     lines = crate_lines(root)
     names = [] if alone else [name for name in lines[crate].split(":")[1].split() if name in lines]
     for name in names:
@@ -94,14 +94,15 @@ def printed(root, crate, source, alone):
         out.write(source)
     if not alone:
         shutil.copytree(f"{root}/crates/{crate}/specs", f"{copy}/crates/{crate}/specs")
-        for part_of_target in ("rlib", "stamp", "log"):
-            shutil.copytree(f"{root}/target/{part_of_target}", f"{copy}/target/{part_of_target}")
+        for kept in ("rlib", "stamp", "log"):
+            if os.path.isdir(f"{root}/target/{kept}"):
+                shutil.copytree(f"{root}/target/{kept}", f"{copy}/target/{kept}")
     with open(f"{copy}/crates.txt", "w", encoding="utf-8") as out:
         out.writelines([lines[name] for name in names] + [f"{crate}:\n" if alone else lines[crate]])
     said = subprocess.run(["rt", "dev", crate, "--generated", f"{copy}/print"], cwd=copy, capture_output=True, text=True, check=False)
     if not os.path.isdir(f"{copy}/print"):
         sys.exit(said.stdout + said.stderr)
-    return copy, f"{copy}/print/Rattle.{crate}.proofs/proofs"
+    return f"{copy}/print/Rattle.{crate}.proofs/proofs"
 
 
 # ---- The struct put back
@@ -313,15 +314,16 @@ def main():
     twins = Twins(open(f"{root}/crates/{crate}/src/lib.rt", encoding="utf-8").read(), struct, fields)
     proofs = f"{root}/crates/{crate}/proofs"
     os.makedirs(f"{proofs}/Walks", exist_ok=True)
+    over = twins.loops + twins.thin
     for names, source, alone in ((twins.loops, twins.of_loops(), True), (twins.thin, twins.of_thin(), False)):
-        copy, print_of = printed(root, crate, source, alone)
-        for f in names:
-            os.makedirs(f"{proofs}/{f}/Proof", exist_ok=True)
-            for which, place in (("Kinds", f"Walks/{camel(f)}Kinds"), ("Reads", f"Walks/{camel(f)}Reads"), ("Lts", f"{f}/Proof/Lts"), ("Tie", f"{f}/Proof/Tie")):
-                text = walk(open(f"{print_of}/{f}/{which}.antt", encoding="utf-8").read(), crate, twins.loops + twins.thin, struct_module, fields)
-                with open(f"{proofs}/{place}.antt", "w", encoding="utf-8") as out:
-                    out.write(f"-- Derived by tools/derive.py from the text of `{crate}::{f}`, and derived again after any change of it.\n{text}")
-        shutil.rmtree(copy)
+        with tempfile.TemporaryDirectory(prefix="twin.") as copy:
+            print_of = printed(root, crate, source, alone, copy)
+            for f in names:
+                os.makedirs(f"{proofs}/{f}/Proof", exist_ok=True)
+                for which, place in (("Kinds", f"Walks/{camel(f)}Kinds"), ("Reads", f"Walks/{camel(f)}Reads"), ("Lts", f"{f}/Proof/Lts"), ("Tie", f"{f}/Proof/Tie")):
+                    text = walk(open(f"{print_of}/{f}/{which}.antt", encoding="utf-8").read(), crate, over, struct_module, fields)
+                    with open(f"{proofs}/{place}.antt", "w", encoding="utf-8") as out:
+                        out.write(f"-- Derived by tools/derive.py from the text of `{crate}::{f}`, and derived again after any change of it.\n{text}")
     subprocess.run(["rt", "fmt"], cwd=root, check=True)
 
 

@@ -2,4 +2,6 @@
 pub mod Places
 pub mod Copying
 pub mod Thin
+pub mod Determined
+pub mod Kept
 pub mod Walks

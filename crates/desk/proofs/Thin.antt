@@ -24,7 +24,7 @@ use Rattle.boardings.specs.declared.Boarded.{Boarded}
 use Rattle.boardings.specs.declared.BoardedRow.{BoardedRow}
 use Rattle.boardings.specs.Boarders.{rowStaying, wantsOf}
 use Rattle.boardings.specs.Boardings.{Tape, Boards, boardedBy, notBoarded, takenOf, wantRows}
-use Rattle.desk.specs.Desk.{tableIn, withTable, boardedRow}
+use Rattle.desk.specs.Desk.{tableIn, withTable, boardedRow, BoardsLent}
 
 pub filed-so : (ts after table : List Ticket) (filing : Filing) (done : FiledRow)
     → table ≡ tableIn ts
@@ -75,16 +75,18 @@ module _ (len : ℕ) (tape : Tape) (table : List Ticket) (b : Boarding) (before 
       ap (λ (d : BoardedRow). d .row) (boards .planned h .says) ∙ same-table table (b .lasts) (done .boarded .lasts) (done .boarded .answer))
       (true-or-false (isRefusal (rowVerdict len table (b .lasts) .refusal)))
 
-  pub boards-by-answer : Boards len tape table b before done after → done ≡ boardedRow table (done .boarded)
+  boards-by-answer : Boards len tape table b before done after → done ≡ boardedRow table (done .boarded)
   boards-by-answer boards = ap (λ (row : List Ticket). toldBy (done .boarded) row) (table-by-answer boards)
 
 pub boarded-so : (ts exit table : List Ticket) (tape : Tape) (b : Boarding) (before after : Rows) (done : BoardedRow)
     → table ≡ tableIn ts
     → Boards (length ts) tape table b before done after
     → exit ≡ withTable (done .row) ts
-    → Boards (length ts) tape (tableIn ts) b before (boardedRow (tableIn ts) (done .boarded)) after
-    × (exit ≡ withTable (boardedRow (tableIn ts) (done .boarded) .row) ts)
+    → BoardsLent ts tape b before (done .boarded) after exit
 boarded-so ts exit table tape b before after done out boards back =
     let here : Boards (length ts) tape (tableIn ts) b before done after = rw out at boards in
     let same : done ≡ boardedRow (tableIn ts) (done .boarded) = boards-by-answer (length ts) tape (tableIn ts) b before done after here in
-    (subst (λ (d : BoardedRow). Boards (length ts) tape (tableIn ts) b before d after) same here, back ∙ ap (λ (d : BoardedRow). withTable (d .row) ts) same)
+    record {
+      boards = subst (λ (d : BoardedRow). Boards (length ts) tape (tableIn ts) b before d after) same here;
+      row = back ∙ ap (λ (d : BoardedRow). withTable (d .row) ts) same;
+    }

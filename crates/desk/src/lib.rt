@@ -7,8 +7,8 @@ ghost use Rattle.planner.specs.Plan.{rowsBefore, rowsAfter};
 ghost use Rattle.tickets.specs.Table.{noTicket};
 ghost use Rattle.tickets.specs.Filings.{fileRow};
 ghost use Rattle.tickets.specs.Withdrawals.{withdrawRow};
-ghost use Rattle.boardings.specs.Boardings.{Boards, tapeAt};
-ghost use Rattle.desk.specs.Desk.{tableIn, withTable, boardedRow};
+ghost use Rattle.boardings.specs.Boardings.{tapeAt};
+ghost use Rattle.desk.specs.Desk.{tableIn, withTable, BoardsLent};
 use boardings::Boarded;
 use boardings::Boarding;
 use tickets::Filed;
@@ -104,8 +104,7 @@ pub fn board(
     legs: &mut [u64],
     room: &mut [u64],
 ) -> Boarded
-    ensures { λ r. ⌜ Boards (length (now (ts .entry))) (tapeAt starts lengths aggregates) (tableIn (now (ts .entry))) boarding (rowsBefore froms tos times legs room) (boardedRow (tableIn (now (ts .entry))) r) (rowsAfter froms tos times legs room) ⌝ }
-    ensures { λ r. ⌜ now (ts .exit) ≡ withTable (boardedRow (tableIn (now (ts .entry))) r .row) (now (ts .entry)) ⌝ }
+    ensures { λ r. ⌜ BoardsLent (now (ts .entry)) (tapeAt starts lengths aggregates) boarding (rowsBefore froms tos times legs room) r (rowsAfter froms tos times legs room) (now (ts .exit)) ⌝ }
 {
     let len = ts.len();
     let row = copy_out(&ts[..]);

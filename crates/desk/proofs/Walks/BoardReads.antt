@@ -1,5 +1,5 @@
 -- Derived by tools/derive.py from the text of `desk::board`, and derived again after any change of it.
-use Rattle.desk.proofs.board.{clauses, ensures-1, ensures-2, signature}
+use Rattle.desk.proofs.board.{clauses, ensures-1, signature}
 use Rattle.desk.proofs.Walks.BoardKinds as Kinds
 use Rattle.desk.proofs.Walks.BoardKinds.{ps}
 use base.Logic.{emp, ent, id⊢}
@@ -8,7 +8,7 @@ use borrow.Fn.Kinds.{Out, endedOf, stays}
 use borrow.Fn.Learn.{OwnOf, PinOf, no-own, no-owns, no-pin, no-pins}
 use borrow.Fn.Picked.{KnownAs}
 use borrow.Fn.Read
-use borrow.Fn.Read.{all-models, all∗, no-know, read-join, reads}
+use borrow.Fn.Read.{all-models, all∗, no-know, reads}
 use borrow.Fn.World
 use borrow.Fn.World.{ArgsD, Pr, ResD}
 use borrow.Fn.Written
@@ -49,11 +49,8 @@ module _ (κs : Lfts 9) where
   abbrev pub ensures-1·read : (a : ArgsD signature κs) → (g : Ghost) → (r : ResD signature κs) → (s : AtExit (endedOf 9 ps Kinds.r) κs) → Read.Read (Base a) (Owned r s) λ w. ensures-1 (w .𝓤) (w .H) κs (w .𝓖 .A) (w .𝓜 .mem) (w .𝓡 .run) (a .0) (a .1 .0) (a .1 .1 .0) (a .1 .1 .1 .0) (a .1 .1 .1 .1 .0) (a .1 .1 .1 .1 .1 .0) (a .1 .1 .1 .1 .1 .1 .0) (a .1 .1 .1 .1 .1 .1 .1 .0) (a .1 .1 .1 .1 .1 .1 .1 .1 .0) (a .1 .1 .1 .1 .1 .1 .1 .1 .1 .0) record { entry = a .0; exit = s .0 } record { entry = a .1 .0; exit = s .1 .0 } record { entry = a .1 .1 .0; exit = s .1 .1 .0 } record { entry = a .1 .1 .1 .0; exit = s .1 .1 .1 .0 } record { entry = a .1 .1 .1 .1 .0; exit = s .1 .1 .1 .1 .0 } record { entry = a .1 .1 .1 .1 .1 .0; exit = s .1 .1 .1 .1 .1 .0 } record { entry = a .1 .1 .1 .1 .1 .1 .0; exit = s .1 .1 .1 .1 .1 .1 .0 } record { entry = a .1 .1 .1 .1 .1 .1 .1 .0; exit = s .1 .1 .1 .1 .1 .1 .1 .0 } record { entry = a .1 .1 .1 .1 .1 .1 .1 .1 .0; exit = s .1 .1 .1 .1 .1 .1 .1 .1 .0 } record { entry = a .1 .1 .1 .1 .1 .1 .1 .1 .1 .0; exit = s .1 .1 .1 .1 .1 .1 .1 .1 .1 .0 } r
   ensures-1·read = λ a g r s. all-models (λ w. ensures-1 (w .𝓤) (w .H) κs (w .𝓖 .A) (w .𝓜 .mem) (w .𝓡 .run) (a .0) (a .1 .0) (a .1 .1 .0) (a .1 .1 .1 .0) (a .1 .1 .1 .1 .0) (a .1 .1 .1 .1 .1 .0) (a .1 .1 .1 .1 .1 .1 .0) (a .1 .1 .1 .1 .1 .1 .1 .0) (a .1 .1 .1 .1 .1 .1 .1 .1 .0) (a .1 .1 .1 .1 .1 .1 .1 .1 .1 .0) record { entry = a .0; exit = s .0 } record { entry = a .1 .0; exit = s .1 .0 } record { entry = a .1 .1 .0; exit = s .1 .1 .0 } record { entry = a .1 .1 .1 .0; exit = s .1 .1 .1 .0 } record { entry = a .1 .1 .1 .1 .0; exit = s .1 .1 .1 .1 .0 } record { entry = a .1 .1 .1 .1 .1 .0; exit = s .1 .1 .1 .1 .1 .0 } record { entry = a .1 .1 .1 .1 .1 .1 .0; exit = s .1 .1 .1 .1 .1 .1 .0 } record { entry = a .1 .1 .1 .1 .1 .1 .1 .0; exit = s .1 .1 .1 .1 .1 .1 .1 .0 } record { entry = a .1 .1 .1 .1 .1 .1 .1 .1 .0; exit = s .1 .1 .1 .1 .1 .1 .1 .1 .0 } record { entry = a .1 .1 .1 .1 .1 .1 .1 .1 .1 .0; exit = s .1 .1 .1 .1 .1 .1 .1 .1 .1 .0 } r) (λ w. search reads) (λ w. refl) (λ w. refl) λ w. refl
 
-  abbrev pub ensures-2·read : (a : ArgsD signature κs) → (g : Ghost) → (r : ResD signature κs) → (s : AtExit (endedOf 9 ps Kinds.r) κs) → Read.Read (Base a) (Owned r s) λ w. ensures-2 (w .𝓤) (w .H) κs (w .𝓖 .A) (w .𝓜 .mem) (w .𝓡 .run) (a .0) (a .1 .0) (a .1 .1 .0) (a .1 .1 .1 .0) (a .1 .1 .1 .1 .0) (a .1 .1 .1 .1 .1 .0) (a .1 .1 .1 .1 .1 .1 .0) (a .1 .1 .1 .1 .1 .1 .1 .0) (a .1 .1 .1 .1 .1 .1 .1 .1 .0) (a .1 .1 .1 .1 .1 .1 .1 .1 .1 .0) record { entry = a .0; exit = s .0 } record { entry = a .1 .0; exit = s .1 .0 } record { entry = a .1 .1 .0; exit = s .1 .1 .0 } record { entry = a .1 .1 .1 .0; exit = s .1 .1 .1 .0 } record { entry = a .1 .1 .1 .1 .0; exit = s .1 .1 .1 .1 .0 } record { entry = a .1 .1 .1 .1 .1 .0; exit = s .1 .1 .1 .1 .1 .0 } record { entry = a .1 .1 .1 .1 .1 .1 .0; exit = s .1 .1 .1 .1 .1 .1 .0 } record { entry = a .1 .1 .1 .1 .1 .1 .1 .0; exit = s .1 .1 .1 .1 .1 .1 .1 .0 } record { entry = a .1 .1 .1 .1 .1 .1 .1 .1 .0; exit = s .1 .1 .1 .1 .1 .1 .1 .1 .0 } record { entry = a .1 .1 .1 .1 .1 .1 .1 .1 .1 .0; exit = s .1 .1 .1 .1 .1 .1 .1 .1 .1 .0 } r
-  ensures-2·read = λ a g r s. all-models (λ w. ensures-2 (w .𝓤) (w .H) κs (w .𝓖 .A) (w .𝓜 .mem) (w .𝓡 .run) (a .0) (a .1 .0) (a .1 .1 .0) (a .1 .1 .1 .0) (a .1 .1 .1 .1 .0) (a .1 .1 .1 .1 .1 .0) (a .1 .1 .1 .1 .1 .1 .0) (a .1 .1 .1 .1 .1 .1 .1 .0) (a .1 .1 .1 .1 .1 .1 .1 .1 .0) (a .1 .1 .1 .1 .1 .1 .1 .1 .1 .0) record { entry = a .0; exit = s .0 } record { entry = a .1 .0; exit = s .1 .0 } record { entry = a .1 .1 .0; exit = s .1 .1 .0 } record { entry = a .1 .1 .1 .0; exit = s .1 .1 .1 .0 } record { entry = a .1 .1 .1 .1 .0; exit = s .1 .1 .1 .1 .0 } record { entry = a .1 .1 .1 .1 .1 .0; exit = s .1 .1 .1 .1 .1 .0 } record { entry = a .1 .1 .1 .1 .1 .1 .0; exit = s .1 .1 .1 .1 .1 .1 .0 } record { entry = a .1 .1 .1 .1 .1 .1 .1 .0; exit = s .1 .1 .1 .1 .1 .1 .1 .0 } record { entry = a .1 .1 .1 .1 .1 .1 .1 .1 .0; exit = s .1 .1 .1 .1 .1 .1 .1 .1 .0 } record { entry = a .1 .1 .1 .1 .1 .1 .1 .1 .1 .0; exit = s .1 .1 .1 .1 .1 .1 .1 .1 .1 .0 } r) (λ w. search reads) (λ w. refl) (λ w. refl) λ w. refl
-
   abbrev pub post-read : (a : ArgsD signature κs) → (g : Ghost) → (r : ResD signature κs) → (s : AtExit (endedOf 9 ps Kinds.r) κs) → Read.Read (Base a) (Owned r s) (ensures a g r s)
-  post-read = λ a g r s. read-join (λ w. ensures-1 (w .𝓤) (w .H) κs (w .𝓖 .A) (w .𝓜 .mem) (w .𝓡 .run) (a .0) (a .1 .0) (a .1 .1 .0) (a .1 .1 .1 .0) (a .1 .1 .1 .1 .0) (a .1 .1 .1 .1 .1 .0) (a .1 .1 .1 .1 .1 .1 .0) (a .1 .1 .1 .1 .1 .1 .1 .0) (a .1 .1 .1 .1 .1 .1 .1 .1 .0) (a .1 .1 .1 .1 .1 .1 .1 .1 .1 .0) record { entry = a .0; exit = s .0 } record { entry = a .1 .0; exit = s .1 .0 } record { entry = a .1 .1 .0; exit = s .1 .1 .0 } record { entry = a .1 .1 .1 .0; exit = s .1 .1 .1 .0 } record { entry = a .1 .1 .1 .1 .0; exit = s .1 .1 .1 .1 .0 } record { entry = a .1 .1 .1 .1 .1 .0; exit = s .1 .1 .1 .1 .1 .0 } record { entry = a .1 .1 .1 .1 .1 .1 .0; exit = s .1 .1 .1 .1 .1 .1 .0 } record { entry = a .1 .1 .1 .1 .1 .1 .1 .0; exit = s .1 .1 .1 .1 .1 .1 .1 .0 } record { entry = a .1 .1 .1 .1 .1 .1 .1 .1 .0; exit = s .1 .1 .1 .1 .1 .1 .1 .1 .0 } record { entry = a .1 .1 .1 .1 .1 .1 .1 .1 .1 .0; exit = s .1 .1 .1 .1 .1 .1 .1 .1 .1 .0 } r) (λ w. ensures-2 (w .𝓤) (w .H) κs (w .𝓖 .A) (w .𝓜 .mem) (w .𝓡 .run) (a .0) (a .1 .0) (a .1 .1 .0) (a .1 .1 .1 .0) (a .1 .1 .1 .1 .0) (a .1 .1 .1 .1 .1 .0) (a .1 .1 .1 .1 .1 .1 .0) (a .1 .1 .1 .1 .1 .1 .1 .0) (a .1 .1 .1 .1 .1 .1 .1 .1 .0) (a .1 .1 .1 .1 .1 .1 .1 .1 .1 .0) record { entry = a .0; exit = s .0 } record { entry = a .1 .0; exit = s .1 .0 } record { entry = a .1 .1 .0; exit = s .1 .1 .0 } record { entry = a .1 .1 .1 .0; exit = s .1 .1 .1 .0 } record { entry = a .1 .1 .1 .1 .0; exit = s .1 .1 .1 .1 .0 } record { entry = a .1 .1 .1 .1 .1 .0; exit = s .1 .1 .1 .1 .1 .0 } record { entry = a .1 .1 .1 .1 .1 .1 .0; exit = s .1 .1 .1 .1 .1 .1 .0 } record { entry = a .1 .1 .1 .1 .1 .1 .1 .0; exit = s .1 .1 .1 .1 .1 .1 .1 .0 } record { entry = a .1 .1 .1 .1 .1 .1 .1 .1 .0; exit = s .1 .1 .1 .1 .1 .1 .1 .1 .0 } record { entry = a .1 .1 .1 .1 .1 .1 .1 .1 .1 .0; exit = s .1 .1 .1 .1 .1 .1 .1 .1 .1 .0 } r) (ensures-1·read a g r s) (ensures-2·read a g r s)
+  post-read = λ a g r s. ensures-1·read a g r s
 
 abbrev pub Pre : Kinds'.In 9 ps
 Pre = Written.Pre 9 ps Kinds.r Ghost requires ensures pre-read Pinned Owned post-read tt
