@@ -29,7 +29,7 @@ use Rattle.tickets.proofs.Placed.{none-bad}
 use Rattle.tickets.proofs.Kept.{Stands, sound-stands, filed-so, not-filed-so, withdrawn-so, not-withdrawn-so}
 use Rattle.demands.proofs.Demand2.{demand2-walk, demand2-least}
 use Rattle.demands.proofs.Demand3.{demand3-same}
-use Rattle.promises.specs.Desk.{Kept, atFirst, IsTable, IsOffice, Call, filing, Fits, files, withdraws, boards, Day, over, then, departs, departures, leaving, joining, withdrawn, withdrawnIn, queueIn, givenBy, given, countedFrom, Fate, LeavesOn, TableStays, TableFromEmpty, NumbersCountUp, NoneGivenTwice, InOrder, FreedPlaceServes, OnlyTheseTakeAway, LeavesInTime, FiledBehind, answered, RefusedChangesNothing, BoardingTakes, RefusalKeeps, OwnOfficeDecides, BoardedRunHolds}
+use Rattle.promises.specs.Desk.{Kept, atFirst, IsTable, IsOffice, Call, filing, Fits, files, withdraws, boards, Day, over, then, departs, departures, leaving, joining, withdrawn, withdrawnIn, queueIn, givenBy, given, countedFrom, Fate, LeavesOn, TableStays, TableFromEmpty, NumbersCountUp, NoneGivenTwice, InOrder, StandByNumber, FreedPlaceServes, OnlyTheseTakeAway, LeavesInTime, FiledBehind, answered, RefusedChangesNothing, BoardingTakes, RefusalKeeps, OwnOfficeDecides, BoardedRunHolds}
 use Rattle.promises.proofs.DeskSteps.{step, gives, fate, not-accepted, takes, refused-is, board-accepted}
 
 stays : {k last : Kept} {cs : List Call} → IsTable k → Day k cs last → IsTable last
@@ -92,6 +92,19 @@ queue-of office o table (then {cs = cs} fits day) = let s = step office o table 
 
 pub in-order : InOrder
 in-order office k last cs o table day = queue-of office o table day
+
+by-number : (ts : List Ticket) → ((i : ℕ) → suc i < length ts → getD ts i noTicket .number < getD ts (suc i) noTicket .number)
+    → (i j : ℕ) → i < j → j < length ts → getD ts i noTicket .number < getD ts j noTicket .number
+by-number ts ascends i zero l b = absurd (omega arith)
+by-number ts ascends i (suc j) l b =
+    elim (decLt i j) [ yes h ↦ omega (arith, by-number ts ascends i j h (omega arith), ascends j b) | no n ↦ last (omega arith) ]
+  where
+    last : i ≡ j → getD ts i noTicket .number < getD ts (suc j) noTicket .number
+    last e = rw e (ascends j b)
+
+pub stand-by-number : StandByNumber
+stand-by-number office i j k (inl e) table l b = rw e (by-number (waiting 1 (k .row)) (table .one .ascends) i j l (rw e at b))
+stand-by-number office i j k (inr e) table l b = rw e (by-number (waiting 2 (k .row)) (table .two .ascends) i j l (rw e at b))
 
 -- A filing of an office with room and numbers left is accepted.
 filing-passes : (len : ℕ) (row : List Ticket) (f : Filing) → Stands (f .lasts) row → 32 ≤ len → inRange f ≡ true → length (waiting (f .office) row) ≤ 15 → lastOf (f .office) (f .lasts) < 65535 → fileVerdict len row f ≡ accepted

@@ -1,4 +1,4 @@
--- The proofs of the promises: request L6 by single calls (DeskSteps), by days (Desk), its refusals, its wants and its worked cases.
+-- The proofs of the promises: requests L6 and L7 by single calls (DeskSteps), by days (Desk), their refusals, wants and worked cases.
 pub mod DeskSteps
 pub mod Desk
 pub mod DeskRefusals

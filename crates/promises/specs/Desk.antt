@@ -160,6 +160,16 @@ InOrder =
     → Day k cs last
     → waiting office (last .row) ≡ queueIn office cs (waiting office (k .row))
 
+-- So at any moment an office's tickets stand by their numbers, which were given in order of filing.
+abbrev pub StandByNumber : Type 0
+StandByNumber =
+    (office i j : ℕ) (k : Kept)
+    → IsOffice office
+    → IsTable k
+    → i < j
+    → j < length (waiting office (k .row))
+    → getD (waiting office (k .row)) i noTicket .number < getD (waiting office (k .row)) j noTicket .number
+
 -- The freed place serves: with at most 15 waiting, numbers left, and a filing in range on a row long enough, it is accepted, whatever was filed,
 -- withdrawn and boarded before.
 abbrev pub FreedPlaceServes : Type 0
