@@ -10,12 +10,13 @@ use Rattle.refusals.specs.Refusals.{accepted}
 use Rattle.tickets.specs.declared.Ticket.{Ticket}
 use Rattle.tickets.specs.declared.Lasts.{Lasts}
 use Rattle.tickets.specs.declared.Filing.{Filing}
+use Rattle.tickets.specs.declared.FiledRow.{FiledRow}
 use Rattle.tickets.specs.declared.Withdrawal.{Withdrawal}
 use Rattle.tickets.specs.Table.{noTicket, rowOf, rowVerdict}
 use Rattle.tickets.specs.Filings.{fileVerdict}
 use Rattle.tickets.specs.Withdrawals.{withoutNumber, withdrawVerdict}
 use Rattle.boardings.specs.Boarders.{Want, share, withWants}
-use Rattle.promises.specs.Desk.{atFirst}
+use Rattle.promises.specs.Desk.{atFirst, filing, withdrawal, Day}
 
 -- Office, file, count and number.
 abbrev pub ticket : ℕ → ℕ → ℕ → ℕ → Ticket
@@ -82,3 +83,19 @@ WithdrawalCases =
     × (withdrawVerdict 32 (rowOf three []) (taken 1 4 (lasts 5 5)) ≡ refused NotWaiting 0)
     × (withdrawVerdict 32 (rowOf three []) (taken 3 3 (lasts 5 5)) ≡ refused NotWaiting 0)
     × (withoutNumber 3 three ≡ ticket 1 7 1 2 ∷ ticket 1 9 1 5 ∷ [])
+
+-- A day: a ticket is filed and withdrawn, and the next one is given number 2. The table is empty in between.
+abbrev pub alone : ℕ → ℕ → List Ticket
+alone file number = rowOf (ticket 1 file 1 number ∷ []) []
+
+abbrev pub filedAlone : ℕ → ℕ → FiledRow
+filedAlone file number = record { filed = record { verdict = accepted; number = number; lasts = lasts number 0 }; row = alone file number }
+
+abbrev pub DayCase : Type 0
+DayCase =
+    Day atFirst
+    (filing 32 (filed 1 7 1 10 (lasts 0 0)) (filedAlone 7 1)
+    ∷ withdrawal 32 (taken 1 1 (lasts 1 0)) (record { withdrawn = record { verdict = accepted; lasts = lasts 1 0 }; row = atFirst .row })
+    ∷ filing 32 (filed 1 8 1 10 (lasts 1 0)) (filedAlone 8 2)
+    ∷ [])
+    (record { row = alone 8 2; lasts = lasts 2 0 })
