@@ -1,11 +1,11 @@
 #!/usr/bin/env python3
-"""Runs the day of check_desk once more over a lent row of records, by the functions `file` and `board` of the crate desk, and compares what is printed
+"""Runs the day of check_desk once more over a lent row of records, by the functions `file`, `withdraw` and `board` of the crate desk, and compares what is printed
 with what desk.py works out.
 
 usage: tests/python/desk_rows.py
 
-The prover does not cover a function that lends a slice of structs, so no program of the repository can call these two. This one is made in a
-temporary folder, from the text of check_desk with two functions replaced, and is run without a proof by `rt try`: on the interpreter, compiled at -O0
+The prover does not cover a function that lends a slice of structs, so no program of the repository can call these three. This one is made in a
+temporary folder, from the text of check_desk with three functions replaced, and is run without a proof by `rt try`: on the interpreter, compiled at -O0
 and at -O3, and with the compiler's assumptions checked. The lent row has 40 places, or what the event draws; records that are not lent, or stand past
 the 32nd, are looked at after each call.
 """
@@ -23,7 +23,7 @@ EVENTS = 350
 LENT = """
 // A row of records with a table in its first places, and a mark in each later one.
 fn laid(table: [Ticket; 32]) -> [Ticket; 40] {
-    let mut row = [Ticket { office: 77, file: 78, count: 79 }; 40];
+    let mut row = [Ticket { office: 77, file: 78, count: 79, number: 80 }; 40];
     let mut i: usize = 0;
     while i < 32 {
         row[i] = table[i];
@@ -42,15 +42,15 @@ fn taken_up(row: [Ticket; 40], before: [Ticket; 32], len: usize) -> [Ticket; 32]
         let b = before[i];
         if len <= i {
             if t.office != b.office {
-                return [Ticket { office: 0, file: 0, count: 0 }; 32];
+                return [Ticket { office: 0, file: 0, count: 0, number: 0 }; 32];
             }
         }
         i += 1;
     }
     while i < 40 {
         let t = row[i];
-        if t.office + t.file + t.count != 234 {
-            return [Ticket { office: 0, file: 0, count: 0 }; 32];
+        if t.office + t.file + t.count + t.number != 314 {
+            return [Ticket { office: 0, file: 0, count: 0, number: 0 }; 32];
         }
         i += 1;
     }
@@ -63,6 +63,13 @@ FILED = """{
     let filed = desk::file(&mut row[..len], filing);
     let after = taken_up(row, table, len);
     FiledRow { filed, row: after }
+}
+"""
+WITHDRAWN = """{
+    let mut row = laid(table);
+    let withdrawn = desk::withdraw(&mut row[..len], withdrawal);
+    let after = taken_up(row, table, len);
+    WithdrawnRow { withdrawn, row: after }
 }
 """
 BOARDED = """    let mut row = laid(table);
@@ -93,6 +100,7 @@ def replaced(text, old, new, flags=0):
 def lending(text):
     """The text of check_desk over a lent row."""
     text = replaced(text, r"\{\n    tickets::file_in\(len, table, filing\)\n\}\n", FILED)
+    text = replaced(text, r"\{\n    tickets::withdraw_in\(len, table, withdrawal\)\n\}\n", WITHDRAWN)
     text = replaced(text, r"    boardings::board_in\(\n.*?\n    \)\n", BOARDED, re.S)
     text = replaced(text, rf"first < {desk.EVENTS} ", f"first < {EVENTS} ")
     return replaced(text, r"\n// A filing in a row", LENT + "// A filing in a row")
@@ -119,7 +127,7 @@ def main():
     runs = re.findall(r"^ok: .* wrote what is expected$", said.stdout, re.M)
     if said.returncode != 0 or len(runs) != 4:
         sys.exit(f"desk_rows.py: the day over a lent row is not as it must be:\n{said.stdout}{said.stderr}")
-    print(f"desk_rows.py: {EVENTS} filings and boardings over a lent row of records as they must be, in {len(runs)} kinds of run")
+    print(f"desk_rows.py: {EVENTS} filings, withdrawals and boardings over a lent row of records as they must be, in {len(runs)} kinds of run")
 
 
 if __name__ == "__main__":

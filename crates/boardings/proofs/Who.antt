@@ -11,6 +11,7 @@ use lib.Seq.{take-append-le, drop-at, getD-append-add}
 use borrow.Author.Tests.{leb-true}
 use Rattle.runs.specs.Run.{mostFiles}
 use Rattle.tickets.specs.declared.Ticket.{Ticket}
+use Rattle.tickets.specs.declared.Lasts.{Lasts}
 use Rattle.tickets.specs.Table.{places, allPlaces, mostCount, noTicket, isTicket, upTo, waiting, placed, rowOf, rowWithout, Waits, Sound}
 use Rattle.tickets.proofs.Sound.{and-true-both}
 use Rattle.tickets.proofs.Placed.{placed-at, placed-long, sound-without}
@@ -29,43 +30,44 @@ pub shares-fit : (a b : ℕ) → share a b + share b a ≤ mostBoarders
 shares-fit a b = omega arith
 
 -- A ticket's count is at most 128; an empty place's is 0.
-count-small : (office : ℕ) (t : Ticket) → isTicket office t ≡ true → t .count ≤ mostCount
-count-small office t e =
-    let c = and-true-both (eqb (t .office) office && upTo mostFiles (t .file)) (upTo mostCount (t .count)) e .1 in
+count-small : (office last : ℕ) (t : Ticket) → isTicket office last t ≡ true → t .count ≤ mostCount
+count-small office last t e =
+    let a = and-true-both (eqb (t .office) office && upTo mostFiles (t .file) && upTo mostCount (t .count)) (upTo last (t .number)) e .0 in
+    let c = and-true-both (eqb (t .office) office && upTo mostFiles (t .file)) (upTo mostCount (t .count)) a .1 in
     leb-true (t .count) mostCount (and-true-both (not (eqb (t .count) 0)) (leb (t .count) mostCount) c .1)
 
-waits-small : (office : ℕ) (ts : List Ticket) → Waits office ts → (i : ℕ) → getD ts i noTicket .count ≤ mostCount
-waits-small office ts w i =
-    elim (decLt i (length ts)) [ yes h ↦ count-small office (getD ts i noTicket) (w .each i h) | no n ↦ rw (List·getD-eq-default ts noTicket (let h : length ts ≤ i = omega arith in h)) (omega arith) ]
+waits-small : (office last : ℕ) (ts : List Ticket) → Waits office last ts → (i : ℕ) → getD ts i noTicket .count ≤ mostCount
+waits-small office last ts w i =
+    elim (decLt i (length ts)) [ yes h ↦ count-small office last (getD ts i noTicket) (w .each i h) | no n ↦ rw (List·getD-eq-default ts noTicket (let h : length ts ≤ i = omega arith in h)) (omega arith) ]
 
-module _ (ones twos row : List Ticket) (s : Sound ones twos row) where
+module _ (l : Lasts) (ones twos row : List Ticket) (s : Sound l ones twos row) where
   pub counts-small : (i : ℕ) → i < allPlaces → getD row i noTicket .count ≤ mostCount
-  counts-small i l = rw (s .is) (elim (decLt i places) [ yes h ↦ first h | no n ↦ second (i - places) (omega arith) ])
+  counts-small i b = rw (s .is) (elim (decLt i places) [ yes h ↦ first h | no n ↦ second (i - places) (omega arith) ])
     where
       first : i < places → getD (rowOf ones twos) i noTicket .count ≤ mostCount
-      first h = rw (List·getD-append (placed ones) (placed twos) noTicket i (rw (placed-long ones (s .one .few)) h), placed-at ones i) (waits-small 1 ones (s .one) i)
+      first h = rw (List·getD-append (placed ones) (placed twos) noTicket i (rw (placed-long ones (s .one .few)) h), placed-at ones i) (waits-small 1 (l .one) ones (s .one) i)
 
       second : (j : ℕ) → i ≡ places + j → getD (rowOf ones twos) i noTicket .count ≤ mostCount
       second j e =
           let at : getD (rowOf ones twos) i noTicket ≡ getD twos j noTicket =
           ap (λ k. getD (rowOf ones twos) k noTicket) (e ∙ ap (λ k. k + j) (sym (placed-long ones (s .one .few))))
           ∙ getD-append-add (placed ones) (placed twos) j noTicket ∙ placed-at twos j in
-          rw at (waits-small 2 twos (s .two) j)
+          rw at (waits-small 2 (l .two) twos (s .two) j)
 
   pub front-one : (a : ℕ) → a ≤ length ones → take a (drop 0 row) ≡ take a ones
-  front-one a l =
+  front-one a few =
       ap (take a) (s .is) ∙ take-append-le a (placed ones) (placed twos) (rw (placed-long ones (s .one .few)) (omega (arith, s .one .few)))
-      ∙ take-append-le a ones (lib.ListN.replicate (places - length ones) noTicket) l
+      ∙ take-append-le a ones (lib.ListN.replicate (places - length ones) noTicket) few
 
   pub front-two : (b : ℕ) → b ≤ length twos → take b (drop places row) ≡ take b twos
-  front-two b l =
+  front-two b few =
       ap (λ r. take b (drop places r)) (s .is) ∙ ap (take b) (drop-at (placed ones) (placed twos) places (placed-long ones (s .one .few)))
-      ∙ take-append-le b twos (lib.ListN.replicate (places - length twos) noTicket) l
+      ∙ take-append-le b twos (lib.ListN.replicate (places - length twos) noTicket) few
 
 -- The code's two calls.
 module _ (row : List Ticket) (all : length row ≡ allPlaces) (accepts : SoundRow row) (taken : Taken) (is : taken ≡ takenOf row) where
-  pub sound : Sound (waiting 1 row) (waiting 2 row) row
-  sound = accepted-sound (accepts .len) row all (accepts .accepts)
+  pub sound : Sound (accepts .lasts) (waiting 1 row) (waiting 2 row) row
+  sound = accepted-sound (accepts .len) row (accepts .lasts) all (accepts .accepts)
 
   one-is : taken .one ≡ shareOne row
   one-is = ap (λ t. t .one) is
@@ -102,8 +104,8 @@ module _ (row : List Ticket) (all : length row ≡ allPlaces) (accepts : SoundRo
         let h = second 0 (withWants [] (take (taken .one) (drop 0 row))) (rw none ones-held) in
         h .is
         ∙ ap wantRows
-        (ap (λ ts. withWants (withWants [] ts) (take (taken .two) (drop places row))) (front-one (waiting 1 row) (waiting 2 row) row sound (taken .one) one-there)
-        ∙ ap (λ ts. withWants (withWants [] (take (taken .one) (waiting 1 row))) ts) (front-two (waiting 1 row) (waiting 2 row) row sound (taken .two) two-there)
+        (ap (λ ts. withWants (withWants [] ts) (take (taken .two) (drop places row))) (front-one (accepts .lasts) (waiting 1 row) (waiting 2 row) row sound (taken .one) one-there)
+        ∙ ap (λ ts. withWants (withWants [] (take (taken .one) (waiting 1 row))) ts) (front-two (accepts .lasts) (waiting 1 row) (waiting 2 row) row sound (taken .two) two-there)
         ∙ ap (λ a. withWants (withWants [] (take a (waiting 1 row))) (take (taken .two) (waiting 2 row))) one-is
         ∙ ap (λ b. withWants (withWants [] (take (shareOne row) (waiting 1 row))) (take b (waiting 2 row))) two-is
         ∙ sym (with-appended [] (take (shareOne row) (waiting 1 row)) (take (shareTwo row) (waiting 2 row))))
@@ -111,4 +113,4 @@ module _ (row : List Ticket) (all : length row ≡ allPlaces) (accepts : SoundRo
   pub staying : rowWithout (taken .one) (taken .two) row ≡ rowStaying row
   staying =
       ap (λ t. rowWithout (t .one) (t .two) row) is
-      ∙ sound-without (shareOne row) (shareTwo row) (waiting 1 row) (waiting 2 row) row sound
+      ∙ sound-without (shareOne row) (shareTwo row) (accepts .lasts) (waiting 1 row) (waiting 2 row) row sound

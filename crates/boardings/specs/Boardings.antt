@@ -11,6 +11,7 @@ use Rattle.walk.specs.declared.Answer.{Answer}
 use Rattle.walk.specs.Price.{refusalAnswer}
 use Rattle.planner.specs.Plan.{Rows, Plans}
 use Rattle.tickets.specs.declared.Ticket.{Ticket}
+use Rattle.tickets.specs.declared.Lasts.{Lasts}
 use Rattle.tickets.specs.Table.{rowVerdict}
 use Rattle.boardings.specs.declared.Boarding.{Boarding}
 use Rattle.boardings.specs.declared.Taken.{Taken}
@@ -46,26 +47,26 @@ wantRows ws = record { k = length ws; numbers = eight (fileNumbers ws); counts =
 abbrev pub takenOf : List Ticket → Taken
 takenOf row = record { one = shareOne row; two = shareTwo row }
 
--- The answer where nobody boards: the row as it was, and every number but the answer's own 0.
-abbrev pub notBoarded : List Ticket → Answer → BoardedRow
-notBoarded row a = record { boarded = record { answer = a; taken = record { one = 0; two = 0 }; wants = wantRows [] }; row = row }
+-- The answer where nobody boards: the row as it was, and every number but the answer's own 0. The last numbers stay, here and below.
+abbrev pub notBoarded : List Ticket → Lasts → Answer → BoardedRow
+notBoarded row l a = record { boarded = record { answer = a; taken = record { one = 0; two = 0 }; wants = wantRows []; lasts = l }; row = row }
 
 -- The answer by the plan's: who boards leaves only when it is accepted.
-abbrev pub boardedBy : List Ticket → Answer → BoardedRow
-boardedBy row a =
-    cond (isRefusal (a .refusal)) (notBoarded row a)
-    (record { boarded = record { answer = a; taken = takenOf row; wants = wantRows (wantsOf row) }; row = rowStaying row })
+abbrev pub boardedBy : List Ticket → Lasts → Answer → BoardedRow
+boardedBy row l a =
+    cond (isRefusal (a .refusal)) (notBoarded row l a)
+    (record { boarded = record { answer = a; taken = takenOf row; wants = wantRows (wantsOf row); lasts = l }; row = rowStaying row })
 
 -- 8 or 26 of the row of records: nothing changes.
-pub record RowRefused (len : ℕ) (row : List Ticket) (before : Rows) (r : BoardedRow) (after : Rows) : Type 0 where
-  pub says : r ≡ notBoarded row (refusalAnswer (rowVerdict len row))
+pub record RowRefused (len : ℕ) (row : List Ticket) (b : Boarding) (before : Rows) (r : BoardedRow) (after : Rows) : Type 0 where
+  pub says : r ≡ notBoarded row (b .lasts) (refusalAnswer (rowVerdict len row (b .lasts)))
   pub kept : after ≡ before
 
 -- Else the plan of the run, its rows, and the tickets by it.
 pub record RunPlanned (tape : Tape) (row : List Ticket) (b : Boarding) (before : Rows) (r : BoardedRow) (after : Rows) : Type 0 where
   pub plans : Plans (boardRun tape row b) before (r .boarded .answer) after
-  pub says : r ≡ boardedBy row (r .boarded .answer)
+  pub says : r ≡ boardedBy row (b .lasts) (r .boarded .answer)
 
 pub record Boards (len : ℕ) (tape : Tape) (row : List Ticket) (b : Boarding) (before : Rows) (r : BoardedRow) (after : Rows) : Type 0 where
-  pub refused : isRefusal (rowVerdict len row .refusal) ≡ true → RowRefused len row before r after
-  pub planned : isRefusal (rowVerdict len row .refusal) ≡ false → RunPlanned tape row b before r after
+  pub refused : isRefusal (rowVerdict len row (b .lasts) .refusal) ≡ true → RowRefused len row b before r after
+  pub planned : isRefusal (rowVerdict len row (b .lasts) .refusal) ≡ false → RunPlanned tape row b before r after

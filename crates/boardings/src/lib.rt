@@ -9,6 +9,7 @@ ghost use Rattle.boardings.specs.Private.{SoundRow};
 use crate::gathering::wants_of;
 use refusals::number;
 use refusals::refused;
+use tickets::Lasts;
 use tickets::Ticket;
 use walk::Answer;
 
@@ -19,10 +20,11 @@ pub const MOST_BOARDERS: usize = 8;
 
 pub const OWN_PLACES: usize = 4;
 
-// Where the head stands, and the price of a turn.
+// Where the head stands, the price of a turn, and the last numbers given to the offices.
 pub struct Boarding {
     pub head: u64,
     pub turn: u64,
+    pub lasts: Lasts,
 }
 
 // How many tickets of each office have left.
@@ -38,11 +40,13 @@ pub struct Wants {
     pub counts: [u64; 8],
 }
 
-// What a boarding answers: the planner's answer, who left, and the wants that were planned, whose times and legs are in the lent rows.
+// What a boarding answers: the planner's answer, who left, the wants that were planned, whose times and legs are in the lent rows, and the last numbers
+// as they were.
 pub struct Boarded {
     pub answer: Answer,
     pub taken: Taken,
     pub wants: Wants,
+    pub lasts: Lasts,
 }
 
 // The same with the row afterwards.
@@ -78,8 +82,8 @@ fn taken_of(row: [Ticket; 32]) -> Taken
 }
 
 // The answer where nobody boards.
-fn not_boarded(row: [Ticket; 32], answer: Answer) -> BoardedRow
-    ensures { λ r. ⌜ r ≡ notBoarded row answer ⌝ }
+fn not_boarded(row: [Ticket; 32], lasts: Lasts, answer: Answer) -> BoardedRow
+    ensures { λ r. ⌜ r ≡ notBoarded row lasts answer ⌝ }
 {
     let none = Wants {
         k: 0,
@@ -91,21 +95,28 @@ fn not_boarded(row: [Ticket; 32], answer: Answer) -> BoardedRow
             answer,
             taken: Taken { one: 0, two: 0 },
             wants: none,
+            lasts,
         },
         row,
     }
 }
 
 // The answer by the plan's.
-fn boarded_by(row: [Ticket; 32], taken: Taken, wants: Wants, answer: Answer) -> BoardedRow
+fn boarded_by(
+    row: [Ticket; 32],
+    lasts: Lasts,
+    taken: Taken,
+    wants: Wants,
+    answer: Answer,
+) -> BoardedRow
     requires { ⌜ SoundRow row ⌝ }
     requires { ⌜ taken ≡ takenOf row ⌝ }
     requires { ⌜ wants ≡ wantRows (wantsOf row) ⌝ }
-    ensures { λ r. ⌜ r ≡ boardedBy row answer ⌝ }
+    ensures { λ r. ⌜ r ≡ boardedBy row lasts answer ⌝ }
 {
     let kind = answer.refusal;
     if number(kind) != 0 {
-        return not_boarded(row, answer);
+        return not_boarded(row, lasts, answer);
     }
     let staying = tickets::without_first(row, taken.one, taken.two);
     BoardedRow {
@@ -113,6 +124,7 @@ fn boarded_by(row: [Ticket; 32], taken: Taken, wants: Wants, answer: Answer) -> 
             answer,
             taken,
             wants,
+            lasts,
         },
         row: staying,
     }
@@ -134,9 +146,10 @@ pub fn board_in(
 ) -> BoardedRow
     ensures { λ r. ⌜ Boards len (tapeAt starts lengths aggregates) row boarding (rowsBefore froms tos times legs room) r (rowsAfter froms tos times legs room) ⌝ }
 {
-    let verdict = tickets::judge_row(len, row);
+    let lasts = boarding.lasts;
+    let verdict = tickets::judge_row(len, row, lasts);
     if refused(verdict) {
-        return not_boarded(row, walk::refuse(verdict));
+        return not_boarded(row, lasts, walk::refuse(verdict));
     }
     let taken = taken_of(row);
     let wants = wants_of(row, taken);
@@ -157,5 +170,5 @@ pub fn board_in(
         legs,
         room,
     );
-    boarded_by(row, taken, wants, answer)
+    boarded_by(row, lasts, taken, wants, answer)
 }

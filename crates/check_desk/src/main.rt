@@ -1,13 +1,16 @@
-// A long day of two offices at one tape, over the by-value functions of the desk: 1,500 filings and boardings are drawn, on sound rows of records and
-// on damaged ones, and for every fifty of them one number is printed, which all answers and all rows go into. What it must print stands beside it in
-// stdout; tests/python/desk.py draws the same day and works it out from the requests' sentences.
+// A long day of two offices at one tape, over the by-value functions of the desk: 1,500 filings, withdrawals and boardings are drawn, on sound rows of
+// records and on damaged ones, and for every fifty of them one number is printed, which all answers and all rows go into. What it must print stands
+// beside it in stdout; tests/python/desk.py draws the same day and works it out from the requests' sentences.
 use boardings::BoardedRow;
 use boardings::Boarding;
 use libc::STDOUT_FILENO;
 use refusals::number;
 use tickets::FiledRow;
 use tickets::Filing;
+use tickets::Lasts;
 use tickets::Ticket;
+use tickets::Withdrawal;
+use tickets::WithdrawnRow;
 
 // The tape: where its files start, how long they are, and which lie in an aggregate.
 const STARTS: [u64; 20] = [
@@ -79,9 +82,10 @@ const AGGREGATES: [u64; 20] = [
     0,
 ];
 
-// The table of both offices, and the number that the answers have gone into.
+// The table of both offices, the last numbers given, and the number that the answers have gone into.
 pub struct Day {
     pub table: [Ticket; 32],
+    pub lasts: Lasts,
     pub sum: u64,
 }
 
@@ -110,7 +114,10 @@ fn mixed_table(before: u64, table: [Ticket; 32]) -> u64 {
     let mut i: usize = 0;
     while i < 32 {
         let t = table[i];
-        sum = mixed(mixed(mixed(sum, t.office), t.file), t.count);
+        sum = mixed(
+            mixed(mixed(mixed(sum, t.office), t.file), t.count),
+            t.number,
+        );
         i += 1;
     }
     sum
@@ -119,6 +126,11 @@ fn mixed_table(before: u64, table: [Ticket; 32]) -> u64 {
 // A filing in a row of records of this length that begins with the table.
 fn filed(len: usize, table: [Ticket; 32], filing: Filing) -> FiledRow {
     tickets::file_in(len, table, filing)
+}
+
+// A withdrawal from such a row.
+fn withdrawn(len: usize, table: [Ticket; 32], withdrawal: Withdrawal) -> WithdrawnRow {
+    tickets::withdraw_in(len, table, withdrawal)
 }
 
 // A boarding from such a row, for one tape table.
@@ -154,23 +166,26 @@ fn boarded(
 fn damaged(table: [Ticket; 32], a: u64, b: u64) -> [Ticket; 32] {
     let mut other = table;
     let i = (a % 32) as usize;
+    let t = table[i];
     other[i] = Ticket {
         office: b % 4,
         file: b / 4 % 8 * 700,
         count: b / 32 % 8 * 20,
+        number: std::num::wrapping_add_u64(t.number, b / 256 % 4 / 3),
     };
     other
 }
 
 // A ticket of either office, one in sixteen of neither, with a file that the tape may lack and a count that may be out of range. By the hour both
 // offices file, or one of them mostly.
-fn filing_of(i: u64, a: u64, b: u64) -> Filing {
+fn filing_of(i: u64, a: u64, b: u64, lasts: Lasts) -> Filing {
     let office = 1 + (a % 8 + 1 + i / 200 % 3 * 3) / 8;
     Filing {
         office: office + a / 8 % 16 / 15 * 4,
         file: b % 22,
         count: b / 22 % 8 + b / 176 % 16 / 15 * 122,
         files: 20 - a / 128 % 16 / 15 * 15,
+        lasts,
     }
 }
 
@@ -180,10 +195,40 @@ fn file(day: Day, len: usize, filing: Filing) -> Day {
     let answer = done.filed;
     let verdict = answer.verdict;
     let kind = verdict.refusal;
+    let lasts = answer.lasts;
     let after = done.row;
-    let sum = mixed(mixed(day.sum, number(kind)), verdict.place);
+    let mut sum = mixed(mixed(day.sum, number(kind)), verdict.place);
+    sum = mixed(mixed(mixed(sum, answer.number), lasts.one), lasts.two);
     Day {
         table: after,
+        lasts,
+        sum: mixed_table(sum, after),
+    }
+}
+
+// One of an office's last 24 numbers, or one never given; one in sixteen of neither office.
+fn withdrawal_of(a: u64, b: u64, lasts: Lasts) -> Withdrawal {
+    let last = if a % 2 == 1 { lasts.two } else { lasts.one };
+    Withdrawal {
+        office: 1 + a % 2 + a / 8 % 16 / 15 * 4,
+        number: std::num::wrapping_sub_u64(last, b % 24),
+        lasts,
+    }
+}
+
+fn withdraw(day: Day, len: usize, withdrawal: Withdrawal) -> Day {
+    let table = day.table;
+    let done = withdrawn(len, table, withdrawal);
+    let answer = done.withdrawn;
+    let verdict = answer.verdict;
+    let kind = verdict.refusal;
+    let lasts = answer.lasts;
+    let after = done.row;
+    let mut sum = mixed(mixed(day.sum, number(kind)), verdict.place);
+    sum = mixed(mixed(sum, lasts.one), lasts.two);
+    Day {
+        table: after,
+        lasts,
         sum: mixed_table(sum, after),
     }
 }
@@ -197,11 +242,13 @@ fn mixed_boarding(before: u64, done: BoardedRow) -> u64 {
     let kind = answer.refusal;
     let numbers = wants.numbers;
     let counts = wants.counts;
+    let lasts = boarded.lasts;
     let mut sum = mixed(mixed(before, number(kind)), answer.place);
     sum = mixed(mixed(sum, answer.sum), answer.finish);
     sum = mixed(mixed(sum, answer.end), answer.detours);
     sum = mixed(mixed(sum, taken.one as u64), taken.two as u64);
     sum = mixed(sum, wants.k as u64);
+    sum = mixed(mixed(sum, lasts.one), lasts.two);
     mixed_row(mixed_row(sum, &numbers), &counts)
 }
 
@@ -229,47 +276,68 @@ fn board(day: Day, len: usize, boarding: Boarding, entries: usize, words: usize)
     sum = mixed_row(mixed_row(sum, &times), &legs);
     sum = mixed(mixed(mixed(sum, room[0]), room[63]), room[199]);
     let after = done.row;
+    let answer = done.boarded;
+    let lasts = answer.lasts;
     Day {
         table: after,
+        lasts,
         sum: mixed_table(sum, after),
     }
 }
 
-// One event, drawn by its number: a boarding in one of four or of sixteen, by the hour; one in twenty on a damaged table, which the day does not keep;
-// one in thirty on a row that is too short.
+fn boarding_of(a: u64, b: u64, lasts: Lasts) -> Boarding {
+    Boarding {
+        head: 300 + b % 50 - a / 64 % 8 / 7 * 200,
+        turn: a % 12 + a / 1024 % 8 / 7 * 4294967296,
+        lasts,
+    }
+}
+
+// A boarding (0), a withdrawal (1) or a filing.
+fn called(day: Day, which: u64, len: usize, i: u64) -> Day {
+    let a = next(i);
+    let b = next(a);
+    let lasts = day.lasts;
+    if which == 0 {
+        let entries = (8 - b / 64 % 8 / 7 * 5) as usize;
+        let words = (65600 - b / 1024 % 8 / 7 * 65500) as usize;
+        return board(day, len, boarding_of(a, b, lasts), entries, words);
+    }
+    if which == 1 {
+        return withdraw(day, len, withdrawal_of(a, b, lasts));
+    }
+    file(day, len, filing_of(i, a, b, lasts))
+}
+
+// A boarding in one of four or of sixteen, by the hour; of the others one in six is a withdrawal.
+fn kind_of(i: u64, c: u64) -> u64 {
+    if c / 1024 % (4 + i / 100 % 2 * 12) == 0 {
+        return 0;
+    }
+    if c / 16384 % 6 == 0 { 1 } else { 2 }
+}
+
+// One event, drawn by its number: one in twenty on a damaged table, which the day does not keep; one in thirty on a row that is too short.
 fn event(day: Day, i: u64) -> Day {
     let a = next(i);
     let b = next(a);
     let c = next(b);
     let len = (32 + c % 3 * 4 - c % 30 / 29 * 9) as usize;
-    let filing = filing_of(i, a, b);
-    let boarding = Boarding {
-        head: 300 + b % 50 - a / 64 % 8 / 7 * 200,
-        turn: a % 12 + a / 1024 % 8 / 7 * 4294967296,
-    };
-    let entries = (8 - b / 64 % 8 / 7 * 5) as usize;
-    let words = (65600 - b / 1024 % 8 / 7 * 65500) as usize;
     if c / 32 % 20 == 0 {
         let table = day.table;
+        let lasts = day.lasts;
         let other = Day {
             table: damaged(table, a, b),
+            lasts,
             sum: day.sum,
         };
-        if c / 1024 % 2 == 0 {
-            return Day {
-                table,
-                sum: file(other, len, filing).sum,
-            };
-        }
         return Day {
             table,
-            sum: board(other, len, boarding, entries, words).sum,
+            lasts,
+            sum: called(other, c / 1024 % 4 % 3, len, i).sum,
         };
     }
-    if c / 1024 % (4 + i / 100 % 2 * 12) == 0 {
-        return board(day, len, boarding, entries, words);
-    }
-    file(day, len, filing)
+    called(day, kind_of(i, c), len, i)
 }
 
 fn fifty(morning: Day, first: u64) -> Day {
@@ -288,7 +356,12 @@ fn main() {
             office: 0,
             file: 0,
             count: 0,
+            number: 0,
         }; 32],
+        lasts: Lasts {
+            one: 65230, // so that its numbers are spent before the day is over
+            two: 0,
+        },
         sum: 0,
     };
     let mut first: u64 = 0;

@@ -17,19 +17,19 @@ use Rattle.boardings.specs.Boardings.{Tape, Boards, RunPlanned, RowRefused, boa
 use Rattle.desk.specs.Desk.{tableIn, withTable, boardedRow, BoardsLent}
 
 module _ (len : ℕ) (tape : Tape) (table : List Ticket) (b : Boarding) (before : Rows) (r r′ : BoardedRow) (after after′ : Rows) where
-  refused-once : RowRefused len table before r after → RowRefused len table before r′ after′ → (r ≡ r′) × (after ≡ after′)
+  refused-once : RowRefused len table b before r after → RowRefused len table b before r′ after′ → (r ≡ r′) × (after ≡ after′)
   refused-once p q = (p .says ∙ sym (q .says), p .kept ∙ sym (q .kept))
 
   planned-once : RunPlanned tape table b before r after → RunPlanned tape table b before r′ after′ → (r ≡ r′) × (after ≡ after′)
   planned-once p q =
       let e = plan-determined (boardRun tape table b) before (r .boarded .answer) (r′ .boarded .answer) after after′ (p .plans) (q .plans) in
-      (p .says ∙ ap (λ (a : Answer). boardedBy table a) (e .0) ∙ sym (q .says), e .1)
+      (p .says ∙ ap (λ (a : Answer). boardedBy table (b .lasts) a) (e .0) ∙ sym (q .says), e .1)
 
   -- Two results of `boardings::board_in` that fit its contract are equal.
   pub board-in-determined : Boards len tape table b before r after → Boards len tape table b before r′ after′ → (r ≡ r′) × (after ≡ after′)
-  board-in-determined p q = go (isRefusal (rowVerdict len table .refusal)) refl
+  board-in-determined p q = go (isRefusal (rowVerdict len table (b .lasts) .refusal)) refl
     where
-      go : (x : Bool) → isRefusal (rowVerdict len table .refusal) ≡ x → (r ≡ r′) × (after ≡ after′)
+      go : (x : Bool) → isRefusal (rowVerdict len table (b .lasts) .refusal) ≡ x → (r ≡ r′) × (after ≡ after′)
       go true e = refused-once (p .refused e) (q .refused e)
       go false e = planned-once (p .planned e) (q .planned e)
 

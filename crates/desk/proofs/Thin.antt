@@ -13,8 +13,12 @@ use Rattle.planner.specs.Plan.{Rows}
 use Rattle.tickets.specs.declared.Ticket.{Ticket}
 use Rattle.tickets.specs.declared.Filing.{Filing}
 use Rattle.tickets.specs.declared.FiledRow.{FiledRow}
+use Rattle.tickets.specs.declared.Lasts.{Lasts}
+use Rattle.tickets.specs.declared.Withdrawal.{Withdrawal}
+use Rattle.tickets.specs.declared.WithdrawnRow.{WithdrawnRow}
 use Rattle.tickets.specs.Table.{rowVerdict}
 use Rattle.tickets.specs.Filings.{fileRow}
+use Rattle.tickets.specs.Withdrawals.{withdrawRow}
 use Rattle.boardings.specs.declared.Boarding.{Boarding}
 use Rattle.boardings.specs.declared.Boarded.{Boarded}
 use Rattle.boardings.specs.declared.BoardedRow.{BoardedRow}
@@ -31,27 +35,45 @@ filed-so ts after table filing done out worked back =
     let so : done ≡ fileRow (length ts) (tableIn ts) filing = worked ∙ ap (λ (t : List Ticket). fileRow (length ts) t filing) out in
     (ap (λ (d : FiledRow). d .filed) so, back ∙ ap (λ (d : FiledRow). withTable (d .row) ts) so)
 
+pub withdrawn-so : (ts after table : List Ticket) (withdrawal : Withdrawal) (done : WithdrawnRow)
+    → table ≡ tableIn ts
+    → done ≡ withdrawRow (length ts) table withdrawal
+    → after ≡ withTable (done .row) ts
+    → (done .withdrawn ≡ withdrawRow (length ts) (tableIn ts) withdrawal .withdrawn) × (after ≡ withTable (withdrawRow (length ts) (tableIn ts) withdrawal .row) ts)
+withdrawn-so ts after table withdrawal done out worked back =
+    let so : done ≡ withdrawRow (length ts) (tableIn ts) withdrawal = worked ∙ ap (λ (t : List Ticket). withdrawRow (length ts) t withdrawal) out in
+    (ap (λ (d : WithdrawnRow). d .withdrawn) so, back ∙ ap (λ (d : WithdrawnRow). withTable (d .row) ts) so)
+
 abbrev toldBy : Boarded → List Ticket → BoardedRow
 toldBy b row = record { boarded = b; row = row }
 
-abbrev left : List Ticket → Answer → BoardedRow
-left table a = record { boarded = record { answer = a; taken = takenOf table; wants = wantRows (wantsOf table) }; row = rowStaying table }
+abbrev left : List Ticket → Lasts → Answer → BoardedRow
+left table l a = record { boarded = record { answer = a; taken = takenOf table; wants = wantRows (wantsOf table); lasts = l }; row = rowStaying table }
 
 -- Where the answer refuses, the table stays.
-refused-table : (table : List Ticket) (a : Answer) (flag : Bool) → flag ≡ isRefusal (a .refusal) → flag ≡ true → table ≡ boardedBy table a .row
-refused-table table a flag is h = subst (λ (x : Bool). table ≡ cond x (notBoarded table a) (left table a) .row) (sym h ∙ is) refl
+refused-table : (table : List Ticket) (l : Lasts) (a : Answer) (flag : Bool) → flag ≡ isRefusal (a .refusal) → flag ≡ true → table ≡ boardedBy table l a .row
+refused-table table l a flag is h = subst (λ (x : Bool). table ≡ cond x (notBoarded table l a) (left table l a) .row) (sym h ∙ is) refl
+
+-- The table afterwards is the same whatever the last numbers.
+same-table : (table : List Ticket) (l m : Lasts) (a : Answer) → boardedBy table l a .row ≡ boardedBy table m a .row
+same-table table l m a = by-flag (isRefusal (a .refusal))
+  where
+    by-flag : (flag : Bool) → cond flag (notBoarded table l a) (left table l a) .row ≡ cond flag (notBoarded table m a) (left table m a) .row
+    by-flag true = refl
+    by-flag false = refl
 
 module _ (len : ℕ) (tape : Tape) (table : List Ticket) (b : Boarding) (before : Rows) (done : BoardedRow) (after : Rows) where
   -- A boarding's table is told by its answer, also where the row of records is refused.
-  table-by-answer : Boards len tape table b before done after → done .row ≡ boardedBy table (done .boarded .answer) .row
+  table-by-answer : Boards len tape table b before done after → done .row ≡ boardedBy table (done .boarded .lasts) (done .boarded .answer) .row
   table-by-answer boards =
       ⊎-elim
-      (λ (h : isRefusal (rowVerdict len table .refusal) ≡ true).
-      subst⁻¹ (λ (d : BoardedRow). d .row ≡ boardedBy table (d .boarded .answer) .row)
+      (λ (h : isRefusal (rowVerdict len table (b .lasts) .refusal) ≡ true).
+      subst⁻¹ (λ (d : BoardedRow). d .row ≡ boardedBy table (d .boarded .lasts) (d .boarded .answer) .row)
       (boards .refused h .says)
-      (refused-table table (refusalAnswer (rowVerdict len table)) (isRefusal (rowVerdict len table .refusal)) refl h))
-      (λ (h : isRefusal (rowVerdict len table .refusal) ≡ false). ap (λ (d : BoardedRow). d .row) (boards .planned h .says))
-      (true-or-false (isRefusal (rowVerdict len table .refusal)))
+      (refused-table table (b .lasts) (refusalAnswer (rowVerdict len table (b .lasts))) (isRefusal (rowVerdict len table (b .lasts) .refusal)) refl h))
+      (λ (h : isRefusal (rowVerdict len table (b .lasts) .refusal) ≡ false).
+      ap (λ (d : BoardedRow). d .row) (boards .planned h .says) ∙ same-table table (b .lasts) (done .boarded .lasts) (done .boarded .answer))
+      (true-or-false (isRefusal (rowVerdict len table (b .lasts) .refusal)))
 
   boards-by-answer : Boards len tape table b before done after → done ≡ boardedRow table (done .boarded)
   boards-by-answer boards = ap (λ (row : List Ticket). toldBy (done .boarded) row) (table-by-answer boards)

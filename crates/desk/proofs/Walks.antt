@@ -5,5 +5,7 @@ pub mod CopyInKinds
 pub mod CopyInReads
 pub mod FileKinds
 pub mod FileReads
+pub mod WithdrawKinds
+pub mod WithdrawReads
 pub mod BoardKinds
 pub mod BoardReads

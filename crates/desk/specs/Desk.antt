@@ -21,7 +21,7 @@ withTable table ts = take (length ts) table ++ drop allPlaces ts
 
 -- An answer to a boarding with the table afterwards: who boards leaves only when the plan is accepted.
 abbrev pub boardedRow : List Ticket → Boarded → BoardedRow
-boardedRow table b = record { boarded = b; row = boardedBy table (b .answer) .row }
+boardedRow table b = record { boarded = b; row = boardedBy table (b .lasts) (b .answer) .row }
 
 -- A boarding from a lent row: the answer and the rows lent beside it are those of a boarding of the table that it holds, and the table afterwards is
 -- written back.

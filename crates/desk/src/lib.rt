@@ -6,6 +6,7 @@ ghost use lib.ListN.{length, replicate};
 ghost use Rattle.planner.specs.Plan.{rowsBefore, rowsAfter};
 ghost use Rattle.tickets.specs.Table.{noTicket};
 ghost use Rattle.tickets.specs.Filings.{fileRow};
+ghost use Rattle.tickets.specs.Withdrawals.{withdrawRow};
 ghost use Rattle.boardings.specs.Boardings.{tapeAt};
 ghost use Rattle.desk.specs.Desk.{tableIn, withTable, BoardsLent};
 use boardings::Boarded;
@@ -13,6 +14,8 @@ use boardings::Boarding;
 use tickets::Filed;
 use tickets::Filing;
 use tickets::Ticket;
+use tickets::Withdrawal;
+use tickets::Withdrawn;
 
 // How many records of a row of this length are the table's.
 fn used(len: usize) -> usize
@@ -32,6 +35,7 @@ fn blank() -> [Ticket; 32]
         office: 0,
         file: 0,
         count: 0,
+        number: 0,
     }; 32]
 }
 
@@ -72,6 +76,19 @@ pub fn file(ts: &mut [Ticket], filing: Filing) -> Filed
     let next = done.row;
     copy_in(&mut ts[..], next);
     done.filed
+}
+
+// A ticket withdrawn from a lent row of records.
+pub fn withdraw(ts: &mut [Ticket], withdrawal: Withdrawal) -> Withdrawn
+    ensures { λ r. ⌜ r ≡ withdrawRow (length (now (ts .entry))) (tableIn (now (ts .entry))) withdrawal .withdrawn ⌝ }
+    ensures { λ _. ⌜ now (ts .exit) ≡ withTable (withdrawRow (length (now (ts .entry))) (tableIn (now (ts .entry))) withdrawal .row) (now (ts .entry)) ⌝ }
+{
+    let len = ts.len();
+    let row = copy_out(&ts[..]);
+    let done = tickets::withdraw_in(len, row, withdrawal);
+    let next = done.row;
+    copy_in(&mut ts[..], next);
+    done.withdrawn
 }
 
 // Up to eight tickets boarded from a lent row of records: the planner's answer and who left; in the other rows the list, the times and the legs.

@@ -1,108 +1,271 @@
--- Request L6's promises: the table stays a table, each office's tickets leave in order and in time, and each boarded run is one of the demands'.
-use Prim.Native.Nat.{ℕ, _+_, _-_, _*_, _≤_, _<_}
-use mathlib.Core.Path.{_≡_, refl, sym, ap, _∙_}
-use mathlib.Core.Bool.{Bool, true, false, true≢false}
-use mathlib.Core.List.{List, [], _∷_, _++_, append-assoc, append-nil}
-use mathlib.Core.Logic.{⊎-elim, inl}
+-- The promises of requests L6 and L7: the table stays a table, numbers count up, each office's tickets leave in order and in time, a freed place serves,
+-- and each boarded run is one of the demands'.
+use Prim.Native.Nat.{ℕ, zero, suc, _+_, _*_, _≤_, _<_, _/_}
+use mathlib.Core.Path.{_≡_, refl, sym, ap, subst, _∙_}
+use mathlib.Core.Bool.{Bool, true, false, cond, true≢false}
+use mathlib.Core.List.{List, [], _∷_, _++_}
+use mathlib.Core.Logic.{⊎-elim, _⊎_, inl, inr}
 use native.Mathlib.Omega.{arith}
 use native.Mathlib.Nat.{div-lt-iff-lt-mul}
 use native.Mathlib.Decide.{decLt}
-use lib.ListN.{length, drop, length-append, length-drop}
-use lib.Seq.{drop-drop, drop-append-le}
-use Rattle.refusals.specs.Refusals.{isRefusal}
+use lib.ListN.{length, getD}
+use borrow.Author.Tests.{eq-eqb, le-ltb, lt-leb}
+use Rattle.refusals.specs.declared.Refusal.the-variants.{Accepted}
+use Rattle.refusals.specs.Refusals.{isRefusal, accepted}
 use Rattle.refusals.proofs.Verdicts.{refuses}
 use Rattle.runs.proofs.Search.{true-or-false}
 use Rattle.walk.specs.Price.{pricedAnswer}
 use Rattle.tickets.specs.declared.Ticket.{Ticket}
-use Rattle.tickets.specs.Table.{waiting, rowVerdict, Waits, Sound}
-use Rattle.tickets.specs.Filings.{ticketOf, fileVerdict, fileRow}
+use Rattle.tickets.specs.declared.Lasts.{Lasts}
+use Rattle.tickets.specs.declared.Filing.{Filing}
+use Rattle.tickets.specs.declared.FiledRow.{FiledRow}
+use Rattle.tickets.specs.declared.Withdrawal.{Withdrawal}
+use Rattle.tickets.specs.declared.WithdrawnRow.{WithdrawnRow}
+use Rattle.tickets.specs.Table.{places, allPlaces, noTicket, lastOf, waiting, rowVerdict, Waits, Sound}
+use Rattle.tickets.specs.Filings.{inRange, mostNumber, numberFor, ticketOf, fileVerdict, notFiled, filedIn, fileRow}
+use Rattle.tickets.specs.Withdrawals.{withdrawVerdict, withdrawRow}
 use Rattle.tickets.proofs.Storing.{file-accepted, office-is, range-office}
-use borrow.Author.Tests.{eq-eqb}
 use Rattle.tickets.proofs.Placed.{none-bad}
+use Rattle.tickets.proofs.Kept.{Stands, sound-stands, filed-so, not-filed-so, withdrawn-so, not-withdrawn-so}
 use Rattle.demands.proofs.Demand2.{demand2-walk, demand2-least}
 use Rattle.demands.proofs.Demand3.{demand3-same}
-use Rattle.promises.specs.Desk.{emptyTable, IsTable, IsOffice, Call, filing, files, Day, over, then, departs, departures, leaving, left, joining, joined, TableStays, TableFromEmpty, InOrder, LeavesInTime, LeavesFromFiling, BoardingTakes, RefusalKeeps, OwnOfficeDecides, BoardedRunHolds}
-use Rattle.promises.proofs.DeskSteps.{Step, step, not-accepted, table-of, takes, refused-is, board-accepted}
+use Rattle.promises.specs.Desk.{Kept, atFirst, IsTable, IsOffice, Call, filing, Fits, files, withdraws, boards, Day, over, then, departs, departures, leaving, joining, withdrawn, withdrawnIn, queueIn, givenBy, given, countedFrom, Fate, LeavesOn, TableStays, TableFromEmpty, NumbersCountUp, NoneGivenTwice, InOrder, StandByNumber, FreedPlaceServes, OnlyTheseTakeAway, LeavesInTime, FiledBehind, answered, RefusedChangesNothing, BoardingTakes, RefusalKeeps, OwnOfficeDecides, BoardedRunHolds}
+use Rattle.promises.proofs.DeskSteps.{step, gives, fate, not-accepted, takes, refused-is, board-accepted}
 
-stays : {row last : List Ticket} {cs : List Call} → IsTable row → Day row cs last → IsTable last
+stays : {k last : Kept} {cs : List Call} → IsTable k → Day k cs last → IsTable last
 stays table over = table
 stays table (then fits day) = stays (step 1 (inl refl) table fits .1) day
 
 pub table-stays : TableStays
-table-stays row last cs table day = stays table day
+table-stays k last cs table day = stays table day
 
-pub empty-sound : Sound [] [] emptyTable
+pub empty-sound : Sound (atFirst .lasts) [] [] (atFirst .row)
 empty-sound =
-    let none : (office : ℕ) → Waits office [] = λ office. record { few = omega arith; each = λ i l. absurd (omega arith) } in
+    let none : (office : ℕ) → Waits office 0 [] = λ office. record { few = omega arith; each = λ i l. absurd (omega arith); ascends = λ i l. absurd (omega arith) } in
     record { one = none 1; two = none 2; is = refl }
 
+pub empty-table : IsTable atFirst
+empty-table = sound-stands (atFirst .lasts) [] [] (atFirst .row) empty-sound
+
 pub table-from-empty : TableFromEmpty
-table-from-empty last cs day = stays (table-of [] [] emptyTable empty-sound) day
+table-from-empty last cs day = stays empty-table day
+
+-- Numbers: each filing gives the next.
+count-on : (n m : ℕ) (call rest : List ℕ) → ((call ≡ []) × (m ≡ n)) ⊎ ((call ≡ suc n ∷ []) × (m ≡ suc n)) → rest ≡ countedFrom m (length rest)
+    → call ++ rest ≡ countedFrom n (length (call ++ rest))
+count-on n m call rest (inl (none, same)) e = rw none (e ∙ ap (λ x. countedFrom x (length rest)) same)
+count-on n m call rest (inr (one, next)) e = rw one (ap {B = List ℕ} (λ r. suc n ∷ r) (e ∙ ap (λ x. countedFrom x (length rest)) next))
+
+last-on : (n m l : ℕ) (call rest : List ℕ) → ((call ≡ []) × (m ≡ n)) ⊎ ((call ≡ suc n ∷ []) × (m ≡ suc n)) → l ≡ m + length rest → l ≡ n + length (call ++ rest)
+last-on n m l call rest (inl (none, same)) e = rw none (omega (arith, same, e))
+last-on n m l call rest (inr (one, next)) e = rw one (omega (arith, next, e))
+
+counts-up : (office : ℕ) → IsOffice office → {k last : Kept} {cs : List Call} → Day k cs last
+    → (given office cs ≡ countedFrom (lastOf office (k .lasts)) (length (given office cs))) × (lastOf office (last .lasts) ≡ lastOf office (k .lasts) + length (given office cs))
+counts-up office o over = (refl, omega arith)
+counts-up office o {k} {last} (then {next = next} {c = c} {cs = cs} fits day) =
+    let g = gives office o fits in
+    let ih = counts-up office o day in (
+      count-on (lastOf office (k .lasts)) (lastOf office (next .lasts)) (givenBy office c) (given office cs) g (ih .0),
+      last-on (lastOf office (k .lasts)) (lastOf office (next .lasts)) (lastOf office (last .lasts)) (givenBy office c) (given office cs) g (ih .1),
+    )
+
+pub numbers-count-up : NumbersCountUp
+numbers-count-up office k last cs o day = counts-up office o day
+
+counted-at : (n m i : ℕ) → i < m → getD (countedFrom n m) i 0 ≡ suc (n + i)
+counted-at n zero i l = absurd (omega arith)
+counted-at n (suc m) zero l = omega arith
+counted-at n (suc m) (suc i) l = counted-at (suc n) m i (omega arith) ∙ omega arith
+
+pub none-given-twice : NoneGivenTwice
+none-given-twice office k last cs o day i j l b =
+    let e = counts-up office o day .0 in
+    let at : (x : ℕ) → x < length (given office cs) → getD (given office cs) x 0 ≡ suc (lastOf office (k .lasts) + x) =
+    λ x h. ap (λ r. getD r x 0) e ∙ counted-at (lastOf office (k .lasts)) (length (given office cs)) x h in
+    omega (arith, at i (omega arith), at j b)
 
 -- One office's tickets, in order.
-in-order-of : (office : ℕ) → IsOffice office → {row last : List Ticket} {cs : List Call} → IsTable row → Day row cs last
-    → (waiting office last ≡ drop (left office cs) (waiting office row ++ joined office cs)) × (left office cs ≤ length (waiting office row ++ joined office cs))
-in-order-of office o {row} table over = (sym (append-nil (waiting office row)), omega arith)
-in-order-of office o {row} {last} table (then {next = next} {c = c} {cs = cs} fits day) =
-    let s = step office o table fits in
-    let ih = in-order-of office o (s .1) day in
-    queue-on (waiting office row) (joining office c) (joined office cs) (waiting office next) (waiting office last) (leaving office c) (left office cs) (s .0 .queue) (s .0 .there) (ih .0) (ih .1)
-  where
-    queue-on : (w j k n l : List Ticket) (a x : ℕ) → n ≡ drop a (w ++ j) → a ≤ length w → l ≡ drop x (n ++ k) → x ≤ length (n ++ k)
-        → (l ≡ drop (a + x) (w ++ (j ++ k))) × (a + x ≤ length (w ++ (j ++ k)))
-    queue-on w j k n l a x n-is there l-is fits =
-        let inside : a ≤ length (w ++ j) = rw (length-append w j) (omega arith) in
-        let on : n ++ k ≡ drop a (w ++ (j ++ k)) = ap (λ r. r ++ k) n-is ∙ sym (drop-append-le a (w ++ j) k inside) ∙ ap (drop a) (append-assoc w j k) in
-        let size : length (n ++ k) ≡ length (w ++ (j ++ k)) - a = ap length on ∙ length-drop a (w ++ (j ++ k)) in
-        let whole : length (w ++ (j ++ k)) ≡ length w + length (j ++ k) = length-append w (j ++ k) in
-        (l-is ∙ ap (drop x) on ∙ drop-drop x a (w ++ (j ++ k)), omega arith)
+queue-of : (office : ℕ) → IsOffice office → {k last : Kept} {cs : List Call} → IsTable k → Day k cs last → waiting office (last .row) ≡ queueIn office cs (waiting office (k .row))
+queue-of office o table over = refl
+queue-of office o table (then {cs = cs} fits day) = let s = step office o table fits in queue-of office o (s .1) day ∙ ap (queueIn office cs) (s .0 .queue)
 
 pub in-order : InOrder
-in-order office row last cs o table day = in-order-of office o table day .0
+in-order office k last cs o table day = queue-of office o table day
+
+by-number : (ts : List Ticket) → ((i : ℕ) → suc i < length ts → getD ts i noTicket .number < getD ts (suc i) noTicket .number)
+    → (i j : ℕ) → i < j → j < length ts → getD ts i noTicket .number < getD ts j noTicket .number
+by-number ts ascends i zero l b = absurd (omega arith)
+by-number ts ascends i (suc j) l b =
+    elim (decLt i j) [ yes h ↦ omega (arith, by-number ts ascends i j h (omega arith), ascends j b) | no n ↦ last (omega arith) ]
+  where
+    last : i ≡ j → getD ts i noTicket .number < getD ts (suc j) noTicket .number
+    last e = rw e (ascends j b)
+
+pub stand-by-number : StandByNumber
+stand-by-number office i j k (inl e) table l b = rw e (by-number (waiting 1 (k .row)) (table .one .ascends) i j l (rw e at b))
+stand-by-number office i j k (inr e) table l b = rw e (by-number (waiting 2 (k .row)) (table .two .ascends) i j l (rw e at b))
+
+-- A filing of an office with room and numbers left is accepted.
+filing-passes : (len : ℕ) (row : List Ticket) (f : Filing) → Stands (f .lasts) row → 32 ≤ len → inRange f ≡ true → length (waiting (f .office) row) ≤ 15 → lastOf (f .office) (f .lasts) < 65535 → fileVerdict len row f ≡ accepted
+unfolding fileVerdict rowVerdict
+filing-passes len row f table long ranged few left =
+    rw (
+      none-bad (f .lasts) (waiting 1 row) (waiting 2 row) row table,
+      le-ltb len allPlaces long,
+      ranged,
+      lt-leb places (length (waiting (f .office) row)) (omega arith),
+      lt-leb mostNumber (lastOf (f .office) (f .lasts)) left,
+    )
+
+pub freed-place-serves : FreedPlaceServes
+freed-place-serves k cs len f day same long ranged few left =
+    let table : Stands (f .lasts) (k .row) = subst (λ (x : Lasts). Stands x (k .row)) (sym same) (table-from-empty k cs day) in
+    let passes = filing-passes len (k .row) f table long ranged few (subst (λ (x : Lasts). lastOf (f .office) x < 65535) (sym same) left) in
+    ap (λ x. x .filed .verdict .refusal) (filed-so len (k .row) f (ap refuses passes)) ∙ ap (λ v. v .refusal) passes
+
+-- What takes a ticket away.
+pub only-these-take-away : OnlyTheseTakeAway
+only-these-take-away office j k next c o table fits l = fate office j (k .row) (next .row) c (step office o table fits .0) l
 
 -- In time: each accepted boarding takes four ahead of a ticket, or all.
-in-time : (office : ℕ) → IsOffice office → {row last : List Ticket} {cs : List Call} → (j : ℕ) → IsTable row → Day row cs last → j < length (waiting office row) → j < 4 * departures cs → j < left office cs
-in-time office o j table over l h = absurd (omega arith)
-in-time office o {row} {last} j table (then {next = next} {c = c} {cs = cs} fits day) l h =
+abbrev InTime : ℕ → ℕ → ℕ → Kept → Kept → List Call → Type 0
+InTime office n j k last cs = (withdrawnIn office n cs ≡ true) ⊎ ((leaves : LeavesOn office n k last cs) × (4 * departures (leaves .before) ≤ j))
+
+either-way : (b : Bool) → cond b true true ≡ true
+either-way true = refl
+either-way false = refl
+
+module _ (office n : ℕ) {k next last : Kept} {c : Call} {cs : List Call} (fits : Fits k c next) (day : Day next cs last) (j : ℕ) where
+  fewer-left : (d : Bool) → departs c ≡ d → (a x : ℕ) → a ≤ j → (departs c ≡ true → 4 + a ≤ j) → j < 4 * cond d (1 + x) x → a < 4 * x
+  fewer-left true e a x l four h = omega (arith, four e)
+  fewer-left false e a x l four h = omega arith
+
+  later-by : (d : Bool) → departs c ≡ d → (a x : ℕ) → a ≤ j → (departs c ≡ true → 4 + a ≤ j) → 4 * x ≤ a → 4 * cond d (1 + x) x ≤ j
+  later-by true e a x l four h = omega (arith, four e)
+  later-by false e a x l four h = omega arith
+
+  later : (a : ℕ) → a ≤ j → (departs c ≡ true → 4 + a ≤ j) → InTime office n a next last cs → InTime office n j k last (c ∷ cs)
+  later a l four (inl w) = inl (rw w (either-way (withdrawn office n c)))
+  later a l four (inr (leaves, soon)) =
+      inr (
+        record {
+          before = c ∷ leaves .before;
+          call = leaves .call;
+          behind = leaves .behind;
+          here = leaves .here;
+          next = leaves .next;
+          split = ap {B = List Call} (λ r. c ∷ r) (leaves .split);
+          first = then fits (leaves .first);
+          fits = leaves .fits;
+          rest = leaves .rest;
+          accepted = leaves .accepted;
+          place = leaves .place;
+          waits = leaves .waits;
+          is = leaves .is;
+          taken = leaves .taken;
+        },
+        later-by (departs c) refl a (departures (leaves .before)) l four soon,
+      )
+
+  at-once : departs c ≡ true → j < length (waiting office (k .row)) → getD (waiting office (k .row)) j noTicket .number ≡ n → j < leaving office c → InTime office n j k last (c ∷ cs)
+  at-once d l is taken =
+      inr (
+        record {
+          before = [];
+          call = c;
+          behind = cs;
+          here = k;
+          next = next;
+          split = refl;
+          first = over;
+          fits = fits;
+          rest = day;
+          accepted = d;
+          place = j;
+          waits = l;
+          is = is;
+          taken = taken;
+        },
+        omega arith,
+      )
+
+in-time : (office n : ℕ) → IsOffice office → {k last : Kept} {cs : List Call} → (j : ℕ) → IsTable k → Day k cs last → j < length (waiting office (k .row))
+    → getD (waiting office (k .row)) j noTicket .number ≡ n → j < 4 * departures cs → InTime office n j k last cs
+in-time office n o j table over l is h = absurd (omega arith)
+in-time office n o {k} {last} j table (then {next = next} {c = c} {cs = cs} fits day) l is h =
     let s = step office o table fits in
-    by-call (departs c) refl (s .0) (λ i. in-time office o i (s .1) day)
+    by-fate (fate office j (k .row) (next .row) c (s .0) l) (λ i. in-time office n o i (s .1) day)
   where
-    by-call : (d : Bool) → departs c ≡ d → Step office row next c → ((i : ℕ) → i < length (waiting office next) → i < 4 * departures cs → i < left office cs) → j < leaving office c + left office cs
-    by-call d e s ih = elim (decLt j (leaving office c)) [ yes b ↦ omega arith | no n ↦ later (omega arith) ]
-      where
-        place : leaving office c ≤ j → j - leaving office c < length (waiting office next)
-        place b =
-            let size : length (waiting office next) ≡ (length (waiting office row) + length (joining office c)) - leaving office c =
-            ap length (s .queue) ∙ length-drop (leaving office c) (waiting office row ++ joining office c) ∙ ap (λ n. n - leaving office c) (length-append (waiting office row) (joining office c)) in
-            omega arith
+    by-fate : Fate office j (waiting office (k .row)) (waiting office (next .row)) c
+        → ((i : ℕ) → i < length (waiting office (next .row)) → getD (waiting office (next .row)) i noTicket .number ≡ n → i < 4 * departures cs → InTime office n i next last cs)
+        → InTime office n j k last (c ∷ cs)
+    by-fate (inl w) ih = inl (rw (subst (λ (x : ℕ). withdrawn office x c ≡ true) is w))
+    by-fate (inr (inl (d, taken))) ih = at-once office n fits day j d l is taken
+    by-fate (inr (inr on)) ih =
+        later office n fits day j (on .ahead) (on .fewer) (on .four)
+        (ih (on .ahead) (on .there) (ap (λ t. t .number) (on .same) ∙ is) (fewer-left office n fits day j (departs c) refl (on .ahead) (departures cs) (on .fewer) (on .four) h))
 
-        enough : (d : Bool) → departs c ≡ d → leaving office c ≤ j → j - leaving office c < 4 * departures cs
-        enough true e b = let f = s .four e in let g : j < 4 * (1 + departures cs) = rw e at h in omega arith
-        enough false e b = let g : j < 4 * departures cs = rw e at h in omega arith
-
-        later : leaving office c ≤ j → j < leaving office c + left office cs
-        later b = omega (arith, ih (j - leaving office c) (place b) (enough d e b))
+quotient : (d j : ℕ) → 4 * d ≤ j → d ≤ j / 4
+quotient d j l = elim (decLt (j / 4) d) [ yes h ↦ absurd (omega (arith, div-lt-iff-lt-mul {k = 4} {x = j} {y = d} (omega arith) .0 h)) | no n ↦ omega arith ]
 
 pub leaves-in-time : LeavesInTime
-leaves-in-time office j row last cs o table day l h = in-time office o j table day l (omega (arith, div-lt-iff-lt-mul {k = 4} {x = j} {y = departures cs} (omega arith) .0 (omega arith)))
+leaves-in-time office n j k last cs o table day l is h =
+    ⊎-elim (λ w. inl w) (λ x. inr (x .0, quotient (departures (x .0 .before)) j (x .1)))
+    (in-time office n o j table day l is (omega (arith, div-lt-iff-lt-mul {k = 4} {x = j} {y = departures cs} (omega arith) .0 (omega arith))))
 
-pub leaves-from-filing : LeavesFromFiling
-unfolding fileRow
-leaves-from-filing len row f r last cs table is accepts day =
-    let passes : refuses (fileVerdict len row f) ≡ false = ap (λ x. isRefusal (x .filed .verdict .refusal)) (sym is) ∙ ap isRefusal accepts in
-    let o : IsOffice (f .office) = office-is (f .office) (range-office f (file-accepted len row f passes .ranged)) in
-    let s = step (f .office) o table (files is) in
+-- Whether a filing's verdict refuses is told by its answer.
+pub told : (len : ℕ) (row : List Ticket) (f : Filing) (r : FiledRow) → r ≡ fileRow len row f → refuses (fileVerdict len row f) ≡ isRefusal (r .filed .verdict .refusal)
+told len row f r e =
+    ⊎-elim (λ t. ap (λ x. isRefusal (x .filed .verdict .refusal)) (sym (e ∙ not-filed-so len row f t))) (λ p. ap (λ x. isRefusal (x .filed .verdict .refusal)) (sym (e ∙ filed-so len row f p)))
+    (true-or-false (refuses (fileVerdict len row f)))
+
+told-withdrawn : (len : ℕ) (row : List Ticket) (w : Withdrawal) (r : WithdrawnRow) → r ≡ withdrawRow len row w → refuses (withdrawVerdict len row w) ≡ isRefusal (r .withdrawn .verdict .refusal)
+told-withdrawn len row w r e =
+    ⊎-elim (λ t. ap (λ x. isRefusal (x .withdrawn .verdict .refusal)) (sym (e ∙ not-withdrawn-so len row w t))) (λ p. ap (λ x. isRefusal (x .withdrawn .verdict .refusal)) (sym (e ∙ withdrawn-so len row w p)))
+    (true-or-false (refuses (withdrawVerdict len row w)))
+
+accepted-filing : {len : ℕ} {k next : Kept} {f : Filing} {r : FiledRow} → r .filed .verdict .refusal ≡ Accepted → Fits k (filing len f r) next → IsOffice (f .office) × (r .filed .number ≡ numberFor f)
+accepted-filing accepts (files {len} {k} {f} {r} l e) =
+    let passes = told len (k .row) f r e ∙ ap isRefusal accepts in
+    (office-is (f .office) (range-office f (file-accepted len (k .row) f passes .ranged)), ap (λ x. x .filed .number) (e ∙ filed-so len (k .row) f passes))
+
+pub filed-behind : FiledBehind
+filed-behind len k next f r table fits accepts =
+    let a = accepted-filing accepts fits in
+    let s = step (f .office) (a .0) table fits in
     let joins : joining (f .office) (filing len f r) ≡ ticketOf f ∷ [] = rw (ap isRefusal accepts, eq-eqb (f .office) (f .office) refl) in
-    let behind : waiting (f .office) (r .row) ≡ waiting (f .office) row ++ ticketOf f ∷ [] = s .0 .queue ∙ ap (λ ts. waiting (f .office) row ++ ts) joins in
-    (behind, λ h. leaves-in-time (f .office) (length (waiting (f .office) row)) (r .row) last cs o (s .1) day (rw (behind, length-append (waiting (f .office) row) (ticketOf f ∷ [])) (omega arith)) h)
+    (s .0 .queue ∙ ap (λ ts. waiting (f .office) (k .row) ++ ts) joins, a .1)
+
+refused-changes : {k next : Kept} {c : Call} → Fits k c next → isRefusal (answered c) ≡ true → (next .row ≡ k .row) × (next .lasts ≡ k .lasts)
+refused-changes (files {len} {k} {f} {r} l e) t =
+    let is = e ∙ not-filed-so len (k .row) f (told len (k .row) f r e ∙ t) in
+    (ap (λ x. x .row) is, ap (λ x. x .filed .lasts) is ∙ l)
+refused-changes (withdraws {len} {k} {w} {r} l e) t =
+    let is = e ∙ not-withdrawn-so len (k .row) w (told-withdrawn len (k .row) w r e ∙ t) in
+    (ap (λ x. x .row) is, ap (λ x. x .withdrawn .lasts) is ∙ l)
+refused-changes (boards {len} {tape} {k} {b} {before} {after} {r} l e) t =
+    let is = refused-is len tape (k .row) b before after r e t in
+    (ap (λ x. x .row) is, ap (λ x. x .boarded .lasts) is ∙ l)
+
+pub refused-changes-nothing : RefusedChangesNothing
+refused-changes-nothing k next c fits some = refused-changes fits (not-accepted (answered c) some)
 
 pub boarding-takes : BoardingTakes
 boarding-takes len tape row b before after r table fits accepts = takes len tape row b before after r fits table (ap isRefusal accepts)
 
+verdicts : (len : ℕ) (row row′ : List Ticket) (f : Filing) → Stands (f .lasts) row → Stands (f .lasts) row′ → waiting (f .office) row ≡ waiting (f .office) row′ → fileVerdict len row f ≡ fileVerdict len row′ f
+unfolding fileVerdict rowVerdict
+verdicts len row row′ f table table′ same =
+    rw (none-bad (f .lasts) (waiting 1 row) (waiting 2 row) row table, none-bad (f .lasts) (waiting 1 row′) (waiting 2 row′) row′ table′, same)
+
 pub own-office-decides : OwnOfficeDecides
-unfolding fileRow fileVerdict rowVerdict
 own-office-decides len row row′ f table table′ same =
-    rw (none-bad (waiting 1 row) (waiting 2 row) row table, none-bad (waiting 1 row′) (waiting 2 row′) row′ table′, same)
+    let alike : fileVerdict len row f ≡ fileVerdict len row′ f = verdicts len row row′ f table table′ same in
+    ⊎-elim
+    (λ e. ap (λ x. x .filed) (not-filed-so len row f e) ∙ ap (λ v. notFiled row f v .filed) alike ∙ sym (ap (λ x. x .filed) (not-filed-so len row′ f (ap refuses (sym alike) ∙ e))))
+    (λ e. ap (λ x. x .filed) (filed-so len row f e) ∙ ap (λ v. filedIn row f v .filed) alike ∙ sym (ap (λ x. x .filed) (filed-so len row′ f (ap refuses (sym alike) ∙ e))))
+    (true-or-false (refuses (fileVerdict len row f)))
 
 pub boarded-run-holds : BoardedRunHolds
 boarded-run-holds len tape row b before after r fits accepts =
@@ -126,4 +289,4 @@ refusal-keeps len tape row b before after r fits some =
         (λ n. let plans = fits .planned n .plans in
         ⊎-elim (λ t. plans .refused t .kept) (λ p. absurd (true≢false (sym e ∙ ap (λ a. isRefusal (a .refusal)) (plans .planned p .says))))
         (true-or-false _))
-        (true-or-false (refuses (rowVerdict len row)))
+        (true-or-false (refuses (rowVerdict len row (b .lasts))))

@@ -1,10 +1,12 @@
--- The worked cases of request L6 compute.
+-- The worked cases of requests L6 and L7 compute.
 use mathlib.Core.Path.{refl}
 use Rattle.refusals.specs.Refusals.{firstWhere}
 use Rattle.tickets.specs.Table.{ticketsIn, rowVerdict}
-use Rattle.tickets.specs.Filings.{fileVerdict}
+use Rattle.tickets.specs.Filings.{fileVerdict, fileRow}
+use Rattle.tickets.specs.Withdrawals.{hasNumber, withoutNumber, withdrawVerdict, withdrawRow}
 use Rattle.boardings.specs.Boarders.{addWant, withWants}
-use Rattle.promises.specs.DeskCases.{ShareCases, WantsCase, RowCases, FilingCases}
+use Rattle.promises.specs.Desk.{files, withdraws, over, then}
+use Rattle.promises.specs.DeskCases.{ShareCases, WantsCase, RowCases, FilingCases, WithdrawalCases, DayCase}
 
 pub share-cases : ShareCases
 share-cases = (refl, refl, refl, refl, refl, refl, refl)
@@ -15,8 +17,16 @@ wants-case = refl
 
 pub row-cases : RowCases
 unfolding firstWhere rowVerdict
-row-cases = (refl, refl, refl, refl, refl, refl, refl)
+row-cases = (refl, refl, refl, refl, refl, refl, refl, refl, refl, refl)
 
 pub filing-cases : FilingCases
 unfolding firstWhere rowVerdict ticketsIn fileVerdict
 filing-cases = (refl, refl, refl, refl, refl, refl, refl)
+
+pub withdrawal-cases : WithdrawalCases
+unfolding firstWhere rowVerdict ticketsIn hasNumber withoutNumber withdrawVerdict
+withdrawal-cases = (refl, refl, refl, refl, refl)
+
+pub day-case : DayCase
+unfolding firstWhere rowVerdict ticketsIn fileVerdict fileRow hasNumber withoutNumber withdrawVerdict withdrawRow
+day-case = then (files refl refl) (then (withdraws refl refl) (then (files refl refl) over))

@@ -1,32 +1,35 @@
--- A filing's refusals, each exactly when its reason holds and in their order.
-use Prim.Native.Nat.{ℕ, suc, _-_, _≤_, _<_}
+-- The refusals of a filing, a withdrawal and a boarding, each exactly when its reason holds and in their order.
+use Prim.Native.Nat.{ℕ, zero, suc, _-_, _≤_, _<_}
 use mathlib.Core.Path.{_≡_, refl, sym, ap, _∙_}
-use mathlib.Core.Bool.{true, false, not, _&&_, _||_, true≢false}
+use mathlib.Core.Bool.{false, not, _&&_, _||_, true≢false}
 use mathlib.Core.List.{List, [], _∷_, _++_}
-use mathlib.Core.Logic.{⊎-elim}
+use mathlib.Core.Logic.{⊎-elim, _⊎_, inl, inr}
 use native.Mathlib.Omega.{arith}
 use native.Mathlib.Decide.{decLt}
 use lib.Dec.{ltb, leb, eqb}
 use lib.ListN.{length, getD, take, replicate, length-append, length-replicate, List·getD-append, List·getD-eq-default}
 use lib.Seq.{getD-take, length-take-le, take-at}
-use Rattle.refusals.specs.declared.Refusal.the-variants.{ShortRow, BadTicket, OfficeFull, BadRecord}
+use Rattle.refusals.specs.declared.Refusal.the-variants.{ShortRow, BadTicket, OfficeFull, NotWaiting, NumbersSpent, BadRecord}
 use Rattle.refusals.specs.Refusals.{isRefusal, refuseIf, refuseAt, firstWhere}
 use Rattle.refusals.proofs.Verdicts.{refuses}
 use Rattle.runs.proofs.Search.{true-or-false, first-zero, first-all}
 use Rattle.runs.specs.Run.{mostFiles}
 use Rattle.tickets.specs.declared.Ticket.{Ticket}
+use Rattle.tickets.specs.declared.Lasts.{Lasts}
 use Rattle.tickets.specs.declared.Filing.{Filing}
-use Rattle.tickets.specs.Table.{offices, places, allPlaces, mostCount, noTicket, isEmpty, upTo, isTicket, officeAt, isFirstPlace, isBehindEmpty, badRecord, waiting, rowVerdict}
-use Rattle.tickets.specs.Filings.{inRange, isFull, fileVerdict, fileRow}
+use Rattle.tickets.specs.declared.Withdrawal.{Withdrawal}
+use Rattle.tickets.specs.Table.{offices, places, allPlaces, mostCount, noTicket, isEmpty, upTo, isTicket, follows, lastOf, officeAt, isFirstPlace, isOutOfTurn, badRecord, waiting, rowVerdict}
+use Rattle.tickets.specs.Filings.{inRange, isFull, mostNumber, isSpent, fileVerdict, fileRow}
+use Rattle.tickets.specs.Withdrawals.{hasNumber, isWaiting, withdrawVerdict, withdrawRow}
 use Rattle.tickets.proofs.Sound.{empty-is, row-sound}
 use Rattle.tickets.proofs.Placed.{padded-at, none-bad}
+use Rattle.tickets.proofs.Kept.{filed-so, not-filed-so, withdrawn-so, not-withdrawn-so}
 use Rattle.boardings.specs.Boardings.{boardRun}
 use Rattle.demands.specs.Table.{FirstBad}
 use Rattle.demands.proofs.Tests.{Tells, tells-equal, tells-below, tells-at-most, tells-not, tells-either, tells-both, tells-reworded}
 use Rattle.demands.proofs.Checks.{Decides, decides-if, decides-at, decides-reworded, Finds, finds-none, finds-first, first-of-joined, refused-iff}
 use Rattle.demands.proofs.Demand1.{demand1-plan}
-use Rattle.promises.specs.DeskRefusals.{Within, IsTicketOf, RecordIsBad, RowApplies, short-row, bad-record, rowOrder, InRange, FilingApplies, records, out-of-range, office-full, filingOrder, FilingAnswers, BoardingAnswers, BadRecordIsFirstSuch}
-use Rattle.promises.specs.Desk.{IsTable}
+use Rattle.promises.specs.DeskRefusals.{Within, IsTicketOf, Follows, RecordIsBad, RowApplies, short-row, bad-record, rowOrder, InRange, FilingApplies, records, out-of-range, office-full, numbers-spent, filingOrder, FilingAnswers, IsAmong, IsWaiting, WithdrawalApplies, of-the-row, not-waiting, withdrawalOrder, WithdrawalAnswers, BoardingAnswers, IsTableOf, BadRecordIsFirstSuch}
 use Rattle.promises.proofs.DeskSteps.{not-accepted}
 
 tells-within : (most n : ℕ) → Tells (upTo most n) (Within most n)
@@ -37,24 +40,30 @@ tells-within most n =
 tells-empty : (t : Ticket) → Tells (isEmpty t) (t ≡ noTicket)
 tells-empty t = record { when-true = empty-is t; when-false = λ e h. true≢false (sym (ap isEmpty h) ∙ e) }
 
-tells-ticket : (office : ℕ) (t : Ticket) → Tells (isTicket office t) (IsTicketOf office t)
-tells-ticket office t =
-    tells-reworded (λ h. record { at-office = h .0 .0; file = h .0 .1; count = h .1 }) (λ w. ((w .at-office, w .file), w .count))
+tells-ticket : (office last : ℕ) (t : Ticket) → Tells (isTicket office last t) (IsTicketOf office last t)
+tells-ticket office last t =
+    tells-reworded (λ h. record { at-office = h .0 .0 .0; file = h .0 .0 .1; count = h .0 .1; number = h .1 }) (λ w. (((w .at-office, w .file), w .count), w .number))
+    (tells-both (eqb (t .office) office && upTo mostFiles (t .file) && upTo mostCount (t .count)) (upTo last (t .number))
     (tells-both (eqb (t .office) office && upTo mostFiles (t .file)) (upTo mostCount (t .count))
     (tells-both (eqb (t .office) office) (upTo mostFiles (t .file)) (tells-equal (t .office) office) (tells-within mostFiles (t .file)))
     (tells-within mostCount (t .count)))
+    (tells-within last (t .number)))
 
-tells-bad : (row : List Ticket) (i : ℕ) → Tells (badRecord row i) (RecordIsBad row i)
-tells-bad row i =
+tells-follows : (a t : Ticket) → Tells (follows a t) (Follows a t)
+tells-follows a t = tells-both (not (isEmpty a)) (ltb (a .number) (t .number)) (tells-not (isEmpty a) (tells-empty a)) (tells-below (a .number) (t .number))
+
+tells-bad : (l : Lasts) (row : List Ticket) (i : ℕ) → Tells (badRecord l row i) (RecordIsBad l row i)
+tells-bad l row i =
     let t = getD row i noTicket in
     let u = getD row (i - 1) noTicket in
-    tells-both (not (isEmpty t)) (not (isTicket (officeAt i) t) || isBehindEmpty row i)
+    let here = isTicket (officeAt i) (lastOf (officeAt i) l) t in
+    tells-both (not (isEmpty t)) (not here || isOutOfTurn row i)
     (tells-not (isEmpty t) (tells-empty t))
-    (tells-either (not (isTicket (officeAt i) t)) (isBehindEmpty row i)
-    (tells-not (isTicket (officeAt i) t) (tells-ticket (officeAt i) t))
-    (tells-both (not (isFirstPlace i)) (isEmpty u)
+    (tells-either (not here) (isOutOfTurn row i)
+    (tells-not here (tells-ticket (officeAt i) (lastOf (officeAt i) l) t))
+    (tells-both (not (isFirstPlace i)) (not (follows u t))
     (tells-not (isFirstPlace i) (tells-either (eqb i 0) (eqb i places) (tells-equal i 0) (tells-equal i places)))
-    (tells-empty u)))
+    (tells-not (follows u t) (tells-follows u t))))
 
 tells-ranged : (f : Filing) → Tells (inRange f) (InRange f)
 tells-ranged f =
@@ -66,33 +75,33 @@ tells-ranged f =
     (tells-within mostCount (f .count)))
 
 -- The row of records.
-module _ (len : ℕ) (row : List Ticket) where
-  short-there : (p : ℕ) → (p ≡ 0) × (len < 32) → RowApplies len row ShortRow p
+module _ (len : ℕ) (row : List Ticket) (l : Lasts) where
+  short-there : (p : ℕ) → (p ≡ 0) × (len < 32) → RowApplies len row l ShortRow p
   short-there p h = rw (h .0) (short-row (h .1))
 
-  short-back : (p : ℕ) → RowApplies len row ShortRow p → (p ≡ 0) × (len < 32)
-  short-back p (short-row l) = (refl, l)
+  short-back : (p : ℕ) → RowApplies len row l ShortRow p → (p ≡ 0) × (len < 32)
+  short-back p (short-row s) = (refl, s)
 
-  bad-back : (p : ℕ) → RowApplies len row BadRecord p → FirstBad (RecordIsBad row) 32 p
+  bad-back : (p : ℕ) → RowApplies len row l BadRecord p → FirstBad (RecordIsBad l row) 32 p
   bad-back p (bad-record b) = b
 
-  decides-short : Decides ShortRow (RowApplies len row ShortRow) (refuseIf (ltb len allPlaces) ShortRow)
+  decides-short : Decides ShortRow (RowApplies len row l ShortRow) (refuseIf (ltb len allPlaces) ShortRow)
   decides-short = decides-reworded short-there short-back (decides-if (ltb len allPlaces) ShortRow (tells-below len allPlaces))
 
-  decides-bad : Decides BadRecord (RowApplies len row BadRecord) (refuseAt (firstWhere (badRecord row) allPlaces) BadRecord)
-  decides-bad = decides-reworded (λ p h. bad-record h) bad-back (decides-at (badRecord row) (RecordIsBad row) allPlaces (tells-bad row) BadRecord)
+  decides-bad : Decides BadRecord (RowApplies len row l BadRecord) (refuseAt (firstWhere (badRecord l row) allPlaces) BadRecord)
+  decides-bad = decides-reworded (λ p h. bad-record h) bad-back (decides-at (badRecord l row) (RecordIsBad l row) allPlaces (tells-bad l row) BadRecord)
 
-  row-finds : Finds (RowApplies len row) rowOrder (rowVerdict len row)
+  row-finds : Finds (RowApplies len row l) rowOrder (rowVerdict len row l)
   unfolding rowVerdict
   row-finds =
-      finds-first (RowApplies len row) (refuseAt (firstWhere (badRecord row) allPlaces) BadRecord ∷ []) refl decides-short
-      (λ a. finds-first (RowApplies len row) [] refl decides-bad (λ b. finds-none (RowApplies len row)))
+      finds-first (RowApplies len row l) (refuseAt (firstWhere (badRecord l row) allPlaces) BadRecord ∷ []) refl decides-short
+      (λ a. finds-first (RowApplies len row l) [] refl decides-bad (λ b. finds-none (RowApplies len row l)))
 
 module _ (len : ℕ) (row : List Ticket) (f : Filing) where
-  short-filed : (p : ℕ) → FilingApplies len row f ShortRow p → RowApplies len row ShortRow p
+  short-filed : (p : ℕ) → FilingApplies len row f ShortRow p → RowApplies len row (f .lasts) ShortRow p
   short-filed p (records h) = h
 
-  bad-filed : (p : ℕ) → FilingApplies len row f BadRecord p → RowApplies len row BadRecord p
+  bad-filed : (p : ℕ) → FilingApplies len row f BadRecord p → RowApplies len row (f .lasts) BadRecord p
   bad-filed p (records h) = h
 
   range-there : (p : ℕ) → (p ≡ 0) × (InRange f → ⊥) → FilingApplies len row f BadTicket p
@@ -107,40 +116,102 @@ module _ (len : ℕ) (row : List Ticket) (f : Filing) where
   full-back : (p : ℕ) → FilingApplies len row f OfficeFull p → (p ≡ 0) × (16 ≤ length (waiting (f .office) row))
   full-back p (office-full l) = (refl, l)
 
+  spent-there : (p : ℕ) → (p ≡ 0) × (65535 ≤ lastOf (f .office) (f .lasts)) → FilingApplies len row f NumbersSpent p
+  spent-there p h = rw (h .0) (numbers-spent (h .1))
+
+  spent-back : (p : ℕ) → FilingApplies len row f NumbersSpent p → (p ≡ 0) × (65535 ≤ lastOf (f .office) (f .lasts))
+  spent-back p (numbers-spent l) = (refl, l)
+
   filing-finds : Finds (FilingApplies len row f) filingOrder (fileVerdict len row f)
   unfolding fileVerdict rowVerdict
   filing-finds =
       let short = refuseIf (ltb len allPlaces) ShortRow in
-      let bad = refuseAt (firstWhere (badRecord row) allPlaces) BadRecord in
+      let bad = refuseAt (firstWhere (badRecord (f .lasts) row) allPlaces) BadRecord in
       let range = refuseIf (not (inRange f)) BadTicket in
       let full = refuseIf (isFull (f .office) row) OfficeFull in
-      rw (first-of-joined (short ∷ bad ∷ []) (range ∷ full ∷ []))
-      (finds-first (FilingApplies len row f) (bad ∷ range ∷ full ∷ []) refl (decides-reworded (λ p h. records h) short-filed (decides-short len row))
-      (λ a. finds-first (FilingApplies len row f) (range ∷ full ∷ []) refl (decides-reworded (λ p h. records h) bad-filed (decides-bad len row))
-      (λ b. finds-first (FilingApplies len row f) (full ∷ []) refl (decides-reworded range-there range-back (decides-if (not (inRange f)) BadTicket (tells-not (inRange f) (tells-ranged f))))
-      (λ c. finds-first (FilingApplies len row f) [] refl (decides-reworded full-there full-back (decides-if (isFull (f .office) row) OfficeFull (tells-at-most places (length (waiting (f .office) row)))))
-      (λ d. finds-none (FilingApplies len row f))))))
+      let spent = refuseIf (isSpent (f .office) (f .lasts)) NumbersSpent in
+      rw (first-of-joined (short ∷ bad ∷ []) (range ∷ full ∷ spent ∷ []))
+      (finds-first (FilingApplies len row f) (bad ∷ range ∷ full ∷ spent ∷ []) refl (decides-reworded (λ p h. records h) short-filed (decides-short len row (f .lasts)))
+      (λ a. finds-first (FilingApplies len row f) (range ∷ full ∷ spent ∷ []) refl (decides-reworded (λ p h. records h) bad-filed (decides-bad len row (f .lasts)))
+      (λ b. finds-first (FilingApplies len row f) (full ∷ spent ∷ []) refl (decides-reworded range-there range-back (decides-if (not (inRange f)) BadTicket (tells-not (inRange f) (tells-ranged f))))
+      (λ c. finds-first (FilingApplies len row f) (spent ∷ []) refl (decides-reworded full-there full-back (decides-if (isFull (f .office) row) OfficeFull (tells-at-most places (length (waiting (f .office) row)))))
+      (λ d. finds-first (FilingApplies len row f) [] refl (decides-reworded spent-there spent-back (decides-if (isSpent (f .office) (f .lasts)) NumbersSpent (tells-at-most mostNumber (lastOf (f .office) (f .lasts)))))
+      (λ e. finds-none (FilingApplies len row f)))))))
+
+  filed-verdict : fileRow len row f .filed .verdict ≡ fileVerdict len row f
+  filed-verdict =
+      ⊎-elim (λ e. ap (λ x. x .filed .verdict) (not-filed-so len row f e)) (λ e. ap (λ x. x .filed .verdict) (filed-so len row f e)) (true-or-false (refuses (fileVerdict len row f)))
 
 pub filing-answers : FilingAnswers
-unfolding fileRow
-filing-answers len row f r is = rw is (filing-finds len row f)
+filing-answers len row f r is = rw (ap (λ x. x .filed .verdict) is ∙ filed-verdict len row f) (filing-finds len row f)
+
+-- A ticket with a number is among some, or not.
+tells-among : (n : ℕ) (ts : List Ticket) → Tells (hasNumber n ts) (IsAmong n ts)
+unfolding hasNumber
+tells-among n [] = record { when-true = λ e. absurd (true≢false (sym e)); when-false = λ e h. omega (arith, h .there) }
+tells-among n (t ∷ ts) =
+    tells-reworded
+    (λ h. ⊎-elim (λ e. record { place = 0; there = omega arith; is = e }) (λ a. record { place = suc (a .place); there = omega (arith, a .there); is = a .is }) h)
+    (λ a. back (a .place) (a .there) (a .is))
+    (tells-either (eqb (t .number) n) (hasNumber n ts) (tells-equal (t .number) n) (tells-among n ts))
+  where
+    back : (p : ℕ) → p < suc (length ts) → getD (t ∷ ts) p noTicket .number ≡ n → (t .number ≡ n) ⊎ IsAmong n ts
+    back zero l e = inl e
+    back (suc p) l e = inr (record { place = p; there = omega arith; is = e })
+
+module _ (len : ℕ) (row : List Ticket) (w : Withdrawal) where
+  short-withdrawn : (p : ℕ) → WithdrawalApplies len row w ShortRow p → RowApplies len row (w .lasts) ShortRow p
+  short-withdrawn p (of-the-row h) = h
+
+  bad-withdrawn : (p : ℕ) → WithdrawalApplies len row w BadRecord p → RowApplies len row (w .lasts) BadRecord p
+  bad-withdrawn p (of-the-row h) = h
+
+  waiting-there : (p : ℕ) → (p ≡ 0) × (IsWaiting (w .office) (w .number) row → ⊥) → WithdrawalApplies len row w NotWaiting p
+  waiting-there p h = rw (h .0) (not-waiting (h .1))
+
+  waiting-back : (p : ℕ) → WithdrawalApplies len row w NotWaiting p → (p ≡ 0) × (IsWaiting (w .office) (w .number) row → ⊥)
+  waiting-back p (not-waiting n) = (refl, n)
+
+  tells-waiting : Tells (isWaiting (w .office) (w .number) row) (IsWaiting (w .office) (w .number) row)
+  tells-waiting =
+      tells-both (upTo offices (w .office)) (hasNumber (w .number) (waiting (w .office) row)) (tells-within offices (w .office)) (tells-among (w .number) (waiting (w .office) row))
+
+  withdrawal-finds : Finds (WithdrawalApplies len row w) withdrawalOrder (withdrawVerdict len row w)
+  unfolding withdrawVerdict rowVerdict
+  withdrawal-finds =
+      let short = refuseIf (ltb len allPlaces) ShortRow in
+      let bad = refuseAt (firstWhere (badRecord (w .lasts) row) allPlaces) BadRecord in
+      let gone = refuseIf (not (isWaiting (w .office) (w .number) row)) NotWaiting in
+      rw (first-of-joined (short ∷ bad ∷ []) (gone ∷ []))
+      (finds-first (WithdrawalApplies len row w) (bad ∷ gone ∷ []) refl (decides-reworded (λ p h. of-the-row h) short-withdrawn (decides-short len row (w .lasts)))
+      (λ a. finds-first (WithdrawalApplies len row w) (gone ∷ []) refl (decides-reworded (λ p h. of-the-row h) bad-withdrawn (decides-bad len row (w .lasts)))
+      (λ b. finds-first (WithdrawalApplies len row w) [] refl (decides-reworded waiting-there waiting-back (decides-if (not (isWaiting (w .office) (w .number) row)) NotWaiting (tells-not (isWaiting (w .office) (w .number) row) tells-waiting)))
+      (λ c. finds-none (WithdrawalApplies len row w)))))
+
+  withdrawn-verdict : withdrawRow len row w .withdrawn .verdict ≡ withdrawVerdict len row w
+  withdrawn-verdict =
+      ⊎-elim (λ e. ap (λ x. x .withdrawn .verdict) (not-withdrawn-so len row w e)) (λ e. ap (λ x. x .withdrawn .verdict) (withdrawn-so len row w e))
+      (true-or-false (refuses (withdrawVerdict len row w)))
+
+pub withdrawal-answers : WithdrawalAnswers
+withdrawal-answers len row w r is = rw (ap (λ x. x .withdrawn .verdict) is ∙ withdrawn-verdict len row w) (withdrawal-finds len row w)
 
 -- A boarding: the row's verdict, or the planner's answer.
 pub boarding-answers : BoardingAnswers
 boarding-answers len tape row b before after r fits =
-    let iff = refused-iff (RowApplies len row) (row-finds len row) (refl, (refl, tt)) in
+    let iff = refused-iff (RowApplies len row (b .lasts)) (row-finds len row (b .lasts)) (refl, (refl, tt)) in
     record {
       records = λ some.
-          let says = fits .refused (not-accepted (rowVerdict len row .refusal) (iff .1 some)) .says in
-          rw (ap (λ x. x .boarded .answer .refusal) says, ap (λ x. x .boarded .answer .place) says) (row-finds len row);
+          let says = fits .refused (not-accepted (rowVerdict len row (b .lasts) .refusal) (iff .1 some)) .says in
+          rw (ap (λ x. x .boarded .answer .refusal) says, ap (λ x. x .boarded .answer .place) says) (row-finds len row (b .lasts));
       run = λ none.
-          let passes = ⊎-elim (λ t. absurd (none (iff .0 (λ a. true≢false (sym t ∙ ap isRefusal a))))) (λ n. n) (true-or-false (refuses (rowVerdict len row))) in
+          let passes = ⊎-elim (λ t. absurd (none (iff .0 (λ a. true≢false (sym t ∙ ap isRefusal a))))) (λ n. n) (true-or-false (refuses (rowVerdict len row (b .lasts)))) in
           demand1-plan (boardRun tape row b) before (r .boarded .answer) after (fits .planned passes .plans) .first;
     }
 
 -- The first such: what is bad hangs on a record and the one before it.
-bad-same : (row other : List Ticket) (i : ℕ) → getD row i noTicket ≡ getD other i noTicket → getD row (i - 1) noTicket ≡ getD other (i - 1) noTicket → badRecord row i ≡ badRecord other i
-bad-same row other i e f = rw (e, f)
+bad-same : (l : Lasts) (row other : List Ticket) (i : ℕ) → getD row i noTicket ≡ getD other i noTicket → getD row (i - 1) noTicket ≡ getD other (i - 1) noTicket → badRecord l row i ≡ badRecord l other i
+bad-same l row other i e f = rw (e, f)
 
 same-front : (p i : ℕ) (row other : List Ticket) → take p other ≡ take p row → i < p → getD other i noTicket ≡ getD row i noTicket
 same-front p i row other e l = sym (getD-take p other i noTicket l) ∙ ap (λ r. getD r i noTicket) e ∙ getD-take p row i noTicket l
@@ -149,36 +220,36 @@ front-then-none : (row : List Ticket) (q : ℕ) → q ≤ length row → (i : �
 front-then-none row q h i l = List·getD-append (take q row) (replicate (32 - q) noTicket) noTicket i (rw (length-take-le q row h) l) ∙ getD-take q row i noTicket l
 
 pub bad-record-is-first-such : BadRecordIsFirstSuch
-bad-record-is-first-such row p all bad =
+bad-record-is-first-such l row p all bad =
     record {
       none = λ table is same. absent table is (rw (bad .at) at same);
-      some = λ q l. (fill q, made q (omega (arith, bad .at, bad .within)), take-at (take q row) (replicate (32 - q) noTicket) q (length-take-le q row (omega (arith, bad .at, bad .within))));
+      some = λ q below. (fill q, made q (omega (arith, bad .at, bad .within)), take-at (take q row) (replicate (32 - q) noTicket) q (length-take-le q row (omega (arith, bad .at, bad .within))));
     }
   where
-    absent : (table : List Ticket) → IsTable table → take (suc (bad .index)) table ≡ take (suc (bad .index)) row → ⊥
+    absent : (table : List Ticket) → IsTableOf l table → take (suc (bad .index)) table ≡ take (suc (bad .index)) row → ⊥
     absent table is same =
         let i = bad .index in
-        let fine : badRecord table i ≡ false = first-zero (badRecord table) allPlaces (none-bad (waiting 1 table) (waiting 2 table) table is) i (bad .within) in
+        let fine : badRecord l table i ≡ false = first-zero (badRecord l table) allPlaces (none-bad l (waiting 1 table) (waiting 2 table) table is) i (bad .within) in
         let here = same-front (suc i) i row table same (omega arith) in
         let there = same-front (suc i) (i - 1) row table same (omega arith) in
-        tells-bad row i .when-false (sym (bad-same table row i here there) ∙ fine) (bad .here)
+        tells-bad l row i .when-false (sym (bad-same l table row i here there) ∙ fine) (bad .here)
 
     fill : ℕ → List Ticket
     fill q = take q row ++ replicate (32 - q) noTicket
 
-    made : (q : ℕ) → (q ≤ bad .index) × (q ≤ 32) → IsTable (take q row ++ replicate (32 - q) noTicket)
+    made : (q : ℕ) → (q ≤ bad .index) × (q ≤ 32) → IsTableOf l (take q row ++ replicate (32 - q) noTicket)
     made q h =
-        row-sound (take q row ++ replicate (32 - q) noTicket)
+        row-sound l (take q row ++ replicate (32 - q) noTicket)
         (length-append (take q row) (replicate (32 - q) noTicket) ∙ omega (arith, length-take-le q row (rw all (h .1)), length-replicate (32 - q) noTicket, h .1))
-        (first-all (badRecord (take q row ++ replicate (32 - q) noTicket)) allPlaces
-        (λ i l. elim (decLt i q) [ yes b ↦ before i b | no n ↦ behind i (omega arith) ]))
+        (first-all (badRecord l (take q row ++ replicate (32 - q) noTicket)) allPlaces
+        (λ i _. elim (decLt i q) [ yes b ↦ before i b | no n ↦ behind i (omega arith) ]))
       where
-        before : (i : ℕ) → i < q → badRecord (take q row ++ replicate (32 - q) noTicket) i ≡ false
+        before : (i : ℕ) → i < q → badRecord l (take q row ++ replicate (32 - q) noTicket) i ≡ false
         before i b =
-            bad-same (take q row ++ replicate (32 - q) noTicket) row i (front-then-none row q (rw all (h .1)) i b) (front-then-none row q (rw all (h .1)) (i - 1) (omega arith))
-            ∙ ⊎-elim (λ t. absurd (bad .before i (omega (arith, h .0)) (tells-bad row i .when-true t))) (λ f. f) (true-or-false (badRecord row i))
+            bad-same l (take q row ++ replicate (32 - q) noTicket) row i (front-then-none row q (rw all (h .1)) i b) (front-then-none row q (rw all (h .1)) (i - 1) (omega arith))
+            ∙ ⊎-elim (λ t. absurd (bad .before i (omega (arith, h .0)) (tells-bad l row i .when-true t))) (λ f. f) (true-or-false (badRecord l row i))
 
-        behind : (i : ℕ) → q ≤ i → badRecord (take q row ++ replicate (32 - q) noTicket) i ≡ false
+        behind : (i : ℕ) → q ≤ i → badRecord l (take q row ++ replicate (32 - q) noTicket) i ≡ false
         behind i b =
             let none : getD (take q row ++ replicate (32 - q) noTicket) i noTicket ≡ noTicket =
             padded-at (take q row) (32 - q) i ∙ List·getD-eq-default (take q row) noTicket (rw (length-take-le q row (rw all (h .1))) b) in

@@ -19,6 +19,7 @@ use Rattle.walk.specs.Price.{pricedAnswer}
 use Rattle.least.specs.Wants.{readsOfFile}
 use Rattle.planner.specs.Plan.{Rows, planVerdict, shortRows, roomFor}
 use Rattle.tickets.specs.declared.Ticket.{Ticket}
+use Rattle.tickets.specs.declared.Lasts.{Lasts}
 use Rattle.tickets.specs.Table.{mostCount, noTicket, isTicket, upTo, waiting, allPlaces, rowVerdict}
 use Rattle.tickets.proofs.Sound.{and-true-both}
 use Rattle.tickets.proofs.Placed.{none-bad}
@@ -164,9 +165,10 @@ module _ (files : ℕ) where
       )
 
 -- Who boards from a table whose tickets name files of the tape.
-ticket-fit : (files office : ℕ) (t : Ticket) → isTicket office t ≡ true → t .file ≤ files → Fit files t
-ticket-fit files office t is l =
-    let c = and-true-both (eqb (t .office) office && upTo mostFiles (t .file)) (upTo mostCount (t .count)) is in
+ticket-fit : (files office last : ℕ) (t : Ticket) → isTicket office last t ≡ true → t .file ≤ files → Fit files t
+ticket-fit files office last t is l =
+    let a = and-true-both (eqb (t .office) office && upTo mostFiles (t .file) && upTo mostCount (t .count)) (upTo last (t .number)) is .0 in
+    let c = and-true-both (eqb (t .office) office && upTo mostFiles (t .file)) (upTo mostCount (t .count)) a in
     let f = and-true-both (eqb (t .office) office) (upTo mostFiles (t .file)) (c .0) .1 in
     record {
       some = positive (t .file) (eqb-false (t .file) 0 (not-true (eqb (t .file) 0) (and-true-both (not (eqb (t .file) 0)) (leb (t .file) mostFiles) f .0)));
@@ -179,14 +181,14 @@ ticket-fit files office t is l =
     positive zero h = absurd (h refl)
     positive (suc n) h = omega arith
 
-module _ (files : ℕ) (row : List Ticket) (table : IsTable row)
+module _ (files : ℕ) (lasts : Lasts) (row : List Ticket) (table : IsTable (record { row = row; lasts = lasts }))
     (one : (i : ℕ) → i < length (waiting 1 row) → getD (waiting 1 row) i noTicket .file ≤ files)
     (two : (i : ℕ) → i < length (waiting 2 row) → getD (waiting 2 row) i noTicket .file ≤ files) where
   boarders-fit : Each (Fit files) (boarders row)
   boarders-fit =
       each-append (Fit files) (take (shareOne row) (waiting 1 row)) (take (shareTwo row) (waiting 2 row))
-      (each-take (Fit files) (shareOne row) (waiting 1 row) (each-from (Fit files) (waiting 1 row) (λ i l. ticket-fit files 1 (getD (waiting 1 row) i noTicket) (table .one .each i l) (one i l))))
-      (each-take (Fit files) (shareTwo row) (waiting 2 row) (each-from (Fit files) (waiting 2 row) (λ i l. ticket-fit files 2 (getD (waiting 2 row) i noTicket) (table .two .each i l) (two i l))))
+      (each-take (Fit files) (shareOne row) (waiting 1 row) (each-from (Fit files) (waiting 1 row) (λ i l. ticket-fit files 1 (lasts .one) (getD (waiting 1 row) i noTicket) (table .one .each i l) (one i l))))
+      (each-take (Fit files) (shareTwo row) (waiting 2 row) (each-from (Fit files) (waiting 2 row) (λ i l. ticket-fit files 2 (lasts .two) (getD (waiting 2 row) i noTicket) (table .two .each i l) (two i l))))
 
   boarders-few : length (boarders row) ≤ 8
   boarders-few =
@@ -220,23 +222,23 @@ plan-kind r rows t w =
     (run-kinds (ltb highestTurn (r .turn)) (ltb lastPlace (r .head) || ltb (r .head) (rightEnd (stopsOf r)))
     (shortRows (length (r .numbers)) (length (stopsOf r)) rows) (ltb (length (rows .room)) (roomFor r)))
 
-row-kind : (len : ℕ) (row : List Ticket) → IsTable row → OnlyTheRun (rowVerdict len row .refusal)
+row-kind : (len : ℕ) (l : Lasts) (row : List Ticket) → IsTable (record { row = row; lasts = l }) → OnlyTheRun (rowVerdict len row l .refusal)
 unfolding rowVerdict
-row-kind len row table = rw (none-bad (waiting 1 row) (waiting 2 row) row table) (row-kinds (ltb len allPlaces))
+row-kind len l row table = rw (none-bad l (waiting 1 row) (waiting 2 row) row table) (row-kinds (ltb len allPlaces))
 
 pub refused-for-the-run : RefusedForTheRun
 unfolding pricedAnswer
 refused-for-the-run len tape row b before after r table tape-ok names fits =
     ⊎-elim
-    (λ t. rw (ap (λ x. x .boarded .answer .refusal) (fits .refused t .says)) (row-kind len row table))
+    (λ t. rw (ap (λ x. x .boarded .answer .refusal) (fits .refused t .says)) (row-kind len (b .lasts) row table))
     (λ n. let plans = fits .planned n .plans in
     ⊎-elim
     (λ t. rw (ap (λ a. a .refusal) (plans .refused t .says)) kind)
     (λ p. rw (ap (λ a. a .refusal) (plans .planned p .says)) nothing)
     (true-or-false (refuses (planVerdict (boardRun tape row b) before))))
-    (true-or-false (refuses (rowVerdict len row)))
+    (true-or-false (refuses (rowVerdict len row (b .lasts))))
   where
     kind : OnlyTheRun (planVerdict (boardRun tape row b) before .refusal)
     kind =
         plan-kind (boardRun tape row b) before (none-refuses (tableChecks (tape .starts) (tape .lengths) (tape .aggregates)) tape-ok)
-        (boarded-wants-pass (length (tape .starts)) row table (λ i l. names 1 i (inl refl) l) (λ i l. names 2 i (inr refl) l))
+        (boarded-wants-pass (length (tape .starts)) (b .lasts) row table (λ i l. names 1 i (inl refl) l) (λ i l. names 2 i (inr refl) l))

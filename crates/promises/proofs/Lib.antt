@@ -1,4 +1,4 @@
--- The proofs of the promises. Request L6: by single calls (DeskSteps), by days (Desk), its refusals, its wants and its worked cases. Request L11: laws
+-- The proofs of the promises. Requests L6 and L7: by single calls (DeskSteps), by days (Desk), their refusals, wants and worked cases. Request L11: laws
 -- of what is gathered, copied and read again, then its promises (Mends). Request L13: totals, names, the input's division, the order of the sheets. The
 -- auditor's commands: Checks.
 pub mod DeskSteps

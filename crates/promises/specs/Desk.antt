@@ -1,10 +1,13 @@
--- Request L6: two offices, one tape. Calls that fit the contracts of filing and boarding, one after the other, on one waiting table.
-use Prim.Native.Nat.{ℕ, _+_, _≤_, _<_, _/_, min}
+-- Requests L6 and L7: two offices, one tape, and tickets that are withdrawn. Calls that fit the contracts of filing, withdrawing and boarding, one
+-- after the other, on one waiting table and the last numbers given.
+use Prim.Native.Nat.{ℕ, zero, suc, _+_, _≤_, _<_, _/_, min}
 use mathlib.Core.Path.{_≡_}
-use mathlib.Core.Bool.{Bool, false, not, cond}
+use mathlib.Core.Bool.{Bool, true, false, not, cond, _&&_}
 use mathlib.Core.Logic.{_⊎_}
 use mathlib.Core.List.{List, [], _∷_, _++_}
-use lib.ListN.{length, drop, replicate}
+use lib.Dec.{eqb}
+use lib.ListN.{length, getD, drop, replicate}
+use Rattle.refusals.specs.declared.Refusal.{Refusal}
 use Rattle.refusals.specs.declared.Refusal.the-variants.{Accepted}
 use Rattle.refusals.specs.Refusals.{isRefusal}
 use Rattle.runs.specs.Run.{Run, stopsOf}
@@ -12,106 +15,242 @@ use Rattle.walk.specs.declared.Leg.{Leg}
 use Rattle.walk.specs.Walk.{headAt, Moves, ServesAll, sumOf}
 use Rattle.planner.specs.Plan.{Rows}
 use Rattle.tickets.specs.declared.Ticket.{Ticket}
+use Rattle.tickets.specs.declared.Lasts.{Lasts}
 use Rattle.tickets.specs.declared.Filing.{Filing}
 use Rattle.tickets.specs.declared.FiledRow.{FiledRow}
-use Rattle.tickets.specs.Table.{Sound, waiting}
-use Rattle.tickets.specs.Filings.{ticketOf, fileRow}
+use Rattle.tickets.specs.declared.Withdrawal.{Withdrawal}
+use Rattle.tickets.specs.declared.WithdrawnRow.{WithdrawnRow}
+use Rattle.tickets.specs.Table.{Sound, noTicket, lastOf, waiting}
+use Rattle.tickets.specs.Filings.{inRange, ticketOf, fileRow}
+use Rattle.tickets.specs.Withdrawals.{withoutNumber, withdrawRow}
 use Rattle.boardings.specs.declared.Boarding.{Boarding}
 use Rattle.boardings.specs.declared.BoardedRow.{BoardedRow}
 use Rattle.boardings.specs.Boardings.{Tape, boardRun, Boards}
 use Rattle.demands.specs.Demand2.{IsTheWalk, IsLeast}
 
--- An empty table: 32 empty places.
-abbrev pub emptyTable : List Ticket
-emptyTable = replicate 32 (record { office = 0; file = 0; count = 0 })
+-- What is kept from call to call: the waiting table, and the last number given to each office.
+pub record Kept : Type 0 where
+  pub row : List Ticket
+  pub lasts : Lasts
 
--- A table that two offices' tickets wait in.
-abbrev pub IsTable : List Ticket → Type 0
-IsTable row = Sound (waiting 1 row) (waiting 2 row) row
+-- At first: 32 empty places, and no number given.
+abbrev pub atFirst : Kept
+atFirst = record { row = replicate 32 (record { office = 0; file = 0; count = 0; number = 0 }); lasts = record { one = 0; two = 0 } }
+
+-- A table that two offices' tickets wait in: each office's numbers ascend, and none is above the last given.
+abbrev pub IsTable : Kept → Type 0
+IsTable k = Sound (k .lasts) (waiting 1 (k .row)) (waiting 2 (k .row)) (k .row)
 
 -- A call: what was handed in beside the table, and what came back.
 pub data Call : Type 0 where
   filing : (len : ℕ) → Filing → FiledRow → Call
+  withdrawal : (len : ℕ) → Withdrawal → WithdrawnRow → Call
   boarding : (len : ℕ) → Tape → Boarding → (before after : Rows) → BoardedRow → Call
 
--- It fits the contract, from one table to the next.
-pub data Fits : List Ticket → Call → List Ticket → Type 0 where
-  files : {len : ℕ} {row : List Ticket} {f : Filing} {r : FiledRow} → r ≡ fileRow len row f → Fits row (filing len f r) (r .row)
-  boards : {len : ℕ} {tape : Tape} {row : List Ticket} {b : Boarding} {before after : Rows} {r : BoardedRow} → Boards len tape row b before r after → Fits row (boarding len tape b before after r) (r .row)
+-- It fits the contract: the table and the last numbers go in, and the next ones come back.
+pub data Fits : Kept → Call → Kept → Type 0 where
+  files : {len : ℕ} {k : Kept} {f : Filing} {r : FiledRow} → f .lasts ≡ k .lasts → r ≡ fileRow len (k .row) f
+      → Fits k (filing len f r) (record { row = r .row; lasts = r .filed .lasts })
+  withdraws : {len : ℕ} {k : Kept} {w : Withdrawal} {r : WithdrawnRow} → w .lasts ≡ k .lasts → r ≡ withdrawRow len (k .row) w
+      → Fits k (withdrawal len w r) (record { row = r .row; lasts = r .withdrawn .lasts })
+  boards : {len : ℕ} {tape : Tape} {k : Kept} {b : Boarding} {before after : Rows} {r : BoardedRow} → b .lasts ≡ k .lasts → Boards len tape (k .row) b before r after
+      → Fits k (boarding len tape b before after r) (record { row = r .row; lasts = r .boarded .lasts })
 
 -- Calls one after the other.
-pub data Day : List Ticket → List Call → List Ticket → Type 0 where
-  over : {row : List Ticket} → Day row [] row
-  then : {row next last : List Ticket} {c : Call} {cs : List Call} → Fits row c next → Day next cs last → Day row (c ∷ cs) last
+pub data Day : Kept → List Call → Kept → Type 0 where
+  over : {k : Kept} → Day k [] k
+  then : {k next last : Kept} {c : Call} {cs : List Call} → Fits k c next → Day next cs last → Day k (c ∷ cs) last
 
 -- Whether a call is an accepted boarding, and how many of a day are.
 abbrev pub departs : Call → Bool
 departs (filing len f r) = false
+departs (withdrawal len w r) = false
 departs (boarding len tape b before after r) = not (isRefusal (r .boarded .answer .refusal))
 
 abbrev pub departures : List Call → ℕ
 departures [] = 0
 departures (c ∷ cs) = cond (departs c) (1 + departures cs) (departures cs)
 
--- How many tickets of an office leave with a call, as its answer says, and in a day.
+-- How many tickets of an office leave with a boarding, as its answer says.
 abbrev pub leaving : ℕ → Call → ℕ
 leaving office (filing len f r) = 0
-leaving office (boarding len tape b before after r) = cond (lib.Dec.eqb office 1) (r .boarded .taken .one) (r .boarded .taken .two)
+leaving office (withdrawal len w r) = 0
+leaving office (boarding len tape b before after r) = cond (eqb office 1) (r .boarded .taken .one) (r .boarded .taken .two)
 
-abbrev pub left : ℕ → List Call → ℕ
-left office [] = 0
-left office (c ∷ cs) = leaving office c + left office cs
-
--- The tickets that join an office's with a call, and in a day: those of its accepted filings, in order.
+-- The ticket that joins an office's with an accepted filing.
 abbrev pub joining : ℕ → Call → List Ticket
-joining office (filing len f r) = cond (isRefusal (r .filed .verdict .refusal)) [] (cond (lib.Dec.eqb (f .office) office) (ticketOf f ∷ []) [])
+joining office (filing len f r) = cond (isRefusal (r .filed .verdict .refusal)) [] (cond (eqb (f .office) office) (ticketOf f ∷ []) [])
+joining office (withdrawal len w r) = []
 joining office (boarding len tape b before after r) = []
 
-abbrev pub joined : ℕ → List Call → List Ticket
-joined office [] = []
-joined office (c ∷ cs) = joining office c ++ joined office cs
+-- Whether a call is an accepted withdrawal at an office; whether of a number; whether one of a day is.
+abbrev pub takesBack : ℕ → Call → Bool
+takesBack office (filing len f r) = false
+takesBack office (withdrawal len w r) = not (isRefusal (r .withdrawn .verdict .refusal)) && eqb (w .office) office
+takesBack office (boarding len tape b before after r) = false
+
+abbrev pub named : Call → ℕ
+named (filing len f r) = 0
+named (withdrawal len w r) = w .number
+named (boarding len tape b before after r) = 0
+
+abbrev pub withdrawn : ℕ → ℕ → Call → Bool
+withdrawn office n c = takesBack office c && eqb (named c) n
+
+abbrev pub withdrawnIn : ℕ → ℕ → List Call → Bool
+withdrawnIn office n [] = false
+withdrawnIn office n (c ∷ cs) = cond (withdrawn office n c) true (withdrawnIn office n cs)
+
+-- An office's tickets after a call: without the withdrawn one, with the filed one behind them, less those that boarded, from the front. And after a day.
+abbrev pub queueAfter : ℕ → Call → List Ticket → List Ticket
+queueAfter office c ts = drop (leaving office c) (cond (takesBack office c) (withoutNumber (named c) ts) ts ++ joining office c)
+
+abbrev pub queueIn : ℕ → List Call → List Ticket → List Ticket
+queueIn office [] ts = ts
+queueIn office (c ∷ cs) ts = queueIn office cs (queueAfter office c ts)
+
+-- The numbers that a day's accepted filings give to an office, in order.
+abbrev pub givenBy : ℕ → Call → List ℕ
+givenBy office (filing len f r) = cond (isRefusal (r .filed .verdict .refusal)) [] (cond (eqb (f .office) office) (r .filed .number ∷ []) [])
+givenBy office (withdrawal len w r) = []
+givenBy office (boarding len tape b before after r) = []
+
+abbrev pub given : ℕ → List Call → List ℕ
+given office [] = []
+given office (c ∷ cs) = givenBy office c ++ given office cs
+
+-- So many numbers from the one behind n on.
+abbrev pub countedFrom : ℕ → ℕ → List ℕ
+countedFrom n zero = []
+countedFrom n (suc m) = suc n ∷ countedFrom (suc n) m
 
 abbrev pub IsOffice : ℕ → Type 0
 IsOffice office = (office ≡ 1) ⊎ (office ≡ 2)
 
 -- Whatever the calls, a table stays a table; so from an empty one on.
 abbrev pub TableStays : Type 0
-TableStays = (row last : List Ticket) (cs : List Call) → IsTable row → Day row cs last → IsTable last
+TableStays = (k last : Kept) (cs : List Call) → IsTable k → Day k cs last → IsTable last
 
 abbrev pub TableFromEmpty : Type 0
-TableFromEmpty = (last : List Ticket) (cs : List Call) → Day emptyTable cs last → IsTable last
+TableFromEmpty = (last : Kept) (cs : List Call) → Day atFirst cs last → IsTable last
 
--- An office's tickets leave in order of filing: those that wait are those that waited and joined, less so many from the front. What the other office does
--- stands nowhere in it.
+-- Numbers given to an office count up by one from the last given, boarded and withdrawn tickets included; so from 1, and none is given twice.
+abbrev pub NumbersCountUp : Type 0
+NumbersCountUp =
+    (office : ℕ) (k last : Kept) (cs : List Call)
+    → IsOffice office
+    → Day k cs last
+    → (given office cs ≡ countedFrom (lastOf office (k .lasts)) (length (given office cs)))
+    × (lastOf office (last .lasts) ≡ lastOf office (k .lasts) + length (given office cs))
+
+abbrev pub NoneGivenTwice : Type 0
+NoneGivenTwice =
+    (office : ℕ) (k last : Kept) (cs : List Call)
+    → IsOffice office
+    → Day k cs last
+    → (i j : ℕ) → i < j → j < length (given office cs) → getD (given office cs) i 0 < getD (given office cs) j 0
+
+-- Order of filing is kept: an office's tickets are those that waited and joined, in order, less the withdrawn and those boarded from the front. What the
+-- other office does stands nowhere in it.
 abbrev pub InOrder : Type 0
 InOrder =
-    (office : ℕ) (row last : List Ticket) (cs : List Call)
+    (office : ℕ) (k last : Kept) (cs : List Call)
     → IsOffice office
-    → IsTable row
-    → Day row cs last
-    → waiting office last ≡ drop (left office cs) (waiting office row ++ joined office cs)
+    → IsTable k
+    → Day k cs last
+    → waiting office (last .row) ≡ queueIn office cs (waiting office (k .row))
 
--- A ticket with j of its office's tickets ahead has left after j / 4 + 1 accepted boardings, counted from any moment; so from its filing.
+-- So at any moment an office's tickets stand by their numbers, which were given in order of filing.
+abbrev pub StandByNumber : Type 0
+StandByNumber =
+    (office i j : ℕ) (k : Kept)
+    → IsOffice office
+    → IsTable k
+    → i < j
+    → j < length (waiting office (k .row))
+    → getD (waiting office (k .row)) i noTicket .number < getD (waiting office (k .row)) j noTicket .number
+
+-- The freed place serves: with at most 15 waiting, numbers left, and a filing in range on a row long enough, it is accepted, whatever was filed,
+-- withdrawn and boarded before.
+abbrev pub FreedPlaceServes : Type 0
+FreedPlaceServes =
+    (k : Kept) (cs : List Call) (len : ℕ) (f : Filing)
+    → Day atFirst cs k
+    → f .lasts ≡ k .lasts
+    → 32 ≤ len
+    → inRange f ≡ true
+    → length (waiting (f .office) (k .row)) ≤ 15
+    → lastOf (f .office) (k .lasts) < 65535
+    → fileRow len (k .row) f .filed .verdict .refusal ≡ Accepted
+
+-- What a call does to a ticket that waits with j of its office's tickets ahead: it is the call that withdraws it; or a boarding that takes it; or it waits on,
+-- the same ticket, with no more ahead, and four fewer after an accepted boarding.
+pub record WaitsOn (j : ℕ) (ts next : List Ticket) (c : Call) : Type 0 where
+  pub ahead : ℕ
+  pub fewer : ahead ≤ j
+  pub there : ahead < length next
+  pub same : getD next ahead noTicket ≡ getD ts j noTicket
+  pub four : departs c ≡ true → 4 + ahead ≤ j
+
+abbrev pub Fate : ℕ → ℕ → List Ticket → List Ticket → Call → Type 0
+Fate office j ts next c =
+    (withdrawn office (getD ts j noTicket .number) c ≡ true) ⊎ (((departs c ≡ true) × (j < leaving office c)) ⊎ WaitsOn j ts next c)
+
+abbrev pub OnlyTheseTakeAway : Type 0
+OnlyTheseTakeAway =
+    (office j : ℕ) (k next : Kept) (c : Call)
+    → IsOffice office
+    → IsTable k
+    → Fits k c next
+    → j < length (waiting office (k .row))
+    → Fate office j (waiting office (k .row)) (waiting office (next .row)) c
+
+-- A ticket leaves on a boarding of a day: the calls before, that boarding, and where the ticket stood then, among those taken.
+pub record LeavesOn (office n : ℕ) (k last : Kept) (cs : List Call) : Type 0 where
+  pub before : List Call
+  pub call : Call
+  pub behind : List Call
+  pub here : Kept
+  pub next : Kept
+  pub split : cs ≡ before ++ call ∷ behind
+  pub first : Day k before here
+  pub fits : Fits here call next
+  pub rest : Day next behind last
+  pub accepted : departs call ≡ true
+  pub place : ℕ
+  pub waits : place < length (waiting office (here .row))
+  pub is : getD (waiting office (here .row)) place noTicket .number ≡ n
+  pub taken : place < leaving office call
+
+-- At any moment: a ticket with j of its office's tickets still ahead leaves by accepted boarding number j / 4 + 1 from that moment, unless it is withdrawn.
 abbrev pub LeavesInTime : Type 0
 LeavesInTime =
-    (office j : ℕ) (row last : List Ticket) (cs : List Call)
+    (office n j : ℕ) (k last : Kept) (cs : List Call)
     → IsOffice office
-    → IsTable row
-    → Day row cs last
-    → j < length (waiting office row)
+    → IsTable k
+    → Day k cs last
+    → j < length (waiting office (k .row))
+    → getD (waiting office (k .row)) j noTicket .number ≡ n
     → j / 4 + 1 ≤ departures cs
-    → j < left office cs
+    → (withdrawnIn office n cs ≡ true) ⊎ ((leaves : LeavesOn office n k last cs) × (departures (leaves .before) ≤ j / 4))
 
--- From its filing: the ticket stands behind its own office's tickets, as many as are ahead of it, and leaves by that number.
-abbrev pub LeavesFromFiling : Type 0
-LeavesFromFiling =
-    (len : ℕ) (row : List Ticket) (f : Filing) (r : FiledRow) (last : List Ticket) (cs : List Call)
-    → IsTable row
-    → r ≡ fileRow len row f
+-- From its filing: the ticket, with the number that the answer names, stands behind its own office's tickets, as many as are ahead of it.
+abbrev pub FiledBehind : Type 0
+FiledBehind =
+    (len : ℕ) (k next : Kept) (f : Filing) (r : FiledRow)
+    → IsTable k
+    → Fits k (filing len f r) next
     → r .filed .verdict .refusal ≡ Accepted
-    → Day (r .row) cs last
-    → (waiting (f .office) (r .row) ≡ waiting (f .office) row ++ ticketOf f ∷ [])
-    × (length (waiting (f .office) row) / 4 + 1 ≤ departures cs → length (waiting (f .office) row) < left (f .office) cs)
+    → (waiting (f .office) (next .row) ≡ waiting (f .office) (k .row) ++ ticketOf f ∷ []) × (r .filed .number ≡ ticketOf f .number)
+
+-- What a call answers; refused, it leaves the table and the last numbers as they went in.
+abbrev pub answered : Call → Refusal
+answered (filing len f r) = r .filed .verdict .refusal
+answered (withdrawal len w r) = r .withdrawn .verdict .refusal
+answered (boarding len tape b before after r) = r .boarded .answer .refusal
+
+abbrev pub RefusedChangesNothing : Type 0
+RefusedChangesNothing = (k next : Kept) (c : Call) → Fits k c next → (answered c ≡ Accepted → ⊥) → (next .row ≡ k .row) × (next .lasts ≡ k .lasts)
 
 -- What one boarding does: accepted, it takes the first tickets of each office, four or all it has, at most eight in all, and eight where so many wait;
 -- refused, none.
@@ -127,7 +266,7 @@ pub record Takes (row : List Ticket) (r : BoardedRow) : Type 0 where
 abbrev pub BoardingTakes : Type 0
 BoardingTakes =
     (len : ℕ) (tape : Tape) (row : List Ticket) (b : Boarding) (before after : Rows) (r : BoardedRow)
-    → IsTable row
+    → IsTable (record { row = row; lasts = b .lasts })
     → Boards len tape row b before r after
     → r .boarded .answer .refusal ≡ Accepted
     → Takes row r
@@ -143,8 +282,8 @@ RefusalKeeps =
 abbrev pub OwnOfficeDecides : Type 0
 OwnOfficeDecides =
     (len : ℕ) (row row′ : List Ticket) (f : Filing)
-    → IsTable row
-    → IsTable row′
+    → IsTable (record { row = row; lasts = f .lasts })
+    → IsTable (record { row = row′; lasts = f .lasts })
     → waiting (f .office) row ≡ waiting (f .office) row′
     → fileRow len row f .filed ≡ fileRow len row′ f .filed
 

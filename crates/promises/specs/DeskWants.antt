@@ -18,7 +18,7 @@ use Rattle.boardings.specs.declared.Boarding.{Boarding}
 use Rattle.boardings.specs.declared.BoardedRow.{BoardedRow}
 use Rattle.boardings.specs.Boarders.{boarders}
 use Rattle.boardings.specs.Boardings.{Tape, boardRun, Boards}
-use Rattle.promises.specs.Desk.{emptyTable, IsTable, IsOffice, Call, filing, boarding, Day}
+use Rattle.promises.specs.Desk.{Kept, atFirst, IsTable, IsOffice, Call, filing, withdrawal, boarding, Day}
 
 -- The reads of a file that some tickets ask for.
 unfoldable pub asked : ℕ → List Ticket → ℕ
@@ -48,7 +48,7 @@ pub data OnlyTheRun : Refusal → Type 0 where
 abbrev pub RefusedForTheRun : Type 0
 RefusedForTheRun =
     (len : ℕ) (tape : Tape) (row : List Ticket) (b : Boarding) (before after : Rows) (r : BoardedRow)
-    → IsTable row
+    → IsTable (record { row = row; lasts = b .lasts })
     → TapeAccepted tape
     → NamesItsFiles tape row
     → Boards len tape row b before r after
@@ -58,14 +58,16 @@ RefusedForTheRun =
 abbrev pub ForTape : Tape → List Call → Type 0
 ForTape tape [] = Unit {0}
 ForTape tape (filing len f r ∷ cs) = (f .files ≡ length (tape .starts)) × ForTape tape cs
+ForTape tape (withdrawal len w r ∷ cs) = ForTape tape cs
 ForTape tape (boarding len tape′ b before after r ∷ cs) = ForTape tape cs
 
 -- So from an empty table, for one tape table, only these refusals are ever met.
 abbrev pub RefusedForTheRunFromEmpty : Type 0
 RefusedForTheRunFromEmpty =
-    (len : ℕ) (tape : Tape) (row : List Ticket) (cs : List Call) (b : Boarding) (before after : Rows) (r : BoardedRow)
-    → Day emptyTable cs row
+    (len : ℕ) (tape : Tape) (k : Kept) (cs : List Call) (b : Boarding) (before after : Rows) (r : BoardedRow)
+    → Day atFirst cs k
     → ForTape tape cs
     → TapeAccepted tape
-    → Boards len tape row b before r after
+    → b .lasts ≡ k .lasts
+    → Boards len tape (k .row) b before r after
     → OnlyTheRun (r .boarded .answer .refusal)

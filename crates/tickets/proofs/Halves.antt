@@ -1,5 +1,5 @@
 -- An office's places as a list: how its tickets are counted, and where its records stand in the row.
-use Prim.Native.Nat.{ℕ, suc, _+_, _≤_, _<_}
+use Prim.Native.Nat.{ℕ, zero, suc, _+_, _≤_, _<_}
 use mathlib.Core.Path.{_≡_, refl, ap, _∙_}
 use mathlib.Core.Bool.{Bool, true, false}
 use mathlib.Core.List.{List, [], _∷_}
@@ -21,6 +21,28 @@ tickets-one t ts e = rw e
 pub tickets-end : ticketsIn [] ≡ []
 unfolding ticketsIn
 tickets-end = refl
+
+-- The tickets are the first places, and none of those is empty.
+pub tickets-at : (h : List Ticket) (i : ℕ) → i < length (ticketsIn h) → (getD (ticketsIn h) i noTicket ≡ getD h i noTicket) × (isEmpty (getD h i noTicket) ≡ false)
+tickets-at [] i l = absurd (let z : i < 0 = rw tickets-end at l in omega arith)
+tickets-at (t ∷ ts) i l = by-case (isEmpty t) refl i l (tickets-at ts)
+  where
+    by-case : (b : Bool) → isEmpty t ≡ b → (i : ℕ) → i < length (ticketsIn (t ∷ ts))
+        → ((k : ℕ) → k < length (ticketsIn ts) → (getD (ticketsIn ts) k noTicket ≡ getD ts k noTicket) × (isEmpty (getD ts k noTicket) ≡ false))
+        → (getD (ticketsIn (t ∷ ts)) i noTicket ≡ getD (t ∷ ts) i noTicket) × (isEmpty (getD (t ∷ ts) i noTicket) ≡ false)
+    by-case true e i l rest = absurd (let z : i < 0 = rw (tickets-none t ts e) at l in omega arith)
+    by-case false e zero l rest = (rw (tickets-one t ts e), e)
+    by-case false e (suc k) l rest =
+        let s = rest k (let z : suc k < suc (length (ticketsIn ts)) = rw (tickets-one t ts e) at l in omega arith) in
+        (rw (tickets-one t ts e) (s .0), s .1)
+
+pub tickets-fit : (h : List Ticket) → length (ticketsIn h) ≤ length h
+tickets-fit [] = rw tickets-end (omega arith)
+tickets-fit (t ∷ ts) = by-case (isEmpty t) refl (tickets-fit ts)
+  where
+    by-case : (b : Bool) → isEmpty t ≡ b → length (ticketsIn ts) ≤ length ts → length (ticketsIn (t ∷ ts)) ≤ suc (length ts)
+    by-case true e rest = rw (tickets-none t ts e) (omega arith)
+    by-case false e rest = rw (tickets-one t ts e) (omega arith)
 
 -- The places from an index on.
 abbrev pub placesFrom : ℕ → List Ticket → List Ticket

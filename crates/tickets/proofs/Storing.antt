@@ -1,50 +1,61 @@
 -- A filing: the store that the code makes is one ticket more at its office, and the answer by the verdict.
-use Prim.Native.Nat.{ℕ, _+_, _<_}
+use Prim.Native.Nat.{ℕ, suc, _+_, _<_}
 use mathlib.Core.Path.{_≡_, refl, ap, _∙_}
 use mathlib.Core.Bool.{true, false, not, cond, _&&_}
 use mathlib.Core.List.{List, [], _∷_, _++_}
 use mathlib.Core.Logic.{⊎-elim, _⊎_, inl, inr}
 use native.Mathlib.Omega.{arith}
 use native.Mathlib.Decide.{decLt}
+use native.Mathlib.Numerals.{add-one}
 use lib.Dec.{leb, eqb, ltb}
 use lib.ListN.{length, set}
 use borrow.Author.Tests.{leb-true, leb-false, eqb-false, not-true, not-false}
-use Rattle.refusals.specs.declared.Refusal.the-variants.{ShortRow, BadRecord, BadTicket, OfficeFull}
+use Rattle.refusals.specs.declared.Refusal.the-variants.{ShortRow, BadRecord, BadTicket, OfficeFull, NumbersSpent}
 use Rattle.refusals.specs.declared.Verdict.{Verdict}
 use Rattle.refusals.specs.Refusals.{refuseIf, refuseAt, firstWhere}
 use Rattle.refusals.proofs.Verdicts.{refuses, all-accept, accepts-if, accepts-at}
 use Rattle.tickets.specs.declared.Ticket.{Ticket}
+use Rattle.tickets.specs.declared.Lasts.{Lasts}
 use Rattle.tickets.specs.declared.Filing.{Filing}
 use Rattle.tickets.specs.declared.FiledRow.{FiledRow}
-use Rattle.tickets.specs.Table.{offices, places, allPlaces, upTo, waiting, rowOf, badRecord, rowVerdict, firstPlace, Sound}
-use Rattle.tickets.specs.Filings.{inRange, isFull, fileVerdict, ticketOf, fileRow}
+use Rattle.tickets.specs.Table.{offices, places, allPlaces, upTo, lastOf, waiting, rowOf, badRecord, rowVerdict, firstPlace, Sound}
+use Rattle.tickets.specs.Filings.{inRange, isFull, mostNumber, isSpent, fileVerdict, numberFor, lastsWith, ticketOf, notFiled, fileRow}
 use Rattle.tickets.proofs.Sound.{row-sound, and-true-both}
 use Rattle.tickets.proofs.Placed.{row-more-one, row-more-two}
 
 -- Acceptance of a row: it is long enough, and no record is bad.
-pub row-accepted : (len : ℕ) (row : List Ticket) → refuses (rowVerdict len row) ≡ false → firstWhere (badRecord row) allPlaces ≡ 0
+pub row-accepted : (len : ℕ) (row : List Ticket) (l : Lasts) → refuses (rowVerdict len row l) ≡ false → firstWhere (badRecord l row) allPlaces ≡ 0
 unfolding rowVerdict
-row-accepted len row e =
-    let each = all-accept (refuseIf (ltb len allPlaces) ShortRow ∷ refuseAt (firstWhere (badRecord row) allPlaces) BadRecord ∷ []) e in
-    accepts-at (firstWhere (badRecord row) allPlaces) BadRecord refl (each .1 .0)
+row-accepted len row l e =
+    let each = all-accept (refuseIf (ltb len allPlaces) ShortRow ∷ refuseAt (firstWhere (badRecord l row) allPlaces) BadRecord ∷ []) e in
+    accepts-at (firstWhere (badRecord l row) allPlaces) BadRecord refl (each .1 .0)
 
-pub accepted-sound : (len : ℕ) (row : List Ticket) → length row ≡ allPlaces → refuses (rowVerdict len row) ≡ false → Sound (waiting 1 row) (waiting 2 row) row
-accepted-sound len row all e = row-sound row all (row-accepted len row e)
+pub accepted-sound : (len : ℕ) (row : List Ticket) (l : Lasts) → length row ≡ allPlaces → refuses (rowVerdict len row l) ≡ false → Sound l (waiting 1 row) (waiting 2 row) row
+accepted-sound len row l all e = row-sound l row all (row-accepted len row l e)
 
 -- Acceptance of a filing.
 pub record Accepted (len : ℕ) (row : List Ticket) (f : Filing) : Type 0 where
-  pub table : refuses (rowVerdict len row) ≡ false
+  pub table : refuses (rowVerdict len row (f .lasts)) ≡ false
   pub ranged : inRange f ≡ true
   pub free : length (waiting (f .office) row) < places
+  pub unspent : lastOf (f .office) (f .lasts) < mostNumber
 
 pub file-accepted : (len : ℕ) (row : List Ticket) (f : Filing) → refuses (fileVerdict len row f) ≡ false → Accepted len row f
 unfolding fileVerdict
 file-accepted len row f e =
-    let each = all-accept (rowVerdict len row ∷ refuseIf (not (inRange f)) BadTicket ∷ refuseIf (isFull (f .office) row) OfficeFull ∷ []) e in
+    let each =
+    all-accept
+    (rowVerdict len row (f .lasts)
+    ∷ refuseIf (not (inRange f)) BadTicket
+    ∷ refuseIf (isFull (f .office) row) OfficeFull
+    ∷ refuseIf (isSpent (f .office) (f .lasts)) NumbersSpent
+    ∷ [])
+    e in
     record {
       table = each .0;
       ranged = not-false (inRange f) (accepts-if (not (inRange f)) BadTicket refl (each .1 .0));
       free = leb-false places (length (waiting (f .office) row)) (accepts-if (isFull (f .office) row) OfficeFull refl (each .1 .1 .0));
+      unspent = leb-false mostNumber (lastOf (f .office) (f .lasts)) (accepts-if (isSpent (f .office) (f .lasts)) NumbersSpent refl (each .1 .1 .1 .0));
     }
 
 -- The office of an accepted filing is 1 or 2.
@@ -65,9 +76,9 @@ range-office f e =
     and-true-both (upTo offices (f .office)) (upTo (f .files) (f .file)) b .0
 
 -- The store at the first empty place of the office.
-store-at : (row : List Ticket) (t : Ticket) (o : ℕ) → Sound (waiting 1 row) (waiting 2 row) row → (o ≡ 1) ⊎ (o ≡ 2) → length (waiting o row) < places
+store-at : (l : Lasts) (row : List Ticket) (t : Ticket) (o : ℕ) → Sound l (waiting 1 row) (waiting 2 row) row → (o ≡ 1) ⊎ (o ≡ 2) → length (waiting o row) < places
     → set row (firstPlace o + length (waiting o row)) t ≡ rowOf (cond (eqb o 1) (waiting 1 row ++ t ∷ []) (waiting 1 row)) (cond (eqb o 2) (waiting 2 row ++ t ∷ []) (waiting 2 row))
-store-at row t o s which l = ⊎-elim at-one at-two which
+store-at lasts row t o s which l = ⊎-elim at-one at-two which
   where
     at-one : o ≡ 1 → set row (firstPlace o + length (waiting o row)) t ≡ rowOf (cond (eqb o 1) (waiting 1 row ++ t ∷ []) (waiting 1 row)) (cond (eqb o 2) (waiting 2 row ++ t ∷ []) (waiting 2 row))
     at-one e = rw e (ap (λ r. set r (0 + length (waiting 1 row)) t) (s .is) ∙ row-more-one (waiting 1 row) (waiting 2 row) t (rw e at l))
@@ -76,18 +87,28 @@ store-at row t o s which l = ⊎-elim at-one at-two which
     at-two e = rw e (ap (λ r. set r (places + length (waiting 2 row)) t) (s .is) ∙ row-more-two (waiting 1 row) (waiting 2 row) t (s .one .few) (rw e at l))
 
 module _ (len : ℕ) (row : List Ticket) (f : Filing) (v : Verdict) (is : v ≡ fileVerdict len row f) where
-  pub file-refused : refuses v ≡ true → _≡_ {A = FiledRow} (record { filed = record { verdict = v }; row = row }) (fileRow len row f)
+  pub file-refused : refuses v ≡ true → notFiled row f v ≡ fileRow len row f
   unfolding fileRow
   file-refused e = rw (← is, e)
 
-  pub file-stored : length row ≡ allPlaces → refuses v ≡ false → (p n : ℕ) → p ≡ firstPlace (f .office) → n ≡ length (waiting (f .office) row)
-      → _≡_ {A = FiledRow} (record { filed = record { verdict = v }; row = set row (p + n) (ticketOf f) }) (fileRow len row f)
+  pub file-stored : length row ≡ allPlaces → refuses v ≡ false
+      → (last p n : ℕ) (given : Lasts) → last ≡ lastOf (f .office) (f .lasts) → p ≡ firstPlace (f .office) → n ≡ length (waiting (f .office) row) → given ≡ lastsWith (f .office) (last + 1) (f .lasts)
+      → _≡_ {A = FiledRow}
+      (record {
+        filed = record { verdict = v; number = last + 1; lasts = given };
+        row = set row (p + n) (record { office = f .office; file = f .file; count = f .count; number = last + 1 });
+      })
+      (fileRow len row f)
   unfolding fileRow
-  file-stored all e p n p-is n-is =
+  file-stored all e last p n given last-is p-is n-is given-is =
       let a = file-accepted len row f (rw is at e) in
-      rw (← is, e, p-is, n-is)
-      (ap {B = FiledRow} (λ r. record { filed = record { verdict = v }; row = r })
-      (store-at row (ticketOf f) (f .office) (accepted-sound len row all (a .table)) (office-is (f .office) (range-office f (a .ranged))) (a .free)))
+      let next : last + 1 ≡ numberFor f = add-one last ∙ ap suc last-is in
+      rw (← is, e, given-is, next, p-is, n-is)
+      (ap {B = FiledRow} (λ r. record { filed = record { verdict = v; number = numberFor f; lasts = lastsWith (f .office) (numberFor f) (f .lasts) }; row = r })
+      (store-at (f .lasts) row (ticketOf f) (f .office) (accepted-sound len row (f .lasts) all (a .table)) (office-is (f .office) (range-office f (a .ranged))) (a .free)))
 
   pub store-fits : refuses v ≡ false → length (waiting (f .office) row) < places
   store-fits e = file-accepted len row f (rw is at e) .free
+
+  pub number-fits : refuses v ≡ false → lastOf (f .office) (f .lasts) < mostNumber
+  number-fits e = file-accepted len row f (rw is at e) .unspent

@@ -16,7 +16,7 @@ use Rattle.boardings.proofs.board_in.Tie as tie
 
 -- What was handed in.
 abbrev start : tie.After-judge-row → tie.Start
-start j = j .before .before .before .before .before .before .before .before .before
+start j = j .before .before .before .before .before .before .before .before .before .before
 
 abbrev tape : tie.After-judge-row → Tape
 tape j = let a = start j .args in record { starts = a .starts .now; lengths = a .lengths .now; aggregates = a .aggregates .now }
@@ -29,7 +29,7 @@ judged f = f .before
 
 -- The row has passed.
 sound : (e : tie.Else1) → SoundRow (start (judged (e .before)) .args .row)
-sound e = let j = judged (e .before) in record { len = start j .args .len; accepts = test-says (j .judge-row .ensures) (e .before .refused .ensures) (e .if1 .left) }
+sound e = let j = judged (e .before) in record { len = start j .args .len; lasts = start j .args .boarding .lasts; accepts = test-says (j .judge-row .ensures) (e .before .refused .ensures) (e .if1 .left) }
 
 abbrev gathered : tie.After-counts → tie.After-wants-of
 gathered c = c .before .before

@@ -29,6 +29,9 @@ mixed-requires-2 c κs = search needs
 mixed-requires-3 : tie.Need-mixed-requires-3 Inv-loop μ-loop
 mixed-requires-3 c κs = search needs
 
+mixed-requires-4 : tie.Need-mixed-requires-4 Inv-loop μ-loop
+mixed-requires-4 c κs = search needs
+
 add-i : tie.Need-add-i Inv-loop μ-loop
 add-i c = search needs
 
@@ -53,6 +56,7 @@ mixed-table-spec =
     mixed-requires
     mixed-requires-2
     mixed-requires-3
+    mixed-requires-4
     add-i
     loop-less
     loop-again

@@ -101,7 +101,7 @@ abbrev b7 : Body
 b7 = cond (copy (place 7 [])) b5 b6
 
 abbrev b8 : Body
-b8 = assign (place 8 []) (op2 (mul unsigned) (copy (place 5 [])) (int w64 24))
+b8 = assign (place 8 []) (op2 (mul unsigned) (copy (place 5 [])) (int w64 32))
 
 abbrev b9 : Body
 b9 = assign (place 9 []) (addrOf (place 3 []))
@@ -113,7 +113,7 @@ abbrev b11 : Body
 b11 = assign (place 11 []) (rvOpd (copy (place 10 (deref L.mir ∷ []))))
 
 abbrev b12 : Body
-b12 = assign (place 12 []) (op2 (mul unsigned) (copy (place 5 [])) (int w64 24))
+b12 = assign (place 12 []) (op2 (mul unsigned) (copy (place 5 [])) (int w64 32))
 
 abbrev b13 : Body
 b13 = assign (place 13 []) (op2 offset (copy (place 1 (field 0 ∷ []))) (copy (place 12 [])))
@@ -405,7 +405,7 @@ module _ (claims· : Claims) where
   s9 = λ bs. n-room T12 7 tyBool
 
   abbrev s10 : (bs : List.List ℕ) → Asks T10 T14
-  s10 = λ bs. k-op2 T10 (mul unsigned) (oAt 5 (tyInt w64) (valS (sInt w64))) (oInt w64 24) 8 (sc-here (sInt w64)) (sInt w64 .of)
+  s10 = λ bs. k-op2 T10 (mul unsigned) (oAt 5 (tyInt w64) (valS (sInt w64))) (oInt w64 32) 8 (sc-here (sInt w64)) (sInt w64 .of)
 
   abbrev s11 : (bs : List.List ℕ) → Mo T14 → Mo T15
   s11 = λ bs. n-addr T14 (hd 0 (tl (tl (tl bs)))) 9
@@ -417,7 +417,7 @@ module _ (claims· : Claims) where
   s13 = λ bs. n-room T16 9 tyPtr
 
   abbrev s14 : (bs : List.List ℕ) → Both T17 T18
-  s14 = λ bs. k-arr-copy-out the-row T17 (hd 0 (tl (tl (tl bs)))) 3 10 11 32 0 (whole the-row) (scaled the-row .off) (λ u. u .1 .1 .1 .1 .1 .0) (λ x. x) (struct .make (0, (0, (0, tt))) tt) (λ x. Unit) (λ x. x) λ x. x
+  s14 = λ bs. k-arr-copy-out the-row T17 (hd 0 (tl (tl (tl bs)))) 3 10 11 32 0 (whole the-row) (scaled the-row .off) (λ u. u .1 .1 .1 .1 .1 .0) (λ x. x) (struct .make (0, (0, (0, (0, tt)))) tt) (λ x. Unit) (λ x. x) λ x. x
 
   abbrev s15 : (bs : List.List ℕ) → Mo T18 → Mo T19
   s15 = λ bs. n-room T18 8 (tyInt w64)
@@ -426,13 +426,13 @@ module _ (claims· : Claims) where
   s16 = λ bs. n-room T19 10 tyPtr
 
   abbrev s17 : (bs : List.List ℕ) → Asks T20 T21
-  s17 = λ bs. k-op2 T20 (mul unsigned) (oAt 5 (tyInt w64) (valS (sInt w64))) (oInt w64 24) 12 (sc-here (sInt w64)) (sInt w64 .of)
+  s17 = λ bs. k-op2 T20 (mul unsigned) (oAt 5 (tyInt w64) (valS (sInt w64))) (oInt w64 32) 12 (sc-here (sInt w64)) (sInt w64 .of)
 
   abbrev s18 : (bs : List.List ℕ) → Asks T21 T22
   s18 = λ bs. k-op2 T21 offset (oFld 1 (field 0 ∷ []) (tyRef (named 0) mut (pointee (the-row .written))) 0 ptrVal) (oAt 12 (tyInt w64) (valS (sInt w64))) 13 (sc-here sPtr) (sPtr .of)
 
   abbrev s19 : (bs : List.List ℕ) → Asks T22 T23
-  s19 = λ bs. k-sl-set-from the-row T22 1 13 11 0 (tyRef (named 0) mut (pointee (the-row .written))) off (whole the-row) (bySize 24) (λ u. u .1 .1 .1 .1 .1 .0) (λ x. x) (λ x. x) (λ x. x) λ x. x
+  s19 = λ bs. k-sl-set-from the-row T22 1 13 11 0 (tyRef (named 0) mut (pointee (the-row .written))) off (whole the-row) (bySize 32) (λ u. u .1 .1 .1 .1 .1 .0) (λ x. x) (λ x. x) (λ x. x) λ x. x
 
   abbrev s20 : (bs : List.List ℕ) → Mo T23 → Mo T24
   s20 = λ bs. n-room T23 11 L.mir
@@ -720,13 +720,13 @@ module _ (claims· : Claims) where
           d9 = g-pre 𝓤 H A W 𝓣 E G23 G24 b15 Δ3 (pass T23 T24 (s20 bs)) (at8 bs) (g-room 𝓤 H A W E G23 11 L.mir (room-whole 𝓤 H A W the-row L.mir refl)) d8
 
           d10 : Typed.Typed 𝓤 H A 𝓣 E G22 b16 Δ3 (at10 bs)
-          d10 = s-seq 𝓤 H A W 𝓣 E G22 G23 b14 b15 Δ3 (ask (s19 bs)) (at9 bs) (t-sl-set-from 𝓤 H A W E the-row 𝓣 refl (λ ρ. Unit) G22 1 13 11 0 (tyRef (named 0) mut (pointee (the-row .written))) (lease (κs .0) (qs .0)) L.mir L.mir (whole the-row) (bySize 24) (λ u. u .1 .1 .1 .1 .1 .0) (λ x. x) (λ x. x) (λ x. x) (λ x. x) (λ i o. at-mul o 24 i) refl refl (told-none 𝓤 H A (G22 .slots)) (as-is 𝓤 H A (mslice the-row (tyRef (named 0) mut (pointee (the-row .written))) 0)) (as-is 𝓤 H A (sc-here sPtr)) (yields-copy 𝓤 H A W (λ ρ. Unit) the-row refl (cStruct the-type the-laws the-copy .copy 𝓤 H A W) (whole the-row) (λ x. x) (λ x. x) (λ ρ told. mem-whole 𝓤 H A W the-row ρ) λ ρ told. whole-mem 𝓤 H A W the-row ρ) refl tt refl refl) d9
+          d10 = s-seq 𝓤 H A W 𝓣 E G22 G23 b14 b15 Δ3 (ask (s19 bs)) (at9 bs) (t-sl-set-from 𝓤 H A W E the-row 𝓣 refl (λ ρ. Unit) G22 1 13 11 0 (tyRef (named 0) mut (pointee (the-row .written))) (lease (κs .0) (qs .0)) L.mir L.mir (whole the-row) (bySize 32) (λ u. u .1 .1 .1 .1 .1 .0) (λ x. x) (λ x. x) (λ x. x) (λ x. x) (λ i o. at-mul o 32 i) refl refl (told-none 𝓤 H A (G22 .slots)) (as-is 𝓤 H A (mslice the-row (tyRef (named 0) mut (pointee (the-row .written))) 0)) (as-is 𝓤 H A (sc-here sPtr)) (yields-copy 𝓤 H A W (λ ρ. Unit) the-row refl (cStruct the-type the-laws the-copy .copy 𝓤 H A W) (whole the-row) (λ x. x) (λ x. x) (λ ρ told. mem-whole 𝓤 H A W the-row ρ) λ ρ told. whole-mem 𝓤 H A W the-row ρ) refl tt refl refl) d9
 
           d11 : Typed.Typed 𝓤 H A 𝓣 E G21 b17 Δ3 (at11 bs)
           d11 = s-seq 𝓤 H A W 𝓣 E G21 G22 b13 b16 Δ3 (ask (s18 bs)) (at10 bs) (t-op2 𝓤 H A W E 𝓣 G21 offset (oFld 1 (field 0 ∷ []) (tyRef (named 0) mut (pointee (the-row .written))) 0 ptrVal) (oAt 12 (tyInt w64) (valS (sInt w64))) 13 (sc-here sPtr) tyPtr (valS sPtr) (sPtr .of) (reads-mslice-ptr 𝓤 H A W the-row (tyRef (named 0) mut (pointee (the-row .written))) 0 0 refl, refl) (reads-sc 𝓤 H A W (sInt w64), refl) (room-gone 𝓤 H A tyPtr) (holds-sc 𝓤 H A W sPtr) refl (λ u. refl) λ u. tt) d10
 
           d12 : Typed.Typed 𝓤 H A 𝓣 E G20 b18 Δ3 (at12 bs)
-          d12 = s-seq 𝓤 H A W 𝓣 E G20 G21 b12 b17 Δ3 (ask (s17 bs)) (at11 bs) (t-op2 𝓤 H A W E 𝓣 G20 (mul unsigned) (oAt 5 (tyInt w64) (valS (sInt w64))) (oInt w64 24) 12 (sc-here (sInt w64)) (tyInt w64) (valS (sInt w64)) (sInt w64 .of) (reads-sc 𝓤 H A W (sInt w64), refl) tt (room-gone 𝓤 H A (tyInt w64)) (holds-sc 𝓤 H A W (sInt w64)) refl (λ u. refl) λ u. tt) d11
+          d12 = s-seq 𝓤 H A W 𝓣 E G20 G21 b12 b17 Δ3 (ask (s17 bs)) (at11 bs) (t-op2 𝓤 H A W E 𝓣 G20 (mul unsigned) (oAt 5 (tyInt w64) (valS (sInt w64))) (oInt w64 32) 12 (sc-here (sInt w64)) (tyInt w64) (valS (sInt w64)) (sInt w64 .of) (reads-sc 𝓤 H A W (sInt w64), refl) tt (room-gone 𝓤 H A (tyInt w64)) (holds-sc 𝓤 H A W (sInt w64)) refl (λ u. refl) λ u. tt) d11
 
           d13 : Typed.Typed 𝓤 H A 𝓣 E G19 b18 Δ3 (at13 bs)
           d13 = g-pre 𝓤 H A W 𝓣 E G19 G20 b18 Δ3 (pass T19 T20 (s16 bs)) (at12 bs) (g-room 𝓤 H A W E G19 10 tyPtr (room-sc 𝓤 H A W sPtr)) d12
@@ -735,7 +735,7 @@ module _ (claims· : Claims) where
           d14 = g-pre 𝓤 H A W 𝓣 E G18 G19 b18 Δ3 (pass T18 T19 (s15 bs)) (at13 bs) (g-room 𝓤 H A W E G18 8 (tyInt w64) (room-sc 𝓤 H A W (sInt w64))) d13
 
           d15 : Typed.Typed 𝓤 H A 𝓣 E G17 b19 Δ3 (at15 bs)
-          d15 = s-seq 𝓤 H A W 𝓣 E G17 G18 b11 b18 Δ3 (both (s14 bs)) (at14 bs) (t-arr-copy-out 𝓤 H A W E 𝓣 the-row refl (cStruct the-type the-laws the-copy .copy 𝓤 H A W) (scaled the-row) (λ ρ. Unit) G17 3 10 11 32 0 L.mir L.mir (whole the-row) (λ x. x) (struct .make (0, (0, (0, tt))) tt) (λ x. Unit) (λ x. x) (λ x. x) (λ u. u .1 .1 .1 .1 .1 .0) refl refl (told-none 𝓤 H A (G17 .slots)) (learns-nothing 𝓤 H A the-row) (as-is 𝓤 H A (arrF the-row 32 0)) (as-is 𝓤 H A (sc-here sPtr)) (room-gone 𝓤 H A L.mir) (makes-mem 𝓤 H A W (λ ρ. Unit) the-row refl (whole the-row) (λ x. x) λ ρ told. whole-mem 𝓤 H A W the-row ρ) refl refl) d14
+          d15 = s-seq 𝓤 H A W 𝓣 E G17 G18 b11 b18 Δ3 (both (s14 bs)) (at14 bs) (t-arr-copy-out 𝓤 H A W E 𝓣 the-row refl (cStruct the-type the-laws the-copy .copy 𝓤 H A W) (scaled the-row) (λ ρ. Unit) G17 3 10 11 32 0 L.mir L.mir (whole the-row) (λ x. x) (struct .make (0, (0, (0, (0, tt)))) tt) (λ x. Unit) (λ x. x) (λ x. x) (λ u. u .1 .1 .1 .1 .1 .0) refl refl (told-none 𝓤 H A (G17 .slots)) (learns-nothing 𝓤 H A the-row) (as-is 𝓤 H A (arrF the-row 32 0)) (as-is 𝓤 H A (sc-here sPtr)) (room-gone 𝓤 H A L.mir) (makes-mem 𝓤 H A W (λ ρ. Unit) the-row refl (whole the-row) (λ x. x) λ ρ told. whole-mem 𝓤 H A W the-row ρ) refl refl) d14
 
           d16 : Typed.Typed 𝓤 H A 𝓣 E G16 b19 Δ3 (at16 bs)
           d16 = g-pre 𝓤 H A W 𝓣 E G16 G17 b19 Δ3 (pass T16 T17 (s13 bs)) (at15 bs) (g-room 𝓤 H A W E G16 9 tyPtr (room-sc 𝓤 H A W sPtr)) d15
@@ -747,7 +747,7 @@ module _ (claims· : Claims) where
           d18 = s-seq 𝓤 H A W 𝓣 E G14 G15 b9 b20 Δ3 (pass T14 T15 (s11 bs)) (at17 bs) (t-addr 𝓤 H A W E 𝓣 G14 9 3 (room-gone 𝓤 H A tyPtr) refl) d17
 
           d19 : Typed.Typed 𝓤 H A 𝓣 E G10 b22 Δ3 (at19 bs)
-          d19 = s-seq 𝓤 H A W 𝓣 E G10 G14 b8 b21 Δ3 (ask (s10 bs)) (at18 bs) (t-op2 𝓤 H A W E 𝓣 G10 (mul unsigned) (oAt 5 (tyInt w64) (valS (sInt w64))) (oInt w64 24) 8 (sc-here (sInt w64)) (tyInt w64) (valS (sInt w64)) (sInt w64 .of) (reads-sc 𝓤 H A W (sInt w64), refl) tt (room-gone 𝓤 H A (tyInt w64)) (holds-sc 𝓤 H A W (sInt w64)) refl (λ u. refl) λ u. tt) d18
+          d19 = s-seq 𝓤 H A W 𝓣 E G10 G14 b8 b21 Δ3 (ask (s10 bs)) (at18 bs) (t-op2 𝓤 H A W E 𝓣 G10 (mul unsigned) (oAt 5 (tyInt w64) (valS (sInt w64))) (oInt w64 32) 8 (sc-here (sInt w64)) (tyInt w64) (valS (sInt w64)) (sInt w64 .of) (reads-sc 𝓤 H A W (sInt w64), refl) tt (room-gone 𝓤 H A (tyInt w64)) (holds-sc 𝓤 H A W (sInt w64)) refl (λ u. refl) λ u. tt) d18
 
           d20 : Typed.Typed 𝓤 H A 𝓣 E G9 b23 Δ3 (at20 bs)
           d20 = t-seq 𝓤 H A W 𝓣 E G9 G10 b7 b22 Δ3 (at5 bs) (at19 bs) d5 d19

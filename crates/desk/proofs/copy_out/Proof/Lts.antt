@@ -108,7 +108,7 @@ abbrev b8 : Body
 b8 = cond (copy (place 7 [])) b6 b7
 
 abbrev b9 : Body
-b9 = assign (place 8 []) (op2 (mul unsigned) (copy (place 4 [])) (int w64 24))
+b9 = assign (place 8 []) (op2 (mul unsigned) (copy (place 4 [])) (int w64 32))
 
 abbrev b10 : Body
 b10 = assign (place 9 []) (op2 offset (copy (place 1 (field 0 ∷ []))) (copy (place 8 [])))
@@ -117,7 +117,7 @@ abbrev b11 : Body
 b11 = assign (place 10 []) (rvOpd (copy (place 9 (deref L.mir ∷ []))))
 
 abbrev b12 : Body
-b12 = assign (place 11 []) (op2 (mul unsigned) (copy (place 4 [])) (int w64 24))
+b12 = assign (place 11 []) (op2 (mul unsigned) (copy (place 4 [])) (int w64 32))
 
 abbrev b13 : Body
 b13 = assign (place 12 []) (addrOf (place 2 []))
@@ -418,13 +418,13 @@ module _ (claims· : Claims) where
   s9 = λ bs. n-room T10 7 tyBool
 
   abbrev s10 : (bs : List.List ℕ) → Asks T11 T14
-  s10 = λ bs. k-op2 T11 (mul unsigned) (oAt 4 (tyInt w64) (valS (sInt w64))) (oInt w64 24) 8 (sc-here (sInt w64)) (sInt w64 .of)
+  s10 = λ bs. k-op2 T11 (mul unsigned) (oAt 4 (tyInt w64) (valS (sInt w64))) (oInt w64 32) 8 (sc-here (sInt w64)) (sInt w64 .of)
 
   abbrev s11 : (bs : List.List ℕ) → Asks T14 T15
   s11 = λ bs. k-op2 T14 offset (oFld 1 (field 0 ∷ []) (tyRef (named 0) imm (pointee (the-row .written))) 0 ptrVal) (oAt 8 (tyInt w64) (valS (sInt w64))) 9 (sc-here sPtr) (sPtr .of)
 
   abbrev s12 : (bs : List.List ℕ) → Both T15 T16
-  s12 = λ bs. k-shs-copy-out the-row T15 1 9 10 0 (tyRef (named 0) imm (pointee (the-row .written))) off (whole the-row) (bySize 24) (λ u. u .1 .1 .1 .1 .0) (λ x. x) (struct .make (0, (0, (0, tt))) tt) (λ x. Unit) (λ x. x) λ x. x
+  s12 = λ bs. k-shs-copy-out the-row T15 1 9 10 0 (tyRef (named 0) imm (pointee (the-row .written))) off (whole the-row) (bySize 32) (λ u. u .1 .1 .1 .1 .0) (λ x. x) (struct .make (0, (0, (0, (0, tt)))) tt) (λ x. Unit) (λ x. x) λ x. x
 
   abbrev s13 : (bs : List.List ℕ) → Mo T16 → Mo T17
   s13 = λ bs. n-room T16 8 (tyInt w64)
@@ -433,7 +433,7 @@ module _ (claims· : Claims) where
   s14 = λ bs. n-room T17 9 tyPtr
 
   abbrev s15 : (bs : List.List ℕ) → Asks T18 T19
-  s15 = λ bs. k-op2 T18 (mul unsigned) (oAt 4 (tyInt w64) (valS (sInt w64))) (oInt w64 24) 11 (sc-here (sInt w64)) (sInt w64 .of)
+  s15 = λ bs. k-op2 T18 (mul unsigned) (oAt 4 (tyInt w64) (valS (sInt w64))) (oInt w64 32) 11 (sc-here (sInt w64)) (sInt w64 .of)
 
   abbrev s16 : (bs : List.List ℕ) → Mo T19 → Mo T20
   s16 = λ bs. n-addr T19 (hd 0 (tl (tl bs))) 12
@@ -751,7 +751,7 @@ module _ (claims· : Claims) where
           d12 = s-seq 𝓤 H A W 𝓣 E G19 G20 b13 b18 Δ3 (pass T19 T20 (s16 bs)) (at11 bs) (t-addr 𝓤 H A W E 𝓣 G19 12 2 (room-gone 𝓤 H A tyPtr) refl) d11
 
           d13 : Typed.Typed 𝓤 H A 𝓣 E G18 b20 Δ3 (at13 bs)
-          d13 = s-seq 𝓤 H A W 𝓣 E G18 G19 b12 b19 Δ3 (ask (s15 bs)) (at12 bs) (t-op2 𝓤 H A W E 𝓣 G18 (mul unsigned) (oAt 4 (tyInt w64) (valS (sInt w64))) (oInt w64 24) 11 (sc-here (sInt w64)) (tyInt w64) (valS (sInt w64)) (sInt w64 .of) (reads-sc 𝓤 H A W (sInt w64), refl) tt (room-gone 𝓤 H A (tyInt w64)) (holds-sc 𝓤 H A W (sInt w64)) refl (λ u. refl) λ u. tt) d12
+          d13 = s-seq 𝓤 H A W 𝓣 E G18 G19 b12 b19 Δ3 (ask (s15 bs)) (at12 bs) (t-op2 𝓤 H A W E 𝓣 G18 (mul unsigned) (oAt 4 (tyInt w64) (valS (sInt w64))) (oInt w64 32) 11 (sc-here (sInt w64)) (tyInt w64) (valS (sInt w64)) (sInt w64 .of) (reads-sc 𝓤 H A W (sInt w64), refl) tt (room-gone 𝓤 H A (tyInt w64)) (holds-sc 𝓤 H A W (sInt w64)) refl (λ u. refl) λ u. tt) d12
 
           d14 : Typed.Typed 𝓤 H A 𝓣 E G17 b20 Δ3 (at14 bs)
           d14 = g-pre 𝓤 H A W 𝓣 E G17 G18 b20 Δ3 (pass T17 T18 (s14 bs)) (at13 bs) (g-room 𝓤 H A W E G17 9 tyPtr (room-sc 𝓤 H A W sPtr)) d13
@@ -760,13 +760,13 @@ module _ (claims· : Claims) where
           d15 = g-pre 𝓤 H A W 𝓣 E G16 G17 b20 Δ3 (pass T16 T17 (s13 bs)) (at14 bs) (g-room 𝓤 H A W E G16 8 (tyInt w64) (room-sc 𝓤 H A W (sInt w64))) d14
 
           d16 : Typed.Typed 𝓤 H A 𝓣 E G15 b21 Δ3 (at16 bs)
-          d16 = s-seq 𝓤 H A W 𝓣 E G15 G16 b11 b20 Δ3 (both (s12 bs)) (at15 bs) (t-shs-copy-out 𝓤 H A W E the-row 𝓣 refl (cStruct the-type the-laws the-copy .copy 𝓤 H A W) (halved 𝓤 H A W (cStruct the-type the-laws the-copy)) (λ ρ. Unit) G15 1 9 10 0 (tyRef (named 0) imm (pointee (the-row .written))) (lease (κs .0) (qs .0)) L.mir L.mir (whole the-row) (bySize 24) (λ u. u .1 .1 .1 .1 .0) (λ x. x) (struct .make (0, (0, (0, tt))) tt) (λ x. Unit) (λ x. x) (λ x. x) (λ i o. at-mul o 24 i) refl refl (told-none 𝓤 H A (G15 .slots)) (learns-nothing 𝓤 H A the-row) (as-is 𝓤 H A (sslice the-row (tyRef (named 0) imm (pointee (the-row .written))) 0)) (as-is 𝓤 H A (sc-here sPtr)) (room-gone 𝓤 H A L.mir) (makes-mem 𝓤 H A W (λ ρ. Unit) the-row refl (whole the-row) (λ x. x) λ ρ told. whole-mem 𝓤 H A W the-row ρ) refl tt refl refl) d15
+          d16 = s-seq 𝓤 H A W 𝓣 E G15 G16 b11 b20 Δ3 (both (s12 bs)) (at15 bs) (t-shs-copy-out 𝓤 H A W E the-row 𝓣 refl (cStruct the-type the-laws the-copy .copy 𝓤 H A W) (halved 𝓤 H A W (cStruct the-type the-laws the-copy)) (λ ρ. Unit) G15 1 9 10 0 (tyRef (named 0) imm (pointee (the-row .written))) (lease (κs .0) (qs .0)) L.mir L.mir (whole the-row) (bySize 32) (λ u. u .1 .1 .1 .1 .0) (λ x. x) (struct .make (0, (0, (0, (0, tt)))) tt) (λ x. Unit) (λ x. x) (λ x. x) (λ i o. at-mul o 32 i) refl refl (told-none 𝓤 H A (G15 .slots)) (learns-nothing 𝓤 H A the-row) (as-is 𝓤 H A (sslice the-row (tyRef (named 0) imm (pointee (the-row .written))) 0)) (as-is 𝓤 H A (sc-here sPtr)) (room-gone 𝓤 H A L.mir) (makes-mem 𝓤 H A W (λ ρ. Unit) the-row refl (whole the-row) (λ x. x) λ ρ told. whole-mem 𝓤 H A W the-row ρ) refl tt refl refl) d15
 
           d17 : Typed.Typed 𝓤 H A 𝓣 E G14 b22 Δ3 (at17 bs)
           d17 = s-seq 𝓤 H A W 𝓣 E G14 G15 b10 b21 Δ3 (ask (s11 bs)) (at16 bs) (t-op2 𝓤 H A W E 𝓣 G14 offset (oFld 1 (field 0 ∷ []) (tyRef (named 0) imm (pointee (the-row .written))) 0 ptrVal) (oAt 8 (tyInt w64) (valS (sInt w64))) 9 (sc-here sPtr) tyPtr (valS sPtr) (sPtr .of) (reads-sslice-ptr 𝓤 H A W the-row (tyRef (named 0) imm (pointee (the-row .written))) 0 0 refl, refl) (reads-sc 𝓤 H A W (sInt w64), refl) (room-gone 𝓤 H A tyPtr) (holds-sc 𝓤 H A W sPtr) refl (λ u. refl) λ u. tt) d16
 
           d18 : Typed.Typed 𝓤 H A 𝓣 E G11 b23 Δ3 (at18 bs)
-          d18 = s-seq 𝓤 H A W 𝓣 E G11 G14 b9 b22 Δ3 (ask (s10 bs)) (at17 bs) (t-op2 𝓤 H A W E 𝓣 G11 (mul unsigned) (oAt 4 (tyInt w64) (valS (sInt w64))) (oInt w64 24) 8 (sc-here (sInt w64)) (tyInt w64) (valS (sInt w64)) (sInt w64 .of) (reads-sc 𝓤 H A W (sInt w64), refl) tt (room-gone 𝓤 H A (tyInt w64)) (holds-sc 𝓤 H A W (sInt w64)) refl (λ u. refl) λ u. tt) d17
+          d18 = s-seq 𝓤 H A W 𝓣 E G11 G14 b9 b22 Δ3 (ask (s10 bs)) (at17 bs) (t-op2 𝓤 H A W E 𝓣 G11 (mul unsigned) (oAt 4 (tyInt w64) (valS (sInt w64))) (oInt w64 32) 8 (sc-here (sInt w64)) (tyInt w64) (valS (sInt w64)) (sInt w64 .of) (reads-sc 𝓤 H A W (sInt w64), refl) tt (room-gone 𝓤 H A (tyInt w64)) (holds-sc 𝓤 H A W (sInt w64)) refl (λ u. refl) λ u. tt) d17
 
           d19 : Typed.Typed 𝓤 H A 𝓣 E G10 b24 Δ3 (at19 bs)
           d19 = t-seq 𝓤 H A W 𝓣 E G10 G11 b8 b23 Δ3 (at4 bs) (at18 bs) d4 d18
