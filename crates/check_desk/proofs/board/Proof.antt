@@ -1,0 +1,96 @@
+-- `check_desk::board` is safe and ends.
+-- Assumes nothing.
+use mathlib.Core.Path.{sym}
+use lib.Seq.{length-take-le}
+use borrow.Author.Needs.{needs}
+use Rattle.check_desk.proofs.board.Statement.{statement}
+use Rattle.check_desk.proofs.board.Tie as tie
+
+slice-aggregate-boarded : tie.Need-slice-aggregate-boarded
+slice-aggregate-boarded c = search needs
+
+slice-aggregate-boarded-2 : tie.Need-slice-aggregate-boarded-2
+slice-aggregate-boarded-2 c = search needs
+
+slice-aggregate-boarded-3 : tie.Need-slice-aggregate-boarded-3
+slice-aggregate-boarded-3 c = search needs
+
+array-borrow-prefix-legs : tie.Need-array-borrow-prefix-legs
+array-borrow-prefix-legs c = search needs
+
+slice-aggregate-boarded-4 : tie.Need-slice-aggregate-boarded-4
+slice-aggregate-boarded-4 c = sym (length-take-le _ _ (array-borrow-prefix-legs (c .before)))
+
+array-borrow-prefix-room : tie.Need-array-borrow-prefix-room
+array-borrow-prefix-room c = search needs
+
+slice-aggregate-boarded-5 : tie.Need-slice-aggregate-boarded-5
+slice-aggregate-boarded-5 c = sym (length-take-le _ _ (array-borrow-prefix-room (c .before)))
+
+boarded-requires : tie.Need-boarded-requires
+boarded-requires c κs = search needs
+
+mixed-boarding-requires : tie.Need-mixed-boarding-requires
+mixed-boarding-requires c κs = search needs
+
+mixed-row-requires : tie.Need-mixed-row-requires
+mixed-row-requires c κs = search needs
+
+mixed-row-requires-2 : tie.Need-mixed-row-requires-2
+mixed-row-requires-2 c κs = search needs
+
+mixed-row-requires-3 : tie.Need-mixed-row-requires-3
+mixed-row-requires-3 c κs = search needs
+
+mixed-row-requires-4 : tie.Need-mixed-row-requires-4
+mixed-row-requires-4 c κs = search needs
+
+array-read-mixed : tie.Need-array-read-mixed
+array-read-mixed c = search needs
+
+mixed-requires : tie.Need-mixed-requires
+mixed-requires c κs = search needs
+
+array-read-mixed-2 : tie.Need-array-read-mixed-2
+array-read-mixed-2 c = search needs
+
+mixed-requires-2 : tie.Need-mixed-requires-2
+mixed-requires-2 c κs = search needs
+
+array-read-mixed-3 : tie.Need-array-read-mixed-3
+array-read-mixed-3 c = search needs
+
+mixed-requires-3 : tie.Need-mixed-requires-3
+mixed-requires-3 c κs = search needs
+
+mixed-table-requires : tie.Need-mixed-table-requires
+mixed-table-requires c κs = search needs
+
+returns : tie.Need-returns
+returns c = search needs
+
+pub board-spec : {M : Type 1} → statement M
+board-spec =
+    tie.close
+    (tie.spec
+    slice-aggregate-boarded
+    slice-aggregate-boarded-2
+    slice-aggregate-boarded-3
+    array-borrow-prefix-legs
+    slice-aggregate-boarded-4
+    array-borrow-prefix-room
+    slice-aggregate-boarded-5
+    boarded-requires
+    mixed-boarding-requires
+    mixed-row-requires
+    mixed-row-requires-2
+    mixed-row-requires-3
+    mixed-row-requires-4
+    array-read-mixed
+    mixed-requires
+    array-read-mixed-2
+    mixed-requires-2
+    array-read-mixed-3
+    mixed-requires-3
+    mixed-table-requires
+    returns)

@@ -1,0 +1,5 @@
+-- Laws that this crate's proofs share, and the part of the derived walks that a caller cites.
+pub mod Places
+pub mod Copying
+pub mod Thin
+pub mod Walks

@@ -1,0 +1,68 @@
+-- What the thin functions promise, from the promises of what they call: the table out of the row, the work by value, the table back into the row.
+use Prim.Native.Nat.{ℕ}
+use mathlib.Core.Path.{_≡_, refl, sym, ap, subst, subst⁻¹, _∙_}
+use mathlib.Core.Logic.{⊎-elim}
+use mathlib.Core.Bool.{Bool, true, false, cond}
+use mathlib.Core.List.{List}
+use lib.ListN.{length}
+use Rattle.refusals.specs.Refusals.{isRefusal}
+use Rattle.runs.proofs.Search.{true-or-false}
+use Rattle.walk.specs.declared.Answer.{Answer}
+use Rattle.walk.specs.Price.{refusalAnswer}
+use Rattle.planner.specs.Plan.{Rows}
+use Rattle.tickets.specs.declared.Ticket.{Ticket}
+use Rattle.tickets.specs.declared.Filing.{Filing}
+use Rattle.tickets.specs.declared.FiledRow.{FiledRow}
+use Rattle.tickets.specs.Table.{rowVerdict}
+use Rattle.tickets.specs.Filings.{fileRow}
+use Rattle.boardings.specs.declared.Boarding.{Boarding}
+use Rattle.boardings.specs.declared.Boarded.{Boarded}
+use Rattle.boardings.specs.declared.BoardedRow.{BoardedRow}
+use Rattle.boardings.specs.Boarders.{rowStaying, wantsOf}
+use Rattle.boardings.specs.Boardings.{Tape, Boards, boardedBy, notBoarded, takenOf, wantRows}
+use Rattle.desk.specs.Desk.{tableIn, withTable, boardedRow}
+
+pub filed-so : (ts after table : List Ticket) (filing : Filing) (done : FiledRow)
+    → table ≡ tableIn ts
+    → done ≡ fileRow (length ts) table filing
+    → after ≡ withTable (done .row) ts
+    → (done .filed ≡ fileRow (length ts) (tableIn ts) filing .filed) × (after ≡ withTable (fileRow (length ts) (tableIn ts) filing .row) ts)
+filed-so ts after table filing done out worked back =
+    let so : done ≡ fileRow (length ts) (tableIn ts) filing = worked ∙ ap (λ (t : List Ticket). fileRow (length ts) t filing) out in
+    (ap (λ (d : FiledRow). d .filed) so, back ∙ ap (λ (d : FiledRow). withTable (d .row) ts) so)
+
+abbrev toldBy : Boarded → List Ticket → BoardedRow
+toldBy b row = record { boarded = b; row = row }
+
+abbrev left : List Ticket → Answer → BoardedRow
+left table a = record { boarded = record { answer = a; taken = takenOf table; wants = wantRows (wantsOf table) }; row = rowStaying table }
+
+-- Where the answer refuses, the table stays.
+refused-table : (table : List Ticket) (a : Answer) (flag : Bool) → flag ≡ isRefusal (a .refusal) → flag ≡ true → table ≡ boardedBy table a .row
+refused-table table a flag is h = subst (λ (x : Bool). table ≡ cond x (notBoarded table a) (left table a) .row) (sym h ∙ is) refl
+
+module _ (len : ℕ) (tape : Tape) (table : List Ticket) (b : Boarding) (before : Rows) (done : BoardedRow) (after : Rows) where
+  -- A boarding's table is told by its answer, also where the row of records is refused.
+  table-by-answer : Boards len tape table b before done after → done .row ≡ boardedBy table (done .boarded .answer) .row
+  table-by-answer boards =
+      ⊎-elim
+      (λ (h : isRefusal (rowVerdict len table .refusal) ≡ true).
+      subst⁻¹ (λ (d : BoardedRow). d .row ≡ boardedBy table (d .boarded .answer) .row)
+      (boards .refused h .says)
+      (refused-table table (refusalAnswer (rowVerdict len table)) (isRefusal (rowVerdict len table .refusal)) refl h))
+      (λ (h : isRefusal (rowVerdict len table .refusal) ≡ false). ap (λ (d : BoardedRow). d .row) (boards .planned h .says))
+      (true-or-false (isRefusal (rowVerdict len table .refusal)))
+
+  pub boards-by-answer : Boards len tape table b before done after → done ≡ boardedRow table (done .boarded)
+  boards-by-answer boards = ap (λ (row : List Ticket). toldBy (done .boarded) row) (table-by-answer boards)
+
+pub boarded-so : (ts exit table : List Ticket) (tape : Tape) (b : Boarding) (before after : Rows) (done : BoardedRow)
+    → table ≡ tableIn ts
+    → Boards (length ts) tape table b before done after
+    → exit ≡ withTable (done .row) ts
+    → Boards (length ts) tape (tableIn ts) b before (boardedRow (tableIn ts) (done .boarded)) after
+    × (exit ≡ withTable (boardedRow (tableIn ts) (done .boarded) .row) ts)
+boarded-so ts exit table tape b before after done out boards back =
+    let here : Boards (length ts) tape (tableIn ts) b before done after = rw out at boards in
+    let same : done ≡ boardedRow (tableIn ts) (done .boarded) = boards-by-answer (length ts) tape (tableIn ts) b before done after here in
+    (subst (λ (d : BoardedRow). Boards (length ts) tape (tableIn ts) b before d after) same here, back ∙ ap (λ (d : BoardedRow). withTable (d .row) ts) same)

@@ -1,0 +1,9 @@
+-- Derived by tools/derive.py: what the walks of the functions over the lent row say of their parameters and clauses.
+pub mod CopyOutKinds
+pub mod CopyOutReads
+pub mod CopyInKinds
+pub mod CopyInReads
+pub mod FileKinds
+pub mod FileReads
+pub mod BoardKinds
+pub mod BoardReads
