@@ -102,7 +102,13 @@ fn not_boarded(row: [Ticket; 32], lasts: Lasts, answer: Answer) -> BoardedRow
 }
 
 // The answer by the plan's.
-fn boarded_by(row: [Ticket; 32], lasts: Lasts, taken: Taken, wants: Wants, answer: Answer) -> BoardedRow
+fn boarded_by(
+    row: [Ticket; 32],
+    lasts: Lasts,
+    taken: Taken,
+    wants: Wants,
+    answer: Answer,
+) -> BoardedRow
     requires { ⌜ SoundRow row ⌝ }
     requires { ⌜ taken ≡ takenOf row ⌝ }
     requires { ⌜ wants ≡ wantRows (wantsOf row) ⌝ }
