@@ -8,6 +8,7 @@ use Rattle.refusals.specs.declared.Verdict.{Verdict}
 use Rattle.refusals.proofs.Verdicts.{refuses}
 use Rattle.writers.specs.declared.Written.{Written}
 use Rattle.writers.specs.RefusalLines.{refusalText}
+use Rattle.tickets.specs.declared.Ticket.{Ticket}
 use Rattle.tickets.specs.declared.Filing.{Filing}
 use Rattle.tickets.specs.declared.FiledRow.{FiledRow}
 use Rattle.tickets.specs.declared.Withdrawal.{Withdrawal}
@@ -44,10 +45,11 @@ module _ (day : Day) (out : List ℕ) (w : Written) (out′ : List ℕ) where
   pub withdrawal-said : (withdrawal : Withdrawal) (f : WithdrawnRow) → f ≡ withdrawRow allPlaces (day .row) withdrawal → TextHanded (withdrawnText withdrawal f) out w out′ → WithdrawalAnswered day withdrawal out (answered (withdrawnDay f) w) out′
   withdrawal-said withdrawal f e h = subst (λ x. Says (withdrawnDay x) (withdrawnText withdrawal x) out (answered (withdrawnDay f) w) out′) e (record { day = refl; described = refl; handed = h })
 
-  pub boarding-said : (tape : Tape) (b : Boarding) (room : List ℕ) (done : BoardedRow) (rows : Rows) → Boards allPlaces tape (day .row) b (rowsLent room) done rows
-      → TextHanded (boardingText day done rows) out w out′ → BoardingAnswered tape day b room out (answered (boardedDay done) w) (rows .room) out′
-  boarding-said tape b room done rows boards h =
-      record { done = done; rows = rows; boards = boards; left = refl; says = record { day = refl; described = refl; handed = h } }
+pub boarding-said : (row : List Ticket) (out : List ℕ) (w : Written) (out′ : List ℕ) (tape : Tape) (b : Boarding) (room : List ℕ) (done : BoardedRow) (rows : Rows)
+    → Boards allPlaces tape row b (rowsLent room) done rows
+    → TextHanded (boardingText row done rows) out w out′ → BoardingAnswered tape row b room out (answered (boardedDay done) w) (rows .room) out′
+boarding-said row out w out′ tape b room done rows boards h =
+    record { done = done; rows = rows; boards = boards; left = refl; says = record { day = refl; described = refl; handed = h } }
 
 -- The answer to the event that was read.
 module _ (tape : Tape) (day : Day) (room out line : List ℕ) (event : Event) (is : event ≡ eventOf line) (r : Answered) (out′ : List ℕ) where
@@ -64,7 +66,7 @@ module _ (tape : Tape) (day : Day) (room out line : List ℕ) (event : Event) (i
   withdraw-answered office number e h = answers (Event.Withdraw office number) e room (h, refl)
 
   pub board-answered : (head turn : ℕ) → event ≡ Event.Board head turn → (room′ : List ℕ)
-      → BoardingAnswered tape day (record { head = head; turn = turn; lasts = day .lasts }) room out r room′ out′ → EventAnswered tape day room out (eventOf line) r room′ out′
+      → BoardingAnswered tape (day .row) (record { head = head; turn = turn; lasts = day .lasts }) room out r room′ out′ → EventAnswered tape day room out (eventOf line) r room′ out′
   board-answered head turn e room′ h = answers (Event.Board head turn) e room′ h
 
 pub not-answered : (tape : Tape) (day : Day) (room out line : List ℕ) (event : Event) → event ≡ eventOf line → event ≡ Event.Bad → (r : Answered) → r ≡ unanswered day

@@ -10,6 +10,7 @@ use Rattle.prints.specs.Printing.{pairLine}
 use Rattle.writers.specs.declared.Written.{Written}
 use Rattle.writers.specs.Writing.{rowVerdict, Handed}
 use Rattle.planner.specs.Plan.{Rows, rowsOf}
+use Rattle.tickets.specs.declared.Ticket.{Ticket}
 use Rattle.tickets.specs.declared.Filing.{Filing}
 use Rattle.tickets.specs.declared.FiledRow.{FiledRow}
 use Rattle.tickets.specs.declared.Withdrawal.{Withdrawal}
@@ -74,16 +75,16 @@ rowsLent room = rowsOf (zeros 8) (zeros 8) (zeros 8) (zeros 8) room
 abbrev pub readsIn : BoardedRow → Rows → Reads
 readsIn b rows = record { numbers = b .boarded .wants .numbers; times = rows .times; legs = rows .legs }
 
-abbrev pub boardingText : Day → BoardedRow → Rows → List ℕ
-boardingText day b rows =
-    saysText (verdictIn (b .boarded .answer)) (boardedText (day .row) (b .boarded) (rows .froms) (rows .tos) (readsIn b rows))
+abbrev pub boardingText : List Ticket → BoardedRow → Rows → List ℕ
+boardingText row b rows =
+    saysText (verdictIn (b .boarded .answer)) (boardedText row (b .boarded) (rows .froms) (rows .tos) (readsIn b rows))
 
-pub record BoardingAnswered (tape : Tape) (day : Day) (b : Boarding) (room out : List ℕ) (r : Answered) (room′ out′ : List ℕ) : Type 0 where
+pub record BoardingAnswered (tape : Tape) (row : List Ticket) (b : Boarding) (room out : List ℕ) (r : Answered) (room′ out′ : List ℕ) : Type 0 where
   pub done : BoardedRow
   pub rows : Rows
-  pub boards : Boards allPlaces tape (day .row) b (rowsLent room) done rows
+  pub boards : Boards allPlaces tape row b (rowsLent room) done rows
   pub left : room′ ≡ rows .room
-  pub says : Says (boardedDay done) (boardingText day done rows) out r out′
+  pub says : Says (boardedDay done) (boardingText row done rows) out r out′
 
 -- A line that is not as described: the day as it was, and nothing written.
 abbrev pub unanswered : Day → Answered
@@ -96,5 +97,5 @@ EventAnswered tape day room out (Event.File office file count) r room′ out′ 
 EventAnswered tape day room out (Event.Withdraw office number) r room′ out′ =
     WithdrawalAnswered day (record { office = office; number = number; lasts = day .lasts }) out r out′ × (room′ ≡ room)
 EventAnswered tape day room out (Event.Board head turn) r room′ out′ =
-    BoardingAnswered tape day (record { head = head; turn = turn; lasts = day .lasts }) room out r room′ out′
+    BoardingAnswered tape (day .row) (record { head = head; turn = turn; lasts = day .lasts }) room out r room′ out′
 EventAnswered tape day room out Event.Bad r room′ out′ = (r ≡ unanswered day) × (room′ ≡ room) × (out′ ≡ out)

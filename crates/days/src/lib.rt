@@ -105,7 +105,7 @@ fn withdraw(day: Day, withdrawal: Withdrawal, out: &mut [u8]) -> Answered
 }
 
 fn board(
-    day: Day,
+    row: [Ticket; 32],
     boarding: Boarding,
     starts: &[u64],
     lengths: &[u64],
@@ -113,9 +113,8 @@ fn board(
     room: &mut [u64],
     out: &mut [u8],
 ) -> Answered
-    ensures { λ r. ⌜ BoardingAnswered (tapeAt starts lengths aggregates) day boarding (now (room .entry)) (now (out .entry)) r (now (room .exit)) (now (out .exit)) ⌝ }
+    ensures { λ r. ⌜ BoardingAnswered (tapeAt starts lengths aggregates) row boarding (now (room .entry)) (now (out .entry)) r (now (room .exit)) (now (out .exit)) ⌝ }
 {
-    let row = day.row;
     let mut froms = [0u64; 8];
     let mut tos = [0u64; 8];
     let mut times = [0u64; 8];
@@ -179,6 +178,7 @@ pub fn answer(
     ensures { λ r. ⌜ EventAnswered (tapeAt starts lengths aggregates) day (now (room .entry)) (now (out .entry)) (eventOf (lineOf (now (event .entry)))) r (now (room .exit)) (now (out .exit)) ⌝ }
 {
     let lasts = day.lasts;
+    let row = day.row;
     match read_event(event) {
         Event::File {
             office,
@@ -204,7 +204,7 @@ pub fn answer(
         }
         Event::Board { head, turn } => {
             let boarding = Boarding { head, turn, lasts };
-            board(day, boarding, starts, lengths, aggregates, room, out)
+            board(row, boarding, starts, lengths, aggregates, room, out)
         }
         Event::Bad => unknown(day),
     }

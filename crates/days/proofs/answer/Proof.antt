@@ -40,13 +40,13 @@ same-length : tie.Need-same-length
 same-length c = search needs
 
 returns : tie.Need-returns
-returns c = let s = c .before .before .before .before .before .before .before .before .before .before .before .before .before .before .before in file-answered (tape s) (s .args .day) (s .args .room .now) (s .args .out .now) _ _ (c .before .before .before .before .before .before .before .read-event .ensures) _ _ _ _ _ (c .before .before .before .before .before .office .given .1) (c .before .before .file .ensures)
+returns c = let s = c .before .before .before .before .before .before .before .before .before .before .before .before .before .before .before .before in file-answered (tape s) (s .args .day) (s .args .room .now) (s .args .out .now) _ _ (c .before .before .before .before .before .before .before .read-event .ensures) _ _ _ _ _ (c .before .before .before .before .before .office .given .1) (c .before .before .file .ensures)
 
 same-length-2 : tie.Need-same-length-2
 same-length-2 c = search needs
 
 returns-2 : tie.Need-returns-2
-returns-2 c = let s = c .before .before .before .before .before .before .before .before .before .before .before .before .before .before .before in withdraw-answered (tape s) (s .args .day) (s .args .room .now) (s .args .out .now) _ _ (c .before .before .before .before .before .before .before .read-event .ensures) _ _ _ _ (c .before .before .before .before .before .office2 .given .1) (c .before .before .withdraw .ensures)
+returns-2 c = let s = c .before .before .before .before .before .before .before .before .before .before .before .before .before .before .before .before in withdraw-answered (tape s) (s .args .day) (s .args .room .now) (s .args .out .now) _ _ (c .before .before .before .before .before .before .before .read-event .ensures) _ _ _ _ (c .before .before .before .before .before .office2 .given .1) (c .before .before .withdraw .ensures)
 
 same-length-3 : tie.Need-same-length-3
 same-length-3 c = search needs
@@ -55,10 +55,10 @@ same-length-4 : tie.Need-same-length-4
 same-length-4 c = search needs
 
 returns-3 : tie.Need-returns-3
-returns-3 c = let s = c .before .before .before .before .before .before .before .before .before .before .before .before .before .before .before .before .before .before in board-answered (tape s) (s .args .day) (s .args .room .now) (s .args .out .now) _ _ (c .before .before .before .before .before .before .before .before .before .before .read-event .ensures) _ _ _ _ (c .before .before .before .before .before .before .before .before .head .given .1) _ (c .before .before .before .before .board .ensures)
+returns-3 c = let s = c .before .before .before .before .before .before .before .before .before .before .before .before .before .before .before .before .before .before .before in board-answered (tape s) (s .args .day) (s .args .room .now) (s .args .out .now) _ _ (c .before .before .before .before .before .before .before .before .before .before .read-event .ensures) _ _ _ _ (c .before .before .before .before .before .before .before .before .head .given .1) _ (c .before .before .before .before .board .ensures)
 
 returns-4 : tie.Need-returns-4
-returns-4 c = let s = c .before .before .before .before .before .before .before .before .before .before .before in not-answered (tape s) (s .args .day) (s .args .room .now) (s .args .out .now) _ _ (c .before .before .before .read-event .ensures) (c .before .enum-told .given .1) _ (c .unknown .ensures)
+returns-4 c = let s = c .before .before .before .before .before .before .before .before .before .before .before .before in not-answered (tape s) (s .args .day) (s .args .room .now) (s .args .out .now) _ _ (c .before .before .before .read-event .ensures) (c .before .enum-told .given .1) _ (c .unknown .ensures)
 
 pub answer-spec : {M : Type 1} → statement M
 answer-spec =

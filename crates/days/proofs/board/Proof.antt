@@ -8,7 +8,7 @@ use borrow.Author.Needs.{needs}
 use Rattle.days.proofs.board.Statement.{statement}
 use Rattle.days.proofs.board.Tie as tie
 
-long : (s : tie.Start) → length (s .args .day .row) ≡ 32
+long : (s : tie.Start) → length (s .args .row) ≡ 32
 long s = search needs
 
 slice-aggregate-board-in : tie.Need-slice-aggregate-board-in
@@ -27,7 +27,7 @@ board-in-requires : tie.Need-board-in-requires
 board-in-requires c κs = search needs
 
 say-boarding-requires : tie.Need-say-boarding-requires
-say-boarding-requires c κs = leaves _ _ (long (c .before .before .before .before .before .before .before .before .before .before .before .before .before .before .before .before .before .before .before .before .before .before)) _ _ _ _ (c .before .before .before .before .before .before .before .before .before .before .board-in .ensures)
+say-boarding-requires c κs = leaves _ _ (long (c .before .before .before .before .before .before .before .before .before .before .before .before .before .before .before .before .before .before .before .before .before)) _ _ _ _ (c .before .before .before .before .before .before .before .before .before .before .board-in .ensures)
 
 same-length : tie.Need-same-length
 same-length c = search needs
@@ -36,7 +36,7 @@ same-length-2 : tie.Need-same-length-2
 same-length-2 c = search needs
 
 returns : tie.Need-returns
-returns c = let a = c .before .before .before .before .before .before .before .before .before .before .before .before .before .before .before .before .before .before .before .before .before .before .before .before .before .before .before .args in boarding-said (a .day) _ _ _ _ (a .boarding) _ (c .before .before .before .before .before .before .before .before .before .before .before .before .before .before .before .board-in .result) _ (c .before .before .before .before .before .before .before .before .before .before .before .before .before .before .before .board-in .ensures) (c .before .before .before .before .say-boarding .ensures)
+returns c = let a = c .before .before .before .before .before .before .before .before .before .before .before .before .before .before .before .before .before .before .before .before .before .before .before .before .before .before .args in boarding-said (a .row) _ _ _ _ (a .boarding) _ (c .before .before .before .before .before .before .before .before .before .before .before .before .before .before .before .board-in .result) _ (c .before .before .before .before .before .before .before .before .before .before .before .before .before .before .before .board-in .ensures) (c .before .before .before .before .say-boarding .ensures)
 
 pub board-spec : {M : Type 1} → statement M
 board-spec =

@@ -15,14 +15,14 @@ put-top-requires : tie.Need-put-top-requires
 put-top-requires c κs = omega (arith, c .before .before .before .before .before .pre .1 .1)
 
 put-detours-requires : tie.Need-put-detours-requires
-put-detours-requires c κs = 
+put-detours-requires c κs =
     let wide = c .before .before .before .before .before .before .before .before .before .pre .1 .1 in
     let n-is = c .before .before .before .before .before .up-to-eight .ensures in
     let w = c .before .before .before .put-top .ensures in
     (omega (arith, n-is), omega (arith, n-is, w .within, wrote-long w (omega arith)))
 
 put-tickets-requires : tie.Need-put-tickets-requires
-put-tickets-requires c κs = 
+put-tickets-requires c κs =
     let pre = c .before .before .before .before .before .before .before .before .before .before .before .before .before .pre in
     let wide = pre .1 .1 in
     let one = pre .0 in
@@ -33,7 +33,7 @@ put-tickets-requires c κs =
     (omega arith, omega (arith, n-is, w .within, v .within, wrote-long v (omega (arith, n-is, w .within))))
 
 put-tickets-requires-2 : tie.Need-put-tickets-requires-2
-put-tickets-requires-2 c κs = 
+put-tickets-requires-2 c κs =
     let pre = c .before .before .before .before .before .before .before .before .before .before .before .before .before .before .before .before .before .pre in
     let wide = pre .1 .1 in
     let one = pre .0 in
