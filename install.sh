@@ -35,7 +35,7 @@ case $prefix in
     *) fail "PREFIX must be an absolute path, not '$prefix'" ;;
 esac
 [ -f "$archive" ] || fail "no archive at $archive; 'rt staticlib boundary' makes it"
-for program in cmd_plan cmd_field cmd_buys cmd_rewrite cmd_ltfs; do
+for program in cmd_plan cmd_field cmd_buys cmd_rewrite cmd_ltfs cmd_desk; do
     [ -f "$here/target/bin/$program" ] || fail "no program at $here/target/bin/$program; 'rt check $program' makes it"
 done
 
@@ -90,6 +90,7 @@ put "$here/target/bin/cmd_field" "$own/cmd_field" 755
 put "$here/target/bin/cmd_buys" "$own/cmd_buys" 755
 put "$here/target/bin/cmd_rewrite" "$own/cmd_rewrite" 755
 put "$here/target/bin/cmd_ltfs" "$own/cmd_ltfs" 755
+put "$here/target/bin/cmd_desk" "$own/cmd_desk" 755
 put "$here/tools/machine.sh" "$own/machine.sh"
 for words in shared sheet ltfs; do
     put "$here/tools/words/$words.awk" "$own/words/$words.awk"
