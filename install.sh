@@ -35,7 +35,7 @@ case $prefix in
     *) fail "PREFIX must be an absolute path, not '$prefix'" ;;
 esac
 [ -f "$archive" ] || fail "no archive at $archive; 'rt staticlib boundary' makes it"
-for program in cmd_plan cmd_field cmd_buys cmd_price cmd_check cmd_rewrite cmd_mend cmd_month cmd_ltfs; do
+for program in cmd_plan cmd_field cmd_buys cmd_price cmd_check cmd_rewrite cmd_mend cmd_month cmd_ltfs cmd_desk; do
     [ -f "$here/target/bin/$program" ] || fail "no program at $here/target/bin/$program; 'rt check $program' makes it"
 done
 
@@ -94,6 +94,7 @@ put "$here/target/bin/cmd_rewrite" "$own/cmd_rewrite" 755
 put "$here/target/bin/cmd_mend" "$own/cmd_mend" 755
 put "$here/target/bin/cmd_month" "$own/cmd_month" 755
 put "$here/target/bin/cmd_ltfs" "$own/cmd_ltfs" 755
+put "$here/target/bin/cmd_desk" "$own/cmd_desk" 755
 put "$here/tools/machine.sh" "$own/machine.sh"
 for words in shared sheet list ltfs; do
     put "$here/tools/words/$words.awk" "$own/words/$words.awk"
