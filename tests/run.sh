@@ -128,6 +128,8 @@ command_installed() {
     same "the installed command's plain engine" "$here/examples/VX0041.plan" "$out/field.is"
     step "the installed command's figures" env -u RATTLE_HOME PATH="${path%:}" "$prefix/bin/violstream" buys "$here/examples/VX0041.run" > "$out/buys.is"
     same "the installed command's figures" "$here/crates/cmd_buys/stdout" "$out/buys.is"
+    step "the installed command's desk" env -u RATTLE_HOME PATH="${path%:}" "$prefix/bin/violstream" desk "$here/examples/day.run" "$here/examples/day.events" > "$out/day.is"
+    same "the installed command's desk" "$here/examples/day.answers" "$out/day.is"
     sed 's/^turn=$/turn=0/' "$here/examples/no-wants.run" > "$out/sheet.must"
     step "the installed command's rewriting" env -u RATTLE_HOME PATH="${path%:}" "$prefix/bin/violstream" rewrite "$here/examples/no-wants.run" > "$out/sheet.is"
     same "the installed command's rewriting" "$out/sheet.must" "$out/sheet.is"
@@ -250,6 +252,7 @@ run python/field
 [ -n "$only" ] || run python/field --sheets "$out/c.sheets" --sheets "$out/rust.sheets"
 run python/buys
 run python/rewrite
+run python/day
 run python/ltfs --cases 2000
 run python/prices
 run python/figures
