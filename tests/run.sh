@@ -136,6 +136,8 @@ command_installed() {
     step "the installed command's explanation" env -u RATTLE_HOME PATH="${path%:}" "$prefix/bin/violstream" explain --svg "$out/picture.svg" "$here/examples/VX0041.run" > "$out/explained.is"
     grep -q 'detour 2,2 buys 40' "$out/explained.is" || fail "the installed command does not explain a plan"
     grep -q '</svg>' "$out/picture.svg" || fail "the installed command draws no picture"
+    step "the installed command's desk" env -u RATTLE_HOME PATH="${path%:}" "$prefix/bin/violstream" desk "$here/examples/day.run" "$here/examples/day.events" > "$out/day.is"
+    same "the installed command's desk" "$here/examples/day.answers" "$out/day.is"
     sed 's/^turn=$/turn=0/' "$here/examples/no-wants.run" > "$out/sheet.must"
     step "the installed command's rewriting" env -u RATTLE_HOME PATH="${path%:}" "$prefix/bin/violstream" rewrite "$here/examples/no-wants.run" > "$out/sheet.is"
     same "the installed command's rewriting" "$out/sheet.must" "$out/sheet.is"
@@ -261,6 +263,7 @@ run python/check
 run python/rewrite
 run python/mend
 run python/month
+run python/day
 run python/ltfs --cases 2000
 run python/prices
 run python/figures

@@ -49,7 +49,7 @@ class Checkout:
             (shutil.copytree if os.path.isdir(source) else shutil.copy2)(source, to)
         os.makedirs(os.path.join(self.root, "crates/refusals"))
         os.makedirs(os.path.join(self.root, "target/bin"))
-        for name in ("cmd_plan", "cmd_field", "cmd_buys", "cmd_price", "cmd_check", "cmd_rewrite", "cmd_mend", "cmd_month", "cmd_ltfs"):
+        for name in ("cmd_plan", "cmd_field", "cmd_buys", "cmd_price", "cmd_check", "cmd_rewrite", "cmd_mend", "cmd_month", "cmd_ltfs", "cmd_desk"):
             source = os.path.join(programs.ROOT, "target/bin", name)
             if not os.path.exists(source):
                 sys.exit(f"command.py: no program {source}; 'rt check {name}' makes it")
@@ -234,6 +234,36 @@ def fielding(at):
     at.must("./violstream field", 3, refusal(11, 3), ['line 3: expected turn=NUMBER; found "turn=x"'], data=changed(3, b"turn=x"))
     both = b"sheet=examples/nine-wants.run\n" + refusal(24) + b"sheet=examples/VX0041.run\n" + PLAN
     at.must("./violstream field examples/nine-wants.run no-such examples/VX0041.run", 1, both, ["cannot read no-such"])
+
+
+def desk(at):
+    """A day of two offices: each event is answered as it comes."""
+    day = contents("examples/day.answers")
+    at.must("./violstream desk examples/day.run examples/day.events", 0, day, silent=True)
+    at.must("./violstream desk examples/day.run < examples/day.events", 0, day, silent=True)
+    at.must("cat examples/day.run | ./violstream desk - <(cat examples/day.events)", 0, day, silent=True)
+    at.must("./violstream desk examples/day.run -", 0, b"waiting=0,0\n", silent=True)
+    at.must("./violstream desk examples/day.run", 3, b"filed=1,1\n" + refusal(11, 2), ["event 2 is not file="], data=b"file=1,1,1\nfile=1,1\nfile=1,2,1\n")
+    at.must("./violstream desk examples/day.run", 3, refusal(11, 1), ["event 1 is not file="], data=b"file=1,1,1")
+    at.must("./violstream desk examples/retired-rule.run examples/day.events", 3, refusal(19, 4), ["examples/retired-rule.run: refused (19)"])
+    at.must("./violstream desk examples/VX0041.plan examples/day.events", 3, refusal(11, 2), ["examples/VX0041.plan: refused (11)"])
+    at.must("./violstream desk examples/day.run no-such", 1, b"", ["cannot read no-such"])
+    at.must("./violstream desk no-such examples/day.events", 1, b"", ["cannot read no-such"])
+    at.must("./violstream desk examples/day.run examples", 1, b"", ["cannot read examples"])
+    at.must("./violstream desk examples/day.run examples/day.events > /dev/full", 1, b"", ["cannot write to standard output"])
+    for line in ("desk", "desk a b c", "desk - -", "desk -", "desk -x"):
+        at.must(f"./violstream {line}", 2, b"", ["usage: ./violstream desk SHEET [EVENTS]"])
+    # Nothing more is asked for once the day has ended, and no answer waits for the next event.
+    with subprocess.Popen(["./violstream", "desk", "examples/day.run"], cwd=at.root, stdin=subprocess.PIPE, stdout=subprocess.PIPE, stderr=subprocess.DEVNULL, env=at.surroundings) as held:
+        for event, said in ((b"file=2,1,1\n", b"filed=2,1\n"), (b"withdraw=2,1\n", b"withdrawn=2,1\n")):
+            held.stdin.write(event)
+            held.stdin.flush()
+            if held.stdout.readline() != said:
+                raise Wrong(f"desk: the answer to {event!r} is not {said!r}")
+        held.stdin.write(b"none\n")
+        held.stdin.flush()
+        if held.stdout.read() != refusal(11, 3) or held.wait(LIMIT) != 3:
+            raise Wrong("desk: the day does not end at a bad event")
 
 
 def statuses(at):
@@ -591,12 +621,12 @@ def building(at):
     below(at, "cmd_plan")
     at.must(f"./violstream ltfs VX0041 {LABEL} {INDEX}", 0, SHEET, ["building cmd_ltfs"])
     at.must("rm target/bin/cmd_plan && ./violstream plan examples/VX0041.run", 0, PLAN, ["building cmd_plan"])
-    at.must("./violstream build", 0, b"", ["building cmd_field", "building cmd_buys", "building cmd_price", "building cmd_check", "building cmd_rewrite", "building cmd_mend", "building cmd_month", "building libboundary.a"])
-    at.must("touch -d '+1 minute' crates/refusals/newer && ./violstream build", 0, b"", ["cmd_plan", "cmd_field", "cmd_buys", "cmd_price", "cmd_check", "cmd_rewrite", "cmd_mend", "cmd_month", "cmd_ltfs", "libboundary.a"])
+    at.must("./violstream build", 0, b"", ["building cmd_field", "building cmd_buys", "building cmd_price", "building cmd_check", "building cmd_rewrite", "building cmd_mend", "building cmd_month", "building cmd_desk", "building libboundary.a"])
+    at.must("touch -d '+1 minute' crates/refusals/newer && ./violstream build", 0, b"", ["cmd_plan", "cmd_field", "cmd_buys", "cmd_price", "cmd_check", "cmd_rewrite", "cmd_mend", "cmd_month", "cmd_ltfs", "cmd_desk", "libboundary.a"])
     at.must("rm crates/refusals/newer && ./violstream build", 0, b"", ["violstream: built"])
     at.must("./violstream build more", 2, b"")
-    every = ["check cmd_plan", "check cmd_field", "check cmd_buys", "check cmd_price", "check cmd_check", "check cmd_rewrite", "check cmd_mend", "check cmd_month", "check cmd_ltfs", "staticlib boundary"]
-    if called(at) != ["check cmd_plan", "check cmd_ltfs", "check cmd_plan", "check cmd_field", "check cmd_buys", "check cmd_price", "check cmd_check", "check cmd_rewrite", "check cmd_mend", "check cmd_month", "staticlib boundary"] + every:
+    every = ["check cmd_plan", "check cmd_field", "check cmd_buys", "check cmd_price", "check cmd_check", "check cmd_rewrite", "check cmd_mend", "check cmd_month", "check cmd_ltfs", "check cmd_desk", "staticlib boundary"]
+    if called(at) != ["check cmd_plan", "check cmd_ltfs", "check cmd_plan", "check cmd_field", "check cmd_buys", "check cmd_price", "check cmd_check", "check cmd_rewrite", "check cmd_mend", "check cmd_month", "check cmd_desk", "staticlib boundary"] + every:
         raise Wrong(f"rt was called so: {called(at)}")
 
 
@@ -672,7 +702,7 @@ def until(true, otherwise):
     raise Wrong(otherwise)
 
 
-TESTS = (answers, fielding, figures, pairs, explained, rewriting, mending, monthly, statuses, help_and_version, nothing_lost, broken_program, several, ltfs_inputs, words_of_sheets, words_of_damaged_sheets,
+TESTS = (answers, fielding, figures, pairs, explained, rewriting, mending, monthly, desk, statuses, help_and_version, nothing_lost, broken_program, several, ltfs_inputs, words_of_sheets, words_of_damaged_sheets,
          words_of_tapes, keyboard, transcripts, manual, interrupted, building, building_fails, building_twice, building_interrupted)
 
 
