@@ -12,6 +12,7 @@ pub mod Copied
 pub mod Again
 pub mod Canonical
 pub mod Same
+pub mod Taken
 pub mod Mends
 pub mod MonthTotals
 pub mod MonthNames

@@ -7,7 +7,7 @@ use native.Mathlib.Omega.{arith}
 use lib.ListN.{length, take, drop, getD}
 use lib.Seq.{take-append-seam, drop-append-seam}
 use lib.Dec.{eqb, ltb}
-use borrow.Author.Tests.{eq-eqb, ne-eqb, eqb-true, lt-ltb, le-ltb, ltb-true, ltb-false}
+use borrow.Author.Tests.{eq-eqb, ne-eqb, eqb-true, eqb-false, lt-ltb, le-ltb, ltb-true, ltb-false}
 use Rattle.refusals.specs.declared.Refusal.{Refusal}
 use Rattle.refusals.specs.declared.Refusal.the-variants.{Accepted, WantRows, TooManyReads, BadLine, LongSheet}
 use Rattle.refusals.specs.declared.Verdict.{Verdict}
@@ -17,7 +17,10 @@ use Rattle.runs.specs.Run.{mostWants, mostReads}
 use Rattle.runs.specs.Lists.{anyBelow}
 use Rattle.runs.proofs.Search.{any-here}
 use Rattle.sheets.specs.Reading.{readRow}
-use Rattle.texts.specs.Text.{bytes}
+use Rattle.texts.specs.Text.{bytes, isEmpty, startsWith, isText}
+use Rattle.texts.proofs.Bytes.{and-true-both}
+use Rattle.texts.proofs.Split.{key-split, whole-key}
+use Rattle.sheets.specs.Lines.{turnKey, ruleKey, sweepText, namesSweep}
 use Rattle.sheets.specs.Sheet.{longestSheet, sheetTurn, saysSweep, sheetFiles, fileText, sheetRun}
 use Rattle.loose.specs.Loose.{looseFiles, wantsSaid, priceLeftOut, firstBadLoose, wantedFiles, wantedCounts}
 use Rattle.loose.specs.Reading.{looseVerdict}
@@ -27,12 +30,14 @@ use Rattle.mends.specs.declared.wants.Fate.the-variants.{Stays, Moved, Added, D
 use Rattle.mends.specs.Wants.{remaining, readsIn, askedOf, readsOf, readsEach, sameAbove, higherAbove, fateOf}
 use Rattle.mends.specs.Mending.{firstLines, sheetRemaining, sheetReads, mendedText, changeIf, changesText, fateLine, fateLines, wantsVerdicts, textsVerdicts, mendVerdict, SheetMended}
 use Rattle.mends.proofs.Answers.{mend-determined}
-use Rattle.promises.specs.Mends.{InRows, MendedRows, MendingDetermined, WasMended, SameReads, ReadsKept, Orderly, InOrder, MendedInOrder, SameFile, HigherFile, FateBy, FatesByConditions, SaidOf, EveryFateListed, OnceIsEnough, ComesBack, AcceptedComesBack}
+use Rattle.promises.specs.Mends.{InRows, MendedRows, MendingDetermined, WasMended, SameReads, ReadsKept, Orderly, InOrder, MendedInOrder, SameFile, HigherFile, FateBy, FatesByConditions, SaidOf, EveryFateListed, ListedWhen, SaidAbove, TopChangesListed, OnceIsEnough, ComesBack, AcceptedComesBack, Taken, AcceptedTaken}
 use Rattle.promises.proofs.Gathered.{rising-at, Clean, remaining-clean, clean-remaining, clean-each, clean-stays, reads-kept, total-kept}
 use Rattle.runs.specs.Judging.{judgeOf}
-use Rattle.lines.specs.Lines.{afterLines}
+use Rattle.lines.specs.Lines.{afterLines, lineAfter, valueText}
 use Rattle.sheets.specs.Reading.{sheetVerdict}
-use Rattle.promises.proofs.Same.{old-sheet, new-sheet, same-sheet, one-change}
+use Rattle.sheets.proofs.Good.{short-sheet}
+use Rattle.promises.proofs.Same.{empty-is, old-sheet, new-sheet, same-sheet, one-change}
+use Rattle.promises.proofs.Taken.{taken, too-long, five-longer}
 use Rattle.promises.proofs.Again.{lines-even, upper-again, turn-again, price-there, rule-there, files-said, files-again, table-again, wants-said, wants-again, named-again, asked-again, good-again, remaining-once, reads-once, fates-none}
 
 accepted-passes : (kind : Refusal) → kind ≡ Accepted → isRefusal kind ≡ false
@@ -237,7 +242,7 @@ module _ (files counts : List ℕ) (line : ℕ) where
     where
       go : (i : ℕ) → i < line → (s : Bool) → eqb (getD files i 0) (getD files line 0) ≡ s → (z : Bool) → eqb (getD counts i 0) 0 ≡ z → not (eqb (cond s (getD counts i 0) 0) 0) ≡ false
       go i l true s true z = rw z
-      go i l true s false z = absurd (none i (record { higher-up = l; same = eqb-true (getD files i 0) (getD files line 0) s; some = borrow.Author.Tests.eqb-false (getD counts i 0) 0 z }))
+      go i l true s false z = absurd (none i (record { higher-up = l; same = eqb-true (getD files i 0) (getD files line 0) s; some = eqb-false (getD counts i 0) 0 z }))
       go i l false s z e = refl
 
   higher-there : (above : ℕ) → HigherFile files line above → higherAbove files line ≡ true
@@ -316,6 +321,48 @@ pub every-fate-listed : EveryFateListed
 unfolding changesText
 every-fate-listed sheet line l = said-of sheet (changesText sheet) (looseFiles sheet + 6) line (wantedFiles sheet) (wantedCounts sheet) (topChanges sheet) refl l
 
+-- A part of the changes, from its test.
+listed-when : (Changes : Type 0) (test : Bool) (n : ℕ) (word : List ℕ) → (test ≡ true → Changes) → (test ≡ false → Changes → ⊥) → ListedWhen Changes (changeIf test n word) n word
+listed-when Changes true n word changes stays = record { something = λ c. refl; nothing = λ none. absurd (none (changes refl)) }
+listed-when Changes false n word changes stays = record { something = λ c. absurd (stays refl c); nothing = λ none. refl }
+
+-- A count that is not the number of lines.
+count-listed : (said lines n : ℕ) (word : List ℕ) → ListedWhen (said ≡ lines → ⊥) (changeIf (not (eqb said lines)) n word) n word
+count-listed said lines n word = go (eqb said lines) refl
+  where
+    go : (t : Bool) → eqb said lines ≡ t → ListedWhen (said ≡ lines → ⊥) (changeIf (not (eqb said lines)) n word) n word
+    go true t = rw t (listed-when (said ≡ lines → ⊥) false n word (λ e. absurd (true≢false (sym e))) (λ e other. other (eqb-true said lines t)))
+    go false t = rw t (listed-when (said ≡ lines → ⊥) true n word (λ e. eqb-false said lines t) (λ e. absurd (true≢false e)))
+
+price-given : (text : List ℕ) → isEmpty text ≡ false → text ≡ [] → ⊥
+price-given text some e = true≢false (ap isEmpty (sym e) ∙ some)
+
+sweep-line : (text : List ℕ) → namesSweep text ≡ true → text ≡ ruleKey ++ sweepText
+unfolding namesSweep
+sweep-line text e =
+    let both = and-true-both (startsWith ruleKey text) (isText sweepText (valueText ruleKey text)) e in
+    let is = and-true-both (eqb (length sweepText) (length (valueText ruleKey text))) (startsWith sweepText (valueText ruleKey text)) (both .1) in
+    key-split ruleKey text (both .0) ∙ ap (λ t. ruleKey ++ t) (whole-key sweepText (valueText ruleKey text) (eqb-true (length sweepText) (length (valueText ruleKey text)) (is .0)) (is .1))
+
+sweep-named : namesSweep (ruleKey ++ sweepText) ≡ true
+unfolding namesSweep startsWith
+sweep-named = refl
+
+pub top-changes-listed : TopChangesListed
+unfolding changesText priceLeftOut saysSweep
+top-changes-listed sheet =
+    record {
+      turn = changeIf (priceLeftOut sheet) 3 (bytes "turn");
+      rule = changeIf (saysSweep sheet) 4 (bytes "rule");
+      files = changeIf (not (eqb (sheetFiles sheet) (looseFiles sheet))) 5 (bytes "files");
+      wants = changeIf (not (eqb (wantsSaid sheet) (length (sheetRemaining sheet)))) (looseFiles sheet + 6) (bytes "wants");
+      whole = refl;
+      turn-line = listed-when (valueText turnKey (lineAfter 2 sheet) ≡ []) (priceLeftOut sheet) 3 (bytes "turn") (empty-is (valueText turnKey (lineAfter 2 sheet))) (price-given (valueText turnKey (lineAfter 2 sheet)));
+      rule-line = listed-when (lineAfter 3 sheet ≡ ruleKey ++ sweepText) (saysSweep sheet) 4 (bytes "rule") (sweep-line (lineAfter 3 sheet)) (λ least is. true≢false (sym sweep-named ∙ ap namesSweep (sym is) ∙ least));
+      files-line = count-listed (sheetFiles sheet) (looseFiles sheet) 5 (bytes "files");
+      wants-line = count-listed (wantsSaid sheet) (length (sheetRemaining sheet)) (looseFiles sheet + 6) (bytes "wants");
+    }
+
 pub accepted-comes-back : AcceptedComesBack
 accepted-comes-back sheet read least fair =
     let good : isRefusal (sheetVerdict sheet .refusal) ≡ false = rw read in
@@ -328,3 +375,22 @@ accepted-comes-back sheet read least fair =
       given = same-sheet sheet good run least;
       listed = one-change sheet good run least;
     }
+
+pub accepted-taken : AcceptedTaken
+accepted-taken sheet read least fair out notes answer out′ notes′ h row list =
+    record { within = fits; over = λ over. h .answer ∙ rw (too-long sheet good run least out notes over); given = given; left-out = five-longer sheet good run least }
+  where
+    good : isRefusal (sheetVerdict sheet .refusal) ≡ false
+    good = rw read
+
+    run : isRefusal (judgeOf (sheetRun sheet) .refusal) ≡ false
+    run = rw fair
+
+    fits : length (mendedText sheet) ≤ longestSheet → answer ≡ record { refusal = Accepted; place = 0; bytes = length (mendedText sheet); noted = length (changesText sheet) }
+    fits short = h .answer ∙ rw (taken sheet good run least out notes short row list)
+
+    given : priceLeftOut sheet ≡ false → answer ≡ record { refusal = Accepted; place = 0; bytes = length sheet; noted = 0 }
+    given there =
+        let same = same-sheet sheet good run least there in
+        let none : changesText sheet ≡ [] = one-change sheet good run least ∙ rw there in
+        fits (rw same (short-sheet sheet good)) ∙ rw (same, none)

@@ -132,7 +132,7 @@ shifted-none : (n x : ℕ) → shifted n x ≡ 0 → x ≡ 0
 shifted-none n zero e = refl
 shifted-none n (suc x) e = absurd (omega (arith, e))
 
-empty-is : (text : List ℕ) → isEmpty text ≡ true → text ≡ []
+pub empty-is : (text : List ℕ) → isEmpty text ≡ true → text ≡ []
 empty-is [] e = refl
 empty-is (b ∷ text) e = absurd (true≢false (sym e))
 
@@ -155,7 +155,7 @@ no-more : (a : List ℕ) → a ++ [] ++ [] ++ [] ++ [] ≡ a
 no-more a = simp append-nil
 
 module _ (sheet : List ℕ) (good : refuses (sheetVerdict sheet) ≡ false) (fair : refuses (judgeOf (sheetRun sheet)) ≡ false) (least : saysSweep sheet ≡ false) where
-  g : GoodLines sheet
+  pub g : GoodLines sheet
   g = good-lines sheet good
 
   abbrev wants-line : ℕ
@@ -170,7 +170,7 @@ module _ (sheet : List ℕ) (good : refuses (sheetVerdict sheet) ≡ false) (fai
   abbrev bad-files : ℕ
   bad-files = firstBadOf (isTripleLine fileKey) (sheetFiles sheet) (fileText sheet)
 
-  below : (bad-files ≡ 0) × ((bad-wants ≡ 0) × (endText sheet ≡ []))
+  pub below : (bad-files ≡ 0) × ((bad-wants ≡ 0) × (endText sheet ≡ []))
   unfolding firstBadLine firstBadBelow
   below =
       let lower = none-more (firstBadBelow sheet) [] (none-more (firstBadTop sheet) (firstBadBelow sheet ∷ []) (no-bad-line sheet good) .1) .0 in
@@ -181,11 +181,11 @@ module _ (sheet : List ℕ) (good : refuses (sheetVerdict sheet) ≡ false) (fai
       let seven : sheetFiles sheet + sheetWants sheet + 7 ≡ suc (sheetFiles sheet + sheetWants sheet + 6) = omega arith in
       (shifted-none 5 bad-files (a .0), (shifted-none (sheetFiles sheet + 6) bad-wants (c .0), empty-is (endText sheet) (line-good (isEmpty (endText sheet)) (sheetFiles sheet + sheetWants sheet + 6) (rw seven at (d .0)))))
 
-  wants-number : isNumberLine wantsKey (lineOf (wantsText sheet)) ≡ true
+  pub wants-number : isNumberLine wantsKey (lineOf (wantsText sheet)) ≡ true
   unfolding isCountLine
   wants-number = and-true-both (isNumberLine wantsKey (lineOf (wantsText sheet))) (leb (numberBehind wantsKey (lineOf (wantsText sheet))) mostWants) (g .wants) .0
 
-  files-number : isNumberLine filesKey (lineAfter 4 sheet) ≡ true
+  pub files-number : isNumberLine filesKey (lineAfter 4 sheet) ≡ true
   unfolding isCountLine
   files-number = and-true-both (isNumberLine filesKey (lineAfter 4 sheet)) (leb (numberBehind filesKey (lineAfter 4 sheet)) mostSheetFiles) (g .files) .0
 
@@ -197,11 +197,11 @@ module _ (sheet : List ℕ) (good : refuses (sheetVerdict sheet) ≡ false) (fai
       (λ i l. not-false (isTripleLine fileKey (lineAfter i (fileText sheet))) (first-zero (λ j. not (isTripleLine fileKey (lineAfter j (fileText sheet)))) (sheetFiles sheet) (below .0) i l))
       (λ m. ap (isTripleLine fileKey) (number-line wantsKey (lineOf (wantsText sheet)) wants-number) ∙ not-file (decimal (numberBehind wantsKey (lineOf (wantsText sheet)))))
 
-  tail-same : looseWantsText sheet ≡ wantsText sheet
+  pub tail-same : looseWantsText sheet ≡ wantsText sheet
   unfolding looseWantsText wantsText
   tail-same = rw files-same
 
-  body-same : looseWantText sheet ≡ wantText sheet
+  pub body-same : looseWantText sheet ≡ wantText sheet
   unfolding looseWantText wantText
   body-same = rw tail-same
 
@@ -209,17 +209,17 @@ module _ (sheet : List ℕ) (good : refuses (sheetVerdict sheet) ≡ false) (fai
   unfolding firstBadOf
   want-good i l = not-false (isPairLine wantKey (lineAfter i (wantText sheet))) (first-zero (λ j. not (isPairLine wantKey (lineAfter j (wantText sheet)))) (sheetWants sheet) (below .1 .0) i l)
 
-  wants-same : looseWants sheet ≡ sheetWants sheet
+  pub wants-same : looseWants sheet ≡ sheetWants sheet
   unfolding looseWants endText
   wants-same =
       ap (λ t. linesBefore longestSheet (firstBadOf (isPairLine wantKey) longestSheet t)) body-same
       ∙ come-so-many (isPairLine wantKey) longestSheet (sheetWants sheet) (wantText sheet) (omega (arith, few-wants sheet good)) want-good (λ m. ap (λ t. isPairLine wantKey (lineOf t)) (below .1 .1) ∙ not-want)
 
-  named : wantedFiles sheet ≡ sheetRun sheet .numbers
+  pub named : wantedFiles sheet ≡ sheetRun sheet .numbers
   unfolding wantedFiles sheetRun
   named = rw (wants-same, body-same)
 
-  counted : wantedCounts sheet ≡ sheetRun sheet .counts
+  pub counted : wantedCounts sheet ≡ sheetRun sheet .counts
   unfolding wantedCounts sheetRun
   counted = rw (wants-same, body-same)
 
@@ -229,7 +229,7 @@ module _ (sheet : List ℕ) (good : refuses (sheetVerdict sheet) ≡ false) (fai
       let wants = accepted-run (sheetRun sheet) fair .wants in
       rw (named, counted) (record { even = wants .equal; rising = wants-rising _ (sheetRun sheet .numbers) (sheetRun sheet .counts) wants; some = λ i l z. omega (arith, wants .each i l .counted, z) })
 
-  remain : sheetRemaining sheet ≡ wantedFiles sheet
+  pub remain : sheetRemaining sheet ≡ wantedFiles sheet
   remain = remaining-once sheet (wantedFiles sheet) (wantedCounts sheet) refl refl (clean-remaining (wantedFiles sheet) (wantedCounts sheet) clean)
 
   ask : sheetReads sheet ≡ wantedCounts sheet

@@ -1,19 +1,19 @@
 -- The request on mending (L11): what stands in the two rows; the reads of every file are kept; the wants written ascend, none repeats, none is 0; each
 -- want line's fate, by conditions of its own; every change is listed and nothing else; what is written needs no second mending; the sheet of an accepted
--- run comes back.
+-- run is accepted and comes back.
 use Prim.Native.Nat.{ℕ, _+_, _≤_, _<_}
 use mathlib.Core.Path.{_≡_}
-use mathlib.Core.Bool.{false}
+use mathlib.Core.Bool.{true, false}
 use mathlib.Core.List.{List, [], _++_}
 use lib.ListN.{length, take, drop, getD}
-use Rattle.refusals.specs.declared.Refusal.the-variants.{Accepted}
+use Rattle.refusals.specs.declared.Refusal.the-variants.{Accepted, LongSheet}
 use Rattle.refusals.specs.Refusals.{accepted}
 use Rattle.runs.specs.Run.{mostWants}
 use Rattle.runs.specs.Judging.{judgeOf}
 use Rattle.texts.specs.Text.{bytes}
 use Rattle.lines.specs.Lines.{lineAfter, valueText}
-use Rattle.sheets.specs.Lines.{turnKey}
-use Rattle.sheets.specs.Sheet.{sheetTurn, saysSweep, sheetFiles, sheetRun}
+use Rattle.sheets.specs.Lines.{turnKey, ruleKey, sweepText}
+use Rattle.sheets.specs.Sheet.{longestSheet, sheetTurn, saysSweep, sheetFiles, sheetRun}
 use Rattle.sheets.specs.Reading.{sheetVerdict}
 use Rattle.prints.specs.Printing.{line, numberLine}
 use Rattle.loose.specs.Loose.{looseFiles, looseWants, wantsSaid, priceLeftOut, firstBadLoose, wantedFiles, wantedCounts}
@@ -21,7 +21,7 @@ use Rattle.mends.specs.declared.Mended.{Mended}
 use Rattle.mends.specs.declared.wants.Fate.{Fate}
 use Rattle.mends.specs.declared.wants.Fate.the-variants.{Stays, Moved, Added, Dropped}
 use Rattle.mends.specs.Wants.{readsIn, readsOf, fateOf}
-use Rattle.mends.specs.Mending.{mendedText, changeIf, changesText, fateLine, SheetMended}
+use Rattle.mends.specs.Mending.{sheetRemaining, mendedText, changeLine, changeIf, changesText, fateLine, fateLines, SheetMended}
 
 -- An accepted mending: the mended sheet and the changes stand in the first bytes of the rows, and the later bytes are as they were.
 pub record InRows (sheet out notes : List ℕ) (answer : Mended) (out′ notes′ : List ℕ) : Type 0 where
@@ -116,6 +116,27 @@ EveryFateListed =
     → line < length (wantedFiles sheet)
     → SaidOf (changesText sheet) (wantedFiles sheet) (wantedCounts sheet) (looseFiles sheet + 6) line
 
+-- What the changes say above the want lines' fates, in the order of the old lines: one part for each of the four lines that can change there. A part
+-- names its line exactly when that changes, and is empty else.
+pub record ListedWhen (Changes : Type 0) (part : List ℕ) (n : ℕ) (word : List ℕ) : Type 0 where
+  pub something : Changes → part ≡ changeLine n word
+  pub nothing : (Changes → ⊥) → part ≡ []
+
+-- The price changes when nothing stands after `turn=`, the rule when its line is `rule=sweep`, a count when it is not the number of lines written below it.
+pub record SaidAbove (sheet : List ℕ) : Type 0 where
+  pub turn : List ℕ
+  pub rule : List ℕ
+  pub files : List ℕ
+  pub wants : List ℕ
+  pub whole : changesText sheet ≡ turn ++ rule ++ files ++ wants ++ fateLines (looseFiles sheet + 6) (wantedFiles sheet) (wantedCounts sheet) (length (wantedFiles sheet))
+  pub turn-line : ListedWhen (valueText turnKey (lineAfter 2 sheet) ≡ []) turn 3 (bytes "turn")
+  pub rule-line : ListedWhen (lineAfter 3 sheet ≡ ruleKey ++ sweepText) rule 4 (bytes "rule")
+  pub files-line : ListedWhen (sheetFiles sheet ≡ looseFiles sheet → ⊥) files 5 (bytes "files")
+  pub wants-line : ListedWhen (wantsSaid sheet ≡ length (sheetRemaining sheet) → ⊥) wants (looseFiles sheet + 6) (bytes "wants")
+
+abbrev pub TopChangesListed : Type 0
+TopChangesListed = (sheet : List ℕ) → SaidAbove sheet
+
 -- A mended sheet needs no second mending: given a row that takes it, it is accepted, comes out as it is, and no change is listed.
 abbrev pub OnceIsEnough : Type 0
 OnceIsEnough =
@@ -143,3 +164,24 @@ AcceptedComesBack =
     → saysSweep sheet ≡ false
     → judgeOf (sheetRun sheet) ≡ accepted
     → ComesBack sheet
+
+-- And it is accepted, given rows that take both texts: 11, 3 and 5 never apply to it. 12 does where the mended sheet is over the limit, which comes of an
+-- empty price alone: written out it has five digits, and a sheet with a price given is always accepted.
+pub record Taken (sheet : List ℕ) (answer : Mended) : Type 0 where
+  pub within : length (mendedText sheet) ≤ longestSheet
+      → answer ≡ record { refusal = Accepted; place = 0; bytes = length (mendedText sheet); noted = length (changesText sheet) }
+  pub over : longestSheet < length (mendedText sheet) → answer ≡ record { refusal = LongSheet; place = 0; bytes = 0; noted = 0 }
+  pub given : priceLeftOut sheet ≡ false → answer ≡ record { refusal = Accepted; place = 0; bytes = length sheet; noted = 0 }
+  pub left-out : priceLeftOut sheet ≡ true → length (mendedText sheet) ≡ length sheet + 5
+
+abbrev pub AcceptedTaken : Type 0
+AcceptedTaken =
+    (sheet : List ℕ)
+    → sheetVerdict sheet ≡ accepted
+    → saysSweep sheet ≡ false
+    → judgeOf (sheetRun sheet) ≡ accepted
+    → (out notes : List ℕ) (answer : Mended) (out′ notes′ : List ℕ)
+    → SheetMended sheet out notes answer out′ notes′
+    → length (mendedText sheet) ≤ length out
+    → length (changesText sheet) ≤ length notes
+    → Taken sheet answer
