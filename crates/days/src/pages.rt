@@ -1,10 +1,7 @@
 // The texts of answers, put on pages of their own and handed out.
 ghost use mathlib.Core.Path.{_≡_};
-ghost use mathlib.Core.Bool.{false};
 ghost use Prim.Native.Nat.{_+_, _*_, _≤_, min};
 ghost use lib.ListN.{length, take, drop, getD};
-ghost use Rattle.refusals.specs.Refusals.{isRefusal};
-ghost use Rattle.boardings.specs.Boardings.{takenOf};
 ghost use Rattle.prints.specs.Printing.{pairLine, pairLines, Wrote};
 ghost use Rattle.writers.specs.PlanSheet.{detourKey};
 ghost use Rattle.days.specs.Answers.{placeIn, ticketLine, closedLine, closedLines, boardedTop, saysText, verdictIn, boardedText};
