@@ -297,7 +297,7 @@ def help_and_version(at):
     for line in ("version", "plan --version", "ltfs --version", "test --version"):
         at.must(f"./violstream {line}", 0, version, silent=True)
     at.must("./violstream version > /dev/full", 1, b"", ["cannot write to standard output"])
-    for number in (2, 3, 4, 5, 6, 7, 9, 10, 11, 12, 13, 19, 20, 21, 22, 23, 24, 25):
+    for number in (2, 3, 4, 5, 6, 7, 9, 10, 11, 12, 13, 15, 16, 17, 18, 19, 20, 21, 22, 23, 24, 25):
         if re.search(rb"\n +%d  \S" % number, text) is None:
             raise Wrong(f"./violstream help does not list refusal {number}")
 
@@ -545,7 +545,7 @@ def manual(at):
     if f'"{version}"' not in page:
         raise Wrong(f"docs/violstream.1 is not of {version}")
     text = " ".join(at.shell("./violstream help")[0].decode().split())
-    for number in (2, 3, 4, 5, 6, 7, 9, 10, 11, 12, 13, 19, 20, 21, 22, 23, 24, 25):
+    for number in (2, 3, 4, 5, 6, 7, 9, 10, 11, 12, 13, 15, 16, 17, 18, 19, 20, 21, 22, 23, 24, 25):
         words = re.search(r"\n%d\n([^.]*)\n\." % number, page)
         if words is None or " ".join(words[1].split()) not in text:
             raise Wrong(f"docs/violstream.1 does not say of refusal {number} what the help says: {words and words[1]!r}")
