@@ -614,7 +614,7 @@ def building(at):
     at.must("./violstream plan -x", 2, b"")
     if called(at):
         raise Wrong(f"something was built for a call that could not be answered: {called(at)}")
-    at.must("./violstream plan examples/VX0041.run", 0, PLAN, ["proving and building cmd_plan; at most some 4 minutes", "violstream: walk proved (7 s)\n"])
+    at.must("./violstream plan examples/VX0041.run", 0, PLAN, ["proving and building cmd_plan; at most some 3 minutes", "violstream: walk proved (7 s)\n"])
     at.must("./violstream plan examples/VX0041.run", 0, PLAN, silent=True)
     if called(at) != ["check cmd_plan"]:
         raise Wrong(f"rt was called so: {called(at)}")
