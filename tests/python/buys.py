@@ -44,13 +44,7 @@ def compare(start):
 
 
 def main():
-    words = programs.arguments(__doc__.split("\n")[0], "cmd_buys").parse_args()
-    start = programs.started(words)
-    if not words.time:
-        compare(start)
-        return
-    programs.say_if_emulated(start)
-    print(f"full sheet ({len(plan.full_sheet())} bytes): {plan.timed(start, plan.full_sheet())}")
+    programs.tried(__doc__, "cmd_buys", compare, [("full sheet", plan.full_sheet())])
 
 
 if __name__ == "__main__":

@@ -83,8 +83,8 @@ def main():
             compare(start)
         return
     programs.say_if_emulated(start)
-    print(f"eight wants, 1,024 reads: {plan.timed(start, plan.sheet_of(8, 1024))}")
-    print(f"empty sheet, refused at once: {plan.timed(start, b'')}")
+    print(f"eight wants, 1,024 reads: {programs.timed(start, plan.sheet_of(8, 1024))}")
+    print(f"empty sheet, refused at once: {programs.timed(start, b'')}")
 
 
 if __name__ == "__main__":

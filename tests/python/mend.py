@@ -13,7 +13,6 @@ import os
 import random
 import subprocess
 import sys
-import time
 
 import programs
 from plan import contents, stored
@@ -218,26 +217,9 @@ def compare(start):
     print(f"mend.py: {tried} sheets answered as they must be, {changed} of them mended")
 
 
-def timed(start, sheet, calls=300):
-    taken = []
-    for _ in range(calls):
-        began = time.perf_counter()
-        subprocess.run(start, input=sheet, capture_output=True)
-        taken.append(1000 * (time.perf_counter() - began))
-    taken.sort()
-    return f"best {taken[0]:.2f} ms, median {taken[calls // 2]:.2f} ms of {calls} calls"
-
-
 def main():
-    words = programs.arguments(__doc__.split("\n")[0], "cmd_mend").parse_args()
-    start = programs.started(words)
-    if not words.time:
-        compare(start)
-        return
-    programs.say_if_emulated(start)
     long = top(0) + b"wants=0\n" + b"want=2,1\n" * 900 + b"want=1,0\n" * 900
-    print(f"long sheet ({len(long)} bytes, 1,800 want lines): {timed(start, long)}")
-    print(f"empty sheet, refused at once: {timed(start, b'')}")
+    programs.tried(__doc__, "cmd_mend", compare, [("long sheet with 1,800 want lines", long), ("empty sheet, refused at once", b"")])
 
 
 if __name__ == "__main__":

@@ -12,7 +12,6 @@ import os
 import random
 import subprocess
 import sys
-import time
 
 import programs
 from runs import Refused, judge, lists, order, stops, walk
@@ -164,28 +163,12 @@ def full_sheet():
     return b"tape=ABCDEFGHIJKLMNOP\nhead=1099511627776\nturn=1000000\nrule=least\nfiles=256\n" + files + b"wants=10\n" + wants
 
 
-def timed(start, sheet, calls=300):
-    taken = []
-    for _ in range(calls):
-        began = time.perf_counter()
-        out = subprocess.run(start, input=sheet, capture_output=True).stdout
-        taken.append(1000 * (time.perf_counter() - began))
-        if out.startswith(b"refused") != (sheet == b""):
-            sys.exit(f"plan.py: the program printed {out!r}")
-    taken.sort()
-    return f"best {taken[0]:.2f} ms, median {taken[calls // 2]:.2f} ms of {calls} calls"
-
-
 def main():
-    words = programs.arguments(__doc__.split("\n")[0], "cmd_plan").parse_args()
-    start = programs.started(words)
-    if not words.time:
+    def stored_and_drawn(start):
         compare_stored(start)
         compare(start)
-        return
-    programs.say_if_emulated(start)
-    print(f"full sheet ({len(full_sheet())} bytes): {timed(start, full_sheet())}")
-    print(f"empty sheet, refused at once: {timed(start, b'')}")
+
+    programs.tried(__doc__, "cmd_plan", stored_and_drawn, [("full sheet", full_sheet()), ("empty sheet, refused at once", b"")])
 
 
 if __name__ == "__main__":

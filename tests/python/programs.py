@@ -3,6 +3,7 @@ import argparse
 import os
 import subprocess
 import sys
+import time
 
 ROOT = os.path.dirname(os.path.dirname(os.path.dirname(os.path.abspath(__file__))))
 MACHINE = os.path.join(ROOT, "tools/machine.sh")
@@ -33,3 +34,28 @@ def started(words):
 def say_if_emulated(start):
     if len(start) > 1:
         print("EMULATED: the times below say nothing of the program on x86-64.")
+
+
+def timed(start, sheet, calls=300):
+    """How long a call takes that reads this; a sheet of no bytes is the one that is refused."""
+    taken = []
+    for _ in range(calls):
+        began = time.perf_counter()
+        out = subprocess.run(start, input=sheet, capture_output=True).stdout
+        taken.append(1000 * (time.perf_counter() - began))
+        if out.startswith(b"refused") != (sheet == b""):
+            sys.exit(f"{sys.argv[0]}: the program printed {out!r}")
+    taken.sort()
+    return f"best {taken[0]:.2f} ms, median {taken[calls // 2]:.2f} ms of {calls} calls"
+
+
+def tried(about, crate, compare, sheets):
+    """The comparison of a program, or with --time how long it takes for sheets, each behind its name."""
+    words = arguments(about.split("\n")[0], crate).parse_args()
+    start = started(words)
+    if not words.time:
+        compare(start)
+        return
+    say_if_emulated(start)
+    for name, sheet in sheets:
+        print(f"{name} ({len(sheet)} bytes): {timed(start, sheet)}")

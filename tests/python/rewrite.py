@@ -14,7 +14,6 @@ import os
 import random
 import subprocess
 import sys
-import time
 
 import programs
 from plan import contents, stored
@@ -142,25 +141,8 @@ def compare(start):
     print(f"rewrite.py: {tried} sheets answered as they must be, {changed} of them with a price put in")
 
 
-def timed(start, sheet, calls=300):
-    taken = []
-    for _ in range(calls):
-        began = time.perf_counter()
-        subprocess.run(start, input=sheet, capture_output=True)
-        taken.append(1000 * (time.perf_counter() - began))
-    taken.sort()
-    return f"best {taken[0]:.2f} ms, median {taken[calls // 2]:.2f} ms of {calls} calls"
-
-
 def main():
-    words = programs.arguments(__doc__.split("\n")[0], "cmd_rewrite").parse_args()
-    start = programs.started(words)
-    if not words.time:
-        compare(start)
-        return
-    programs.say_if_emulated(start)
-    print(f"long sheet ({len(longest(b''))} bytes): {timed(start, longest(b''))}")
-    print(f"empty sheet, refused at once: {timed(start, b'')}")
+    programs.tried(__doc__, "cmd_rewrite", compare, [("long sheet", longest(b"")), ("empty sheet, refused at once", b"")])
 
 
 if __name__ == "__main__":
