@@ -28,7 +28,7 @@ use Rattle.tickets.proofs.Storing.{file-accepted, office-is, range-office}
 use Rattle.tickets.proofs.Placed.{none-bad}
 use Rattle.tickets.proofs.Kept.{Stands, sound-stands, filed-so, not-filed-so, withdrawn-so, not-withdrawn-so}
 use Rattle.demands.proofs.Demand2.{demand2-walk, demand2-least}
-use Rattle.demands.proofs.Demand3.{demand3-same}
+use Rattle.demands.proofs.Demand3.{demand3}
 use Rattle.promises.specs.Desk.{Kept, atFirst, IsTable, IsOffice, Call, filing, Fits, files, withdraws, boards, Day, over, then, departs, departures, leaving, joining, withdrawn, withdrawnIn, queueIn, givenBy, given, countedFrom, Fate, LeavesOn, TableStays, TableFromEmpty, NumbersCountUp, NoneGivenTwice, InOrder, StandByNumber, FreedPlaceServes, OnlyTheseTakeAway, LeavesInTime, FiledBehind, answered, RefusedChangesNothing, BoardingTakes, RefusalKeeps, OwnOfficeDecides, BoardedRunHolds}
 use Rattle.promises.proofs.DeskSteps.{step, gives, fate, not-accepted, takes, refused-is, board-accepted}
 
@@ -273,7 +273,7 @@ boarded-run-holds len tape row b before after r fits accepts =
     record {
       walk = demand2-walk _ before (r .boarded .answer) after run accepts;
       least = demand2-least _ before (r .boarded .answer) after run accepts;
-      unbeaten = demand3-same _ before (r .boarded .answer) after run accepts;
+      unbeaten = λ first judged asks. demand3 first _ before (r .boarded .answer) after judged run accepts asks;
     }
 
 pub refusal-keeps : RefusalKeeps

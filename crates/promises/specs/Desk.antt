@@ -11,6 +11,7 @@ use Rattle.refusals.specs.declared.Refusal.{Refusal}
 use Rattle.refusals.specs.declared.Refusal.the-variants.{Accepted}
 use Rattle.refusals.specs.Refusals.{isRefusal}
 use Rattle.runs.specs.Run.{Run, stopsOf}
+use Rattle.runs.specs.Judging.{judgeOf}
 use Rattle.walk.specs.declared.Leg.{Leg}
 use Rattle.walk.specs.Walk.{headAt, Moves, ServesAll, sumOf}
 use Rattle.planner.specs.Plan.{Rows}
@@ -27,6 +28,7 @@ use Rattle.boardings.specs.declared.Boarding.{Boarding}
 use Rattle.boardings.specs.declared.BoardedRow.{BoardedRow}
 use Rattle.boardings.specs.Boardings.{Tape, boardRun, Boards}
 use Rattle.demands.specs.Demand2.{IsTheWalk, IsLeast}
+use Rattle.demands.specs.Demand3.{AsksNoLess}
 
 -- What is kept from call to call: the waiting table, and the last number given to each office.
 pub record Kept : Type 0 where
@@ -287,11 +289,17 @@ OwnOfficeDecides =
     → waiting (f .office) row ≡ waiting (f .office) row′
     → fileRow len row f .filed ≡ fileRow len row′ f .filed
 
--- Demands 2 and 3 hold of each boarded run.
+-- Demands 2 and 3 hold of each boarded run: no movement for a run that asks for no less beats its sum.
 pub record RunHolds (r : Run) (b : BoardedRow) (after : Rows) : Type 0 where
   pub walk : IsTheWalk r (b .boarded .answer) after
   pub least : IsLeast r (b .boarded .answer) after
-  pub unbeaten : (gs : List Leg) → Moves (r .head) gs → ServesAll gs (stopsOf r) → b .boarded .answer .sum ≤ sumOf (r .turn) (headAt (r .head)) gs (stopsOf r)
+  pub unbeaten : (first : Run)
+      → isRefusal (judgeOf first .refusal) ≡ false
+      → AsksNoLess first r
+      → (gs : List Leg)
+      → Moves (first .head) gs
+      → ServesAll gs (stopsOf first)
+      → b .boarded .answer .sum ≤ sumOf (first .turn) (headAt (first .head)) gs (stopsOf first)
 
 abbrev pub BoardedRunHolds : Type 0
 BoardedRunHolds =
