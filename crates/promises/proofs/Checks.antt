@@ -39,7 +39,7 @@ use Rattle.lists.specs.Reading.{planForm, listForm}
 use Rattle.lists.proofs.RoundTrip.{plan-formed, froms-back, tos-back}
 use Rattle.checks.specs.Pricing.{priceChecks, priceVerdict, priceText, SheetPriced}
 use Rattle.checks.specs.Checking.{formedYes, formedNo, walkYes, walkNo, leastYes, leastNo, firstDifference, walkLine, differenceLines, sameList, leastLine, verdictLines, checkText, checkChecks, checkVerdict, SheetChecked}
-use Rattle.promises.specs.Checks.{Larger, Told, CheckTells, PlanChecks, PriceTells}
+use Rattle.promises.specs.Checks.{Larger, Told, CheckTells, CheckPrinted, PlanChecks, PriceTells}
 
 -- Two texts are the same exactly where the test says so.
 text-same : (a b : List ℕ) → isText a b ≡ true → b ≡ a
@@ -291,6 +291,9 @@ plan-checks sheet row n row′ r e some out m out′ c =
     let p = r .answers .planned e in
     let fits = put-some (r .text) row n (r .bytes) some in
     said-all sheet e (p .list) (p .least) (take n row′) (put-whole (r .text) row n row′ (r .bytes) (r .left) fits ∙ p .says) out m out′ c
+
+pub check-printed : CheckPrinted
+check-printed sheet plan row n row′ c l = put-whole (c .text) row n row′ (c .holds .bytes) (c .holds .left) l
 
 pub price-tells : PriceTells
 unfolding priceText verdictBy

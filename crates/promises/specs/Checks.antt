@@ -40,6 +40,13 @@ CheckTells =
     → isRefusal (checkVerdict sheet plan .refusal) ≡ false
     → Told (sheetName sheet) (sheetRun sheet) plan (planFroms plan) (planTos plan) (c .text)
 
+-- That text is what a row with room for it begins with.
+abbrev pub CheckPrinted : Type 0
+CheckPrinted =
+    (sheet plan row : List ℕ) (n : ℕ) (row′ : List ℕ) (c : SheetChecked sheet plan row n row′)
+    → length (c .text) ≤ length row
+    → take n row′ ≡ c .text
+
 -- The sheet that `plan` prints for a run sheet, in a row with room for it, checks as well formed, the walk's and the least.
 abbrev pub PlanChecks : Type 0
 PlanChecks =
