@@ -13,6 +13,8 @@ pub mod Again
 pub mod Canonical
 pub mod Same
 pub mod Taken
+pub mod Described
+pub mod Strict
 pub mod Mends
 pub mod MonthTotals
 pub mod MonthNames

@@ -22,7 +22,7 @@ use Rattle.texts.proofs.Bytes.{and-true-both}
 use Rattle.texts.proofs.Split.{key-split, whole-key}
 use Rattle.sheets.specs.Lines.{turnKey, ruleKey, sweepText, namesSweep}
 use Rattle.sheets.specs.Sheet.{longestSheet, sheetTurn, saysSweep, sheetFiles, fileText, sheetRun}
-use Rattle.loose.specs.Loose.{looseFiles, wantsSaid, priceLeftOut, firstBadLoose, wantedFiles, wantedCounts}
+use Rattle.loose.specs.Loose.{looseFiles, looseWants, wantsSaid, priceLeftOut, firstBadLoose, wantedFiles, wantedCounts}
 use Rattle.loose.specs.Reading.{looseVerdict}
 use Rattle.mends.specs.declared.Mended.{Mended}
 use Rattle.mends.specs.declared.wants.Fate.{Fate}
@@ -30,14 +30,15 @@ use Rattle.mends.specs.declared.wants.Fate.the-variants.{Stays, Moved, Added, D
 use Rattle.mends.specs.Wants.{remaining, readsIn, askedOf, readsOf, readsEach, sameAbove, higherAbove, fateOf}
 use Rattle.mends.specs.Mending.{firstLines, sheetRemaining, sheetReads, mendedText, changeIf, changesText, fateLine, fateLines, wantsVerdicts, textsVerdicts, mendVerdict, SheetMended}
 use Rattle.mends.proofs.Answers.{mend-determined}
-use Rattle.promises.specs.Mends.{InRows, MendedRows, MendingDetermined, WasMended, SameReads, ReadsKept, Orderly, InOrder, MendedInOrder, SameFile, HigherFile, FateBy, FatesByConditions, SaidOf, EveryFateListed, ListedWhen, SaidAbove, TopChangesListed, OnceIsEnough, ComesBack, AcceptedComesBack, Taken, AcceptedTaken}
+use Rattle.promises.specs.Mends.{InRows, MendedRows, MendingDetermined, WasMended, SameReads, ReadsKept, Orderly, InOrder, MendedInOrder, ReadAsARun, MendedIsRead, SameFile, HigherFile, FateBy, FatesByConditions, SaidOf, EveryFateListed, ListedWhen, SaidAbove, TopChangesListed, OnceIsEnough, ComesBack, AcceptedComesBack, Taken, AcceptedTaken}
 use Rattle.promises.proofs.Gathered.{rising-at, Clean, remaining-clean, clean-remaining, clean-each, clean-stays, reads-kept, total-kept}
 use Rattle.runs.specs.Judging.{judgeOf}
 use Rattle.lines.specs.Lines.{afterLines, lineAfter, valueText}
-use Rattle.sheets.specs.Reading.{sheetVerdict}
+use Rattle.sheets.specs.Reading.{sheetVerdict, ruleVerdict}
 use Rattle.sheets.proofs.Good.{short-sheet}
 use Rattle.promises.proofs.Same.{empty-is, old-sheet, new-sheet, same-sheet, one-change}
 use Rattle.promises.proofs.Taken.{taken, too-long, five-longer}
+use Rattle.promises.proofs.Strict.{strict, numbers-read, counts-read}
 use Rattle.promises.proofs.Again.{lines-even, upper-again, turn-again, price-there, rule-there, files-said, files-again, table-again, wants-said, wants-again, named-again, asked-again, good-again, remaining-once, reads-once, fates-none}
 
 accepted-passes : (kind : Refusal) → kind ≡ Accepted → isRefusal kind ≡ false
@@ -150,6 +151,22 @@ reads-are-kept sheet text m = same-reads sheet text m
 
 pub mended-in-order : MendedInOrder
 mended-in-order sheet text m = in-order sheet text m
+
+pub mended-is-read : MendedIsRead
+unfolding sheetVerdict ruleVerdict
+mended-is-read sheet text m =
+    let k = known sheet text m in
+    let e = text-mended sheet text m in
+    let order = in-order sheet text m in
+    let short : length text ≤ longestSheet = rw e (k .short) in
+    let few : looseWants text ≤ mostWants = rw (e, wants-again sheet (k .good) (k .few) (k .reads)) (k .few) in
+    let least : saysSweep text ≡ false = ap saysSweep e ∙ rule-there sheet (k .good) (k .few) (k .reads) in
+    record {
+      lines = rw (le-ltb longestSheet (length text) short, strict text (order .described) (order .files-said) (order .wants-said) few);
+      rule = rw least;
+      numbers = numbers-read text (order .described) (order .files-said) (order .wants-said) few;
+      counts = counts-read text (order .described) (order .files-said) (order .wants-said) few;
+    }
 
 -- A sheet with the parts of another has its mended text; one with nothing to change lists none.
 same-parts : (t sheet : List ℕ) → firstLines 2 t ≡ firstLines 2 sheet → sheetTurn t ≡ sheetTurn sheet → firstLines (looseFiles t) (fileText t) ≡ firstLines (looseFiles sheet) (fileText sheet)

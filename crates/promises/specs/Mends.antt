@@ -1,6 +1,6 @@
--- The request on mending (L11): what stands in the two rows; the reads of every file are kept; the wants written ascend, none repeats, none is 0; each
--- want line's fate, by conditions of its own; every change is listed and nothing else; what is written needs no second mending; the sheet of an accepted
--- run is accepted and comes back.
+-- The request on mending (L11): what stands in the two rows; the reads of every file are kept; the wants written ascend, none repeats, none is 0, and the
+-- reader of run sheets takes what is written; each want line's fate, by conditions of its own; every change is listed and nothing else; what is written
+-- needs no second mending; the sheet of an accepted run is accepted and comes back.
 use Prim.Native.Nat.{ℕ, _+_, _≤_, _<_}
 use mathlib.Core.Path.{_≡_}
 use mathlib.Core.Bool.{true, false}
@@ -14,7 +14,7 @@ use Rattle.texts.specs.Text.{bytes}
 use Rattle.lines.specs.Lines.{lineAfter, valueText}
 use Rattle.sheets.specs.Lines.{turnKey, ruleKey, sweepText}
 use Rattle.sheets.specs.Sheet.{longestSheet, sheetTurn, saysSweep, sheetFiles, sheetRun}
-use Rattle.sheets.specs.Reading.{sheetVerdict}
+use Rattle.sheets.specs.Reading.{sheetVerdict, ruleVerdict}
 use Rattle.prints.specs.Printing.{line, numberLine}
 use Rattle.loose.specs.Loose.{looseFiles, looseWants, wantsSaid, priceLeftOut, firstBadLoose, wantedFiles, wantedCounts}
 use Rattle.mends.specs.declared.Mended.{Mended}
@@ -80,6 +80,16 @@ pub record InOrder (text : List ℕ) : Type 0 where
 
 abbrev pub MendedInOrder : Type 0
 MendedInOrder = (sheet text : List ℕ) → WasMended sheet text → InOrder text
+
+-- So the reader of run sheets takes it: 12, 11 and 19 do not apply, and the wants that it reads are those lines.
+pub record ReadAsARun (text : List ℕ) : Type 0 where
+  pub lines : sheetVerdict text ≡ accepted
+  pub rule : ruleVerdict text ≡ accepted
+  pub numbers : sheetRun text .numbers ≡ wantedFiles text
+  pub counts : sheetRun text .counts ≡ wantedCounts text
+
+abbrev pub MendedIsRead : Type 0
+MendedIsRead = (sheet text : List ℕ) → WasMended sheet text → ReadAsARun text
 
 -- A line above that names the same file and is not dropped; one that names a higher file.
 pub record SameFile (files counts : List ℕ) (line above : ℕ) : Type 0 where
