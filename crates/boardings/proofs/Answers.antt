@@ -15,7 +15,7 @@ use Rattle.walk.specs.Price.{refusalAnswer}
 use Rattle.planner.specs.Plan.{Rows, Plans}
 use Rattle.tickets.specs.declared.Ticket.{Ticket}
 use Rattle.tickets.specs.declared.Lasts.{Lasts}
-use Rattle.tickets.specs.Table.{rowVerdict}
+use Rattle.tickets.specs.Table.{recordsVerdict}
 use Rattle.boardings.specs.declared.Boarding.{Boarding}
 use Rattle.boardings.specs.declared.Taken.{Taken}
 use Rattle.boardings.specs.declared.Wants.{Wants}
@@ -37,7 +37,7 @@ module _ (row : List Ticket) (l : Lasts) (a : Answer) (n : ℕ) (is : n ≡ numb
           (record { boarded = record { answer = a; taken = t'; wants = w'; lasts = l }; row = s' })
       made e f g = cc
 
-module _ (len : ℕ) (tape : Tape) (row : List Ticket) (b : Boarding) (before : Rows) (r : BoardedRow) (v : Verdict) (is : v ≡ rowVerdict len row (b .lasts)) (f : Bool) (test : f ≡ refuses v) where
+module _ (len : ℕ) (tape : Tape) (row : List Ticket) (b : Boarding) (before : Rows) (r : BoardedRow) (v : Verdict) (is : v ≡ recordsVerdict len row (b .lasts)) (f : Bool) (test : f ≡ refuses v) where
   -- The row is refused.
   pub row-refused : f ≡ true → (a : Answer) → a ≡ refusalAnswer v → r ≡ notBoarded row (b .lasts) a → Boards len tape row b before r before
   row-refused e a a-is says =

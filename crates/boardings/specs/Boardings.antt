@@ -12,7 +12,7 @@ use Rattle.walk.specs.Price.{refusalAnswer}
 use Rattle.planner.specs.Plan.{Rows, Plans}
 use Rattle.tickets.specs.declared.Ticket.{Ticket}
 use Rattle.tickets.specs.declared.Lasts.{Lasts}
-use Rattle.tickets.specs.Table.{rowVerdict}
+use Rattle.tickets.specs.Table.{recordsVerdict}
 use Rattle.boardings.specs.declared.Boarding.{Boarding}
 use Rattle.boardings.specs.declared.Taken.{Taken}
 use Rattle.boardings.specs.declared.Wants.{Wants}
@@ -59,7 +59,7 @@ boardedBy row l a =
 
 -- 8 or 26 of the row of records: nothing changes.
 pub record RowRefused (len : ℕ) (row : List Ticket) (b : Boarding) (before : Rows) (r : BoardedRow) (after : Rows) : Type 0 where
-  pub says : r ≡ notBoarded row (b .lasts) (refusalAnswer (rowVerdict len row (b .lasts)))
+  pub says : r ≡ notBoarded row (b .lasts) (refusalAnswer (recordsVerdict len row (b .lasts)))
   pub kept : after ≡ before
 
 -- Else the plan of the run, its rows, and the tickets by it.
@@ -68,5 +68,5 @@ pub record RunPlanned (tape : Tape) (row : List Ticket) (b : Boarding) (before :
   pub says : r ≡ boardedBy row (b .lasts) (r .boarded .answer)
 
 pub record Boards (len : ℕ) (tape : Tape) (row : List Ticket) (b : Boarding) (before : Rows) (r : BoardedRow) (after : Rows) : Type 0 where
-  pub refused : isRefusal (rowVerdict len row (b .lasts) .refusal) ≡ true → RowRefused len row b before r after
-  pub planned : isRefusal (rowVerdict len row (b .lasts) .refusal) ≡ false → RunPlanned tape row b before r after
+  pub refused : isRefusal (recordsVerdict len row (b .lasts) .refusal) ≡ true → RowRefused len row b before r after
+  pub planned : isRefusal (recordsVerdict len row (b .lasts) .refusal) ≡ false → RunPlanned tape row b before r after

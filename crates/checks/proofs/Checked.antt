@@ -27,9 +27,9 @@ use Rattle.writers.specs.RefusalLines.{refusalText}
 use Rattle.recalls.specs.Recall.{runChecks}
 use Rattle.recalls.proofs.Planned.{Lent, run-refusal, planned, accepts, listed-froms, listed-tos}
 use Rattle.figures.specs.Private.{Priceable}
-use Rattle.lists.specs.Form.{planDetours, detourText, planFroms, planTos, startsOn, endsOn}
+use Rattle.lists.specs.Form.{detoursTold, detourText, planFroms, planTos, startsOn, endsOn}
 use Rattle.lists.specs.Reading.{planForm}
-use Rattle.checks.specs.declared.checking.Least.{Least}
+use Rattle.checks.specs.declared.checking.LeastBeside.{LeastBeside}
 use Rattle.checks.specs.Pricing.{Holds}
 use Rattle.checks.specs.Checking.{formedYes, formedNo, walkLine, differenceLines, sameList, leastLine, verdictLines, checkText, checkChecks, Answers, Checked, RunChecked}
 use Rattle.checks.specs.Private.{LeastIs, LeastFound, leastLineBy, verdictBy, ListChecked}
@@ -109,7 +109,7 @@ unfolding checkText verdictLines leastLine
 formed-text name run plan froms tos list none expected x same s sum e least m = rw (none, x, s, e, m)
 
 -- What is answered to a run and a list.
-module _ (name : List ℕ) (run : Run) (plan froms tos row : List ℕ) (l : Least) (found : LeastFound run froms tos l) (v : Verdict) (v-is : v ≡ l .verdict) (f : Bool) (f-is : f ≡ isRefusal (v .refusal)) where
+module _ (name : List ℕ) (run : Run) (plan froms tos row : List ℕ) (l : LeastBeside) (found : LeastFound run froms tos l) (v : Verdict) (v-is : v ≡ l .verdict) (f : Bool) (f-is : f ≡ isRefusal (v .refusal)) where
   says : f ≡ refuses (firstOf (runChecks run))
   says = f-is ∙ ap refuses (v-is ∙ found .verdict)
 
@@ -183,7 +183,7 @@ module _ (name : List ℕ) (run : Run) (plan row : List ℕ) where
         holds = handed-holds (refusalText v) row w row′ h;
       }
 
-  pub plan-checked : refuses (planForm plan) ≡ false → (froms tos : List ℕ) → froms ≡ startsOn (planDetours plan) (detourText plan) → tos ≡ endsOn (planDetours plan) (detourText plan) → (n : ℕ) (row′ : List ℕ)
+  pub plan-checked : refuses (planForm plan) ≡ false → (froms tos : List ℕ) → froms ≡ startsOn (detoursTold plan) (detourText plan) → tos ≡ endsOn (detoursTold plan) (detourText plan) → (n : ℕ) (row′ : List ℕ)
       → ListChecked name run plan froms tos row n row′ → RunChecked name run plan row n row′
   unfolding planFroms planTos
   plan-checked e froms tos f t n row′ h =

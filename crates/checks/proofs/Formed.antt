@@ -21,8 +21,8 @@ use Rattle.sheets.proofs.Rows.{length-each}
 use Rattle.recalls.proofs.Read.{filled-long, filled-front}
 use Rattle.writers.specs.PlanSheet.{sumKey, readsKey, finishKey, endKey, detoursKey, detourKey}
 use Rattle.lists.specs.declared.ListReading.{ListReading}
-use Rattle.lists.specs.Form.{mostDetours, firstFailing, planDetours, planBadTop, planBadBelow, planBadLine, isPlan, listDetours, listBadLine, linesUpTo, startsOn, endsOn}
-use Rattle.lists.specs.Reading.{planForm, listForm, formChecks, readVerdict, ReadBy}
+use Rattle.lists.specs.Form.{mostDetours, firstFailing, detoursTold, planBadTop, planBadBelow, planBadLine, isPlan, listDetours, listBadLine, linesUpTo, startsOn, endsOn}
+use Rattle.lists.specs.Reading.{planForm, listForm, formChecks, pairsVerdict, ReadBy}
 use Rattle.lists.proofs.Counting.{up-to-few}
 
 -- Where no line fails, the first passes and none behind it fails.
@@ -39,8 +39,8 @@ first-none : (a : ℕ) (ns : List ℕ) → firstSome (a ∷ ns) ≡ 0 → a ≡ 
 first-none zero ns e = refl
 first-none (suc a) ns e = e
 
-top-few : (plan : List ℕ) → planBadLine plan ≡ 0 → planDetours plan ≤ mostDetours
-unfolding planBadLine planBadTop planDetours afterLines isCountLine
+top-few : (plan : List ℕ) → planBadLine plan ≡ 0 → detoursTold plan ≤ mostDetours
+unfolding planBadLine planBadTop detoursTold afterLines isCountLine
 top-few plan e =
     let t₀ = none-fails 0 isTapeLine (isNumberLine sumKey ∷ isNumberLine readsKey ∷ isNumberLine finishKey ∷ isNumberLine endKey ∷ isCountLine detoursKey mostDetours ∷ []) plan (first-none (planBadTop plan) (planBadBelow plan ∷ []) e) in
     let t₁ = none-fails 1 (isNumberLine sumKey) (isNumberLine readsKey ∷ isNumberLine finishKey ∷ isNumberLine endKey ∷ isCountLine detoursKey mostDetours ∷ []) (afterLines 1 plan) (t₀ .1) in
@@ -55,7 +55,7 @@ form-good bad text e =
     let all = all-accept (formChecks bad text) e in
     (ltb-false longestSheet (length text) (accepts-if (ltb longestSheet (length text)) LongSheet refl (all .0)), accepts-at bad BadLine refl (all .1 .0))
 
-pub plan-few : (plan : List ℕ) → refuses (planForm plan) ≡ false → planDetours plan ≤ 63
+pub plan-few : (plan : List ℕ) → refuses (planForm plan) ≡ false → detoursTold plan ≤ 63
 unfolding planForm
 plan-few plan e = top-few plan (form-good (planBadLine plan) plan e .1)
 
@@ -73,17 +73,17 @@ list-few list e = go (isPlan list) refl
 
 -- What a reader answers with rows of 63 entries.
 module _ (form : Verdict) (many : ℕ) (text : List ℕ) (few : refuses form ≡ false → many ≤ 63) (row₁ row₂ : List ℕ) (long₁ : length row₁ ≡ 63) (long₂ : length row₂ ≡ 63)
-    (r : ListReading) (row₁′ row₂′ : List ℕ) (read : ReadBy (readVerdict form many row₁ row₂) many text row₁ row₂ r row₁′ row₂′) (v : Verdict) (v-is : v ≡ r .verdict) (f : Bool) (f-is : f ≡ isRefusal (v .refusal)) where
-  so-refused : refuses form ≡ true → readVerdict form many row₁ row₂ ≡ form
+    (r : ListReading) (row₁′ row₂′ : List ℕ) (read : ReadBy (pairsVerdict form many row₁ row₂) many text row₁ row₂ r row₁′ row₂′) (v : Verdict) (v-is : v ≡ r .verdict) (f : Bool) (f-is : f ≡ isRefusal (v .refusal)) where
+  so-refused : refuses form ≡ true → pairsVerdict form many row₁ row₂ ≡ form
   so-refused e = rw e
 
-  so-accepted : refuses form ≡ false → readVerdict form many row₁ row₂ ≡ accepted
+  so-accepted : refuses form ≡ false → pairsVerdict form many row₁ row₂ ≡ accepted
   so-accepted e = let l = few e in rw (e, le-ltb (length row₁) many (omega (arith, long₁)), le-ltb (length row₂) many (omega (arith, long₂)))
 
   says : f ≡ refuses form
   says = f-is ∙ ap refuses (v-is ∙ read .verdict) ∙ go (refuses form) refl
     where
-      go : (b : Bool) → refuses form ≡ b → refuses (readVerdict form many row₁ row₂) ≡ refuses form
+      go : (b : Bool) → refuses form ≡ b → refuses (pairsVerdict form many row₁ row₂) ≡ refuses form
       go true e = ap refuses (so-refused e)
       go false e = ap refuses (so-accepted e) ∙ sym e
 
@@ -94,7 +94,7 @@ module _ (form : Verdict) (many : ℕ) (text : List ℕ) (few : refuses form ≡
     pub form-passes : refuses form ≡ false
     form-passes = sym says ∙ passed
 
-    row-is : (values row row′ : List ℕ) → row′ ≡ readRow (readVerdict form many row₁ row₂) values row → row′ ≡ values ++ drop (length values) row
+    row-is : (values row row′ : List ℕ) → row′ ≡ readRow (pairsVerdict form many row₁ row₂) values row → row′ ≡ values ++ drop (length values) row
     unfolding readRow
     row-is values row row′ e = e ∙ rw (so-accepted form-passes)
 

@@ -20,8 +20,8 @@ use Rattle.lists.specs.Reading.{listForm}
 abbrev pub priceChecks : List ℕ → Run → List Verdict
 priceChecks list run = listForm list ∷ judgeOf run ∷ listVerdict (stopsOf run) (listFroms list) (listTos list) ∷ []
 
-abbrev pub priceVerdict : List ℕ → List ℕ → Verdict
-priceVerdict sheet list = verdictBy (priceChecks list) sheet
+abbrev pub pricingVerdict : List ℕ → List ℕ → Verdict
+pricingVerdict sheet list = verdictBy (priceChecks list) sheet
 
 -- The text of the answer, under a verdict.
 unfoldable pub priceText : Verdict → List ℕ → Run → List ℕ → List ℕ
@@ -37,4 +37,4 @@ abbrev pub RunPriced : List ℕ → Run → List ℕ → List ℕ → ℕ → Li
 RunPriced name run list row n row′ = Holds (priceText (firstOf (priceChecks list run)) name run list) row n row′
 
 abbrev pub SheetPriced : List ℕ → List ℕ → List ℕ → ℕ → List ℕ → Type 0
-SheetPriced sheet list row n row′ = Holds (priceText (priceVerdict sheet list) (sheetName sheet) (sheetRun sheet) list) row n row′
+SheetPriced sheet list row n row′ = Holds (priceText (pricingVerdict sheet list) (sheetName sheet) (sheetRun sheet) list) row n row′

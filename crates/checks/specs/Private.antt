@@ -11,17 +11,17 @@ use Rattle.walk.specs.Price.{pricedAnswer}
 use Rattle.least.specs.Least.{LeastForRun}
 use Rattle.prints.specs.Printing.{numberLine}
 use Rattle.recalls.specs.Recall.{runChecks}
-use Rattle.checks.specs.declared.checking.Least.{Least}
+use Rattle.checks.specs.declared.checking.LeastBeside.{LeastBeside}
 use Rattle.checks.specs.Checking.{formedYes, leastYes, leastNo, walkLine, differenceLines, sameList, Checked}
 
 -- The least list of an accepted run, beside another.
-pub record LeastIs (run : Run) (froms tos : List ℕ) (r : Least) : Type 0 where
+pub record LeastIs (run : Run) (froms tos : List ℕ) (r : LeastBeside) : Type 0 where
   pub list : List Detour
   pub least : LeastForRun run list
   pub same : r .same ≡ sameList froms tos list
   pub sum : r .sum ≡ pricedAnswer run list .sum
 
-pub record LeastFound (run : Run) (froms tos : List ℕ) (r : Least) : Type 0 where
+pub record LeastFound (run : Run) (froms tos : List ℕ) (r : LeastBeside) : Type 0 where
   pub verdict : r .verdict ≡ firstOf (runChecks run)
   pub found : isRefusal (firstOf (runChecks run) .refusal) ≡ false → LeastIs run froms tos r
 

@@ -17,7 +17,7 @@ use refusals::Verdict;
 use refusals::refused;
 
 // What the planner finds: its verdict on the run, whether a list is the one that it finds, and the sum of that one.
-struct Least {
+struct LeastBeside {
     verdict: Verdict,
     same: bool,
     sum: u64,
@@ -34,7 +34,7 @@ fn least_of(
     turn: u64,
     froms: &[u64],
     tos: &[u64],
-) -> Least
+) -> LeastBeside
     ensures { λ r. ⌜ LeastFound (runAt starts lengths aggregates numbers counts head turn) (now (froms .entry)) (now (tos .entry)) r ⌝ }
 {
     let mut least_froms = [0u64; 63];
@@ -62,7 +62,7 @@ fn least_of(
         place: plan.place,
     };
     if refused(verdict) {
-        return Least {
+        return LeastBeside {
             verdict,
             same: false,
             sum: 0,
@@ -71,14 +71,14 @@ fn least_of(
     let n = plan.detours as usize;
     let sum = plan.sum;
     if !same_rows(froms, &least_froms[..n]) {
-        return Least {
+        return LeastBeside {
             verdict,
             same: false,
             sum,
         };
     }
     let same = same_rows(tos, &least_tos[..n]);
-    Least { verdict, same, sum }
+    LeastBeside { verdict, same, sum }
 }
 
 fn sum_of(

@@ -10,7 +10,7 @@ use Rattle.planner.proofs.Determined.{plan-determined}
 use Rattle.writers.specs.declared.Written.{Written}
 use Rattle.writers.proofs.Sheets.{handed-determined}
 use Rattle.tickets.specs.declared.Ticket.{Ticket}
-use Rattle.tickets.specs.Table.{allPlaces, rowVerdict}
+use Rattle.tickets.specs.Table.{allPlaces, recordsVerdict}
 use Rattle.boardings.specs.declared.Boarding.{Boarding}
 use Rattle.boardings.specs.declared.BoardedRow.{BoardedRow}
 use Rattle.boardings.specs.Boardings.{Tape, Boards, RowRefused, RunPlanned, boardRun, boardedBy}
@@ -30,9 +30,9 @@ module _ (tape : Tape) (row : List Ticket) (b : Boarding) (before : Rows) (r s :
       (p .says ∙ ap (boardedBy row (b .lasts)) (same .0) ∙ sym (q .says), same .1)
 
   pub boards-once : Boards allPlaces tape row b before r after → Boards allPlaces tape row b before s after′ → (r ≡ s) × (after ≡ after′)
-  boards-once p q = go (isRefusal (rowVerdict allPlaces row (b .lasts) .refusal)) refl
+  boards-once p q = go (isRefusal (recordsVerdict allPlaces row (b .lasts) .refusal)) refl
     where
-      go : (f : Bool) → isRefusal (rowVerdict allPlaces row (b .lasts) .refusal) ≡ f → (r ≡ s) × (after ≡ after′)
+      go : (f : Bool) → isRefusal (recordsVerdict allPlaces row (b .lasts) .refusal) ≡ f → (r ≡ s) × (after ≡ after′)
       go true e = refused-once (p .refused e) (q .refused e)
       go false e = planned-once (p .planned e) (q .planned e)
 

@@ -16,7 +16,7 @@ use Rattle.prints.specs.Printing.{pairLines, Wrote}
 use Rattle.prints.proofs.Pages.{wrote-both, wrote-within}
 use Rattle.writers.specs.PlanSheet.{detourKey}
 use Rattle.tickets.specs.declared.Ticket.{Ticket}
-use Rattle.tickets.specs.Table.{allPlaces, places, waiting, rowVerdict, Sound}
+use Rattle.tickets.specs.Table.{allPlaces, places, waiting, recordsVerdict, Sound}
 use Rattle.tickets.proofs.Storing.{accepted-sound}
 use Rattle.boardings.specs.declared.Boarding.{Boarding}
 use Rattle.boardings.specs.declared.Boarded.{Boarded}
@@ -44,12 +44,12 @@ same-text row b froms tos reads f t l =
 
 -- Who boards from a sound row.
 module _ (tape : Tape) (row : List Ticket) (all : length row ≡ allPlaces) (b : Boarding) (before : Rows) (r : BoardedRow) (after : Rows) (boards : Boards allPlaces tape row b before r after) where
-  accepts : isRefusal (r .boarded .answer .refusal) ≡ false → refuses (rowVerdict allPlaces row (b .lasts)) ≡ false
+  accepts : isRefusal (r .boarded .answer .refusal) ≡ false → refuses (recordsVerdict allPlaces row (b .lasts)) ≡ false
   accepts e =
       ⊎-elim
       (λ h. absurd (true≢false (sym h ∙ sym (ap (λ x. isRefusal (x .boarded .answer .refusal)) (boards .refused h .says)) ∙ e)))
       (λ h. h)
-      (true-or-false (refuses (rowVerdict allPlaces row (b .lasts))))
+      (true-or-false (refuses (recordsVerdict allPlaces row (b .lasts))))
 
   module _ (e : isRefusal (r .boarded .answer .refusal) ≡ false) where
     sound : Sound (b .lasts) (waiting 1 row) (waiting 2 row) row

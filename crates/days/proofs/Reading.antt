@@ -8,7 +8,7 @@ use Rattle.lines.specs.declared.TripleLine.{TripleLine}
 use Rattle.lines.specs.Lines.{lineOf, isPairLine, firstIn, secondIn, isTripleLine, middleIn, thirdIn}
 use Rattle.lines.specs.Found.{PairAt, PairLineFound, TripleAt, TripleLineFound}
 use Rattle.days.specs.declared.Event.{Event}
-use Rattle.days.specs.Events.{fileKey, withdrawKey, boardKey, pairEventOf, eventOf}
+use Rattle.days.specs.Events.{filingKey, withdrawKey, boardKey, pairEventOf, eventOf}
 
 -- Two numbers behind a key, or not.
 module _ (key event : List ℕ) (r : PairLine) (found : PairLineFound key event 0 r) where
@@ -42,18 +42,18 @@ module _ (event : List ℕ) where
   none-found other bad = rw (other, bad)
 
   -- Three numbers behind `file=`, or the others.
-  pub file-found : (r : TripleLine) → TripleLineFound fileKey event 0 r → (a b c n : ℕ) → r ≡ TripleLine.All a b c n → Event.File a b c ≡ eventOf (lineOf event)
+  pub file-found : (r : TripleLine) → TripleLineFound filingKey event 0 r → (a b c n : ℕ) → r ≡ TripleLine.All a b c n → Event.File a b c ≡ eventOf (lineOf event)
   unfolding eventOf
   file-found r found a b c n e =
-      let p : TripleAt fileKey event 0 a b c n = subst (λ x. TripleLineFound fileKey event 0 x) e found in
-      let good : isTripleLine fileKey (lineOf event) ≡ true = p .passed .good in
-      let first : a ≡ firstIn fileKey (lineOf event) = p .left in
-      let second : b ≡ middleIn fileKey (lineOf event) = p .middle in
-      let third : c ≡ thirdIn fileKey (lineOf event) = p .right in
+      let p : TripleAt filingKey event 0 a b c n = subst (λ x. TripleLineFound filingKey event 0 x) e found in
+      let good : isTripleLine filingKey (lineOf event) ≡ true = p .passed .good in
+      let first : a ≡ firstIn filingKey (lineOf event) = p .left in
+      let second : b ≡ middleIn filingKey (lineOf event) = p .middle in
+      let third : c ≡ thirdIn filingKey (lineOf event) = p .right in
       rw (good, first, second, third)
 
-  pub other-found : (r : TripleLine) → TripleLineFound fileKey event 0 r → r ≡ TripleLine.Bad → (v : Event) → v ≡ pairEventOf (lineOf event) → v ≡ eventOf (lineOf event)
+  pub other-found : (r : TripleLine) → TripleLineFound filingKey event 0 r → r ≡ TripleLine.Bad → (v : Event) → v ≡ pairEventOf (lineOf event) → v ≡ eventOf (lineOf event)
   unfolding eventOf
   other-found r found e v is =
-      let bad : isTripleLine fileKey (lineOf event) ≡ false = subst (λ x. TripleLineFound fileKey event 0 x) e found in
+      let bad : isTripleLine filingKey (lineOf event) ≡ false = subst (λ x. TripleLineFound filingKey event 0 x) e found in
       rw bad is

@@ -72,12 +72,12 @@ boardedDay b = record { row = b .row; lasts = b .boarded .lasts }
 abbrev pub rowsLent : List ℕ → Rows
 rowsLent room = rowsOf (zeros 8) (zeros 8) (zeros 8) (zeros 8) room
 
-abbrev pub readsIn : BoardedRow → Rows → Reads
-readsIn b rows = record { numbers = b .boarded .wants .numbers; times = rows .times; legs = rows .legs }
+abbrev pub readsBoarded : BoardedRow → Rows → Reads
+readsBoarded b rows = record { numbers = b .boarded .wants .numbers; times = rows .times; legs = rows .legs }
 
 abbrev pub boardingText : List Ticket → BoardedRow → Rows → List ℕ
 boardingText row b rows =
-    saysText (verdictIn (b .boarded .answer)) (boardedText row (b .boarded) (rows .froms) (rows .tos) (readsIn b rows))
+    saysText (verdictIn (b .boarded .answer)) (boardedText row (b .boarded) (rows .froms) (rows .tos) (readsBoarded b rows))
 
 pub record BoardingAnswered (tape : Tape) (row : List Ticket) (b : Boarding) (room out : List ℕ) (r : Answered) (room′ out′ : List ℕ) : Type 0 where
   pub done : BoardedRow

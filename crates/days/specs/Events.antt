@@ -7,8 +7,8 @@ use Rattle.lines.specs.Lines.{isPairLine, firstIn, secondIn, isTripleLine, midd
 use Rattle.days.specs.declared.Event.{Event}
 
 -- The keys.
-abbrev pub fileKey : List ℕ
-fileKey = bytes "file="
+abbrev pub filingKey : List ℕ
+filingKey = bytes "file="
 
 abbrev pub withdrawKey : List ℕ
 withdrawKey = bytes "withdraw="
@@ -25,5 +25,5 @@ pairEventOf line =
 
 unfoldable pub eventOf : List ℕ → Event
 eventOf line =
-    cond (isTripleLine fileKey line) (Event.File (firstIn fileKey line) (middleIn fileKey line) (thirdIn fileKey line))
+    cond (isTripleLine filingKey line) (Event.File (firstIn filingKey line) (middleIn filingKey line) (thirdIn filingKey line))
     (pairEventOf line)

@@ -24,7 +24,7 @@ use Rattle.walk.specs.Detours.{legsOf}
 use Rattle.planner.specs.Plan.{Rows, roomFor, planVerdict, Planned, Plans}
 use Rattle.planner.proofs.Determined.{plan-determined}
 use Rattle.least.proofs.LeastList.{least-unique}
-use Rattle.plain.specs.Plain.{PlainRows, readsIn, mostPlainWants, unevenWants, shortRows, plainVerdict, plainRowsWith, PlainPlanned, PlainPlans}
+use Rattle.plain.specs.Plain.{PlainRows, plainReads, mostPlainWants, unevenWants, shortPlainRows, plainVerdict, plainRowsWith, PlainPlanned, PlainPlans}
 use Rattle.plain.proofs.Checks.{late-behind}
 use Rattle.plain.proofs.Determined.{plain-determined}
 use Rattle.runs.proofs.Judged.{GoodRun, accepted-run}
@@ -77,27 +77,27 @@ module _ (r : Run) (rows : PlainRows) where
     row-short p (PlainApplies.short-starts s h) = (refl, inr (inl (rw (stops-one r good s) at h)))
     row-short p (PlainApplies.short-ends s h) = (refl, inr (inr (rw (stops-one r good s) at h)))
 
-  tells-short : Tells (shortRows (length (r .numbers)) (length (stopsOf r)) rows) IsShort
+  tells-short : Tells (shortPlainRows (length (r .numbers)) (length (stopsOf r)) rows) IsShort
   tells-short =
       let k = length (r .numbers) in
       let stops = length (stopsOf r) in
-      let reads = shortReadRows k (readsIn rows) in
+      let reads = shortReadRows k (plainReads rows) in
       let froms = ltb (length (rows .froms)) (stops - 1) in
       let tos = ltb (length (rows .tos)) (stops - 1) in
       tells-regrouped
       (tells-either (reads || froms) tos
-      (tells-either reads froms (tells-reads k (readsIn rows)) (tells-below (length (rows .froms)) (stops - 1)))
+      (tells-either reads froms (tells-reads k (plainReads rows)) (tells-below (length (rows .froms)) (stops - 1)))
       (tells-below (length (rows .tos)) (stops - 1)))
 
   rowsCheck : Verdict
-  rowsCheck = refuseIf (shortRows (length (r .numbers)) (length (stopsOf r)) rows) ShortRow
+  rowsCheck = refuseIf (shortPlainRows (length (r .numbers)) (length (stopsOf r)) rows) ShortRow
 
   -- Behind 24 the run's own checks find what they find, 1, 2 and 3 no longer among it.
   behind-finds : refuses (firstOf (tableChecks (r .starts) (r .lengths) (r .aggregates))) ≡ false → unevenWants r ≡ false
       → Finds (PlainApplies r rows) (BadWant ∷ TooManyReads ∷ TurnPrice ∷ HeadPlace ∷ ShortRow ∷ []) (firstOf (judgeOf r ∷ rowsCheck ∷ []))
   unfolding rowsCheck
   behind-finds t u =
-      let late = late-behind r (shortRows (length (r .numbers)) (length (stopsOf r)) rows) t u in
+      let late = late-behind r (shortPlainRows (length (r .numbers)) (length (stopsOf r)) rows) t u in
       drop-front (late .2)
       (drop-front (late .1)
       (drop-front (late .0)
@@ -156,7 +156,7 @@ module _ (r : Run) (rows : PlainRows) where
         unfolding plainVerdict planVerdict rowsCheck
         planner-passes =
             let all = all-accept (firstOf (tableChecks (r .starts) (r .lengths) (r .aggregates)) ∷ refuseIf (unevenWants r) WantRows ∷ refuseIf (ltb mostPlainWants (length (r .numbers))) OverEightWants ∷ judgeOf r ∷ rowsCheck ∷ []) plain-passes in
-            rw (all .1 .1 .1 .0, accepts-if (shortRows (length (r .numbers)) (length (stopsOf r)) rows) ShortRow refl (all .1 .1 .1 .1 .0), le-ltb (length room) (roomFor r) enough)
+            rw (all .1 .1 .1 .0, accepts-if (shortPlainRows (length (r .numbers)) (length (stopsOf r)) rows) ShortRow refl (all .1 .1 .1 .1 .0), le-ltb (length room) (roomFor r) enough)
 
         as-plan : Plans r (withRoom rows room) answer (withRoom after (replicate (roomFor r) 0 ++ drop (roomFor r) room))
         as-plan =

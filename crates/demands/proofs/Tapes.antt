@@ -20,7 +20,7 @@ use Rattle.markup.specs.Promises.{SaysForest}
 use Rattle.markup.proofs.Balanced.{balanced-exactly}
 use Rattle.ltfs.specs.Index.{some, isGoodLabel, isGoodIndex, indexFiles}
 use Rattle.ranges.specs.Ranges.{endOfRange}
-use Rattle.ltfs.specs.Table.{inSeveral, areFar, someOverlap, rangesIn, tableIn, areGoodTexts, ltfsSheet, ltfsVerdict, ltfsReport, ltfsRow}
+use Rattle.ltfs.specs.Table.{inSeveral, areFar, someOverlap, rangesIn, tapeTable, areGoodTexts, ltfsSheet, ltfsVerdict, ltfsReport, ltfsRow}
 use Rattle.demands.specs.Tapes.{TapeApplies, tapeOrder, TapeAnswers, Demand1Tape}
 use Rattle.demands.proofs.Tests.{Tells, tells-below, tells-either, tells-true, tells-false}
 use Rattle.demands.proofs.Checks.{decides-if, decides-reworded, Finds, finds-none, finds-first}
@@ -80,7 +80,7 @@ module _ (name label index row : List ℕ) where
   tape-far p (TapeApplies.many h) = (refl, inl h)
   tape-far p (TapeApplies.far h) = (refl, inr h)
 
-  tape-overlap : (p : ℕ) → Applies Overlap p → (p ≡ 0) × (someOverlap (tableIn label index) ≡ true)
+  tape-overlap : (p : ℕ) → Applies Overlap p → (p ≡ 0) × (someOverlap (tapeTable label index) ≡ true)
   tape-overlap p (TapeApplies.overlap h) = (refl, h)
 
   tape-row : (p : ℕ) → Applies ShortRow p → (p ≡ 0) × (length row < length (ltfsSheet name label index))
@@ -92,7 +92,7 @@ module _ (name label index row : List ℕ) where
       ∷ refuseIf (not (areGoodTexts label index)) BadText
       ∷ refuseIf (some inSeveral (indexFiles (treeOf index))) ManyExtents
       ∷ refuseIf (areFar (rangesIn label index)) FarFile
-      ∷ refuseIf (someOverlap (tableIn label index)) Overlap
+      ∷ refuseIf (someOverlap (tapeTable label index)) Overlap
       ∷ rowVerdict (ltfsSheet name label index) row
       ∷ []
 
@@ -101,7 +101,7 @@ module _ (name label index row : List ℕ) where
   tape-finds =
       let ranges = rangesIn label index in
       let short = rowVerdict (ltfsSheet name label index) row in
-      let overlaps = refuseIf (someOverlap (tableIn label index)) Overlap in
+      let overlaps = refuseIf (someOverlap (tapeTable label index)) Overlap in
       let far = refuseIf (areFar ranges) FarFile in
       let several = refuseIf (some inSeveral (indexFiles (treeOf index))) ManyExtents in
       let bad = refuseIf (not (areGoodTexts label index)) BadText in
@@ -119,7 +119,7 @@ module _ (name label index row : List ℕ) where
       (tells-below mostSheetFiles (length ranges))
       (tells-true (some (λ range. ltb lastPlace (endOfRange range)) ranges)))))
       (λ d. finds-first Applies (short ∷ []) refl
-      (decides-reworded (λ p h. rw (h .0) (TapeApplies.overlap (h .1))) tape-overlap (decides-if _ Overlap (tells-true (someOverlap (tableIn label index)))))
+      (decides-reworded (λ p h. rw (h .0) (TapeApplies.overlap (h .1))) tape-overlap (decides-if _ Overlap (tells-true (someOverlap (tapeTable label index)))))
       (λ e. finds-first Applies [] refl
       (decides-reworded (λ p h. rw (h .0) (TapeApplies.short-row (h .1))) tape-row (decides-if _ ShortRow (tells-below (length row) (length (ltfsSheet name label index)))))
       (λ f. finds-none Applies))))))

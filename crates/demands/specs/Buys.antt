@@ -131,9 +131,9 @@ abbrev pub planBought : Bought
 planBought = record { run = exampleRun; froms = 2 ∷ []; tos = 2 ∷ []; figures = pos 40 ∷ [] }
 
 -- The largest, worked on paper too: 63 files up to the last place, all wanted, 31 of length 1 at either side of a long one; the entry (63,63) before (32,32)(31,33) … (2,62).
-abbrev countUp : ℕ → ℕ → List ℕ
-countUp zero first = []
-countUp (suc n) first = first ∷ countUp n (suc first)
+abbrev numbersFrom : ℕ → ℕ → List ℕ
+numbersFrom zero first = []
+numbersFrom (suc n) first = first ∷ numbersFrom n (suc first)
 
 abbrev countDown : ℕ → ℕ → List ℕ
 countDown zero last = []
@@ -141,12 +141,12 @@ countDown (suc n) last = (last + n) ∷ countDown n last
 
 abbrev pub longTape : Run
 longTape =
-    runOf (countUp 32 0 ++ countUp 31 1099511627745) (replicate 31 1 ++ 1099511627714 ∷ replicate 31 1) (replicate 63 0)
-    (countUp 63 1) (replicate 62 1 ++ 962 ∷ []) 1099511627776 4294967296
+    runOf (numbersFrom 32 0 ++ numbersFrom 31 1099511627745) (replicate 31 1 ++ 1099511627714 ∷ replicate 31 1) (replicate 63 0)
+    (numbersFrom 63 1) (replicate 62 1 ++ 962 ∷ []) 1099511627776 4294967296
 
 pub record IsLargest (row : List ℤ) : Type 0 where
-  pub accepted : figuresAnswer longTape (63 ∷ countDown 31 2) (63 ∷ countUp 31 32) row .refusal ≡ Accepted
-  pub first : getD (figuresRow longTape (63 ∷ countDown 31 2) (63 ∷ countUp 31 32) row) 0 (pos 0) ≡ pos 67950368350460032
+  pub accepted : figuresAnswer longTape (63 ∷ countDown 31 2) (63 ∷ numbersFrom 31 32) row .refusal ≡ Accepted
+  pub first : getD (figuresRow longTape (63 ∷ countDown 31 2) (63 ∷ numbersFrom 31 32) row) 0 (pos 0) ≡ pos 67950368350460032
 
 abbrev pub BoughtHold : Type 0
 BoughtHold =

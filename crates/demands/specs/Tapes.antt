@@ -16,7 +16,7 @@ use Rattle.markup.specs.Tree.{treeOf}
 use Rattle.markup.specs.Promises.{SaysForest}
 use Rattle.ltfs.specs.Index.{some, isGoodLabel, isGoodIndex, indexFiles}
 use Rattle.ranges.specs.Ranges.{endOfRange}
-use Rattle.ltfs.specs.Table.{inSeveral, someOverlap, rangesIn, tableIn, ltfsSheet, ltfsVerdict, ltfsReport, ltfsRow}
+use Rattle.ltfs.specs.Table.{inSeveral, someOverlap, rangesIn, tapeTable, ltfsSheet, ltfsVerdict, ltfsReport, ltfsRow}
 use Rattle.demands.specs.Table.{FirstThatApplies}
 
 abbrev pub tapeOrder : List Refusal
@@ -31,7 +31,7 @@ pub data TapeApplies (name label index row : List ℕ) : Refusal → ℕ → Typ
   several : some inSeveral (indexFiles (treeOf index)) ≡ true → TapeApplies name label index row ManyExtents 0
   many : mostSheetFiles < length (rangesIn label index) → TapeApplies name label index row FarFile 0
   far : some (λ range. ltb lastPlace (endOfRange range)) (rangesIn label index) ≡ true → TapeApplies name label index row FarFile 0
-  overlap : someOverlap (tableIn label index) ≡ true → TapeApplies name label index row Overlap 0
+  overlap : someOverlap (tapeTable label index) ≡ true → TapeApplies name label index row Overlap 0
   short-row : length row < length (ltfsSheet name label index) → TapeApplies name label index row ShortRow 0
 
 pub record OnlyKind (answer : Report) : Type 0 where

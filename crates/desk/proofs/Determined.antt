@@ -9,7 +9,7 @@ use Rattle.walk.specs.declared.Answer.{Answer}
 use Rattle.planner.specs.Plan.{Rows}
 use Rattle.planner.proofs.Determined.{plan-determined}
 use Rattle.tickets.specs.declared.Ticket.{Ticket}
-use Rattle.tickets.specs.Table.{rowVerdict}
+use Rattle.tickets.specs.Table.{recordsVerdict}
 use Rattle.boardings.specs.declared.Boarding.{Boarding}
 use Rattle.boardings.specs.declared.Boarded.{Boarded}
 use Rattle.boardings.specs.declared.BoardedRow.{BoardedRow}
@@ -27,9 +27,9 @@ module _ (len : ℕ) (tape : Tape) (table : List Ticket) (b : Boarding) (before 
 
   -- Two results of `boardings::board_in` that fit its contract are equal.
   pub board-in-determined : Boards len tape table b before r after → Boards len tape table b before r′ after′ → (r ≡ r′) × (after ≡ after′)
-  board-in-determined p q = go (isRefusal (rowVerdict len table (b .lasts) .refusal)) refl
+  board-in-determined p q = go (isRefusal (recordsVerdict len table (b .lasts) .refusal)) refl
     where
-      go : (x : Bool) → isRefusal (rowVerdict len table (b .lasts) .refusal) ≡ x → (r ≡ r′) × (after ≡ after′)
+      go : (x : Bool) → isRefusal (recordsVerdict len table (b .lasts) .refusal) ≡ x → (r ≡ r′) × (after ≡ after′)
       go true e = refused-once (p .refused e) (q .refused e)
       go false e = planned-once (p .planned e) (q .planned e)
 

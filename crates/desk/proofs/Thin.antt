@@ -16,7 +16,7 @@ use Rattle.tickets.specs.declared.FiledRow.{FiledRow}
 use Rattle.tickets.specs.declared.Lasts.{Lasts}
 use Rattle.tickets.specs.declared.Withdrawal.{Withdrawal}
 use Rattle.tickets.specs.declared.WithdrawnRow.{WithdrawnRow}
-use Rattle.tickets.specs.Table.{rowVerdict}
+use Rattle.tickets.specs.Table.{recordsVerdict}
 use Rattle.tickets.specs.Filings.{fileRow}
 use Rattle.tickets.specs.Withdrawals.{withdrawRow}
 use Rattle.boardings.specs.declared.Boarding.{Boarding}
@@ -67,13 +67,13 @@ module _ (len : ℕ) (tape : Tape) (table : List Ticket) (b : Boarding) (before 
   table-by-answer : Boards len tape table b before done after → done .row ≡ boardedBy table (done .boarded .lasts) (done .boarded .answer) .row
   table-by-answer boards =
       ⊎-elim
-      (λ (h : isRefusal (rowVerdict len table (b .lasts) .refusal) ≡ true).
+      (λ (h : isRefusal (recordsVerdict len table (b .lasts) .refusal) ≡ true).
       subst⁻¹ (λ (d : BoardedRow). d .row ≡ boardedBy table (d .boarded .lasts) (d .boarded .answer) .row)
       (boards .refused h .says)
-      (refused-table table (b .lasts) (refusalAnswer (rowVerdict len table (b .lasts))) (isRefusal (rowVerdict len table (b .lasts) .refusal)) refl h))
-      (λ (h : isRefusal (rowVerdict len table (b .lasts) .refusal) ≡ false).
+      (refused-table table (b .lasts) (refusalAnswer (recordsVerdict len table (b .lasts))) (isRefusal (recordsVerdict len table (b .lasts) .refusal)) refl h))
+      (λ (h : isRefusal (recordsVerdict len table (b .lasts) .refusal) ≡ false).
       ap (λ (d : BoardedRow). d .row) (boards .planned h .says) ∙ same-table table (b .lasts) (done .boarded .lasts) (done .boarded .answer))
-      (true-or-false (isRefusal (rowVerdict len table (b .lasts) .refusal)))
+      (true-or-false (isRefusal (recordsVerdict len table (b .lasts) .refusal)))
 
   boards-by-answer : Boards len tape table b before done after → done ≡ boardedRow table (done .boarded)
   boards-by-answer boards = ap (λ (row : List Ticket). toldBy (done .boarded) row) (table-by-answer boards)

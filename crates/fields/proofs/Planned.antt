@@ -17,7 +17,7 @@ use Rattle.runs.proofs.Judged.{accepted-run}
 use Rattle.runs.proofs.Stops.{stops-few}
 use Rattle.walk.specs.declared.Answer.{Answer}
 use Rattle.walk.specs.Price.{pricedAnswer}
-use Rattle.plain.specs.Plain.{PlainRows, shortRows, plainVerdict, PlainPlanned, PlainPlans}
+use Rattle.plain.specs.Plain.{PlainRows, shortPlainRows, plainVerdict, PlainPlanned, PlainPlans}
 use Rattle.plain.proofs.Checks.{first-of-both, second-of-both, run-passed, run-few}
 use Rattle.joins.proofs.Halves.{list-accepted, list-of-halves, halves-even, front, holds-front}
 use Rattle.texts.specs.Text.{isName}
@@ -38,7 +38,7 @@ pub record Lent (rows : PlainRows) : Type 0 where
 
 module _ (run : Run) (rows : PlainRows) (lent : Lent rows) where
   -- No row is too short for eight wants.
-  none-short : refuses (firstOf (fieldChecks run)) ≡ false → shortRows (length (run .numbers)) (length (stopsOf run)) rows ≡ false
+  none-short : refuses (firstOf (fieldChecks run)) ≡ false → shortPlainRows (length (run .numbers)) (length (stopsOf run)) rows ≡ false
   none-short e =
       let few = run-few run e in
       let stops = stops-few run (accepted-run run (run-passed run e)) in
@@ -49,7 +49,7 @@ module _ (run : Run) (rows : PlainRows) (lent : Lent rows) where
   run-verdict = go (refuses (firstOf (fieldChecks run))) refl
     where
       short : List Verdict
-      short = refuseIf (shortRows (length (run .numbers)) (length (stopsOf run)) rows) ShortRow ∷ []
+      short = refuseIf (shortPlainRows (length (run .numbers)) (length (stopsOf run)) rows) ShortRow ∷ []
 
       go : (b : Bool) → refuses (firstOf (fieldChecks run)) ≡ b → plainVerdict run rows ≡ firstOf (fieldChecks run)
       go true e = first-of-both (fieldChecks run) short e

@@ -35,7 +35,7 @@ fn put_figure(page: &mut [u8], at: usize, from: u64, to: u64, figure: i64) -> us
     requires { ⌜ at + 69 ≤ length (now page) ⌝ }
     ensures { λ r. ⌜ Wrote (now (page .entry)) at (figureLine from to figure) 69 (now (page .exit)) r ⌝ }
 {
-    let marks = [44u8, 45];
+    let marks = [b',', b'-'];
     let sign: usize = if figure < 0 { 2 } else { 1 };
     let value = put(page, at, b"buys=");
     let comma = put_pair(page, value, from, to);

@@ -20,7 +20,7 @@ use Rattle.writers.specs.PlanSheet.{detourKey}
 use Rattle.lists.specs.declared.ListReading.{ListReading}
 use Rattle.lists.specs.declared.Form.{Form}
 use Rattle.lists.specs.Form.{startsOn, endsOn}
-use Rattle.lists.specs.Reading.{formChecks, readVerdict, ReadBy}
+use Rattle.lists.specs.Reading.{formChecks, pairsVerdict, ReadBy}
 use Rattle.lists.specs.Private.{LineIs, FormIs, FormFound, FormWithin, ReadAs}
 
 -- A verdict that refuses leaves all as it was, whatever the list.
@@ -82,13 +82,13 @@ module _ (bad many : ℕ) (text list froms tos : List ℕ) where
   form-within (Form.Bad line) f = f .some
 
   abbrev Whole : ListReading → List ℕ → List ℕ → Type 0
-  Whole r froms′ tos′ = ReadBy (readVerdict (firstOf (formChecks bad list)) many froms tos) many text froms tos r froms′ tos′
+  Whole r froms′ tos′ = ReadBy (pairsVerdict (firstOf (formChecks bad list)) many froms tos) many text froms tos r froms′ tos′
 
   module _ (v : Verdict) (v-is : v ≡ refuseIf (ltb longestSheet (length list)) LongSheet) (f : Bool) (f-is : f ≡ isRefusal (v .refusal)) where
     pub read-long : f ≡ true → Whole (record { verdict = v; detours = 0 }) froms tos
     read-long e =
         let r : refuses v ≡ true = sym f-is ∙ e in
-        let is : readVerdict (firstOf (formChecks bad list)) many froms tos ≡ v = rw (← v-is, r, r) in
+        let is : pairsVerdict (firstOf (formChecks bad list)) many froms tos ≡ v = rw (← v-is, r, r) in
         subst (λ x. ReadBy x many text froms tos (record { verdict = v; detours = 0 }) froms tos) (sym is) (all-kept v r many text froms tos)
 
     last-short : (b : Bool) → firstOf (refuseIf b ShortRow ∷ []) ≡ refuseIf b ShortRow
@@ -98,11 +98,11 @@ module _ (bad many : ℕ) (text list froms tos : List ℕ) where
     pub read-formed : f ≡ false → (form : Form) → FormFound bad many text list form → (r : ListReading) (froms′ tos′ : List ℕ) → ReadAs list form froms tos r froms′ tos′ → Whole r froms′ tos′
     read-formed e (Form.Good at detours) g r froms′ tos′ h =
         let short : refuses (refuseIf (ltb longestSheet (length list)) LongSheet) ≡ false = ap refuses (sym v-is) ∙ sym f-is ∙ e in
-        let is : readVerdict (firstOf (formChecks bad list)) many froms tos ≡ refuseIf (shortPairRows many froms tos) ShortRow = rw (short, g .none) (last-short (shortPairRows many froms tos)) in
+        let is : pairsVerdict (firstOf (formChecks bad list)) many froms tos ≡ refuseIf (shortPairRows many froms tos) ShortRow = rw (short, g .none) (last-short (shortPairRows many froms tos)) in
         let same : ReadBy (refuseIf (shortPairRows many froms tos) ShortRow) many text froms tos r froms′ tos′ = rw (← g .same, ← g .rest) h in
         subst (λ x. ReadBy x many text froms tos r froms′ tos′) (sym is) same
     read-formed e (Form.Bad line) g r froms′ tos′ h =
         let short : refuses (refuseIf (ltb longestSheet (length list)) LongSheet) ≡ false = ap refuses (sym v-is) ∙ sym f-is ∙ e in
         let r-line = line-refuses line (g .some) in
-        let is : readVerdict (firstOf (formChecks bad list)) many froms tos ≡ refuseAt line BadLine = rw (short, g .same, r-line, r-line) in
+        let is : pairsVerdict (firstOf (formChecks bad list)) many froms tos ≡ refuseAt line BadLine = rw (short, g .same, r-line, r-line) in
         subst (λ x. ReadBy x many text froms tos r froms′ tos′) (sym is) (kept-any (refuseAt line BadLine) r-line many text froms tos r froms′ tos′ h)

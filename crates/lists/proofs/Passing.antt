@@ -21,7 +21,7 @@ use Rattle.sheets.specs.Sheet.{unless, shifted, firstSome}
 use Rattle.writers.specs.PlanSheet.{sumKey, readsKey, finishKey, endKey, detoursKey, detourKey, timeKey}
 use Rattle.lists.specs.declared.Top.{Top}
 use Rattle.lists.specs.declared.Form.{Form}
-use Rattle.lists.specs.Form.{mostDetours, linesUpTo, firstBadToEnd, firstFailing, planDetours, detourText, timeText, planBadTop, planBadBelow, planBadLine, isPlan, listBadLine, listDetours, listText}
+use Rattle.lists.specs.Form.{mostDetours, linesUpTo, firstBadToEnd, firstFailing, detoursTold, detourText, timeText, planBadTop, planBadBelow, planBadLine, isPlan, listBadLine, listDetours, listText}
 use Rattle.lists.specs.Private.{TopIs, LineIs, TopFound, BelowAt, FormIs, FormFound, BelowFound}
 use Rattle.lists.proofs.Counting.{up-to-few}
 
@@ -94,7 +94,7 @@ module _ (plan : List ℕ) (at : ℕ) (here : Reached plan 5 (isCountLine detour
         (rw (read .0 .good, lt-leb (numberBehind detoursKey (lineOf (drop at plan))) mostDetours (omega (arith, read .1))))
 
     pub detours-good : n ≤ mostDetours → TopFound plan (Top.Good n next)
-    unfolding isCountLine firstFailing planDetours detourText
+    unfolding isCountLine firstFailing detoursTold detourText
     detours-good l =
         let good : isCountLine detoursKey mostDetours (lineOf (drop at plan)) ≡ true = rw (read .0 .good, le-leb (numberBehind detoursKey (lineOf (drop at plan))) mostDetours (omega (arith, read .1))) in
         let past = one-more plan 5 (isCountLine detoursKey mostDetours) [] at here next (record { good = good; within = read .0 .within; rest = read .0 .rest }) in
@@ -139,11 +139,11 @@ module _ (plan : List ℕ) (at detours : ℕ) (here : BelowAt plan at detours) w
   pub below-bad : (line : ℕ) → LineBad (isPairLine detourKey) plan at detours line → BelowFound plan (Form.Bad (6 + line))
   unfolding planBadBelow
   below-bad line b =
-      let first : firstBadOf (isPairLine detourKey) (planDetours plan) (detourText plan) ≡ line = rw (← here .count, ← here .rest) (b .first) in
-      record { same = rw (first, shifted-some 6 line (b .some)) (first-some (6 + line) (shifted (planDetours plan + 6) (firstBadToEnd (isTripleLine timeKey) mostWants (timeText plan)) ∷ []) (omega arith)); some = omega arith }
+      let first : firstBadOf (isPairLine detourKey) (detoursTold plan) (detourText plan) ≡ line = rw (← here .count, ← here .rest) (b .first) in
+      record { same = rw (first, shifted-some 6 line (b .some)) (first-some (6 + line) (shifted (detoursTold plan + 6) (firstBadToEnd (isTripleLine timeKey) mostWants (timeText plan)) ∷ []) (omega arith)); some = omega arith }
 
   module _ (next : ℕ) (p : LinesPassed (isPairLine detourKey) plan at detours next) (line : ℕ) (is : line ≡ firstBadToEnd (isTripleLine timeKey) mostWants (drop next plan)) where
-    none : firstBadOf (isPairLine detourKey) (planDetours plan) (detourText plan) ≡ 0
+    none : firstBadOf (isPairLine detourKey) (detoursTold plan) (detourText plan) ≡ 0
     none = rw (← here .count, ← here .rest) (p .none)
 
     times : firstBadToEnd (isTripleLine timeKey) mostWants (timeText plan) ≡ line
@@ -167,13 +167,13 @@ module _ (plan : List ℕ) (at detours : ℕ) (here : BelowAt plan at detours) w
     below-time n =
         let some : 0 < line = omega arith in
         record {
-          same = rw (none, times, shifted-some (planDetours plan + 6) line some, ← here .count) (first-some (detours + 6 + line) [] (omega arith));
+          same = rw (none, times, shifted-some (detoursTold plan + 6) line some, ← here .count) (first-some (detours + 6 + line) [] (omega arith));
           some = omega arith;
         }
 
 -- Both parts together.
 module _ (plan : List ℕ) (r : Top) (f : TopFound plan r) where
-  pub top-bad : (line : ℕ) → r ≡ Top.Bad line → FormFound (planBadLine plan) (planDetours plan) (detourText plan) plan (Form.Bad line)
+  pub top-bad : (line : ℕ) → r ≡ Top.Bad line → FormFound (planBadLine plan) (detoursTold plan) (detourText plan) plan (Form.Bad line)
   unfolding planBadLine
   top-bad line e =
       let b : LineIs (planBadTop plan) line = subst (λ x. TopFound plan x) e f in
@@ -186,7 +186,7 @@ module _ (plan : List ℕ) (r : Top) (f : TopFound plan r) where
     pub below-starts : BelowAt plan next detours
     below-starts = record { count = top-is .count; few = top-is .few; within = top-is .within; rest = top-is .rest }
 
-    pub plan-found : (form : Form) → BelowFound plan form → FormFound (planBadLine plan) (planDetours plan) (detourText plan) plan form
+    pub plan-found : (form : Form) → BelowFound plan form → FormFound (planBadLine plan) (detoursTold plan) (detourText plan) plan form
     unfolding planBadLine
     plan-found (Form.Good at n) g =
         record { none = rw (top-is .none, g .none); same = g .same; few = g .few; within = g .within; rest = g .rest; passed = g .passed }
@@ -234,7 +234,7 @@ to-end-small test most text line e =
 
 -- A list that begins as a plan sheet does, and one that does not.
 module _ (list : List ℕ) (b : Bool) (is : b ≡ startsWith tapeKey list) (form : Form) where
-  pub listed-plan : b ≡ true → FormFound (planBadLine list) (planDetours list) (detourText list) list form → FormFound (listBadLine list) (listDetours list) (listText list) list form
+  pub listed-plan : b ≡ true → FormFound (planBadLine list) (detoursTold list) (detourText list) list form → FormFound (listBadLine list) (listDetours list) (listText list) list form
   unfolding isPlan listBadLine listDetours listText
   listed-plan e h = let t : startsWith tapeKey list ≡ true = sym is ∙ e in rw t h
 

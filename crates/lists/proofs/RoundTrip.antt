@@ -36,7 +36,7 @@ use Rattle.writers.specs.PlanSheet.{sumKey, readsKey, finishKey, endKey, detour
 use Rattle.prints.proofs.Pages.{decimal-short}
 use Rattle.writers.proofs.Sheets.{name-length}
 use Rattle.writers.proofs.Reread.{line-first, line-behind, key-begins, key-value, number-back, value-back, count-back, after-front, pairs-behind, pairs-good, firsts-back, seconds-back, triples-behind, triples-good}
-use Rattle.lists.specs.Form.{mostDetours, linesIn, linesUpTo, firstBadToEnd, planDetours, detourText, timeText, firstFailing, planBadTop, planBadBelow, planBadLine, planFroms, planTos}
+use Rattle.lists.specs.Form.{mostDetours, linesIn, linesUpTo, firstBadToEnd, detoursTold, detourText, timeText, firstFailing, planBadTop, planBadBelow, planBadLine, planFroms, planTos}
 use Rattle.lists.specs.Reading.{planForm}
 use Rattle.lists.proofs.Bounds.{end-below, times-below, legs-below}
 
@@ -242,8 +242,8 @@ module _ (name : List ℕ) (reads : ℕ) (a : Answer) (froms tos numbers times l
   detours-good : isCountLine detoursKey mostDetours (lineAfter 5 text) ≡ true
   detours-good = ap (isCountLine detoursKey mostDetours) line₅ ∙ count-back detoursKey (a .detours) detours-small mostDetours (omega (arith, small .detours, small .few))
 
-  detours-back : planDetours text ≡ length froms
-  unfolding planDetours
+  detours-back : detoursTold text ≡ length froms
+  unfolding detoursTold
   detours-back = ap (numberBehind detoursKey) line₅ ∙ value-back detoursKey (a .detours) detours-small ∙ small .detours
 
   detours-text : detourText text ≡ rest₆
@@ -258,7 +258,7 @@ module _ (name : List ℕ) (reads : ℕ) (a : Answer) (froms tos numbers times l
       ∙ pairs-behind detourKey refl rest₇ froms tos (small .even)
       ∙ sym (append-nil rest₇)
 
-  detour-good : firstBadOf (isPairLine detourKey) (planDetours text) (detourText text) ≡ 0
+  detour-good : firstBadOf (isPairLine detourKey) (detoursTold text) (detourText text) ≡ 0
   unfolding rest₆ has
   detour-good =
       ap (λ n. firstBadOf (isPairLine detourKey) n (detourText text)) detours-back

@@ -33,14 +33,14 @@ firstBadToEnd test most text =
     ∷ [])
 
 -- A plan sheet: the number of its detours, the text from the first `detour` line on, and from the first `time` line on.
-unfoldable pub planDetours : List ℕ → ℕ
-planDetours plan = numberBehind detoursKey (lineAfter 5 plan)
+unfoldable pub detoursTold : List ℕ → ℕ
+detoursTold plan = numberBehind detoursKey (lineAfter 5 plan)
 
 unfoldable pub detourText : List ℕ → List ℕ
 detourText plan = afterLines 6 plan
 
 unfoldable pub timeText : List ℕ → List ℕ
-timeText plan = afterLines (planDetours plan) (detourText plan)
+timeText plan = afterLines (detoursTold plan) (detourText plan)
 
 -- The first line that fails its own test, behind so many that have passed; 0 where all pass.
 unfoldable pub firstFailing : ℕ → List (List ℕ → Bool) → List ℕ → ℕ
@@ -63,8 +63,8 @@ planBadTop plan =
 unfoldable pub planBadBelow : List ℕ → ℕ
 planBadBelow plan =
     firstSome
-    (shifted 6 (firstBadOf (isPairLine detourKey) (planDetours plan) (detourText plan))
-    ∷ shifted (planDetours plan + 6) (firstBadToEnd (isTripleLine timeKey) mostWants (timeText plan))
+    (shifted 6 (firstBadOf (isPairLine detourKey) (detoursTold plan) (detourText plan))
+    ∷ shifted (detoursTold plan + 6) (firstBadToEnd (isTripleLine timeKey) mostWants (timeText plan))
     ∷ [])
 
 unfoldable pub planBadLine : List ℕ → ℕ
@@ -79,7 +79,7 @@ listBadLine list = cond (isPlan list) (planBadLine list) (firstBadToEnd (isPairL
 
 -- How many detours it has, and the text from their lines on.
 unfoldable pub listDetours : List ℕ → ℕ
-listDetours list = cond (isPlan list) (planDetours list) (linesUpTo mostDetours list)
+listDetours list = cond (isPlan list) (detoursTold list) (linesUpTo mostDetours list)
 
 unfoldable pub listText : List ℕ → List ℕ
 listText list = cond (isPlan list) (detourText list) list
@@ -93,10 +93,10 @@ endsOn count text = eachOf (λ i. secondIn detourKey (lineAfter i text)) count
 
 -- The list that a plan sheet holds.
 unfoldable pub planFroms : List ℕ → List ℕ
-planFroms plan = startsOn (planDetours plan) (detourText plan)
+planFroms plan = startsOn (detoursTold plan) (detourText plan)
 
 unfoldable pub planTos : List ℕ → List ℕ
-planTos plan = endsOn (planDetours plan) (detourText plan)
+planTos plan = endsOn (detoursTold plan) (detourText plan)
 
 -- The list that a list holds.
 unfoldable pub listFroms : List ℕ → List ℕ

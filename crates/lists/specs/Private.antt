@@ -14,13 +14,13 @@ use Rattle.writers.specs.PlanSheet.{detourKey}
 use Rattle.lists.specs.declared.ListReading.{ListReading}
 use Rattle.lists.specs.declared.Top.{Top}
 use Rattle.lists.specs.declared.Form.{Form}
-use Rattle.lists.specs.Form.{mostDetours, planDetours, detourText, planBadTop, planBadBelow}
+use Rattle.lists.specs.Form.{mostDetours, detoursTold, detourText, planBadTop, planBadBelow}
 use Rattle.lists.specs.Reading.{ReadBy}
 
 -- The first six lines of a plan sheet: the number of detours, and what follows.
 pub record TopIs (plan : List ℕ) (detours next : ℕ) : Type 0 where
   pub none : planBadTop plan ≡ 0
-  pub count : detours ≡ planDetours plan
+  pub count : detours ≡ detoursTold plan
   pub few : detours ≤ mostDetours
   pub within : next ≤ length plan
   pub rest : drop next plan ≡ detourText plan
@@ -35,7 +35,7 @@ TopFound plan (Top.Bad line) = LineIs (planBadTop plan) line
 
 -- Where the detour lines start, once what stands above is as described.
 pub record BelowAt (plan : List ℕ) (at detours : ℕ) : Type 0 where
-  pub count : detours ≡ planDetours plan
+  pub count : detours ≡ detoursTold plan
   pub few : detours ≤ mostDetours
   pub within : at ≤ length plan
   pub rest : drop at plan ≡ detourText plan
@@ -56,7 +56,7 @@ FormFound bad count text list (Form.Bad line) = LineIs bad line
 
 -- The lines below the first six.
 abbrev pub BelowFound : List ℕ → Form → Type 0
-BelowFound plan form = FormFound (planBadBelow plan) (planDetours plan) (detourText plan) plan form
+BelowFound plan form = FormFound (planBadBelow plan) (detoursTold plan) (detourText plan) plan form
 
 -- Lines of detours that are all as described, and rows with room for them.
 abbrev pub FillReady : List ℕ → ℕ → ℕ → List ℕ → List ℕ → Type 0

@@ -11,7 +11,7 @@ use Rattle.refusals.specs.Refusals.{isRefusal, refuseIf, refuseAt, firstOf}
 use Rattle.sheets.specs.Sheet.{longestSheet}
 use Rattle.sheets.specs.Reading.{readRow, shortPairRows}
 use Rattle.lists.specs.declared.ListReading.{ListReading}
-use Rattle.lists.specs.Form.{planDetours, detourText, planBadLine, listDetours, listText, listBadLine, startsOn, endsOn}
+use Rattle.lists.specs.Form.{detoursTold, detourText, planBadLine, listDetours, listText, listBadLine, startsOn, endsOn}
 
 -- 12, then 11 with its line.
 abbrev pub formChecks : ℕ → List ℕ → List Verdict
@@ -24,8 +24,8 @@ unfoldable pub listForm : List ℕ → Verdict
 listForm list = firstOf (formChecks (listBadLine list) list)
 
 -- Then 8: a row shorter than the list.
-abbrev pub readVerdict : Verdict → ℕ → List ℕ → List ℕ → Verdict
-readVerdict form detours froms tos = firstOf (form ∷ refuseIf (shortPairRows detours froms tos) ShortRow ∷ [])
+abbrev pub pairsVerdict : Verdict → ℕ → List ℕ → List ℕ → Verdict
+pairsVerdict form detours froms tos = firstOf (form ∷ refuseIf (shortPairRows detours froms tos) ShortRow ∷ [])
 
 -- What a reader answers, for a verdict: the number of detours, 0 on a refusal; and the rows: starts and ends in the first entries, the later ones as
 -- they were, on a refusal all of them.
@@ -37,7 +37,7 @@ pub record ReadBy (v : Verdict) (many : ℕ) (text row₁ row₂ : List ℕ) (r 
 
 -- The reader of plan sheets, and that of lists.
 abbrev pub PlanRead : List ℕ → List ℕ → List ℕ → ListReading → List ℕ → List ℕ → Type 0
-PlanRead plan froms tos r froms′ tos′ = ReadBy (readVerdict (planForm plan) (planDetours plan) froms tos) (planDetours plan) (detourText plan) froms tos r froms′ tos′
+PlanRead plan froms tos r froms′ tos′ = ReadBy (pairsVerdict (planForm plan) (detoursTold plan) froms tos) (detoursTold plan) (detourText plan) froms tos r froms′ tos′
 
 abbrev pub ListRead : List ℕ → List ℕ → List ℕ → ListReading → List ℕ → List ℕ → Type 0
-ListRead list froms tos r froms′ tos′ = ReadBy (readVerdict (listForm list) (listDetours list) froms tos) (listDetours list) (listText list) froms tos r froms′ tos′
+ListRead list froms tos r froms′ tos′ = ReadBy (pairsVerdict (listForm list) (listDetours list) froms tos) (listDetours list) (listText list) froms tos r froms′ tos′

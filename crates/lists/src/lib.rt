@@ -6,7 +6,7 @@ ghost use lib.ListN.{length, drop};
 ghost use Rattle.lines.specs.Lines.{firstIn, secondIn, isPairLine, isTripleLine};
 ghost use Rattle.runs.specs.Run.{mostWants};
 ghost use Rattle.writers.specs.PlanSheet.{detourKey, timeKey};
-ghost use Rattle.lists.specs.Form.{mostDetours, linesIn, linesUpTo, firstBadToEnd, planDetours, detourText, planBadLine, listDetours, listText, listBadLine};
+ghost use Rattle.lists.specs.Form.{mostDetours, linesIn, linesUpTo, firstBadToEnd, detoursTold, detourText, planBadLine, listDetours, listText, listBadLine};
 ghost use Rattle.lists.specs.Reading.{PlanRead, ListRead};
 ghost use Rattle.sheets.specs.Private.{filledRow};
 ghost use Rattle.lists.specs.Private.{TopFound, BelowAt, BelowFound, FormFound, FillReady, FormWithin, ReadAs};
@@ -133,7 +133,7 @@ fn read_below(plan: &[u8], at: usize, detours: u64) -> Form
 }
 
 fn judge_plan(plan: &[u8]) -> Form
-    ensures { λ r. ⌜ FormFound (planBadLine (now (plan .entry))) (planDetours (now (plan .entry))) (detourText (now (plan .entry))) (now (plan .entry)) r ⌝ }
+    ensures { λ r. ⌜ FormFound (planBadLine (now (plan .entry))) (detoursTold (now (plan .entry))) (detourText (now (plan .entry))) (now (plan .entry)) r ⌝ }
 {
     match read_top(plan) {
         Top::Bad(line) => Form::Bad(line),

@@ -22,12 +22,12 @@ use Rattle.sheets.proofs.Rows.{length-each}
 use Rattle.loose.specs.declared.Parts.{Parts}
 use Rattle.loose.specs.declared.Block.{Block}
 use Rattle.loose.specs.declared.Top.{Top}
-use Rattle.loose.specs.Loose.{looseFiles, looseWantsText, looseWantText, looseWants, firstBadTop, firstBadBelow, firstBadLoose, wantedFiles, wantedCounts}
-use Rattle.loose.specs.Reading.{looseVerdict, rowsVerdict, startOf, refusedParts, sheetParts, looseParts, LooseRead}
+use Rattle.loose.specs.Loose.{looseFiles, looseWantsText, looseWantText, looseWants, firstBadLooseTop, firstBadLooseBelow, firstBadLoose, wantedFiles, wantedCounts}
+use Rattle.loose.specs.Reading.{looseVerdict, wantRowsVerdict, beginsAt, refusedParts, sheetParts, looseParts, LooseRead}
 use Rattle.loose.specs.Private.{Stands, TopIs, TopBad, BlockFound, BelowIs, BelowBad, PartsFound, rowsJudged}
 use Rattle.loose.proofs.Order.{wants-at}
 
-starts-at : (sheet text : List ℕ) (at : ℕ) → Stands sheet text at → at ≡ startOf sheet text
+starts-at : (sheet text : List ℕ) (at : ℕ) → Stands sheet text at → at ≡ beginsAt sheet text
 starts-at sheet text at here = omega (arith, here .within, ap length (here .rest), length-drop at sheet)
 
 -- A refusal's parts.
@@ -61,7 +61,7 @@ module _ (sheet : List ℕ) (v : Verdict) (f : Bool) (v-is : v ≡ refuseIf (ltb
 
     pub top-refuses : (line : ℕ) → TopBad sheet line → (w : Verdict) → w ≡ refuseAt line BadLine → (r : Parts) → r ≡ refusedParts w → PartsFound sheet r
     unfolding firstBadLoose
-    top-refuses line b = line-bad line (b .some) (rw (b .first) (first-some line (firstBadBelow sheet ∷ []) (b .some)))
+    top-refuses line b = line-bad line (b .some) (rw (b .first) (first-some line (firstBadLooseBelow sheet ∷ []) (b .some)))
 
     module _ (top : Top) (t : TopIs sheet top) where
       pub below-refuses : (line : ℕ) → BelowBad sheet line → (w : Verdict) → w ≡ refuseAt line BadLine → (r : Parts) → r ≡ refusedParts w → PartsFound sheet r
@@ -116,7 +116,7 @@ module _ (sheet wanted counts : List ℕ) (parts : Parts) (found : PartsFound sh
 
   pub loose-read : (wanted′ counts′ : List ℕ) → wanted′ ≡ filledRow (firstIn wantKey) (drop (judged .body) sheet) (judged .wants) wanted
       → counts′ ≡ filledRow (secondIn wantKey) (drop (judged .body) sheet) (judged .wants) counts → LooseRead sheet wanted counts judged wanted′ counts′
-  unfolding looseParts rowsVerdict readRow eachOf wantedFiles wantedCounts
+  unfolding looseParts wantRowsVerdict readRow eachOf wantedFiles wantedCounts
   loose-read wanted′ counts′ w-is c-is = go (isRefusal (lv .refusal)) refl short refl
     where
       go : (r : Bool) → isRefusal (lv .refusal) ≡ r → (b : Bool) → short ≡ b → LooseRead sheet wanted counts judged wanted′ counts′

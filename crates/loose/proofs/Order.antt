@@ -16,7 +16,7 @@ use Rattle.loose.specs.declared.Block.{Block}
 use Rattle.loose.specs.declared.Top.{Top}
 use Rattle.loose.specs.declared.TopRead.{TopRead}
 use Rattle.loose.specs.declared.BelowRead.{BelowRead}
-use Rattle.loose.specs.Loose.{looseFiles, looseWantsText, looseWantText, looseWants, looseEnd, wantsSaid, priceLeftOut, firstBadTop, firstBadBelow}
+use Rattle.loose.specs.Loose.{looseFiles, looseWantsText, looseWantText, looseWants, looseEnd, wantsSaid, priceLeftOut, firstBadLooseTop, firstBadLooseBelow}
 use Rattle.loose.specs.Private.{Stands, TopIs, TopBad, TopFound, BlockFound, WantsAt, BelowIs, BelowBad, BelowFound}
 use Rattle.loose.proofs.Passing.{price-empty, turn-after}
 
@@ -34,7 +34,7 @@ module _ (sheet : List ℕ) (lines at : ℕ) (here : Stands sheet (afterLines li
 
 -- The first five lines.
 pub tape-bad : (sheet : List ℕ) → isTapeLine (lineOf sheet) ≡ false → TopBad sheet 1
-unfolding firstBadTop afterLines
+unfolding firstBadLooseTop afterLines
 tape-bad sheet bad = record { first = rw bad; some = omega arith }
 
 module _ (sheet : List ℕ) (a₁ : ℕ) (p₁ : Passed isTapeLine sheet 0 a₁) where
@@ -47,7 +47,7 @@ module _ (sheet : List ℕ) (a₁ : ℕ) (p₁ : Passed isTapeLine sheet 0 a₁)
   at-head = record { within = p₁ .within; rest = p₁ .rest }
 
   pub head-bad : isNumberLine headKey (lineOf (drop a₁ sheet)) ≡ false → TopBad sheet 2
-  unfolding firstBadTop
+  unfolding firstBadLooseTop
   head-bad bad = record { first = rw (test₁, fails sheet 1 a₁ at-head (isNumberLine headKey) bad); some = omega arith }
 
   module _ (a₂ : ℕ) (p₂ : Passed (isNumberLine headKey) sheet a₁ a₂) where
@@ -58,7 +58,7 @@ module _ (sheet : List ℕ) (a₁ : ℕ) (p₁ : Passed isTapeLine sheet 0 a₁)
     at-turn = one-more sheet 1 a₁ at-head (isNumberLine headKey) a₂ p₂
 
     pub turn-bad : isTurnLine (lineOf (drop a₂ sheet)) ≡ false → TopBad sheet 3
-    unfolding firstBadTop
+    unfolding firstBadLooseTop
     turn-bad bad = record { first = rw (test₁, test₂, fails sheet 2 a₂ at-turn isTurnLine bad); some = omega arith }
 
     module _ (turn a₃ : ℕ) (p₃ : Passed isTurnLine sheet a₂ a₃ × (turn ≡ turnIn (lineOf (drop a₂ sheet)))) where
@@ -72,7 +72,7 @@ module _ (sheet : List ℕ) (a₁ : ℕ) (p₁ : Passed isTapeLine sheet 0 a₁)
       rule-after = turn-after sheet a₂ a₃ (p₂ .within) (p₃ .0)
 
       pub rule-bad : isRuleLine (lineOf (drop a₃ sheet)) ≡ false → TopBad sheet 4
-      unfolding firstBadTop
+      unfolding firstBadLooseTop
       rule-bad bad = record { first = rw (test₁, test₂, test₃, fails sheet 3 a₃ at-rule isRuleLine bad); some = omega arith }
 
       module _ (sweep : Bool) (a₄ : ℕ) (p₄ : Passed isRuleLine sheet a₃ a₄ × (sweep ≡ namesSweep (lineOf (drop a₃ sheet)))) where
@@ -83,12 +83,12 @@ module _ (sheet : List ℕ) (a₁ : ℕ) (p₁ : Passed isTapeLine sheet 0 a₁)
         at-files = one-more sheet 3 a₃ at-rule isRuleLine a₄ (p₄ .0)
 
         pub files-bad : isNumberLine filesKey (lineOf (drop a₄ sheet)) ≡ false → TopBad sheet 5
-        unfolding firstBadTop
+        unfolding firstBadLooseTop
         files-bad bad = record { first = rw (test₁, test₂, test₃, test₄, fails sheet 4 a₄ at-files (isNumberLine filesKey) bad); some = omega arith }
 
         pub top-good : (said next : ℕ) → Passed (isNumberLine filesKey) sheet a₄ next × (said ≡ numberBehind filesKey (lineOf (drop a₄ sheet)))
             → TopIs sheet (record { third = a₂; turn = turn; empty = eqb (a₃ - a₂) 6; sweep = sweep; said = said; next = next })
-        unfolding firstBadTop sheetTurnWith saysSweep sheetFiles fileText priceLeftOut
+        unfolding firstBadLooseTop sheetTurnWith saysSweep sheetFiles fileText priceLeftOut
         top-good said next p₅ =
             let test₅ = passes sheet 4 a₄ at-files (isNumberLine filesKey) next (p₅ .0) in
             record {
@@ -120,7 +120,7 @@ wants-at sheet at b here f =
 -- The `wants` line and the lines below it.
 module _ (sheet : List ℕ) (at files : ℕ) (p : WantsAt sheet at files) where
   pub wants-bad : isNumberLine wantsKey (lineOf (drop at sheet)) ≡ false → BelowBad sheet (files + 6)
-  unfolding firstBadBelow
+  unfolding firstBadLooseBelow
   wants-bad bad =
       let line : isNumberLine wantsKey (lineOf (looseWantsText sheet)) ≡ false = rw (← p .here .rest) bad in
       let l : 0 < files + 6 = omega arith in
@@ -144,14 +144,14 @@ module _ (sheet : List ℕ) (at files : ℕ) (p : WantsAt sheet at files) where
       end-is = sym (f .next .rest ∙ rw (wants-many, want-here .rest))
 
       pub text-behind : b .next < length sheet → BelowBad sheet (files + b .count + 7)
-      unfolding firstBadBelow
+      unfolding firstBadLooseBelow
       text-behind l =
           let more : isEmpty (looseEnd sheet) ≡ false = rw (end-is, drop-cons sheet (b .next) 0 l) in
           let s : 0 < files + b .count + 7 = omega arith in
           record { first = rw (wants-test, more, ← p .count, ← wants-many) (first-some (files + b .count + 7) [] s); some = s }
 
       pub below-good : length sheet ≤ b .next → BelowIs sheet said next (b .count)
-      unfolding firstBadBelow wantsSaid
+      unfolding firstBadLooseBelow wantsSaid
       below-good l =
           let none : isEmpty (looseEnd sheet) ≡ true = rw (end-is, drop-of-length-le sheet l) in
           record {

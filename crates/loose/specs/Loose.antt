@@ -39,8 +39,8 @@ unfoldable pub priceLeftOut : List ℕ → Bool
 priceLeftOut sheet = isEmpty (valueText turnKey (lineAfter 2 sheet))
 
 -- The first line that is not as described: of the first five, of the others, and of all; 0 where all are.
-unfoldable pub firstBadTop : List ℕ → ℕ
-firstBadTop sheet =
+unfoldable pub firstBadLooseTop : List ℕ → ℕ
+firstBadLooseTop sheet =
     firstSome
     (unless (isTapeLine (lineAfter 0 sheet)) 1
     ∷ unless (isNumberLine headKey (lineAfter 1 sheet)) 2
@@ -49,15 +49,15 @@ firstBadTop sheet =
     ∷ unless (isNumberLine filesKey (lineAfter 4 sheet)) 5
     ∷ [])
 
-unfoldable pub firstBadBelow : List ℕ → ℕ
-firstBadBelow sheet =
+unfoldable pub firstBadLooseBelow : List ℕ → ℕ
+firstBadLooseBelow sheet =
     firstSome
     (unless (isNumberLine wantsKey (lineOf (looseWantsText sheet))) (looseFiles sheet + 6)
     ∷ unless (isEmpty (looseEnd sheet)) (looseFiles sheet + looseWants sheet + 7)
     ∷ [])
 
 unfoldable pub firstBadLoose : List ℕ → ℕ
-firstBadLoose sheet = firstSome (firstBadTop sheet ∷ firstBadBelow sheet ∷ [])
+firstBadLoose sheet = firstSome (firstBadLooseTop sheet ∷ firstBadLooseBelow sheet ∷ [])
 
 -- The file that each want line names, and the count behind it.
 unfoldable pub wantedFiles : List ℕ → List ℕ

@@ -15,7 +15,7 @@ use Rattle.loose.specs.declared.Top.{Top}
 use Rattle.loose.specs.declared.TopRead.{TopRead}
 use Rattle.loose.specs.declared.Block.{Block}
 use Rattle.loose.specs.declared.BelowRead.{BelowRead}
-use Rattle.loose.specs.Loose.{linesBefore, looseFiles, looseWantsText, looseWantText, looseWants, wantsSaid, priceLeftOut, firstBadTop, firstBadBelow}
+use Rattle.loose.specs.Loose.{linesBefore, looseFiles, looseWantsText, looseWantText, looseWants, wantsSaid, priceLeftOut, firstBadLooseTop, firstBadLooseBelow}
 use Rattle.loose.specs.Reading.{looseVerdict, refusedParts, looseParts}
 
 -- A text that ends a sheet stands at a position.
@@ -25,7 +25,7 @@ pub record Stands (sheet text : List ℕ) (at : ℕ) : Type 0 where
 
 -- The first five lines: their values, and what follows them.
 pub record TopIs (sheet : List ℕ) (top : Top) : Type 0 where
-  pub none : firstBadTop sheet ≡ 0
+  pub none : firstBadLooseTop sheet ≡ 0
   pub start : Stands sheet (afterLines 2 sheet) (top .third)
   pub turn : top .turn ≡ sheetTurn sheet
   pub empty : top .empty ≡ priceLeftOut sheet
@@ -34,7 +34,7 @@ pub record TopIs (sheet : List ℕ) (top : Top) : Type 0 where
   pub next : Stands sheet (fileText sheet) (top .next)
 
 pub record TopBad (sheet : List ℕ) (line : ℕ) : Type 0 where
-  pub first : firstBadTop sheet ≡ line
+  pub first : firstBadLooseTop sheet ≡ line
   pub some : 0 < line
 
 abbrev pub TopFound : List ℕ → TopRead → Type 0
@@ -56,14 +56,14 @@ pub record WantsAt (sheet : List ℕ) (at files : ℕ) : Type 0 where
 
 -- The lines below: what `wants=` says, and the want lines.
 pub record BelowIs (sheet : List ℕ) (said at wants : ℕ) : Type 0 where
-  pub none : firstBadBelow sheet ≡ 0
+  pub none : firstBadLooseBelow sheet ≡ 0
   pub says : said ≡ wantsSaid sheet
   pub many : wants ≡ looseWants sheet
   pub here : Stands sheet (looseWantText sheet) at
   pub good : firstBadOf (isPairLine wantKey) wants (drop at sheet) ≡ 0
 
 pub record BelowBad (sheet : List ℕ) (line : ℕ) : Type 0 where
-  pub first : firstBadBelow sheet ≡ line
+  pub first : firstBadLooseBelow sheet ≡ line
   pub some : 0 < line
 
 abbrev pub BelowFound : List ℕ → BelowRead → Type 0

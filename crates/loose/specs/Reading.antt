@@ -20,13 +20,13 @@ looseVerdict sheet =
     firstOf (refuseIf (ltb longestSheet (length sheet)) LongSheet ∷ refuseAt (firstBadLoose sheet) BadLine ∷ [])
 
 -- Then 8: a row shorter than the want lines.
-unfoldable pub rowsVerdict : List ℕ → List ℕ → List ℕ → Verdict
-rowsVerdict sheet wanted counts =
+unfoldable pub wantRowsVerdict : List ℕ → List ℕ → List ℕ → Verdict
+wantRowsVerdict sheet wanted counts =
     firstOf (looseVerdict sheet ∷ refuseIf (shortPairRows (looseWants sheet) wanted counts) ShortRow ∷ [])
 
 -- Where a text that ends a sheet starts in it.
-abbrev pub startOf : List ℕ → List ℕ → ℕ
-startOf sheet text = length sheet - length text
+abbrev pub beginsAt : List ℕ → List ℕ → ℕ
+beginsAt sheet text = length sheet - length text
 
 -- A refusal's parts: every number 0.
 abbrev pub refusedParts : Verdict → Parts
@@ -51,16 +51,16 @@ abbrev pub sheetParts : List ℕ → Parts
 sheetParts sheet =
     record {
       verdict = accepted;
-      third = startOf sheet (afterLines 2 sheet);
+      third = beginsAt sheet (afterLines 2 sheet);
       turn = sheetTurn sheet;
       empty = priceLeftOut sheet;
       sweep = saysSweep sheet;
       listed = sheetFiles sheet;
-      table = startOf sheet (fileText sheet);
+      table = beginsAt sheet (fileText sheet);
       files = looseFiles sheet;
-      tail = startOf sheet (looseWantsText sheet);
+      tail = beginsAt sheet (looseWantsText sheet);
       asked = wantsSaid sheet;
-      body = startOf sheet (looseWantText sheet);
+      body = beginsAt sheet (looseWantText sheet);
       wants = looseWants sheet;
     }
 
@@ -69,6 +69,6 @@ looseParts v sheet = cond (isRefusal (v .refusal)) (refusedParts v) (sheetParts 
 
 -- The answer, and the rows: the want lines, then the later entries as they were; on a refusal the whole row as it was.
 pub record LooseRead (sheet wanted counts : List ℕ) (r : Parts) (wanted′ counts′ : List ℕ) : Type 0 where
-  pub answer : r ≡ looseParts (rowsVerdict sheet wanted counts) sheet
-  pub files : wanted′ ≡ readRow (rowsVerdict sheet wanted counts) (wantedFiles sheet) wanted
-  pub reads : counts′ ≡ readRow (rowsVerdict sheet wanted counts) (wantedCounts sheet) counts
+  pub answer : r ≡ looseParts (wantRowsVerdict sheet wanted counts) sheet
+  pub files : wanted′ ≡ readRow (wantRowsVerdict sheet wanted counts) (wantedFiles sheet) wanted
+  pub reads : counts′ ≡ readRow (wantRowsVerdict sheet wanted counts) (wantedCounts sheet) counts

@@ -14,7 +14,7 @@ use Rattle.ltfs.specs.declared.values.Chars.{Chars}
 use Rattle.ltfs.specs.declared.values.Field.{Field}
 use Rattle.markup.specs.Markup.{Open, Close, Char}
 use Rattle.markup.specs.Tree.{Forest, none, char, element, innermost, enclosing}
-use Rattle.ltfs.specs.Index.{joined, charsOf, insides, under, valuesAt, Level, filesIn}
+use Rattle.ltfs.specs.Index.{flattened, charsOf, insides, under, valuesAt, Level, filesIn}
 use Rattle.markup.specs.Places.{part, PlaceIn, tokensAt, Begins, placeAt, Passes}
 use Rattle.ltfs.specs.Private.Parts.{framesAt, inside, Left, bare, ElementMet, NoElement, noChars, withByte, charsFrom, firstField, fieldNamed, fieldFrom}
 use Rattle.markup.proofs.Meets.{begins-fewer}
@@ -36,7 +36,7 @@ files-bare (element name held rest) level = refl
 
 pub under-bare : (name : List ℕ) (path : List (List ℕ)) (f : Forest) → under (name ∷ path) (bare f) ≡ under (name ∷ path) f
 unfolding under
-under-bare name path f = ap (λ (l : List Forest). joined (map (under path) l)) (insides-bare name f)
+under-bare name path f = ap (λ (l : List Forest). flattened (map (under path) l)) (insides-bare name f)
 
 pub values-bare : (name : List ℕ) (path : List (List ℕ)) (f : Forest) → valuesAt (name ∷ path) (bare f) ≡ valuesAt (name ∷ path) f
 unfolding valuesAt
@@ -187,7 +187,7 @@ module _ {A : Type 0} (whole : A → Forest → A) (r : Reads whole) (text : Lis
 -- What the elements of a path hold, element by element.
 module _ (wanted : List ℕ) (path : List (List ℕ)) (name : List ℕ) (held rest : Forest) where
   pub under-named : isText wanted name ≡ true → under (wanted ∷ path) (element name held rest) ≡ under path held ++ under (wanted ∷ path) rest
-  unfolding under insides joined
+  unfolding under insides flattened
   under-named e = rw e
 
   pub under-other : isText wanted name ≡ false → under (wanted ∷ path) (element name held rest) ≡ under (wanted ∷ path) rest
@@ -203,7 +203,7 @@ module _ (wanted : List ℕ) (path : List (List ℕ)) (name : List ℕ) (held re
   insides-other e = rw e
 
 pub under-none : (wanted : List ℕ) (path : List (List ℕ)) → under (wanted ∷ path) none ≡ []
-unfolding under insides joined
+unfolding under insides flattened
 under-none wanted path = refl
 
 chars-append : (a b : List Forest) → map charsOf (a ++ b) ≡ map charsOf a ++ map charsOf b

@@ -15,7 +15,7 @@ use Rattle.ranges.specs.declared.File.{File}
 use Rattle.ltfs.specs.declared.index.Walk.{Walk}
 use Rattle.ltfs.specs.declared.index.Use.{Use}
 use Rattle.markup.specs.Tree.{Forest, none, element, innermost, enclosing, treeOf}
-use Rattle.ltfs.specs.Index.{joined, isNone, charsOf, insides, under, valuesAt, partitionName, startBlockName, byteOffsetName, byteCountName, indexName, directoryName, contentsName, extentInfoName, extentName}
+use Rattle.ltfs.specs.Index.{flattened, isNone, charsOf, insides, under, valuesAt, partitionName, startBlockName, byteOffsetName, byteCountName, indexName, directoryName, contentsName, extentInfoName, extentName}
 use Rattle.ltfs.specs.Index.{Level, outside, inDirectory, inContents, Role, holds, file, other, roleOf, extentsOf, filesOfRole, filesIn}
 use Rattle.markup.specs.Places.{part, PlaceIn, tokensAt}
 use Rattle.ltfs.specs.Private.Parts.{framesAt, inside, Left, bare, ElementMet, NoElement, numberField, letterField, fieldNamed, fieldFrom, extentFrom, withExtentPart, extentOf, withExtent, withExtents, fileOf}
@@ -79,8 +79,8 @@ unfolding withExtents
 extents-append f [] b = refl
 extents-append f (extent ∷ a) b = extents-append (withExtent f (extentOf extent)) a b
 
-joined-ones : (l : List Forest) → joined (map (under []) l) ≡ l
-unfolding joined under
+joined-ones : (l : List Forest) → flattened (map (under []) l) ≡ l
+unfolding flattened under
 joined-ones [] = refl
 joined-ones (f ∷ l) = ap (λ (k : List Forest). f ∷ k) (joined-ones l)
 

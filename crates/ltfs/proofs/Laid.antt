@@ -25,7 +25,7 @@ use Rattle.ranges.specs.declared.Tally.{Tally}
 use Rattle.markup.specs.Tree.{Forest, isBalanced, treeOf}
 use Rattle.ltfs.specs.Index.{every, some, isNone, insides, areGood, isPartition, letterOf, indexName, blockSizes, dataPartitions, isGoodLabel, blockSizeOf, dataPartitionOf, isGoodExtent, indexFiles, isGoodIndex}
 use Rattle.ranges.specs.Ranges.{Range}
-use Rattle.ltfs.specs.Table.{inSeveral, rangesOf, inTapeOrder, areFar, someOverlap, lastEnd, runOfTable, rangesIn, tableIn, areGoodTexts, ltfsSheet, ltfsVerdict, refusedReport, ltfsReport, ltfsRow}
+use Rattle.ltfs.specs.Table.{inSeveral, rangesOf, inTapeOrder, areFar, someOverlap, lastEnd, runOfTable, rangesIn, tapeTable, areGoodTexts, ltfsSheet, ltfsVerdict, refusedReport, ltfsReport, ltfsRow}
 use Rattle.ranges.specs.Ranges.{rangesFrom, neighbourOverlap}
 use Rattle.ltfs.specs.Private.Parts.{isValue, valueIn, numberField, letterField, labelOf}
 use Rattle.ltfs.specs.Private.Tallies.{TableRows, RowsHold, EndsFit, TallyHolds, textsRead, textChecks, fileChecks, reportOf, tableSheet, tableVerdict, tableReport, tableRow}
@@ -280,15 +280,15 @@ module _ (name label index row : List ℕ) where
     extents-are = texts-are ∙ (rw t)
 
     verdict-is : ltfsVerdict name label index row ≡ tableVerdict name (blockSizeOf (treeOf label)) (dataPartitionOf (treeOf label)) (indexFiles (treeOf index)) row
-    unfolding ltfsVerdict tableVerdict rangesIn tableIn ltfsSheet tableSheet
+    unfolding ltfsVerdict tableVerdict rangesIn tapeTable ltfsSheet tableSheet
     verdict-is = rw (n, extents-are)
 
     report-at : tableReport name (blockSizeOf (treeOf label)) (dataPartitionOf (treeOf label)) (indexFiles (treeOf index)) row ≡ ltfsReport (ltfsVerdict name label index row) name label index
-    unfolding tableReport ltfsReport tableSheet ltfsSheet tableIn rangesIn
+    unfolding tableReport ltfsReport tableSheet ltfsSheet tapeTable rangesIn
     report-at = rw verdict-is
 
     row-at-end : tableRow name (blockSizeOf (treeOf label)) (dataPartitionOf (treeOf label)) (indexFiles (treeOf index)) row ≡ ltfsRow (ltfsVerdict name label index row) name label index row
-    unfolding tableRow ltfsRow tableSheet ltfsSheet tableIn rangesIn
+    unfolding tableRow ltfsRow tableSheet ltfsSheet tapeTable rangesIn
     row-at-end = rw verdict-is
 
     pub sheet-laid : (size partition : ℕ) → size ≡ valueIn ((labelOf (treeOf label)) .size) → partition ≡ valueIn ((labelOf (treeOf label)) .partition) → (r : Report) (row' : List ℕ)

@@ -17,7 +17,7 @@ use Rattle.writers.specs.Writing.{rowVerdict}
 use Rattle.writers.proofs.RoundTrip.{round-trip}
 use Rattle.markup.specs.Tree.{Forest, treeOf}
 use Rattle.ltfs.specs.Index.{some, blockSizeOf, dataPartitionOf, partitionOf, indexFiles}
-use Rattle.ltfs.specs.Table.{firstExtent, inSeveral, isEmptyFile, liesElsewhere, isAccepted, howMany, only, rangeOf, rangesOf, areFar, someOverlap, runOfTable, rangesIn, tableIn, areGoodTexts, ltfsSheet, ltfsVerdict, ltfsReport}
+use Rattle.ltfs.specs.Table.{firstExtent, inSeveral, isEmptyFile, liesElsewhere, isAccepted, howMany, only, rangeOf, rangesOf, areFar, someOverlap, runOfTable, rangesIn, tapeTable, areGoodTexts, ltfsSheet, ltfsVerdict, ltfsReport}
 use Rattle.ltfs.specs.Promises.{NoFileIsLost, AnswerCountsAll, SheetReadsBack}
 use Rattle.ltfs.proofs.Order.{oneIf, counted-cons, counted-none, length-kept}
 use Rattle.ltfs.proofs.Laid.{table-passes, table-few}
@@ -50,7 +50,7 @@ no-file-is-lost partition (file ∷ files) =
     )
 
 pub answer-counts-all : AnswerCountsAll
-unfolding ltfsReport tableIn rangesIn rangesOf
+unfolding ltfsReport tapeTable rangesIn rangesOf
 answer-counts-all name label index row e =
     let partition = dataPartitionOf (treeOf label) in
     let files = indexFiles (treeOf index) in
@@ -62,7 +62,7 @@ answer-counts-all name label index row e =
 
 -- What reading the sheet gives, for a run that is the table's.
 pub sheet-reads-back : SheetReadsBack
-unfolding ltfsVerdict ltfsSheet tableIn rangesIn runOfTable
+unfolding ltfsVerdict ltfsSheet tapeTable rangesIn runOfTable
 sheet-reads-back name label index row e =
     let size = blockSizeOf (treeOf label) in
     let partition = dataPartitionOf (treeOf label) in
@@ -73,22 +73,22 @@ sheet-reads-back name label index row e =
     ∷ refuseIf (not (areGoodTexts label index)) BadText
     ∷ refuseIf (some inSeveral (indexFiles (treeOf index))) ManyExtents
     ∷ refuseIf (areFar (rangesIn label index)) FarFile
-    ∷ refuseIf (someOverlap (tableIn label index)) Overlap
+    ∷ refuseIf (someOverlap (tapeTable label index)) Overlap
     ∷ rowVerdict (ltfsSheet name label index) row
     ∷ [])
     e in
     let named = not-false (isName name) (accepts-if (not (isName name)) BadName refl (all .0)) in
     let far = accepts-if (areFar (rangesIn label index)) FarFile refl (all .1 .1 .1 .0) in
-    let apart = accepts-if (someOverlap (tableIn label index)) Overlap refl (all .1 .1 .1 .1 .0) in
+    let apart = accepts-if (someOverlap (tapeTable label index)) Overlap refl (all .1 .1 .1 .1 .0) in
     let judged = table-passes size partition files far apart in
-    let back = round-trip name (runOfTable (tableIn label index)) judged (table-few size partition files far) named in
+    let back = round-trip name (runOfTable (tapeTable label index)) judged (table-few size partition files far) named in
     record {
       reads = back .accepts;
       name = back .same-name;
       rule = back .ruled;
       starts = ap (λ (r : Run). r .starts) (back .same-run);
       lengths = ap (λ (r : Run). r .lengths) (back .same-run);
-      aggregates = ap (λ (r : Run). r .aggregates) (back .same-run) ∙ ap zeros (length-map (tableIn label index) (λ range. range .start));
+      aggregates = ap (λ (r : Run). r .aggregates) (back .same-run) ∙ ap zeros (length-map (tapeTable label index) (λ range. range .start));
       numbers = ap (λ (r : Run). r .numbers) (back .same-run);
       counts = ap (λ (r : Run). r .counts) (back .same-run);
       head = ap (λ (r : Run). r .head) (back .same-run);

@@ -8,9 +8,9 @@ use Rattle.texts.specs.Text.{bytes, isText, between, isNumber, valueOf}
 use Rattle.markup.specs.Tree.{Forest, none, char, element}
 
 -- What every element of a list says, and whether all or any of a list are of a kind.
-unfoldable pub joined : {A : Type 0} → List (List A) → List A
-joined [] = []
-joined (l ∷ ls) = l ++ joined ls
+unfoldable pub flattened : {A : Type 0} → List (List A) → List A
+flattened [] = []
+flattened (l ∷ ls) = l ++ flattened ls
 
 unfoldable pub every : {A : Type 0} → (A → Bool) → List A → Bool
 every kind [] = true
@@ -39,7 +39,7 @@ insides wanted (element name inside rest) = cond (isText wanted name) (inside �
 -- What the elements at the end of a path of names hold.
 unfoldable pub under : List (List ℕ) → Forest → List Forest
 under [] forest = forest ∷ []
-under (name ∷ path) forest = joined (map (under path) (insides name forest))
+under (name ∷ path) forest = flattened (map (under path) (insides name forest))
 
 -- The values met at the end of a path. They are good when there is one and all have their form; the first counts.
 unfoldable pub valuesAt : List (List ℕ) → Forest → List (List ℕ)

@@ -23,10 +23,10 @@ use Rattle.prints.specs.Printing.{Wrote, Put}
 use Rattle.prints.proofs.Pages.{wrote-page}
 use Rattle.loose.specs.declared.Parts.{Parts}
 use Rattle.loose.specs.Loose.{looseWantText, looseWants, firstBadLoose, wantedFiles, wantedCounts}
-use Rattle.loose.specs.Reading.{looseVerdict, rowsVerdict, refusedParts, sheetParts, looseParts, LooseRead}
+use Rattle.loose.specs.Reading.{looseVerdict, wantRowsVerdict, refusedParts, sheetParts, looseParts, LooseRead}
 use Rattle.loose.proofs.Wants.{wants-few}
 use Rattle.mends.specs.declared.Mended.{Mended}
-use Rattle.mends.specs.Wants.{remaining, readsIn}
+use Rattle.mends.specs.Wants.{remaining, readsInAll}
 use Rattle.mends.specs.Mending.{sheetRemaining, mendedText, changesText, wantsVerdicts, textsVerdicts, mendVerdict, refusedMending, Handed, SheetMended}
 use Rattle.mends.specs.Private.{Held, Gathered, SheetRead, Writable}
 
@@ -86,7 +86,7 @@ texts-handed text changes text′ changes′ out notes r out′ notes′ e f h =
 -- The wants gathered: many is how many there are, or over 64.
 module _ (sheet : List ℕ) (parts : Parts) (wanted counts : List ℕ) (read : SheetRead sheet parts wanted counts) (many : ℕ) (row : List ℕ)
     (gathered : Gathered (remaining wanted counts (length wanted)) many row) (v : Verdict)
-    (v-is : v ≡ firstOf (refuseIf (ltb mostWants many) WantRows ∷ refuseIf (ltb mostReads (readsIn counts)) TooManyReads ∷ [])) (f : Bool) (f-is : f ≡ isRefusal (v .refusal)) where
+    (v-is : v ≡ firstOf (refuseIf (ltb mostWants many) WantRows ∷ refuseIf (ltb mostReads (readsInAll counts)) TooManyReads ∷ [])) (f : Bool) (f-is : f ≡ isRefusal (v .refusal)) where
   same-remaining : remaining wanted counts (length wanted) ≡ sheetRemaining sheet
   unfolding sheetRemaining
   same-remaining = rw (read .files, read .reads)
@@ -122,10 +122,10 @@ module _ (sheet : List ℕ) (parts : Parts) (wanted counts : List ℕ) (read : S
         subst (λ w. Handed w text changes out notes r out′ notes′) whole h
 
   module _ (e : f ≡ false) where
-    wants-fit : (many ≤ mostWants) × (readsIn counts ≤ mostReads)
+    wants-fit : (many ≤ mostWants) × (readsInAll counts ≤ mostReads)
     wants-fit =
-        let all = all-accept (refuseIf (ltb mostWants many) WantRows ∷ refuseIf (ltb mostReads (readsIn counts)) TooManyReads ∷ []) (ap refuses (sym v-is) ∙ sym f-is ∙ e) in
-        (ltb-false mostWants many (accepts-if (ltb mostWants many) WantRows refl (all .0)), ltb-false mostReads (readsIn counts) (accepts-if (ltb mostReads (readsIn counts)) TooManyReads refl (all .1 .0)))
+        let all = all-accept (refuseIf (ltb mostWants many) WantRows ∷ refuseIf (ltb mostReads (readsInAll counts)) TooManyReads ∷ []) (ap refuses (sym v-is) ∙ sym f-is ∙ e) in
+        (ltb-false mostWants many (accepts-if (ltb mostWants many) WantRows refl (all .0)), ltb-false mostReads (readsInAll counts) (accepts-if (ltb mostReads (readsInAll counts)) TooManyReads refl (all .1 .0)))
 
     pub wants-writable : Writable sheet parts wanted counts (take many row)
     wants-writable =
@@ -157,8 +157,8 @@ module _ (sheet wanted₀ counts₀ : List ℕ) (long : length wanted₀ ≡ 273
     few-lines : looseWants sheet ≤ 2730
     few-lines = omega (arith, read-short, wants-few sheet)
 
-    rows-fit : rowsVerdict sheet wanted₀ counts₀ ≡ accepted
-    unfolding rowsVerdict
+    rows-fit : wantRowsVerdict sheet wanted₀ counts₀ ≡ accepted
+    unfolding wantRowsVerdict
     rows-fit =
         let few = few-lines in
         rw (passed, le-ltb (length wanted₀) (looseWants sheet) (omega arith), le-ltb (length counts₀) (looseWants sheet) (omega arith))
@@ -179,7 +179,7 @@ module _ (sheet wanted₀ counts₀ : List ℕ) (long : length wanted₀ ≡ 273
     lines-are = ap (λ p. p .wants) parts-are
 
   rows-same : parts .verdict ≡ lv
-  unfolding looseParts rowsVerdict
+  unfolding looseParts wantRowsVerdict
   rows-same = go (isRefusal (lv .refusal)) refl
     where
       go : (b : Bool) → isRefusal (lv .refusal) ≡ b → parts .verdict ≡ lv

@@ -19,9 +19,9 @@ use Rattle.prints.specs.Printing.{line, numberLine, pairLine, pairLines, Wrote,
 use Rattle.prints.proofs.Pages.{wrote-both, wrote-on, wrote-within, wrote-long, put-three, LinesPut, line-put, pairs-left}
 use Rattle.loose.specs.declared.Parts.{Parts}
 use Rattle.loose.specs.Loose.{linesBefore, looseFiles, looseWantsText, wantsSaid, priceLeftOut, wantedFiles, wantedCounts}
-use Rattle.loose.specs.Reading.{startOf, sheetParts}
+use Rattle.loose.specs.Reading.{beginsAt, sheetParts}
 use Rattle.mends.specs.declared.wants.Fate.{Fate}
-use Rattle.mends.specs.Wants.{readsOf, readsEach, fateOf}
+use Rattle.mends.specs.Wants.{readsOfWant, readsEach, fateOf}
 use Rattle.mends.specs.Mending.{firstLines, sheetRemaining, sheetReads, mendedText, changeLine, changeIf, fateLine, fateLines, changesText}
 use Rattle.mends.specs.Private.{FewReads, SheetRead, Writable}
 use Rattle.loose.proofs.Ends.{Ends, after-ends, after-shorter}
@@ -81,7 +81,7 @@ unfolding readsEach
 each-long files counts [] = refl
 each-long files counts (f ∷ row) = ap suc (each-long files counts row)
 
-pub each-at : (files counts row : List ℕ) (i : ℕ) → i < length row → getD (readsEach files counts row) i 0 ≡ readsOf files counts (getD row i 0)
+pub each-at : (files counts row : List ℕ) (i : ℕ) → i < length row → getD (readsEach files counts row) i 0 ≡ readsOfWant files counts (getD row i 0)
 unfolding readsEach
 each-at files counts [] i l = absurd (omega arith)
 each-at files counts (f ∷ row) zero l = refl
@@ -89,7 +89,7 @@ each-at files counts (f ∷ row) (suc i) l = each-at files counts row i (omega a
 
 module _ (page₀ : List ℕ) (at : ℕ) (row wanted counts : List ℕ) (room : at + length row * 47 ≤ length page₀) (page : List ℕ) (next i : ℕ)
     (p : LinesPut page₀ at 47 (pairLines wantKey row (readsEach wanted counts row)) (length row) (pairLines wantKey (drop i row) (drop i (readsEach wanted counts row))) page next i) where
-  pub want-put : i < length row → (reads : ℕ) → reads ≡ readsOf wanted counts (getD row i 0) → (page′ : List ℕ) (last : ℕ)
+  pub want-put : i < length row → (reads : ℕ) → reads ≡ readsOfWant wanted counts (getD row i 0) → (page′ : List ℕ) (last : ℕ)
       → Put page next (pairLine wantKey (getD row i 0) reads) (length wantKey + 42) page′ last
       → LinesPut page₀ at 47 (pairLines wantKey row (readsEach wanted counts row)) (length row) (pairLines wantKey (drop (i + 1) row) (drop (i + 1) (readsEach wanted counts row))) page′ last (i + 1)
   want-put l reads reads-are page′ last q =
@@ -108,17 +108,17 @@ module _ (sheet : List ℕ) where
   unfolding looseWantsText
   tail-ends = after-ends (looseFiles sheet) (fileText sheet)
 
-  pub third-first : startOf sheet (afterLines 2 sheet) ≤ startOf sheet (fileText sheet)
+  pub third-first : beginsAt sheet (afterLines 2 sheet) ≤ beginsAt sheet (fileText sheet)
   unfolding fileText
   third-first = omega (arith, after-shorter 2 sheet, after-shorter 3 sheet, after-shorter 4 sheet)
 
-  pub table-first : startOf sheet (fileText sheet) ≤ startOf sheet (looseWantsText sheet)
+  pub table-first : beginsAt sheet (fileText sheet) ≤ beginsAt sheet (looseWantsText sheet)
   table-first = omega (arith, tail-ends .short)
 
-  pub table-cut : take (startOf sheet (looseWantsText sheet) - startOf sheet (fileText sheet)) (drop (startOf sheet (fileText sheet)) sheet) ≡ firstLines (looseFiles sheet) (fileText sheet)
+  pub table-cut : take (beginsAt sheet (looseWantsText sheet) - beginsAt sheet (fileText sheet)) (drop (beginsAt sheet (fileText sheet)) sheet) ≡ firstLines (looseFiles sheet) (fileText sheet)
   unfolding looseWantsText
   table-cut =
-      let s : startOf sheet (looseWantsText sheet) - startOf sheet (fileText sheet) ≡ length (fileText sheet) - length (looseWantsText sheet) = omega (arith, tail-ends .short, table-ends .short) in
+      let s : beginsAt sheet (looseWantsText sheet) - beginsAt sheet (fileText sheet) ≡ length (fileText sheet) - length (looseWantsText sheet) = omega (arith, tail-ends .short, table-ends .short) in
       rw (s, table-ends .rest)
 
   pub few-files : looseFiles sheet ≤ mostSheetFiles
@@ -131,13 +131,13 @@ module _ (sheet : List ℕ) where
 
 -- The mended sheet.
 module _ (page sheet : List ℕ) (parts : Parts) (wanted counts row : List ℕ) (ok : Writable sheet parts wanted counts row) (long : length page ≡ 19483) where
-  third-is : parts .third ≡ startOf sheet (afterLines 2 sheet)
+  third-is : parts .third ≡ beginsAt sheet (afterLines 2 sheet)
   third-is = ap (λ p. p .third) (ok .read .parts-are)
 
-  table-is : parts .table ≡ startOf sheet (fileText sheet)
+  table-is : parts .table ≡ beginsAt sheet (fileText sheet)
   table-is = ap (λ p. p .table) (ok .read .parts-are)
 
-  tail-is : parts .tail ≡ startOf sheet (looseWantsText sheet)
+  tail-is : parts .tail ≡ beginsAt sheet (looseWantsText sheet)
   tail-is = ap (λ p. p .tail) (ok .read .parts-are)
 
   pub third-within : parts .third ≤ length sheet

@@ -21,7 +21,7 @@ use Rattle.prints.specs.Printing.{line, numberLine, pairLines}
 use Rattle.mends.specs.declared.Mended.{Mended}
 use Rattle.mends.specs.declared.wants.Fate.{Fate}
 use Rattle.mends.specs.declared.wants.Fate.the-variants.{Stays, Moved, Added, Dropped}
-use Rattle.mends.specs.Wants.{remaining, readsIn, readsEach, fateOf}
+use Rattle.mends.specs.Wants.{remaining, readsInAll, readsEach, fateOf}
 
 -- The first lines of a text, byte for byte.
 abbrev pub firstLines : ℕ → List ℕ → List ℕ
@@ -78,7 +78,7 @@ changesText sheet =
 abbrev pub wantsVerdicts : List ℕ → List Verdict
 wantsVerdicts sheet =
     refuseIf (ltb mostWants (length (sheetRemaining sheet))) WantRows
-    ∷ refuseIf (ltb mostReads (readsIn (wantedCounts sheet))) TooManyReads
+    ∷ refuseIf (ltb mostReads (readsInAll (wantedCounts sheet))) TooManyReads
     ∷ []
 
 -- Then 12 when the mended sheet would be over the limit, then 8 when either row is too short.

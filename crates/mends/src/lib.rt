@@ -13,7 +13,7 @@ ghost use Rattle.refusals.specs.declared.Refusal.the-variants.{LongSheet, Short
 ghost use Rattle.refusals.specs.Refusals.{refuseIf, firstOf};
 ghost use Rattle.runs.specs.Run.{mostWants, mostReads};
 ghost use Rattle.sheets.specs.Sheet.{longestSheet};
-ghost use Rattle.mends.specs.Wants.{readsIn};
+ghost use Rattle.mends.specs.Wants.{readsInAll};
 ghost use Rattle.mends.specs.Mending.{mendedText, changesText, wantsVerdicts, textsVerdicts, refusedMending, Handed, SheetMended};
 ghost use Rattle.mends.specs.Private.{SheetRead, Writable};
 use loose::Parts;
@@ -102,7 +102,7 @@ fn write_mended(
 
 // 3 for so many wants, then 5.
 fn judge_wants(many: usize, counts: &[u64]) -> Verdict
-    ensures { λ r. ⌜ r ≡ firstOf (refuseIf (ltb mostWants many) WantRows ∷ refuseIf (ltb mostReads (readsIn (now (counts .entry)))) TooManyReads ∷ []) ⌝ }
+    ensures { λ r. ⌜ r ≡ firstOf (refuseIf (ltb mostWants many) WantRows ∷ refuseIf (ltb mostReads (readsInAll (now (counts .entry)))) TooManyReads ∷ []) ⌝ }
 {
     let over = refuse_if(runs::MOST_WANTS < many, Refusal::WantRows);
     if refused(over) {

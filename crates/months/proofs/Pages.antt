@@ -17,7 +17,7 @@ use Rattle.prints.proofs.Pages.{wrote-page, wrote-long, wrote-within, wrote-bot
 use Rattle.recalls.specs.Recall.{bytesPut, rowPut}
 use Rattle.months.specs.declared.Month.{Month}
 use Rattle.months.specs.declared.Mean.{Mean}
-use Rattle.months.specs.Page.{oneIf, kindsIn, refusalLine, refusalLines, meanOf, topText, sumsText, longestText, monthTape, endText, pageText, PagePut}
+use Rattle.months.specs.Page.{oneIf, kindsIn, refusalLine, refusalLines, meanOf, monthTop, sumsText, longestText, monthTape, monthEnd, pageText, PagePut}
 
 -- The numbers that have runs, counted.
 pub one-few : (runs : ℕ) → oneIf runs ≤ 1
@@ -58,8 +58,8 @@ module _ (page : List ℕ) (at number runs : ℕ) (room : at + 50 ≤ length pag
 -- The page's four parts.
 pub put-top : (accepted kinds : ℕ) (runs : List ℕ) → kinds ≡ kindsIn runs → (page page₁ page₂ page₃ : List ℕ) (at₁ at₂ at₃ : ℕ) → 60 + length runs * 50 ≤ length page
     → Put page 0 (numberLine (bytes "accepted=") accepted) 30 page₁ at₁ → Put page₁ at₁ (numberLine (bytes "refusals=") kinds) 30 page₂ at₂
-    → Wrote page₂ at₂ (refusalLines 0 runs) (length runs * 50) page₃ at₃ → Wrote page 0 (topText accepted runs) (60 + length runs * 50) page₃ at₃
-unfolding topText
+    → Wrote page₂ at₂ (refusalLines 0 runs) (length runs * 50) page₃ at₃ → Wrote page 0 (monthTop accepted runs) (60 + length runs * 50) page₃ at₃
+unfolding monthTop
 put-top accepted kinds runs is page page₁ page₂ page₃ at₁ at₂ at₃ room p q s =
     let two = wrote-on (p .room (omega arith)) (omega arith) (subst (λ k. Put page₁ at₁ (numberLine (bytes "refusals=") k) 30 page₂ at₂) is q) in
     wrote-both two s
@@ -94,16 +94,16 @@ pub short-tape : (tape name : List ℕ) (letters : ℕ) → name ≡ take letter
 short-tape tape name letters e long = rw (e, length-take) (omega (arith, long))
 
 module _ (saved : ℕ) (v : Verdict) (f : Bool) (f-is : f ≡ isRefusal (v .refusal)) (page page₁ : List ℕ) (at at₁ : ℕ) (room : at + 83 ≤ length page) (p : Put page at (numberLine (bytes "saved=") saved) 27 page₁ at₁) where
-  pub put-saved : not f ≡ true → Wrote page at (endText saved v) 83 page₁ at₁
-  unfolding endText
+  pub put-saved : not f ≡ true → Wrote page at (monthEnd saved v) 83 page₁ at₁
+  unfolding monthEnd
   put-saved n =
       let e : f ≡ false = not-so f true n in
       let alone = wrote-within (p .room (omega arith)) 83 (omega arith) in
       rw (sym f-is ∙ e) (subst (λ t. Wrote page at t 83 page₁ at₁) (sym (append-nil (numberLine (bytes "saved=") saved))) alone)
 
   pub put-refused : not f ≡ false → (number : ℕ) → number ≡ numberOf (v .refusal) → (page₂ page₃ : List ℕ) (at₂ at₃ : ℕ) → Put page₁ at₁ (numberLine (bytes "refused=") number) 29 page₂ at₂
-      → Put page₂ at₂ (numberLine (bytes "place=") (v .place)) 27 page₃ at₃ → Wrote page at (endText saved v) 83 page₃ at₃
-  unfolding endText
+      → Put page₂ at₂ (numberLine (bytes "place=") (v .place)) 27 page₃ at₃ → Wrote page at (monthEnd saved v) 83 page₃ at₃
+  unfolding monthEnd
   put-refused n number is page₂ page₃ at₂ at₃ q s =
       let e : f ≡ true = not-so f false n in
       let said = subst (λ n. Put page₁ at₁ (numberLine (bytes "refused=") n) 29 page₂ at₂) is q in
@@ -133,7 +133,7 @@ row-with {row} {text} {n = n} w = let e : n ≡ length text = omega (arith, w .a
 
 -- The whole page, on one that has room for the longest.
 module _ (m : Month) (v : Verdict) (thirtytwo : length (m .refused) ≡ 32) (page₀ : List ℕ) (long : length page₀ ≡ 2048)
-    (page₁ : List ℕ) (at₁ : ℕ) (top : Wrote page₀ 0 (topText (m .accepted) (m .refused)) (60 + length (m .refused) * 50) page₁ at₁) where
+    (page₁ : List ℕ) (at₁ : ℕ) (top : Wrote page₀ 0 (monthTop (m .accepted) (m .refused)) (60 + length (m .refused) * 50) page₁ at₁) where
   pub room-two : at₁ + 99 ≤ length page₁
   room-two = omega (arith, top .within, wrote-long top (omega arith))
 
@@ -145,7 +145,7 @@ module _ (m : Month) (v : Verdict) (thirtytwo : length (m .refused) ≡ 32) (pag
       pub room-four : at₃ + 83 ≤ length page₃
       room-four = omega (arith, top .within, sums .within, longest .within, wrote-long top (omega arith), wrote-long sums room-two, wrote-long longest room-three)
 
-      module _ (page₄ : List ℕ) (at₄ : ℕ) (end : Wrote page₃ at₃ (endText (m .saved) v) 83 page₄ at₄) where
+      module _ (page₄ : List ℕ) (at₄ : ℕ) (end : Wrote page₃ at₃ (monthEnd (m .saved) v) 83 page₄ at₄) where
         whole : Wrote page₀ 0 (pageText m v) (60 + length (m .refused) * 50 + 99 + 67 + 83) page₄ at₄
         unfolding pageText
         whole =

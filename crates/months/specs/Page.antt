@@ -29,8 +29,8 @@ unfoldable pub refusalLines : ℕ → List ℕ → List ℕ
 refusalLines number [] = []
 refusalLines number (runs ∷ rest) = refusalLine number runs ++ refusalLines (suc number) rest
 
-unfoldable pub topText : ℕ → List ℕ → List ℕ
-topText accepted runs = numberLine (bytes "accepted=") accepted ++ numberLine (bytes "refusals=") (kindsIn runs) ++ refusalLines 0 runs
+unfoldable pub monthTop : ℕ → List ℕ → List ℕ
+monthTop accepted runs = numberLine (bytes "accepted=") accepted ++ numberLine (bytes "refusals=") (kindsIn runs) ++ refusalLines 0 runs
 
 -- The mean over the reads as whole part and remainder; 0 and 0 where nothing is read.
 unfoldable pub meanOf : ℕ → ℕ → Mean
@@ -51,18 +51,18 @@ abbrev pub monthTape : Month → List ℕ
 monthTape m = take (m .letters) (m .tape)
 
 -- What the plans save; and the lines of a refusal, where there is one.
-unfoldable pub endText : ℕ → Verdict → List ℕ
-endText saved v =
+unfoldable pub monthEnd : ℕ → Verdict → List ℕ
+monthEnd saved v =
     numberLine (bytes "saved=") saved
     ++ cond (isRefusal (v .refusal)) (numberLine (bytes "refused=") (numberOf (v .refusal)) ++ numberLine (bytes "place=") (v .place)) []
 
 -- The whole page of a month, and of a verdict on its input.
 unfoldable pub pageText : Month → Verdict → List ℕ
 pageText m v =
-    topText (m .accepted) (m .refused)
+    monthTop (m .accepted) (m .refused)
     ++ sumsText (m .reads) (m .sum)
     ++ longestText (m .time) (monthTape m) (m .file)
-    ++ endText (m .saved) v
+    ++ monthEnd (m .saved) v
 
 -- The number of its bytes, and the row that holds it; a row shorter than the page stays, and the number is 0.
 pub record PagePut (m : Month) (v : Verdict) (row : List ℕ) (n : ℕ) (row′ : List ℕ) : Type 0 where

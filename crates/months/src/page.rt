@@ -3,7 +3,7 @@ ghost use mathlib.Core.Path.{_≡_};
 ghost use Prim.Native.Nat.{_+_, _*_, _≤_, _<_};
 ghost use lib.ListN.{length, take};
 ghost use Rattle.prints.specs.Printing.{Wrote};
-ghost use Rattle.months.specs.Page.{oneIf, kindsIn, refusalLine, refusalLines, meanOf, topText, sumsText, longestText, endText, PagePut};
+ghost use Rattle.months.specs.Page.{oneIf, kindsIn, refusalLine, refusalLines, meanOf, monthTop, sumsText, longestText, monthEnd, PagePut};
 use crate::Mean;
 use crate::Month;
 use prints::put;
@@ -77,7 +77,7 @@ fn mean_of(sum: u64, reads: u64) -> Mean
 // The runs accepted, and those refused by number.
 fn put_top(page: &mut [u8], accepted: u64, runs: &[u64]) -> usize
     requires { ⌜ 60 + length (now runs) * 50 ≤ length (now page) ⌝ }
-    ensures { λ r. ⌜ Wrote (now (page .entry)) 0 (topText accepted (now (runs .entry))) (60 + length (now (runs .entry)) * 50) (now (page .exit)) r ⌝ }
+    ensures { λ r. ⌜ Wrote (now (page .entry)) 0 (monthTop accepted (now (runs .entry))) (60 + length (now (runs .entry)) * 50) (now (page .exit)) r ⌝ }
 {
     let kinds = count_kinds(runs);
     let count = put_number_line(page, 0, b"accepted=", accepted);
@@ -112,7 +112,7 @@ fn put_longest(page: &mut [u8], at: usize, time: u64, tape: &[u8], file: u64) ->
 // What the plans save; and the lines of a refusal, where there is one.
 fn put_end(page: &mut [u8], at: usize, saved: u64, verdict: Verdict) -> usize
     requires { ⌜ at + 83 ≤ length (now page) ⌝ }
-    ensures { λ r. ⌜ Wrote (now (page .entry)) at (endText saved verdict) 83 (now (page .exit)) r ⌝ }
+    ensures { λ r. ⌜ Wrote (now (page .entry)) at (monthEnd saved verdict) 83 (now (page .exit)) r ⌝ }
 {
     let end = put_number_line(page, at, b"saved=", saved);
     if !refused(verdict) {

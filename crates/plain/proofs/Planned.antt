@@ -22,7 +22,7 @@ use Rattle.least.specs.Recurrence.{leastList}
 use Rattle.least.proofs.LeastList.{least-list}
 use Rattle.joins.proofs.Halves.{list-of-halves, halves-even, front, holds-front}
 use Rattle.least.proofs.Priced.{price-accepted}
-use Rattle.plain.specs.Plain.{PlainRows, plainRows, readsIn, shortRows, plainVerdict, PlainPlanned, PlainPlans}
+use Rattle.plain.specs.Plain.{PlainRows, plainRows, plainReads, shortPlainRows, plainVerdict, PlainPlanned, PlainPlans}
 use Rattle.plain.specs.Private.{overlay, ListWritten, shortLengths}
 use Rattle.plain.proofs.Checks.{runChecks, first-of-both, second-of-both}
 use Rattle.plain.proofs.Overlays.{overlay-first}
@@ -48,7 +48,7 @@ long-rows wants k stops froms tos times legs g same is e =
 
 module _ (r : Run) (rows : PlainRows) where
   rowsCheck : Verdict
-  rowsCheck = refuseIf (shortRows (length (r .numbers)) (length (stopsOf r)) rows) ShortRow
+  rowsCheck = refuseIf (shortPlainRows (length (r .numbers)) (length (stopsOf r)) rows) ShortRow
 
   refused-so : (v : Verdict) → v ≡ plainVerdict r rows → refuses v ≡ true → (a : Answer) → a ≡ refusalAnswer v → PlainPlans r rows a rows
   refused-so v e h a s =
@@ -120,15 +120,15 @@ module _ (r : Run) (rows : PlainRows) (accepts : isRefusal (judgeOf r .refusal) 
   priced-list : listOf (take n froms′) (take n tos′) ≡ list
   priced-list = rw (froms-front, tos-front) (list-of-halves list)
 
-  priced : refuses (priceVerdict r (take n froms′) (take n tos′) (readsIn rows)) ≡ false
+  priced : refuses (priceVerdict r (take n froms′) (take n tos′) (plainReads rows)) ≡ false
   priced =
-      price-accepted r (take n froms′) (take n tos′) (readsIn rows) accepts
+      price-accepted r (take n froms′) (take n tos′) (plainReads rows) accepts
       (rw (froms-front, tos-front) (halves-even (λ d. d .from) (λ d. d .to) list))
       (rw priced-list (least .formed)) (long .timed) (long .legged)
 
   -- The pricer's answer for the list is the engine's.
-  pub planned-so : (answer : Answer) (times′ legs′ : List ℕ) → answer ≡ priceAnswer r (take n froms′) (take n tos′) (readsIn rows)
-      → readRows times′ legs′ ≡ priceRows r (take n froms′) (take n tos′) (readsIn rows) → PlainPlanned r rows answer (plainRows froms′ tos′ times′ legs′)
+  pub planned-so : (answer : Answer) (times′ legs′ : List ℕ) → answer ≡ priceAnswer r (take n froms′) (take n tos′) (plainReads rows)
+      → readRows times′ legs′ ≡ priceRows r (take n froms′) (take n tos′) (plainReads rows) → PlainPlanned r rows answer (plainRows froms′ tos′ times′ legs′)
   unfolding priceAnswer priceRows
   planned-so answer times′ legs′ a t =
       let reads = rw (priced, priced-list) at t in

@@ -35,8 +35,8 @@ abbrev pub plainRowsAfter : Both Row Row → Both Row Row → Both Row Row → B
 plainRowsAfter froms tos times legs = plainRows (froms .exit .now) (tos .exit .now) (times .exit .now) (legs .exit .now)
 
 -- The two of them that the pricer is lent.
-abbrev pub readsIn : PlainRows → ReadRows
-readsIn rows = readRows (rows .times) (rows .legs)
+abbrev pub plainReads : PlainRows → ReadRows
+plainReads rows = readRows (rows .times) (rows .legs)
 
 -- The most wants that the engine takes.
 abbrev pub mostPlainWants : ℕ
@@ -47,8 +47,8 @@ abbrev pub unevenWants : Run → Bool
 unevenWants r = ltb mostWants (length (r .numbers)) || not (eqb (length (r .numbers)) (length (r .counts)))
 
 -- 8: a row for times or legs shorter than the wants, or one for starts or ends shorter than the stops less one (0 where there is none).
-abbrev pub shortRows : ℕ → ℕ → PlainRows → Bool
-shortRows wants stops rows = shortReadRows wants (readsIn rows) || ltb (length (rows .froms)) (stops - 1) || ltb (length (rows .tos)) (stops - 1)
+abbrev pub shortPlainRows : ℕ → ℕ → PlainRows → Bool
+shortPlainRows wants stops rows = shortReadRows wants (plainReads rows) || ltb (length (rows .froms)) (stops - 1) || ltb (length (rows .tos)) (stops - 1)
 
 -- The refusals: 1, 2 and 3; 24, which counts the wants handed in; then what is left of the judging of a run, 4 to 7; then 8.
 unfoldable pub plainVerdict : Run → PlainRows → Verdict
@@ -58,7 +58,7 @@ plainVerdict r rows =
     ∷ refuseIf (unevenWants r) WantRows
     ∷ refuseIf (ltb mostPlainWants (length (r .numbers))) OverEightWants
     ∷ judgeOf r
-    ∷ refuseIf (shortRows (length (r .numbers)) (length (stopsOf r)) rows) ShortRow
+    ∷ refuseIf (shortPlainRows (length (r .numbers)) (length (stopsOf r)) rows) ShortRow
     ∷ [])
 
 -- The rows afterwards: the list, the times and the legs in the first entries; later entries as they were.

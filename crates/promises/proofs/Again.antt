@@ -18,11 +18,11 @@ use Rattle.sheets.specs.Lines.{tapeKey, headKey, turnKey, ruleKey, leastText, f
 use Rattle.sheets.specs.Sheet.{longestSheet, mostSheetFiles, sheetTurn, sheetTurnWith, saysSweep, sheetFiles, fileText, unless, firstSome}
 use Rattle.prints.specs.Printing.{line, numberLine, pairLines}
 use Rattle.writers.proofs.Reread.{line-first, line-behind, key-begins, key-value, number-back, value-back, pairs-behind, pairs-good, firsts-back, seconds-back}
-use Rattle.loose.specs.Loose.{linesBefore, looseFiles, looseWantsText, looseWantText, looseWants, looseEnd, wantsSaid, priceLeftOut, firstBadTop, firstBadBelow, firstBadLoose, wantedFiles, wantedCounts}
+use Rattle.loose.specs.Loose.{linesBefore, looseFiles, looseWantsText, looseWantText, looseWants, looseEnd, wantsSaid, priceLeftOut, firstBadLooseTop, firstBadLooseBelow, firstBadLoose, wantedFiles, wantedCounts}
 use Rattle.loose.proofs.Wants.{lines-good, want-lines-good}
 use Rattle.sheets.proofs.Rows.{length-each}
 use Rattle.mends.specs.declared.wants.Fate.the-variants.{Stays}
-use Rattle.mends.specs.Wants.{sumOf, enter, remaining, readsIn, askedOf, readsOf, readsEach, fateOf}
+use Rattle.mends.specs.Wants.{sumBelow, enter, remaining, readsInAll, askedOf, readsOfWant, readsEach, fateOf}
 use Rattle.mends.proofs.Counting.{sum-below, asked-within}
 use Rattle.mends.proofs.Texts.{each-long, each-at, few-files}
 use Rattle.mends.specs.Mending.{firstLines, sheetRemaining, sheetReads, mendedText, fateLines}
@@ -189,7 +189,7 @@ fates-none above files counts zero h = refl
 fates-none above files counts (suc n) h = rw (fates-none above files counts n (λ i l. h i (omega arith)), h n (omega arith))
 
 -- The mended sheet of one whose lines are as described, with at most 64 wants and 1,024 reads.
-module _ (sheet : List ℕ) (good : firstBadLoose sheet ≡ 0) (few : length (sheetRemaining sheet) ≤ mostWants) (reads : readsIn (wantedCounts sheet) ≤ mostReads) where
+module _ (sheet : List ℕ) (good : firstBadLoose sheet ≡ 0) (few : length (sheetRemaining sheet) ≤ mostWants) (reads : readsInAll (wantedCounts sheet) ≤ mostReads) where
   abbrev row : List ℕ
   row = sheetRemaining sheet
 
@@ -206,9 +206,9 @@ module _ (sheet : List ℕ) (good : firstBadLoose sheet ≡ 0) (few : length (sh
   head-on = unless (isNumberLine headKey (lineAfter 1 sheet)) 2 ∷ unless (isTurnLine (lineAfter 2 sheet)) 3 ∷ rule-on
 
   tops : (isTapeLine (lineAfter 0 sheet) ≡ true) × ((isNumberLine headKey (lineAfter 1 sheet) ≡ true) × (isTurnLine (lineAfter 2 sheet) ≡ true))
-  unfolding firstBadLoose firstBadTop
+  unfolding firstBadLoose firstBadLooseTop
   tops =
-      let upper = none-more (firstBadTop sheet) (firstBadBelow sheet ∷ []) good .0 in
+      let upper = none-more (firstBadLooseTop sheet) (firstBadLooseBelow sheet ∷ []) good .0 in
       let a = none-more (unless (isTapeLine (lineAfter 0 sheet)) 1) head-on upper in
       let b = none-more (unless (isNumberLine headKey (lineAfter 1 sheet)) 2) (unless (isTurnLine (lineAfter 2 sheet)) 3 ∷ rule-on) (a .1) in
       let c = none-more (unless (isTurnLine (lineAfter 2 sheet)) 3) rule-on (b .1) in
@@ -238,11 +238,11 @@ module _ (sheet : List ℕ) (good : firstBadLoose sheet ≡ 0) (few : length (sh
   unfolding wantedFiles wantedCounts
   lines-even = length-each (λ i. firstIn wantKey (lineAfter i (looseWantText sheet))) (looseWants sheet) ∙ sym (length-each (λ i. secondIn wantKey (lineAfter i (looseWantText sheet))) (looseWants sheet))
 
-  reads-small : (x : ℕ) → readsOf (wantedFiles sheet) (wantedCounts sheet) x ≤ mostReads
-  unfolding readsOf readsIn
+  reads-small : (x : ℕ) → readsOfWant (wantedFiles sheet) (wantedCounts sheet) x ≤ mostReads
+  unfolding readsOfWant readsInAll
   reads-small x =
       let below = sum-below (λ i. askedOf x (getD (wantedFiles sheet) i 0) (getD (wantedCounts sheet) i 0)) (λ i. getD (wantedCounts sheet) i 0) (λ i. asked-within x (getD (wantedFiles sheet) i 0) (getD (wantedCounts sheet) i 0)) (length (wantedFiles sheet)) in
-      omega (arith, below, ap (sumOf (λ i. getD (wantedCounts sheet) i 0)) lines-even, reads)
+      omega (arith, below, ap (sumBelow (λ i. getD (wantedCounts sheet) i 0)) lines-even, reads)
 
   asked-small : (i : ℕ) → i < length row → getD asked i 0 < 2 ^ 64
   unfolding sheetReads
@@ -418,7 +418,7 @@ module _ (sheet : List ℕ) (good : firstBadLoose sheet ≡ 0) (few : length (sh
 
   -- All of it is as described.
   pub good-again : firstBadLoose (mendedText sheet) ≡ 0
-  unfolding firstBadLoose firstBadTop firstBadBelow
+  unfolding firstBadLoose firstBadLooseTop firstBadLooseBelow
   good-again =
       let turn : isTurnLine (lineAfter 2 (mendedText sheet)) ≡ true = ap isTurnLine line₂ ∙ turn-back (sheetTurn sheet) price-small in
       let rule : isRuleLine (lineAfter 3 (mendedText sheet)) ≡ true = ap isRuleLine line₃ ∙ rule-back in

@@ -34,10 +34,10 @@ use Rattle.sheets.proofs.Rows.{length-each}
 use Rattle.writers.specs.PlanSheet.{planText, detourKey}
 use Rattle.writers.proofs.Reread.{line-first, line-behind, key-begins}
 use Rattle.recalls.specs.Recall.{runChecks, verdictBy, recallVerdict, SheetRecalled, bytesPut, rowPut}
-use Rattle.lists.specs.Form.{planDetours, detourText, planFroms, planTos, listFroms, listTos}
+use Rattle.lists.specs.Form.{detoursTold, detourText, planFroms, planTos, listFroms, listTos}
 use Rattle.lists.specs.Reading.{planForm, listForm}
 use Rattle.lists.proofs.RoundTrip.{plan-formed, froms-back, tos-back}
-use Rattle.checks.specs.Pricing.{priceChecks, priceVerdict, priceText, SheetPriced}
+use Rattle.checks.specs.Pricing.{priceChecks, pricingVerdict, priceText, SheetPriced}
 use Rattle.checks.specs.Checking.{formedYes, formedNo, walkYes, walkNo, leastYes, leastNo, firstDifference, walkLine, differenceLines, sameList, leastLine, verdictLines, checkText, checkChecks, checkVerdict, SheetChecked}
 use Rattle.promises.specs.Checks.{Larger, Told, CheckTells, CheckPrinted, PlanChecks, PriceTells}
 
@@ -79,7 +79,7 @@ module _ (froms tos : List ℕ) (even : length froms ≡ length tos) (list : Lis
 
 even-plan : (plan : List ℕ) → length (planFroms plan) ≡ length (planTos plan)
 unfolding planFroms planTos
-even-plan plan = length-each (λ i. firstIn detourKey (lineAfter i (detourText plan))) (planDetours plan) ∙ sym (length-each (λ i. secondIn detourKey (lineAfter i (detourText plan))) (planDetours plan))
+even-plan plan = length-each (λ i. firstIn detourKey (lineAfter i (detourText plan))) (detoursTold plan) ∙ sym (length-each (λ i. secondIn detourKey (lineAfter i (detourText plan))) (detoursTold plan))
 
 -- A line with its LF at the front of a text.
 module _ (key text rest : List ℕ) (plain : has lineFeed key ≡ false) (flat : has lineFeed text ≡ false) where
@@ -299,7 +299,7 @@ pub price-tells : PriceTells
 unfolding priceText verdictBy
 price-tells sheet list row n row′ p e =
     let all = all-accept (sheetVerdict sheet ∷ ruleVerdict sheet ∷ priceChecks list (sheetRun sheet)) e in
-    let is : priceText (priceVerdict sheet list) (sheetName sheet) (sheetRun sheet) list ≡ planText (sheetName sheet) (sheetRun sheet) (listFroms list) (listTos list) = rw e in (
+    let is : priceText (pricingVerdict sheet list) (sheetName sheet) (sheetRun sheet) list ≡ planText (sheetName sheet) (sheetRun sheet) (listFroms list) (listTos list) = rw e in (
       list-formed (stopsOf (sheetRun sheet)) (listFroms list) (listTos list) (all .1 .1 .1 .1 .0),
       λ l. put-whole (planText (sheetName sheet) (sheetRun sheet) (listFroms list) (listTos list)) row n row′
           (p .bytes ∙ ap (λ t. bytesPut t row) is) (p .left ∙ ap (λ t. rowPut t row) is) l,

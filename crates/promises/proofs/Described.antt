@@ -8,7 +8,7 @@ use Rattle.texts.specs.Text.{isEmpty}
 use Rattle.lines.specs.Lines.{lineOf, lineAfter, isNumberLine}
 use Rattle.sheets.specs.Lines.{headKey, filesKey, wantsKey, isTapeLine, isTurnLine, isRuleLine}
 use Rattle.sheets.specs.Sheet.{unless}
-use Rattle.loose.specs.Loose.{looseFiles, looseWantsText, looseWants, looseEnd, firstBadTop, firstBadBelow, firstBadLoose}
+use Rattle.loose.specs.Loose.{looseFiles, looseWantsText, looseWants, looseEnd, firstBadLooseTop, firstBadLooseBelow, firstBadLoose}
 use Rattle.promises.proofs.Again.{none-more, line-good}
 
 pub record Described (text : List ℕ) : Type 0 where
@@ -28,10 +28,10 @@ module _ (text : List ℕ) (good : firstBadLoose text ≡ 0) where
   rule-on = unless (isRuleLine (lineAfter 3 text)) 4 ∷ unless (isNumberLine filesKey (lineAfter 4 text)) 5 ∷ []
 
   pub described : Described text
-  unfolding firstBadLoose firstBadTop firstBadBelow
+  unfolding firstBadLoose firstBadLooseTop firstBadLooseBelow
   described =
-      let both = none-more (firstBadTop text) (firstBadBelow text ∷ []) good in
-      let below = none-more (firstBadBelow text) [] (both .1) .0 in
+      let both = none-more (firstBadLooseTop text) (firstBadLooseBelow text ∷ []) good in
+      let below = none-more (firstBadLooseBelow text) [] (both .1) .0 in
       let a = none-more (unless (isTapeLine (lineAfter 0 text)) 1) (unless (isNumberLine headKey (lineAfter 1 text)) 2 ∷ unless (isTurnLine (lineAfter 2 text)) 3 ∷ rule-on) (both .0) in
       let b = none-more (unless (isNumberLine headKey (lineAfter 1 text)) 2) (unless (isTurnLine (lineAfter 2 text)) 3 ∷ rule-on) (a .1) in
       let c = none-more (unless (isTurnLine (lineAfter 2 text)) 3) rule-on (b .1) in

@@ -21,7 +21,7 @@ use Rattle.tickets.specs.declared.Filing.{Filing}
 use Rattle.tickets.specs.declared.FiledRow.{FiledRow}
 use Rattle.tickets.specs.declared.Withdrawal.{Withdrawal}
 use Rattle.tickets.specs.declared.WithdrawnRow.{WithdrawnRow}
-use Rattle.tickets.specs.Table.{places, allPlaces, noTicket, lastOf, waiting, rowVerdict, Waits, Sound}
+use Rattle.tickets.specs.Table.{places, allPlaces, noTicket, lastOf, waiting, recordsVerdict, Waits, Sound}
 use Rattle.tickets.specs.Filings.{inRange, mostNumber, numberFor, ticketOf, fileVerdict, notFiled, filedIn, fileRow}
 use Rattle.tickets.specs.Withdrawals.{withdrawVerdict, withdrawRow}
 use Rattle.tickets.proofs.Storing.{file-accepted, office-is, range-office}
@@ -108,7 +108,7 @@ stand-by-number office i j k (inr e) table l b = rw e (by-number (waiting 2 (k .
 
 -- A filing of an office with room and numbers left is accepted.
 filing-passes : (len : ℕ) (row : List Ticket) (f : Filing) → Stands (f .lasts) row → 32 ≤ len → inRange f ≡ true → length (waiting (f .office) row) ≤ 15 → lastOf (f .office) (f .lasts) < 65535 → fileVerdict len row f ≡ accepted
-unfolding fileVerdict rowVerdict
+unfolding fileVerdict recordsVerdict
 filing-passes len row f table long ranged few left =
     rw (
       none-bad (f .lasts) (waiting 1 row) (waiting 2 row) row table,
@@ -255,7 +255,7 @@ pub boarding-takes : BoardingTakes
 boarding-takes len tape row b before after r table fits accepts = takes len tape row b before after r fits table (ap isRefusal accepts)
 
 verdicts : (len : ℕ) (row row′ : List Ticket) (f : Filing) → Stands (f .lasts) row → Stands (f .lasts) row′ → waiting (f .office) row ≡ waiting (f .office) row′ → fileVerdict len row f ≡ fileVerdict len row′ f
-unfolding fileVerdict rowVerdict
+unfolding fileVerdict recordsVerdict
 verdicts len row row′ f table table′ same =
     rw (none-bad (f .lasts) (waiting 1 row) (waiting 2 row) row table, none-bad (f .lasts) (waiting 1 row′) (waiting 2 row′) row′ table′, same)
 
@@ -289,4 +289,4 @@ refusal-keeps len tape row b before after r fits some =
         (λ n. let plans = fits .planned n .plans in
         ⊎-elim (λ t. plans .refused t .kept) (λ p. absurd (true≢false (sym e ∙ ap (λ a. isRefusal (a .refusal)) (plans .planned p .says))))
         (true-or-false _))
-        (true-or-false (refuses (rowVerdict len row (b .lasts))))
+        (true-or-false (refuses (recordsVerdict len row (b .lasts))))

@@ -1,7 +1,7 @@
 -- The worked cases of requests L6 and L7 compute.
 use mathlib.Core.Path.{refl}
 use Rattle.refusals.specs.Refusals.{firstWhere}
-use Rattle.tickets.specs.Table.{ticketsIn, rowVerdict}
+use Rattle.tickets.specs.Table.{ticketsIn, recordsVerdict}
 use Rattle.tickets.specs.Filings.{fileVerdict, fileRow}
 use Rattle.tickets.specs.Withdrawals.{hasNumber, withoutNumber, withdrawVerdict, withdrawRow}
 use Rattle.boardings.specs.Boarders.{addWant, withWants}
@@ -16,17 +16,17 @@ unfolding addWant withWants
 wants-case = refl
 
 pub row-cases : RowCases
-unfolding firstWhere rowVerdict
+unfolding firstWhere recordsVerdict
 row-cases = (refl, refl, refl, refl, refl, refl, refl, refl, refl, refl)
 
 pub filing-cases : FilingCases
-unfolding firstWhere rowVerdict ticketsIn fileVerdict
+unfolding firstWhere recordsVerdict ticketsIn fileVerdict
 filing-cases = (refl, refl, refl, refl, refl, refl, refl)
 
 pub withdrawal-cases : WithdrawalCases
-unfolding firstWhere rowVerdict ticketsIn hasNumber withoutNumber withdrawVerdict
+unfolding firstWhere recordsVerdict ticketsIn hasNumber withoutNumber withdrawVerdict
 withdrawal-cases = (refl, refl, refl, refl, refl)
 
 pub day-case : DayCase
-unfolding firstWhere rowVerdict ticketsIn fileVerdict fileRow hasNumber withoutNumber withdrawVerdict withdrawRow
+unfolding firstWhere recordsVerdict ticketsIn fileVerdict fileRow hasNumber withoutNumber withdrawVerdict withdrawRow
 day-case = then (files refl refl) (then (withdraws refl refl) (then (files refl refl) over))

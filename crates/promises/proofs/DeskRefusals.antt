@@ -18,7 +18,7 @@ use Rattle.tickets.specs.declared.Ticket.{Ticket}
 use Rattle.tickets.specs.declared.Lasts.{Lasts}
 use Rattle.tickets.specs.declared.Filing.{Filing}
 use Rattle.tickets.specs.declared.Withdrawal.{Withdrawal}
-use Rattle.tickets.specs.Table.{offices, places, allPlaces, mostCount, noTicket, isEmpty, upTo, isTicket, follows, lastOf, officeAt, isFirstPlace, isOutOfTurn, badRecord, waiting, rowVerdict}
+use Rattle.tickets.specs.Table.{offices, places, allPlaces, mostCount, noTicket, isEmptyPlace, upTo, isTicket, follows, lastOf, officeAt, isFirstPlace, isOutOfTurn, badRecord, waiting, recordsVerdict}
 use Rattle.tickets.specs.Filings.{inRange, isFull, mostNumber, isSpent, fileVerdict, fileRow}
 use Rattle.tickets.specs.Withdrawals.{hasNumber, isWaiting, withdrawVerdict, withdrawRow}
 use Rattle.tickets.proofs.Sound.{empty-is, row-sound}
@@ -37,8 +37,8 @@ tells-within most n =
     tells-reworded (λ h. record { some = h .0; few = h .1 }) (λ w. (w .some, w .few))
     (tells-both (not (eqb n 0)) (leb n most) (tells-not (eqb n 0) (tells-equal n 0)) (tells-at-most n most))
 
-tells-empty : (t : Ticket) → Tells (isEmpty t) (t ≡ noTicket)
-tells-empty t = record { when-true = empty-is t; when-false = λ e h. true≢false (sym (ap isEmpty h) ∙ e) }
+tells-empty : (t : Ticket) → Tells (isEmptyPlace t) (t ≡ noTicket)
+tells-empty t = record { when-true = empty-is t; when-false = λ e h. true≢false (sym (ap isEmptyPlace h) ∙ e) }
 
 tells-ticket : (office last : ℕ) (t : Ticket) → Tells (isTicket office last t) (IsTicketOf office last t)
 tells-ticket office last t =
@@ -50,15 +50,15 @@ tells-ticket office last t =
     (tells-within last (t .number)))
 
 tells-follows : (a t : Ticket) → Tells (follows a t) (Follows a t)
-tells-follows a t = tells-both (not (isEmpty a)) (ltb (a .number) (t .number)) (tells-not (isEmpty a) (tells-empty a)) (tells-below (a .number) (t .number))
+tells-follows a t = tells-both (not (isEmptyPlace a)) (ltb (a .number) (t .number)) (tells-not (isEmptyPlace a) (tells-empty a)) (tells-below (a .number) (t .number))
 
 tells-bad : (l : Lasts) (row : List Ticket) (i : ℕ) → Tells (badRecord l row i) (RecordIsBad l row i)
 tells-bad l row i =
     let t = getD row i noTicket in
     let u = getD row (i - 1) noTicket in
     let here = isTicket (officeAt i) (lastOf (officeAt i) l) t in
-    tells-both (not (isEmpty t)) (not here || isOutOfTurn row i)
-    (tells-not (isEmpty t) (tells-empty t))
+    tells-both (not (isEmptyPlace t)) (not here || isOutOfTurn row i)
+    (tells-not (isEmptyPlace t) (tells-empty t))
     (tells-either (not here) (isOutOfTurn row i)
     (tells-not here (tells-ticket (officeAt i) (lastOf (officeAt i) l) t))
     (tells-both (not (isFirstPlace i)) (not (follows u t))
@@ -91,8 +91,8 @@ module _ (len : ℕ) (row : List Ticket) (l : Lasts) where
   decides-bad : Decides BadRecord (RowApplies len row l BadRecord) (refuseAt (firstWhere (badRecord l row) allPlaces) BadRecord)
   decides-bad = decides-reworded (λ p h. bad-record h) bad-back (decides-at (badRecord l row) (RecordIsBad l row) allPlaces (tells-bad l row) BadRecord)
 
-  row-finds : Finds (RowApplies len row l) rowOrder (rowVerdict len row l)
-  unfolding rowVerdict
+  row-finds : Finds (RowApplies len row l) rowOrder (recordsVerdict len row l)
+  unfolding recordsVerdict
   row-finds =
       finds-first (RowApplies len row l) (refuseAt (firstWhere (badRecord l row) allPlaces) BadRecord ∷ []) refl decides-short
       (λ a. finds-first (RowApplies len row l) [] refl decides-bad (λ b. finds-none (RowApplies len row l)))
@@ -123,7 +123,7 @@ module _ (len : ℕ) (row : List Ticket) (f : Filing) where
   spent-back p (numbers-spent l) = (refl, l)
 
   filing-finds : Finds (FilingApplies len row f) filingOrder (fileVerdict len row f)
-  unfolding fileVerdict rowVerdict
+  unfolding fileVerdict recordsVerdict
   filing-finds =
       let short = refuseIf (ltb len allPlaces) ShortRow in
       let bad = refuseAt (firstWhere (badRecord (f .lasts) row) allPlaces) BadRecord in
@@ -177,7 +177,7 @@ module _ (len : ℕ) (row : List Ticket) (w : Withdrawal) where
       tells-both (upTo offices (w .office)) (hasNumber (w .number) (waiting (w .office) row)) (tells-within offices (w .office)) (tells-among (w .number) (waiting (w .office) row))
 
   withdrawal-finds : Finds (WithdrawalApplies len row w) withdrawalOrder (withdrawVerdict len row w)
-  unfolding withdrawVerdict rowVerdict
+  unfolding withdrawVerdict recordsVerdict
   withdrawal-finds =
       let short = refuseIf (ltb len allPlaces) ShortRow in
       let bad = refuseAt (firstWhere (badRecord (w .lasts) row) allPlaces) BadRecord in
@@ -202,10 +202,10 @@ boarding-answers len tape row b before after r fits =
     let iff = refused-iff (RowApplies len row (b .lasts)) (row-finds len row (b .lasts)) (refl, (refl, tt)) in
     record {
       records = λ some.
-          let says = fits .refused (not-accepted (rowVerdict len row (b .lasts) .refusal) (iff .1 some)) .says in
+          let says = fits .refused (not-accepted (recordsVerdict len row (b .lasts) .refusal) (iff .1 some)) .says in
           rw (ap (λ x. x .boarded .answer .refusal) says, ap (λ x. x .boarded .answer .place) says) (row-finds len row (b .lasts));
       run = λ none.
-          let passes = ⊎-elim (λ t. absurd (none (iff .0 (λ a. true≢false (sym t ∙ ap isRefusal a))))) (λ n. n) (true-or-false (refuses (rowVerdict len row (b .lasts)))) in
+          let passes = ⊎-elim (λ t. absurd (none (iff .0 (λ a. true≢false (sym t ∙ ap isRefusal a))))) (λ n. n) (true-or-false (refuses (recordsVerdict len row (b .lasts)))) in
           demand1-plan (boardRun tape row b) before (r .boarded .answer) after (fits .planned passes .plans) .first;
     }
 

@@ -22,8 +22,8 @@ use Rattle.tickets.specs.declared.Filing.{Filing}
 use Rattle.tickets.specs.declared.FiledRow.{FiledRow}
 use Rattle.tickets.specs.declared.Withdrawal.{Withdrawal}
 use Rattle.tickets.specs.declared.WithdrawnRow.{WithdrawnRow}
-use Rattle.tickets.specs.Table.{noTicket, lastOf, waiting, rowVerdict}
-use Rattle.tickets.specs.Filings.{fileVerdict, numberFor, lastsWith, ticketOf, withTicket, rowWith, notFiled, filedIn, fileRow}
+use Rattle.tickets.specs.Table.{noTicket, lastOf, waiting, recordsVerdict}
+use Rattle.tickets.specs.Filings.{fileVerdict, numberFor, lastsWith, ticketOf, withTicket, rowWithTicket, notFiled, filedIn, fileRow}
 use Rattle.tickets.specs.Withdrawals.{withoutNumber, withdrawVerdict, withoutTicket, rowLeft, withdrawRow}
 use Rattle.tickets.proofs.Storing.{file-accepted, office-is, range-office}
 use Rattle.tickets.proofs.Leaving.{withdraw-accepted, without-here, without-later}
@@ -104,13 +104,13 @@ module _ (office len : ℕ) (row : List Ticket) (f : Filing) (o : IsOffice offic
   filing-refused e = record { queue = rw e (sym (append-nil (waiting office row))); there = omega arith; four = λ d. absurd (true≢false (sym d)); only = λ d. refl }
 
   filed-holds : refuses (fileVerdict len row f) ≡ false
-      → Holds (lastsWith (f .office) (numberFor f) (f .lasts)) (withTicket 1 (ticketOf f) (waiting 1 row)) (withTicket 2 (ticketOf f) (waiting 2 row)) (rowWith (ticketOf f) row)
+      → Holds (lastsWith (f .office) (numberFor f) (f .lasts)) (withTicket 1 (ticketOf f) (waiting 1 row)) (withTicket 2 (ticketOf f) (waiting 2 row)) (rowWithTicket (ticketOf f) row)
   filed-holds e = let a = file-accepted len row f e in file-holds row f table (a .ranged) (a .free)
 
-  filing-accepted : refuses (fileVerdict len row f) ≡ false → Step office row (rowWith (ticketOf f) row) (filing len f (filedIn row f (fileVerdict len row f)))
+  filing-accepted : refuses (fileVerdict len row f) ≡ false → Step office row (rowWithTicket (ticketOf f) row) (filing len f (filedIn row f (fileVerdict len row f)))
   filing-accepted e = record { queue = rw e (at-office o); there = omega arith; four = λ d. absurd (true≢false (sym d)); only = λ d. refl }
     where
-      at-office : IsOffice office → waiting office (rowWith (ticketOf f) row) ≡ waiting office row ++ cond (eqb (f .office) office) (ticketOf f ∷ []) []
+      at-office : IsOffice office → waiting office (rowWithTicket (ticketOf f) row) ≡ waiting office row ++ cond (eqb (f .office) office) (ticketOf f ∷ []) []
       at-office (inl same) = rw same (filed-holds e .one ∙ with-joining (eqb (f .office) 1) (waiting 1 row) (ticketOf f))
       at-office (inr same) = rw same (filed-holds e .two ∙ with-joining (eqb (f .office) 2) (waiting 2 row) (ticketOf f))
 
@@ -149,11 +149,11 @@ module _ (office len : ℕ) (row : List Ticket) (w : Withdrawal) (o : IsOffice o
 
 -- A boarding's answer, refused or accepted.
 module _ (len : ℕ) (tape : Tape) (row : List Ticket) (b : Boarding) (before after : Rows) (r : BoardedRow) (fits : Boards len tape row b before r after) where
-  pub board-accepted : isRefusal (r .boarded .answer .refusal) ≡ false → refuses (rowVerdict len row (b .lasts)) ≡ false
+  pub board-accepted : isRefusal (r .boarded .answer .refusal) ≡ false → refuses (recordsVerdict len row (b .lasts)) ≡ false
   board-accepted e =
       ⊎-elim
       (λ t. absurd (true≢false (sym t ∙ (ap (λ x. isRefusal (x .boarded .answer .refusal)) (sym (fits .refused t .says)) ∙ e))))
-      (λ n. n) (true-or-false (refuses (rowVerdict len row (b .lasts))))
+      (λ n. n) (true-or-false (refuses (recordsVerdict len row (b .lasts))))
 
   pub accepted-is : isRefusal (r .boarded .answer .refusal) ≡ false
       → r ≡ record { boarded = record { answer = r .boarded .answer; taken = takenOf row; wants = wantRows (wantsOf row); lasts = b .lasts }; row = rowStaying row }
@@ -163,7 +163,7 @@ module _ (len : ℕ) (tape : Tape) (row : List Ticket) (b : Boarding) (before af
   refused-is e =
       ⊎-elim
       (λ t. let s = fits .refused t .says in s ∙ ap (notBoarded row (b .lasts)) (sym (ap (λ x. x .boarded .answer) s)))
-      (λ n. fits .planned n .says ∙ (rw e)) (true-or-false (refuses (rowVerdict len row (b .lasts))))
+      (λ n. fits .planned n .says ∙ (rw e)) (true-or-false (refuses (recordsVerdict len row (b .lasts))))
 
   pub boards-lasts : r .boarded .lasts ≡ b .lasts
   boards-lasts =

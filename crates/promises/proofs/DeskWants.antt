@@ -20,7 +20,7 @@ use Rattle.least.specs.Wants.{readsOfFile}
 use Rattle.planner.specs.Plan.{Rows, planVerdict, shortRows, roomFor}
 use Rattle.tickets.specs.declared.Ticket.{Ticket}
 use Rattle.tickets.specs.declared.Lasts.{Lasts}
-use Rattle.tickets.specs.Table.{mostCount, noTicket, isTicket, upTo, waiting, allPlaces, rowVerdict}
+use Rattle.tickets.specs.Table.{mostCount, noTicket, isTicket, upTo, waiting, allPlaces, recordsVerdict}
 use Rattle.tickets.proofs.Sound.{and-true-both}
 use Rattle.tickets.proofs.Placed.{none-bad}
 use Rattle.boardings.specs.Boarders.{Want, wantOf, addWant, withWants, wantsOf, fileNumbers, readCounts, shareOne, shareTwo, boarders}
@@ -222,8 +222,8 @@ plan-kind r rows t w =
     (run-kinds (ltb highestTurn (r .turn)) (ltb lastPlace (r .head) || ltb (r .head) (rightEnd (stopsOf r)))
     (shortRows (length (r .numbers)) (length (stopsOf r)) rows) (ltb (length (rows .room)) (roomFor r)))
 
-row-kind : (len : ℕ) (l : Lasts) (row : List Ticket) → IsTable (record { row = row; lasts = l }) → OnlyTheRun (rowVerdict len row l .refusal)
-unfolding rowVerdict
+row-kind : (len : ℕ) (l : Lasts) (row : List Ticket) → IsTable (record { row = row; lasts = l }) → OnlyTheRun (recordsVerdict len row l .refusal)
+unfolding recordsVerdict
 row-kind len l row table = rw (none-bad l (waiting 1 row) (waiting 2 row) row table) (row-kinds (ltb len allPlaces))
 
 pub refused-for-the-run : RefusedForTheRun
@@ -236,7 +236,7 @@ refused-for-the-run len tape row b before after r table tape-ok names fits =
     (λ t. rw (ap (λ a. a .refusal) (plans .refused t .says)) kind)
     (λ p. rw (ap (λ a. a .refusal) (plans .planned p .says)) nothing)
     (true-or-false (refuses (planVerdict (boardRun tape row b) before))))
-    (true-or-false (refuses (rowVerdict len row (b .lasts))))
+    (true-or-false (refuses (recordsVerdict len row (b .lasts))))
   where
     kind : OnlyTheRun (planVerdict (boardRun tape row b) before .refusal)
     kind =

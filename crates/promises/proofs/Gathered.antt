@@ -12,7 +12,7 @@ use borrow.Author.Tests.{eq-eqb, ne-eqb, eqb-true, eqb-false, lt-ltb, le-ltb, lt
 use Rattle.runs.specs.Lists.{anyBelow}
 use Rattle.runs.proofs.Search.{any-here, any-zero, or-false-both}
 use Rattle.mends.specs.declared.wants.Fate.the-variants.{Stays}
-use Rattle.mends.specs.Wants.{sumOf, lower, higher, enter, entered, remaining, readsIn, askedOf, readsOf, readsEach, sameAbove, higherAbove, fateOf}
+use Rattle.mends.specs.Wants.{sumBelow, lowerFile, higherFile, enter, entered, remaining, readsInAll, askedOf, readsOfWant, readsEach, sameAbove, higherAbove, fateOf}
 use Rattle.mends.proofs.Texts.{each-long, each-at}
 
 -- Ascending, from a number on.
@@ -126,17 +126,17 @@ find-in x (g ∷ files) e = go (eqb x g) refl (find-in x files)
     go false t rest = let found = rest (rw t at e) in (suc (found .0), (omega (arith, found .1 .0), found .1 .1))
 
 -- Sums of few values.
-pub sum-nothing : (value : ℕ → ℕ) (n : ℕ) → ((i : ℕ) → i < n → value i ≡ 0) → sumOf value n ≡ 0
-unfolding sumOf
+pub sum-nothing : (value : ℕ → ℕ) (n : ℕ) → ((i : ℕ) → i < n → value i ≡ 0) → sumBelow value n ≡ 0
+unfolding sumBelow
 sum-nothing value zero h = refl
 sum-nothing value (suc n) h = omega (arith, sum-nothing value n (λ i l. h i (omega arith)), h n (omega arith))
 
-sum-one : (value : ℕ → ℕ) (n j : ℕ) → j < n → ((i : ℕ) → i < n → (i ≡ j → ⊥) → value i ≡ 0) → sumOf value n ≡ value j
-unfolding sumOf
+sum-one : (value : ℕ → ℕ) (n j : ℕ) → j < n → ((i : ℕ) → i < n → (i ≡ j → ⊥) → value i ≡ 0) → sumBelow value n ≡ value j
+unfolding sumBelow
 sum-one value zero j l h = absurd (omega arith)
 sum-one value (suc n) j l h = go (λ m. sum-one value n j m (λ i k d. h i (omega arith) d)) (eqb n j) refl
   where
-    go : (j < n → sumOf value n ≡ value j) → (t : Bool) → eqb n j ≡ t → sumOf value n + value n ≡ value j
+    go : (j < n → sumBelow value n ≡ value j) → (t : Bool) → eqb n j ≡ t → sumBelow value n + value n ≡ value j
     go rest true t =
         let e = eqb-true n j t in
         let none = sum-nothing value n (λ i k. h i (omega arith) (λ d. omega (arith, d))) in
@@ -146,12 +146,12 @@ sum-one value (suc n) j l h = go (λ m. sum-one value n j m (λ i k d. h i (omeg
         let here = h n (omega arith) d in
         omega (arith, here, rest (omega arith))
 
-sum-some : (value : ℕ → ℕ) (n : ℕ) → anyBelow (λ i. not (eqb (value i) 0)) n ≡ true → (sumOf value n ≡ 0 → ⊥)
-unfolding sumOf anyBelow
+sum-some : (value : ℕ → ℕ) (n : ℕ) → anyBelow (λ i. not (eqb (value i) 0)) n ≡ true → (sumBelow value n ≡ 0 → ⊥)
+unfolding sumBelow anyBelow
 sum-some value zero e z = true≢false (sym e)
 sum-some value (suc n) e z = go (sum-some value n) (anyBelow (λ i. not (eqb (value i) 0)) n) refl
   where
-    go : (anyBelow (λ i. not (eqb (value i) 0)) n ≡ true → (sumOf value n ≡ 0 → ⊥)) → (t : Bool) → anyBelow (λ i. not (eqb (value i) 0)) n ≡ t → ⊥
+    go : (anyBelow (λ i. not (eqb (value i) 0)) n ≡ true → (sumBelow value n ≡ 0 → ⊥)) → (t : Bool) → anyBelow (λ i. not (eqb (value i) 0)) n ≡ t → ⊥
     go rest true t = rest t (omega (arith, z))
     go rest false t = let some : not (eqb (value n) 0) ≡ true = rw t at e in eqb-false (value n) 0 (not-true (eqb (value n) 0) some) (omega (arith, z))
 
@@ -160,12 +160,12 @@ module _ (files counts : List ℕ) where
   abbrev rest : List ℕ
   rest = remaining files counts (length files)
 
-  pub remains-asked : (x : ℕ) → isIn x rest ≡ true → (readsOf files counts x ≡ 0 → ⊥)
-  unfolding readsOf
+  pub remains-asked : (x : ℕ) → isIn x rest ≡ true → (readsOfWant files counts x ≡ 0 → ⊥)
+  unfolding readsOfWant
   remains-asked x e = sum-some (λ i. askedOf x (getD files i 0) (getD counts i 0)) (length files) (sym (in-remaining files counts x (length files)) ∙ e)
 
-  pub gone-unasked : (x : ℕ) → isIn x rest ≡ false → readsOf files counts x ≡ 0
-  unfolding readsOf
+  pub gone-unasked : (x : ℕ) → isIn x rest ≡ false → readsOfWant files counts x ≡ 0
+  unfolding readsOfWant
   gone-unasked x e =
       let none = any-zero (asks files counts x) (length files) (sym (in-remaining files counts x (length files)) ∙ e) in
       sum-nothing (λ i. askedOf x (getD files i 0) (getD counts i 0)) (length files) (λ i l. eqb-true (askedOf x (getD files i 0) (getD counts i 0)) 0 (not-false (eqb (askedOf x (getD files i 0) (getD counts i 0)) 0) (none i l)))
@@ -214,8 +214,8 @@ module _ (row counts : List ℕ) (clean : Clean row counts) where
   apart : (i j : ℕ) → i < length row → j < length row → (i ≡ j → ⊥) → getD row i 0 ≡ getD row j 0 → ⊥
   apart = rising-apart 0 row (clean .rising)
 
-  pub clean-reads : (j : ℕ) → j < length row → readsOf row counts (getD row j 0) ≡ getD counts j 0
-  unfolding readsOf
+  pub clean-reads : (j : ℕ) → j < length row → readsOfWant row counts (getD row j 0) ≡ getD counts j 0
+  unfolding readsOfWant
   clean-reads j l =
       sum-one (λ i. askedOf (getD row j 0) (getD row i 0) (getD counts i 0)) (length row) j l (λ i m d. rw (ne-eqb (getD row i 0) (getD row j 0) (apart i j m l d)))
       ∙ rw (eq-eqb (getD row j 0) (getD row j 0) refl)
@@ -239,8 +239,8 @@ module _ (row counts : List ℕ) (clean : Clean row counts) where
       rw (ne-eqb (getD counts i 0) 0 (clean .some i l), same, high)
 
 -- The reads of every file are kept.
-pub reads-kept : (files counts : List ℕ) (x : ℕ) → readsOf (rest files counts) (readsEach files counts (rest files counts)) x ≡ readsOf files counts x
-unfolding readsOf
+pub reads-kept : (files counts : List ℕ) (x : ℕ) → readsOfWant (rest files counts) (readsEach files counts (rest files counts)) x ≡ readsOfWant files counts x
+unfolding readsOfWant
 reads-kept files counts x = go (isIn x row) refl
   where
     row : List ℕ
@@ -249,7 +249,7 @@ reads-kept files counts x = go (isIn x row) refl
     reads : List ℕ
     reads = readsEach files counts row
 
-    go : (t : Bool) → isIn x row ≡ t → sumOf (λ i. askedOf x (getD row i 0) (getD reads i 0)) (length row) ≡ sumOf (λ i. askedOf x (getD files i 0) (getD counts i 0)) (length files)
+    go : (t : Bool) → isIn x row ≡ t → sumBelow (λ i. askedOf x (getD row i 0) (getD reads i 0)) (length row) ≡ sumBelow (λ i. askedOf x (getD files i 0) (getD counts i 0)) (length files)
     go true t =
         let found = find-in x row t in
         let j = found .0 in
@@ -260,13 +260,13 @@ reads-kept files counts x = go (isIn x row) refl
         ∙ sym (gone-unasked files counts x t)
 
 -- The total over the files that remain is the total over the lines.
-sum-add : (f g : ℕ → ℕ) (n : ℕ) → sumOf (λ i. f i + g i) n ≡ sumOf f n + sumOf g n
-unfolding sumOf
+sum-add : (f g : ℕ → ℕ) (n : ℕ) → sumBelow (λ i. f i + g i) n ≡ sumBelow f n + sumBelow g n
+unfolding sumBelow
 sum-add f g zero = refl
 sum-add f g (suc n) = omega (arith, sum-add f g n)
 
-sum-same : (f g : ℕ → ℕ) (n : ℕ) → ((i : ℕ) → i < n → f i ≡ g i) → sumOf f n ≡ sumOf g n
-unfolding sumOf
+sum-same : (f g : ℕ → ℕ) (n : ℕ) → ((i : ℕ) → i < n → f i ≡ g i) → sumBelow f n ≡ sumBelow g n
+unfolding sumBelow
 sum-same f g zero h = refl
 sum-same f g (suc n) h = omega (arith, sum-same f g n (λ i l. h i (omega arith)), h n (omega arith))
 
@@ -282,10 +282,10 @@ module _ (files counts row : List ℕ) (rising : Rising 0 row) (all : (i : ℕ) 
   ask j i = askedOf (getD row j 0) (getD files i 0) (getD counts i 0)
 
   -- A line's reads go to one file.
-  one-file : (i : ℕ) → i < length files → sumOf (λ j. ask j i) (length row) ≡ getD counts i 0
+  one-file : (i : ℕ) → i < length files → sumBelow (λ j. ask j i) (length row) ≡ getD counts i 0
   one-file i l = go (eqb (getD counts i 0) 0) refl
     where
-      go : (t : Bool) → eqb (getD counts i 0) 0 ≡ t → sumOf (λ j. ask j i) (length row) ≡ getD counts i 0
+      go : (t : Bool) → eqb (getD counts i 0) 0 ≡ t → sumBelow (λ j. ask j i) (length row) ≡ getD counts i 0
       go true t =
           let z = eqb-true (getD counts i 0) 0 t in
           sum-nothing (λ j. ask j i) (length row) (λ j m. zero-asked (getD row j 0) (getD files i 0) (getD counts i 0) z) ∙ sym z
@@ -296,18 +296,18 @@ module _ (files counts row : List ℕ) (rising : Rising 0 row) (all : (i : ℕ) 
           (λ k m d. rw (ne-eqb (getD files i 0) (getD row k 0) (λ e. rising-apart 0 row rising k j m (found .1 .0) d (sym e ∙ sym (found .1 .1)))))
           ∙ rw (eq-eqb (getD files i 0) (getD row j 0) (sym (found .1 .1)))
 
-  lines-total : (n : ℕ) → n ≤ length files → sumOf (λ j. sumOf (ask j) n) (length row) ≡ sumOf (λ i. getD counts i 0) n
-  unfolding sumOf
-  lines-total zero l = sum-nothing (λ j. sumOf (ask j) 0) (length row) (λ j m. refl)
-  lines-total (suc n) l = sum-add (λ j. sumOf (ask j) n) (λ j. ask j n) (length row) ∙ rw (lines-total n (omega arith), one-file n l)
+  lines-total : (n : ℕ) → n ≤ length files → sumBelow (λ j. sumBelow (ask j) n) (length row) ≡ sumBelow (λ i. getD counts i 0) n
+  unfolding sumBelow
+  lines-total zero l = sum-nothing (λ j. sumBelow (ask j) 0) (length row) (λ j m. refl)
+  lines-total (suc n) l = sum-add (λ j. sumBelow (ask j) n) (λ j. ask j n) (length row) ∙ rw (lines-total n (omega arith), one-file n l)
 
-pub total-kept : (files counts : List ℕ) → length files ≡ length counts → readsIn (readsEach files counts (rest files counts)) ≡ readsIn counts
-unfolding readsIn readsOf
+pub total-kept : (files counts : List ℕ) → length files ≡ length counts → readsInAll (readsEach files counts (rest files counts)) ≡ readsInAll counts
+unfolding readsInAll readsOfWant
 total-kept files counts equal =
-    ap (sumOf (λ j. getD reads j 0)) (sym (each-long files counts row))
-    ∙ sum-same (λ j. getD reads j 0) (λ j. sumOf (λ i. askedOf (getD row j 0) (getD files i 0) (getD counts i 0)) (length files)) (length row) (λ j l. each-at files counts row j l)
+    ap (sumBelow (λ j. getD reads j 0)) (sym (each-long files counts row))
+    ∙ sum-same (λ j. getD reads j 0) (λ j. sumBelow (λ i. askedOf (getD row j 0) (getD files i 0) (getD counts i 0)) (length files)) (length row) (λ j l. each-at files counts row j l)
     ∙ lines-total files counts row (remaining-rising files counts (length files)) asked-in (length files) (omega arith)
-    ∙ ap (sumOf (λ i. getD counts i 0)) equal
+    ∙ ap (sumBelow (λ i. getD counts i 0)) equal
   where
     row : List ℕ
     row = remaining files counts (length files)

@@ -27,10 +27,10 @@ use Rattle.loose.specs.Reading.{looseVerdict}
 use Rattle.mends.specs.declared.Mended.{Mended}
 use Rattle.mends.specs.declared.wants.Fate.{Fate}
 use Rattle.mends.specs.declared.wants.Fate.the-variants.{Stays, Moved, Added, Dropped}
-use Rattle.mends.specs.Wants.{remaining, readsIn, askedOf, readsOf, readsEach, sameAbove, higherAbove, fateOf}
+use Rattle.mends.specs.Wants.{remaining, readsInAll, askedOf, readsOfWant, readsEach, sameAbove, higherAbove, fateOf}
 use Rattle.mends.specs.Mending.{firstLines, sheetRemaining, sheetReads, mendedText, changeIf, changesText, fateLine, fateLines, wantsVerdicts, textsVerdicts, mendVerdict, SheetMended}
 use Rattle.mends.proofs.Answers.{mend-determined}
-use Rattle.promises.specs.Mends.{InRows, MendedRows, MendingDetermined, WasMended, SameReads, ReadsKept, Orderly, InOrder, MendedInOrder, ReadAsARun, MendedIsRead, SameFile, HigherFile, FateBy, FatesByConditions, SaidOf, EveryFateListed, ListedWhen, SaidAbove, TopChangesListed, OnceIsEnough, ComesBack, AcceptedComesBack, Taken, AcceptedTaken}
+use Rattle.promises.specs.Mends.{InRows, MendedRows, MendingDetermined, WasMended, SameReads, ReadsKept, Orderly, SheetInOrder, MendedInOrder, ReadAsARun, MendedIsRead, SameFile, HigherFile, FateBy, FatesByConditions, SaidOf, EveryFateListed, ListedWhen, SaidAbove, TopChangesListed, OnceIsEnough, ComesBack, AcceptedComesBack, Taken, AcceptedTaken}
 use Rattle.promises.proofs.Gathered.{rising-at, Clean, remaining-clean, clean-remaining, clean-each, clean-stays, reads-kept, total-kept}
 use Rattle.runs.specs.Judging.{judgeOf}
 use Rattle.lines.specs.Lines.{afterLines, lineAfter, valueText}
@@ -74,7 +74,7 @@ mending-determined = mend-determined
 pub record Facts (sheet : List ℕ) : Type 0 where
   pub good : firstBadLoose sheet ≡ 0
   pub few : length (sheetRemaining sheet) ≤ mostWants
-  pub reads : readsIn (wantedCounts sheet) ≤ mostReads
+  pub reads : readsInAll (wantedCounts sheet) ≤ mostReads
   pub short : length (mendedText sheet) ≤ longestSheet
 
 accepted-verdict : (sheet out notes : List ℕ) (answer : Mended) (out′ notes′ : List ℕ) → SheetMended sheet out notes answer out′ notes′ → answer .refusal ≡ Accepted
@@ -97,7 +97,7 @@ facts sheet out notes passed =
     record {
       good = accepts-at (firstBadLoose sheet) BadLine refl (read .1 .0);
       few = ltb-false mostWants (length (sheetRemaining sheet)) (accepts-if (ltb mostWants (length (sheetRemaining sheet))) WantRows refl (wants .0));
-      reads = ltb-false mostReads (readsIn (wantedCounts sheet)) (accepts-if (ltb mostReads (readsIn (wantedCounts sheet))) TooManyReads refl (wants .1 .0));
+      reads = ltb-false mostReads (readsInAll (wantedCounts sheet)) (accepts-if (ltb mostReads (readsInAll (wantedCounts sheet))) TooManyReads refl (wants .1 .0));
       short = ltb-false longestSheet (length (mendedText sheet)) (accepts-if (ltb longestSheet (length (mendedText sheet))) LongSheet refl (texts .0));
     }
 
@@ -120,7 +120,7 @@ module _ (sheet text : List ℕ) (m : WasMended sheet text) where
   counted : wantedCounts text ≡ asked
   counted = ap wantedCounts text-mended ∙ asked-again sheet (known .good) (known .few) (known .reads)
 
-  total-is : readsIn asked ≡ readsIn (wantedCounts sheet)
+  total-is : readsInAll asked ≡ readsInAll (wantedCounts sheet)
   unfolding sheetRemaining sheetReads
   total-is = total-kept (wantedFiles sheet) (wantedCounts sheet) (lines-even sheet (known .good) (known .few) (known .reads))
 
@@ -128,14 +128,14 @@ module _ (sheet text : List ℕ) (m : WasMended sheet text) where
   unfolding sheetRemaining sheetReads
   row-clean = remaining-clean (wantedFiles sheet) (wantedCounts sheet)
 
-  file-kept : (file : ℕ) → readsOf row asked file ≡ readsOf (wantedFiles sheet) (wantedCounts sheet) file
+  file-kept : (file : ℕ) → readsOfWant row asked file ≡ readsOfWant (wantedFiles sheet) (wantedCounts sheet) file
   unfolding sheetRemaining sheetReads
   file-kept file = reads-kept (wantedFiles sheet) (wantedCounts sheet) file
 
   same-reads : SameReads sheet text
   same-reads = record { each = λ file. rw (named, counted) (file-kept file); in-all = rw counted total-is }
 
-  in-order : InOrder text
+  in-order : SheetInOrder text
   in-order =
       let k = known in
       record {
@@ -213,13 +213,13 @@ module _ (sheet text : List ℕ) (m : WasMended sheet text) where
   accepted-again out notes fits =
       let k = known₂ in
       let short : length text ≤ longestSheet = rw (text-mended sheet text m) (k .short) in
-      let reads : readsIn (wantedCounts text) ≤ mostReads = rw (counted sheet text m, total-is sheet text m) (k .reads) in
+      let reads : readsInAll (wantedCounts text) ≤ mostReads = rw (counted sheet text m, total-is sheet text m) (k .reads) in
       rw (
         le-ltb longestSheet (length text) short,
         in-order sheet text m .described,
         wants-same,
         le-ltb mostWants (length (sheetRemaining sheet)) (k .few),
-        le-ltb mostReads (readsIn (wantedCounts text)) reads,
+        le-ltb mostReads (readsInAll (wantedCounts text)) reads,
         mended-again,
         unchanged,
         le-ltb longestSheet (length text) short,

@@ -17,7 +17,7 @@ use Rattle.outcomes.proofs.Outcomes.{outcome-once}
 use Rattle.months.specs.declared.Month.{Month}
 use Rattle.months.specs.Month.{emptyMonth, addedAll}
 use Rattle.months.specs.Page.{PagePut}
-use Rattle.promises.specs.Months.{Every, Outcomes, howMany, isAccepted, ofAccepted, inAll, isRefusedBy, longestTime, NoneRead, FirstLongest, FiguresOf, Reordered, same, behind-first, swapped, both, SameTotals, SameNames, OneLongest, OrderIsTie, OnePage}
+use Rattle.promises.specs.Months.{Every, Outcomes, howManyRuns, isAcceptedRun, ofAccepted, inAll, isRefusedBy, longestTime, NoneRead, FirstLongest, FiguresOf, Reordered, same, behind-first, swapped, both, SameTotals, SameNames, OneLongest, OrderIsTie, OnePage}
 use Rattle.promises.proofs.MonthTotals.{every-map, every-append, every-at, many-append, none-longer, month-counts}
 
 -- The outcomes of sheets are one list.
@@ -57,8 +57,8 @@ same-length (behind-first p) = ap suc (same-length p)
 same-length swapped = refl
 same-length (both p q) = same-length p ∙ same-length q
 
-same-many : (test : Outcome → Bool) {xs ys : List Outcome} → Reordered xs ys → howMany test xs ≡ howMany test ys
-unfolding howMany
+same-many : (test : Outcome → Bool) {xs ys : List Outcome} → Reordered xs ys → howManyRuns test xs ≡ howManyRuns test ys
+unfolding howManyRuns
 same-many test same = refl
 same-many test (behind-first {x} p) = ap (λ n. cond (test x) 1 0 + n) (same-many test p)
 same-many test swapped = omega arith
@@ -95,10 +95,10 @@ no-longer {xs} {ys} p m m′ f g = go (f .longest)
         omega (arith, l .time, here)
 
 -- Where a test holds for one alone, it holds for no other.
-none-of : (test : Outcome → Bool) (x : Outcome) (xs : List Outcome) → howMany test xs ≡ 0 → Every (λ r. test r ≡ true → r ≡ x) xs
-unfolding howMany
+none-of : (test : Outcome → Bool) (x : Outcome) (xs : List Outcome) → howManyRuns test xs ≡ 0 → Every (λ r. test r ≡ true → r ≡ x) xs
+unfolding howManyRuns
 none-of test x [] e = tt
-none-of test x (y ∷ ys) e = (λ q. absurd (above (test y) (howMany test ys) q e), none-of test x ys (rest (test y) (howMany test ys) e))
+none-of test x (y ∷ ys) e = (λ q. absurd (above (test y) (howManyRuns test ys) q e), none-of test x ys (rest (test y) (howManyRuns test ys) e))
   where
     above : (b : Bool) (n : ℕ) → b ≡ true → cond b 1 0 + n ≡ 0 → ⊥
     above true n q h = omega arith
@@ -108,9 +108,9 @@ none-of test x (y ∷ ys) e = (λ q. absurd (above (test y) (howMany test ys) q 
     rest true n h = omega arith
     rest false n h = omega arith
 
-alone : (test : Outcome → Bool) (earlier : List Outcome) (x : Outcome) (later : List Outcome) → test x ≡ true → howMany test (earlier ++ (x ∷ later)) ≤ 1
+alone : (test : Outcome → Bool) (earlier : List Outcome) (x : Outcome) (later : List Outcome) → test x ≡ true → howManyRuns test (earlier ++ (x ∷ later)) ≤ 1
     → Every (λ r. test r ≡ true → r ≡ x) (earlier ++ (x ∷ later))
-unfolding howMany
+unfolding howManyRuns
 alone test earlier x later q few =
     let parts = many-append test earlier (x ∷ later) in
     let here : _≡_ {A = ℕ} (cond (test x) 1 0) 1 = rw q refl in
@@ -125,7 +125,7 @@ module _ {xs ys : List Outcome} (p : Reordered xs ys) (m m′ : Month) (f : Figu
   same-totals =
       record {
         sheets = f .sheets ∙ same-length p ∙ sym (g .sheets);
-        accepted = f .accepted ∙ same-many isAccepted p ∙ sym (g .accepted);
+        accepted = f .accepted ∙ same-many isAcceptedRun p ∙ sym (g .accepted);
         refused = λ n. f .refused n ∙ same-many (isRefusedBy n) p ∙ sym (g .refused n);
         reads = f .reads ∙ same-all (λ r. r .reads) p ∙ sym (g .reads);
         sum = f .sum ∙ same-all (λ r. r .sum) p ∙ sym (g .sum);
@@ -133,10 +133,10 @@ module _ {xs ys : List Outcome} (p : Reordered xs ys) (m m′ : Month) (f : Figu
         time = same-time;
       }
 
-  same-run : howMany (λ r. eqb (longestTime r) (m .time)) xs ≤ 1 → (l : FirstLongest xs m) (l′ : FirstLongest ys m′) → l′ .run ≡ l .run
+  same-run : howManyRuns (λ r. eqb (longestTime r) (m .time)) xs ≤ 1 → (l : FirstLongest xs m) (l′ : FirstLongest ys m′) → l′ .run ≡ l .run
   same-run one l l′ =
       let test : Outcome → Bool = λ r. eqb (longestTime r) (m .time) in
-      let few : howMany test (l .earlier ++ (l .run ∷ l .later)) ≤ 1 = subst (λ x. howMany test x ≤ 1) (l .stands) one in
+      let few : howManyRuns test (l .earlier ++ (l .run ∷ l .later)) ≤ 1 = subst (λ x. howManyRuns test x ≤ 1) (l .stands) one in
       let each = alone test (l .earlier) (l .run) (l .later) (eq-eqb (longestTime (l .run)) (m .time) (sym (l .time))) few in
       let there = same-every (λ r. test r ≡ true → r ≡ l .run) p (subst (Every (λ r. test r ≡ true → r ≡ l .run)) (sym (l .stands)) each) in
       every-at (λ r. test r ≡ true → r ≡ l .run) (l′ .earlier) (l′ .run) (l′ .later) (subst (Every (λ r. test r ≡ true → r ≡ l .run)) (l′ .stands) there)

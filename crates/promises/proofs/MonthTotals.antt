@@ -19,7 +19,7 @@ use Rattle.outcomes.proofs.Bounds.{Small, outcome-small}
 use Rattle.months.specs.declared.Month.{Month}
 use Rattle.months.specs.Month.{tooLarge, grown, emptyMonth, refusedWith, withRefused, withTotals, namedBy, withLongest, added, addedAll}
 use Rattle.months.specs.Page.{meanOf}
-use Rattle.promises.specs.Months.{Every, Outcomes, howMany, isAccepted, ofAccepted, inAll, isRefusedBy, longestTime, NoneRead, FirstLongest, FiguresOf, MonthCounts, MeanIs, MeanExact}
+use Rattle.promises.specs.Months.{Every, Outcomes, howManyRuns, isAcceptedRun, ofAccepted, inAll, isRefusedBy, longestTime, NoneRead, FirstLongest, FiguresOf, MonthCounts, MeanIs, MeanExact}
 
 module _ {A : Type 0} {P Q : A → Type 0} where
   pub every-map : ((x : A) → P x → Q x) → (xs : List A) → Every P xs → Every Q xs
@@ -35,17 +35,17 @@ module _ {A : Type 0} (P : A → Type 0) where
   every-at [] x ys e = e .0
   every-at (z ∷ xs) x ys e = every-at xs x ys (e .1)
 
-pub many-append : (test : Outcome → Bool) (xs ys : List Outcome) → howMany test (xs ++ ys) ≡ howMany test xs + howMany test ys
-unfolding howMany
+pub many-append : (test : Outcome → Bool) (xs ys : List Outcome) → howManyRuns test (xs ++ ys) ≡ howManyRuns test xs + howManyRuns test ys
+unfolding howManyRuns
 many-append test [] ys = omega arith
 many-append test (x ∷ xs) ys = omega (arith, many-append test xs ys)
 
-many-most : (test : Outcome → Bool) (xs : List Outcome) → howMany test xs ≤ length xs
-unfolding howMany
+many-most : (test : Outcome → Bool) (xs : List Outcome) → howManyRuns test xs ≤ length xs
+unfolding howManyRuns
 many-most test [] = omega arith
 many-most test (x ∷ xs) = go (test x) (many-most test xs)
   where
-    go : (b : Bool) → howMany test xs ≤ length xs → cond b 1 0 + howMany test xs ≤ suc (length xs)
+    go : (b : Bool) → howManyRuns test xs ≤ length xs → cond b 1 0 + howManyRuns test xs ≤ suc (length xs)
     go true h = omega arith
     go false h = omega arith
 
@@ -65,8 +65,8 @@ all-most figure most (x ∷ xs) e = go (isRefusal (x .refusal)) (all-most figure
 
 -- One run more at the end.
 module _ (done : List Outcome) (o : Outcome) where
-  many-more : (test : Outcome → Bool) → howMany test (done ++ (o ∷ [])) ≡ howMany test done + cond (test o) 1 0
-  unfolding howMany
+  many-more : (test : Outcome → Bool) → howManyRuns test (done ++ (o ∷ [])) ≡ howManyRuns test done + cond (test o) 1 0
+  unfolding howManyRuns
   many-more test = omega (arith, many-append test done (o ∷ []))
 
   all-more : (figure : Outcome → ℕ) → inAll figure (done ++ (o ∷ [])) ≡ inAll figure done + ofAccepted figure o
@@ -79,8 +79,8 @@ module _ (done : List Outcome) (o : Outcome) where
 -- All of a month's figures but the longest time.
 record Totals (runs : List Outcome) (m : Month) : Type 0 where
   sheets : m .sheets ≡ length runs
-  accepted : m .accepted ≡ howMany isAccepted runs
-  refused : (n : ℕ) → refusedWith m n ≡ howMany (isRefusedBy n) runs
+  accepted : m .accepted ≡ howManyRuns isAcceptedRun runs
+  refused : (n : ℕ) → refusedWith m n ≡ howManyRuns (isRefusedBy n) runs
   reads : m .reads ≡ inAll (λ r. r .reads) runs
   sum : m .sum ≡ inAll (λ r. r .sum) runs
   saved : m .saved ≡ inAll (λ r. r .saved) runs
@@ -92,7 +92,7 @@ unfolding grown
 grown-fits a b l = rw (lt-leb (2 ^ 64) (a + b) l)
 
 module _ (done : List Outcome) (m : Month) (t : Totals done m) (few : length done < 1000) (smalls : Every Small done) (o : Outcome) (small : Small o) where
-  many-fits : (a : ℕ) (test : Outcome → Bool) → a ≡ howMany test done → a + 1 < 2 ^ 64
+  many-fits : (a : ℕ) (test : Outcome → Bool) → a ≡ howManyRuns test done → a + 1 < 2 ^ 64
   many-fits a test e = omega (arith, e, many-most test done)
 
   sheets-fit : m .sheets + 1 < 2 ^ 64
@@ -117,21 +117,21 @@ module _ (done : List Outcome) (m : Month) (t : Totals done m) (few : length don
     k : ℕ
     k = numberOf (o .refusal)
 
-    kind-more : (n : ℕ) → getD (set (m .refused) k (grown (refusedWith m k) 1)) n 0 ≡ howMany (isRefusedBy n) (done ++ (o ∷ []))
+    kind-more : (n : ℕ) → getD (set (m .refused) k (grown (refusedWith m k) 1)) n 0 ≡ howManyRuns (isRefusedBy n) (done ++ (o ∷ []))
     unfolding k
     kind-more n = many-more-by (eqb k n) refl
       where
-        many-more-by : (b : Bool) → eqb (numberOf (o .refusal)) n ≡ b → getD (set (m .refused) k (grown (refusedWith m k) 1)) n 0 ≡ howMany (isRefusedBy n) (done ++ (o ∷ []))
+        many-more-by : (b : Bool) → eqb (numberOf (o .refusal)) n ≡ b → getD (set (m .refused) k (grown (refusedWith m k) 1)) n 0 ≡ howManyRuns (isRefusedBy n) (done ++ (o ∷ []))
         many-more-by true q =
             let same : k ≡ n = eqb-true k n q in
             let here : getD (set (m .refused) k (grown (refusedWith m k) 1)) k 0 ≡ grown (refusedWith m k) 1 = getD-set-same (m .refused) k (grown (refusedWith m k) 1) 0 (omega (arith, t .long, number-small (o .refusal))) in
-            let more : howMany (isRefusedBy n) (done ++ (o ∷ [])) ≡ howMany (isRefusedBy n) done + 1 = many-more done o (isRefusedBy n) ∙ rw (e, q) refl in
+            let more : howManyRuns (isRefusedBy n) (done ++ (o ∷ [])) ≡ howManyRuns (isRefusedBy n) done + 1 = many-more done o (isRefusedBy n) ∙ rw (e, q) refl in
             let size = t .refused k in
-            subst (λ x. getD (set (m .refused) k (grown (refusedWith m k) 1)) x 0 ≡ howMany (isRefusedBy n) (done ++ (o ∷ []))) same
-            (here ∙ grown-fits (refusedWith m k) 1 (many-fits (refusedWith m k) (isRefusedBy k) size) ∙ ap (λ x. x + 1) (size ∙ ap (λ x. howMany (isRefusedBy x) done) same) ∙ sym more)
+            subst (λ x. getD (set (m .refused) k (grown (refusedWith m k) 1)) x 0 ≡ howManyRuns (isRefusedBy n) (done ++ (o ∷ []))) same
+            (here ∙ grown-fits (refusedWith m k) 1 (many-fits (refusedWith m k) (isRefusedBy k) size) ∙ ap (λ x. x + 1) (size ∙ ap (λ x. howManyRuns (isRefusedBy x) done) same) ∙ sym more)
         many-more-by false q =
             let other : n ≡ k → ⊥ = λ z. eqb-false k n q (sym z) in
-            let more : howMany (isRefusedBy n) (done ++ (o ∷ [])) ≡ howMany (isRefusedBy n) done + 0 = many-more done o (isRefusedBy n) ∙ rw (e, q) refl in
+            let more : howManyRuns (isRefusedBy n) (done ++ (o ∷ [])) ≡ howManyRuns (isRefusedBy n) done + 0 = many-more done o (isRefusedBy n) ∙ rw (e, q) refl in
             getD-set-other (m .refused) k n (grown (refusedWith m k) 1) 0 other ∙ t .refused n ∙ omega (arith, more)
 
     refused-totals : Totals (done ++ (o ∷ [])) (withRefused m (numberOf (o .refusal)))
@@ -139,7 +139,7 @@ module _ (done : List Outcome) (m : Month) (t : Totals done m) (few : length don
     refused-totals =
         record {
           sheets = grown-fits (m .sheets) 1 sheets-fit ∙ omega (arith, t .sheets, length-more done o);
-          accepted = t .accepted ∙ sym (many-more done o isAccepted ∙ rw e (omega arith));
+          accepted = t .accepted ∙ sym (many-more done o isAcceptedRun ∙ rw e (omega arith));
           refused = kind-more;
           reads = t .reads ∙ sym (all-more done o (λ r. r .reads) ∙ rw e (omega arith));
           sum = t .sum ∙ sym (all-more done o (λ r. r .sum) ∙ rw e (omega arith));
@@ -150,14 +150,14 @@ module _ (done : List Outcome) (m : Month) (t : Totals done m) (few : length don
 
   module _ (e : isRefusal (o .refusal) ≡ false) where
     accepted-fits : m .accepted + 1 < 2 ^ 64
-    accepted-fits = many-fits (m .accepted) isAccepted (t .accepted)
+    accepted-fits = many-fits (m .accepted) isAcceptedRun (t .accepted)
 
     accepted-totals : Totals (done ++ (o ∷ [])) (withTotals m o)
     unfolding withTotals
     accepted-totals =
         record {
           sheets = grown-fits (m .sheets) 1 sheets-fit ∙ omega (arith, t .sheets, length-more done o);
-          accepted = grown-fits (m .accepted) 1 accepted-fits ∙ ap (λ x. x + 1) (t .accepted) ∙ sym (many-more done o isAccepted ∙ rw e refl);
+          accepted = grown-fits (m .accepted) 1 accepted-fits ∙ ap (λ x. x + 1) (t .accepted) ∙ sym (many-more done o isAcceptedRun ∙ rw e refl);
           refused = λ n. t .refused n ∙ sym (many-more done o (isRefusedBy n) ∙ rw e (omega arith));
           reads = grown-fits (m .reads) (o .reads) reads-fit ∙ ap (λ x. x + o .reads) (t .reads) ∙ sym (all-more done o (λ r. r .reads) ∙ rw e refl);
           sum = grown-fits (m .sum) (o .sum) sum-fits ∙ ap (λ x. x + o .sum) (t .sum) ∙ sym (all-more done o (λ r. r .sum) ∙ rw e refl);
@@ -299,7 +299,7 @@ zeros-at (suc k) zero = refl
 zeros-at (suc k) (suc n) = zeros-at k n
 
 held-none : Held [] emptyMonth
-unfolding howMany inAll
+unfolding howManyRuns inAll
 held-none =
     record {
       totals = record { sheets = refl; accepted = refl; refused = zeros-at 32; reads = refl; sum = refl; saved = refl; exact = refl; long = refl };

@@ -19,21 +19,21 @@ use Rattle.sheets.specs.Sheet.{longestSheet, sheetTurn, sheetTurnWith, saysSwee
 use Rattle.sheets.specs.Reading.{sheetVerdict}
 use Rattle.sheets.proofs.Good.{short-sheet}
 use Rattle.prints.specs.Printing.{line}
-use Rattle.loose.specs.Loose.{looseWantsText, looseEnd, priceLeftOut, firstBadTop, firstBadBelow, firstBadLoose, wantedCounts}
+use Rattle.loose.specs.Loose.{looseWantsText, looseEnd, priceLeftOut, firstBadLooseTop, firstBadLooseBelow, firstBadLoose, wantedCounts}
 use Rattle.loose.specs.Reading.{looseVerdict}
-use Rattle.mends.specs.Wants.{sumOf, readsIn}
+use Rattle.mends.specs.Wants.{sumBelow, readsInAll}
 use Rattle.mends.specs.Mending.{firstLines, sheetRemaining, mendedText, changesText, mendVerdict}
 use Rattle.promises.proofs.Canonical.{number-text}
 use Rattle.promises.proofs.Same.{empty-is, g, below, wants-number, files-number, tail-same, body-same, wants-same, named, counted, remain, old-sheet, new-sheet}
 
 -- The reads of all lines are the total of their counts.
-sum-front : (value : ℕ → ℕ) (n : ℕ) → sumOf value (suc n) ≡ value 0 + sumOf (λ i. value (suc i)) n
-unfolding sumOf
+sum-front : (value : ℕ → ℕ) (n : ℕ) → sumBelow value (suc n) ≡ value 0 + sumBelow (λ i. value (suc i)) n
+unfolding sumBelow
 sum-front value zero = omega arith
 sum-front value (suc n) = omega (arith, sum-front value n)
 
-reads-total : (counts : List ℕ) → readsIn counts ≡ total counts
-unfolding readsIn sumOf
+reads-total : (counts : List ℕ) → readsInAll counts ≡ total counts
+unfolding readsInAll sumBelow
 reads-total [] = refl
 reads-total (c ∷ counts) = sum-front (λ i. getD (c ∷ counts) i 0) (length counts) ∙ ap (λ n. c + n) (reads-total counts)
 
@@ -52,7 +52,7 @@ third-long above price back =
 
 module _ (sheet : List ℕ) (good : refuses (sheetVerdict sheet) ≡ false) (fair : refuses (judgeOf (sheetRun sheet)) ≡ false) (least : saysSweep sheet ≡ false) where
   described : firstBadLoose sheet ≡ 0
-  unfolding firstBadLoose firstBadTop firstBadBelow looseEnd endText
+  unfolding firstBadLoose firstBadLooseTop firstBadLooseBelow looseEnd endText
   described =
       let lines = g sheet good fair least in
       let wants : isNumberLine wantsKey (lineOf (looseWantsText sheet)) ≡ true = ap (λ t. isNumberLine wantsKey (lineOf t)) (tail-same sheet good fair least) ∙ wants-number sheet good fair least in
@@ -62,7 +62,7 @@ module _ (sheet : List ℕ) (good : refuses (sheetVerdict sheet) ≡ false) (fai
   few : length (sheetRemaining sheet) ≤ mostWants
   few = rw (remain sheet good fair least, named sheet good fair least) (accepted-run (sheetRun sheet) fair .wants .few)
 
-  reads : readsIn (wantedCounts sheet) ≤ mostReads
+  reads : readsInAll (wantedCounts sheet) ≤ mostReads
   reads = rw (reads-total (wantedCounts sheet), counted sheet good fair least) (accepted-run (sheetRun sheet) fair .wants .reads)
 
   pub taken : (out notes : List ℕ) → length (mendedText sheet) ≤ longestSheet → length (mendedText sheet) ≤ length out → length (changesText sheet) ≤ length notes → mendVerdict sheet out notes ≡ accepted
@@ -72,7 +72,7 @@ module _ (sheet : List ℕ) (good : refuses (sheetVerdict sheet) ≡ false) (fai
         le-ltb longestSheet (length sheet) (short-sheet sheet good),
         described,
         le-ltb mostWants (length (sheetRemaining sheet)) few,
-        le-ltb mostReads (readsIn (wantedCounts sheet)) reads,
+        le-ltb mostReads (readsInAll (wantedCounts sheet)) reads,
         le-ltb longestSheet (length (mendedText sheet)) fits,
         le-ltb (length out) (length (mendedText sheet)) row,
         le-ltb (length notes) (length (changesText sheet)) list,
@@ -85,7 +85,7 @@ module _ (sheet : List ℕ) (good : refuses (sheetVerdict sheet) ≡ false) (fai
         le-ltb longestSheet (length sheet) (short-sheet sheet good),
         described,
         le-ltb mostWants (length (sheetRemaining sheet)) few,
-        le-ltb mostReads (readsIn (wantedCounts sheet)) reads,
+        le-ltb mostReads (readsInAll (wantedCounts sheet)) reads,
         lt-ltb longestSheet (length (mendedText sheet)) over,
       )
 

@@ -17,7 +17,7 @@ use Rattle.sheets.specs.Sheet.{sheetRun, sheetName}
 use Rattle.writers.specs.PlanSheet.{planText}
 use Rattle.recalls.specs.Recall.{recallVerdict, SheetRecalled}
 use Rattle.lists.specs.Form.{planFroms, planTos, listFroms, listTos}
-use Rattle.checks.specs.Pricing.{priceVerdict, SheetPriced}
+use Rattle.checks.specs.Pricing.{pricingVerdict, SheetPriced}
 use Rattle.checks.specs.Checking.{checkVerdict, SheetChecked}
 
 -- By how much the sum of a list is larger than the least sum of a run.
@@ -62,7 +62,7 @@ abbrev pub PriceTells : Type 0
 PriceTells =
     (sheet list row : List ℕ) (n : ℕ) (row′ : List ℕ)
     → SheetPriced sheet list row n row′
-    → isRefusal (priceVerdict sheet list .refusal) ≡ false
+    → isRefusal (pricingVerdict sheet list .refusal) ≡ false
     → WellFormed (stopsOf (sheetRun sheet)) (listOf (listFroms list) (listTos list))
     × (length (planText (sheetName sheet) (sheetRun sheet) (listFroms list) (listTos list)) ≤ length row
     → take n row′ ≡ planText (sheetName sheet) (sheetRun sheet) (listFroms list) (listTos list))

@@ -12,7 +12,7 @@ use Rattle.tickets.specs.declared.Lasts.{Lasts}
 use Rattle.tickets.specs.declared.Filing.{Filing}
 use Rattle.tickets.specs.declared.FiledRow.{FiledRow}
 use Rattle.tickets.specs.declared.Withdrawal.{Withdrawal}
-use Rattle.tickets.specs.Table.{noTicket, rowOf, rowVerdict}
+use Rattle.tickets.specs.Table.{noTicket, rowOf, recordsVerdict}
 use Rattle.tickets.specs.Filings.{fileVerdict}
 use Rattle.tickets.specs.Withdrawals.{withoutNumber, withdrawVerdict}
 use Rattle.boardings.specs.Boarders.{Want, share, withWants}
@@ -50,16 +50,16 @@ WantsCase = withWants [] (ticket 1 3 2 1 ∷ ticket 1 1 1 2 ∷ ticket 2 3 5 1 �
 -- number 0, one above the last given; and two sound rows.
 abbrev pub RowCases : Type 0
 RowCases =
-    (rowVerdict 32 (atFirst .row) (lasts 0 0) ≡ accepted)
-    × (rowVerdict 31 (atFirst .row) (lasts 0 0) ≡ refused ShortRow 0)
-    × (rowVerdict 40 (noTicket ∷ ticket 1 7 1 1 ∷ replicate 30 noTicket) (lasts 9 9) ≡ refused BadRecord 2)
-    × (rowVerdict 32 (ticket 1 7 1 1 ∷ ticket 2 7 1 2 ∷ replicate 30 noTicket) (lasts 9 9) ≡ refused BadRecord 2)
-    × (rowVerdict 32 (ticket 1 0 1 1 ∷ replicate 31 noTicket) (lasts 9 9) ≡ refused BadRecord 1)
-    × (rowVerdict 32 (replicate 17 noTicket ++ ticket 2 7 128 1 ∷ replicate 14 noTicket) (lasts 9 9) ≡ refused BadRecord 18)
-    × (rowVerdict 32 (rowOf (ticket 1 7 1 3 ∷ ticket 1 7 1 3 ∷ []) []) (lasts 9 9) ≡ refused BadRecord 2)
-    × (rowVerdict 32 (rowOf (ticket 1 7 1 0 ∷ []) []) (lasts 9 9) ≡ refused BadRecord 1)
-    × (rowVerdict 32 (rowOf [] (ticket 2 7 1 5 ∷ [])) (lasts 9 4) ≡ refused BadRecord 17)
-    × (rowVerdict 32 (rowOf (ticket 1 4096 128 2 ∷ ticket 1 1 1 9 ∷ []) (ticket 2 1 1 1 ∷ [])) (lasts 9 1) ≡ accepted)
+    (recordsVerdict 32 (atFirst .row) (lasts 0 0) ≡ accepted)
+    × (recordsVerdict 31 (atFirst .row) (lasts 0 0) ≡ refused ShortRow 0)
+    × (recordsVerdict 40 (noTicket ∷ ticket 1 7 1 1 ∷ replicate 30 noTicket) (lasts 9 9) ≡ refused BadRecord 2)
+    × (recordsVerdict 32 (ticket 1 7 1 1 ∷ ticket 2 7 1 2 ∷ replicate 30 noTicket) (lasts 9 9) ≡ refused BadRecord 2)
+    × (recordsVerdict 32 (ticket 1 0 1 1 ∷ replicate 31 noTicket) (lasts 9 9) ≡ refused BadRecord 1)
+    × (recordsVerdict 32 (replicate 17 noTicket ++ ticket 2 7 128 1 ∷ replicate 14 noTicket) (lasts 9 9) ≡ refused BadRecord 18)
+    × (recordsVerdict 32 (rowOf (ticket 1 7 1 3 ∷ ticket 1 7 1 3 ∷ []) []) (lasts 9 9) ≡ refused BadRecord 2)
+    × (recordsVerdict 32 (rowOf (ticket 1 7 1 0 ∷ []) []) (lasts 9 9) ≡ refused BadRecord 1)
+    × (recordsVerdict 32 (rowOf [] (ticket 2 7 1 5 ∷ [])) (lasts 9 4) ≡ refused BadRecord 17)
+    × (recordsVerdict 32 (rowOf (ticket 1 4096 128 2 ∷ ticket 1 1 1 9 ∷ []) (ticket 2 1 1 1 ∷ [])) (lasts 9 1) ≡ accepted)
 
 -- A filing: accepted; 15 for a file that the tape has not, a count over 128, an office 3; 18 once 65,535 was given, and after 15.
 abbrev pub FilingCases : Type 0

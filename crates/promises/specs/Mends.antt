@@ -20,7 +20,7 @@ use Rattle.loose.specs.Loose.{looseFiles, looseWants, wantsSaid, priceLeftOut, 
 use Rattle.mends.specs.declared.Mended.{Mended}
 use Rattle.mends.specs.declared.wants.Fate.{Fate}
 use Rattle.mends.specs.declared.wants.Fate.the-variants.{Stays, Moved, Added, Dropped}
-use Rattle.mends.specs.Wants.{readsIn, readsOf, fateOf}
+use Rattle.mends.specs.Wants.{readsInAll, readsOfWant, fateOf}
 use Rattle.mends.specs.Mending.{sheetRemaining, mendedText, changeLine, changeIf, changesText, fateLine, fateLines, SheetMended}
 
 -- An accepted mending: the mended sheet and the changes stand in the first bytes of the rows, and the later bytes are as they were.
@@ -59,8 +59,8 @@ pub record WasMended (sheet text : List ℕ) : Type 0 where
 -- The total of the counts of a file's want lines on the old sheet is that of its want lines on the mended one, whatever the file; and so is the total
 -- over all files.
 pub record SameReads (old new : List ℕ) : Type 0 where
-  pub each : (file : ℕ) → readsOf (wantedFiles new) (wantedCounts new) file ≡ readsOf (wantedFiles old) (wantedCounts old) file
-  pub in-all : readsIn (wantedCounts new) ≡ readsIn (wantedCounts old)
+  pub each : (file : ℕ) → readsOfWant (wantedFiles new) (wantedCounts new) file ≡ readsOfWant (wantedFiles old) (wantedCounts old) file
+  pub in-all : readsInAll (wantedCounts new) ≡ readsInAll (wantedCounts old)
 
 abbrev pub ReadsKept : Type 0
 ReadsKept = (sheet text : List ℕ) → WasMended sheet text → SameReads sheet text
@@ -71,7 +71,7 @@ pub record Orderly (files counts : List ℕ) : Type 0 where
   pub ascending : (i j : ℕ) → i < j → j < length files → getD files i 0 < getD files j 0
   pub some : (i : ℕ) → i < length files → getD counts i 0 ≡ 0 → ⊥
 
-pub record InOrder (text : List ℕ) : Type 0 where
+pub record SheetInOrder (text : List ℕ) : Type 0 where
   pub described : firstBadLoose text ≡ 0
   pub wants : Orderly (wantedFiles text) (wantedCounts text)
   pub few : length (wantedFiles text) ≤ mostWants
@@ -79,7 +79,7 @@ pub record InOrder (text : List ℕ) : Type 0 where
   pub wants-said : wantsSaid text ≡ looseWants text
 
 abbrev pub MendedInOrder : Type 0
-MendedInOrder = (sheet text : List ℕ) → WasMended sheet text → InOrder text
+MendedInOrder = (sheet text : List ℕ) → WasMended sheet text → SheetInOrder text
 
 -- So the reader of run sheets takes it: 12, 11 and 19 do not apply, and the wants that it reads are those lines.
 pub record ReadAsARun (text : List ℕ) : Type 0 where

@@ -37,12 +37,12 @@ abbrev pub Outcomes : List (List ℕ) → List Outcome → Type 0
 Outcomes sheets runs = OneByOne OutcomeOf sheets runs
 
 -- How many runs pass a test, and a figure of the accepted ones in all.
-unfoldable pub howMany : (Outcome → Bool) → List Outcome → ℕ
-howMany test [] = 0
-howMany test (run ∷ runs) = cond (test run) 1 0 + howMany test runs
+unfoldable pub howManyRuns : (Outcome → Bool) → List Outcome → ℕ
+howManyRuns test [] = 0
+howManyRuns test (run ∷ runs) = cond (test run) 1 0 + howManyRuns test runs
 
-abbrev pub isAccepted : Outcome → Bool
-isAccepted run = not (isRefusal (run .refusal))
+abbrev pub isAcceptedRun : Outcome → Bool
+isAcceptedRun run = not (isRefusal (run .refusal))
 
 -- A figure of a run: 0 where it is refused.
 abbrev pub ofAccepted : (Outcome → ℕ) → Outcome → ℕ
@@ -83,8 +83,8 @@ pub record FirstLongest (runs : List Outcome) (m : Month) : Type 0 where
 -- A month has the figures of a list of runs, exactly: no total has passed 2 to the 64.
 pub record FiguresOf (runs : List Outcome) (m : Month) : Type 0 where
   pub sheets : m .sheets ≡ length runs
-  pub accepted : m .accepted ≡ howMany isAccepted runs
-  pub refused : (n : ℕ) → refusedWith m n ≡ howMany (isRefusedBy n) runs
+  pub accepted : m .accepted ≡ howManyRuns isAcceptedRun runs
+  pub refused : (n : ℕ) → refusedWith m n ≡ howManyRuns (isRefusedBy n) runs
   pub reads : m .reads ≡ inAll (λ r. r .reads) runs
   pub sum : m .sum ≡ inAll (λ r. r .sum) runs
   pub saved : m .saved ≡ inAll (λ r. r .saved) runs
@@ -195,7 +195,7 @@ pub record SameNames (m m′ : Month) : Type 0 where
 
 -- No two runs share the longest time.
 abbrev pub OneLongest : List Outcome → Month → Type 0
-OneLongest runs m = howMany (λ r. eqb (longestTime r) (m .time)) runs ≤ 1
+OneLongest runs m = howManyRuns (λ r. eqb (longestTime r) (m .time)) runs ≤ 1
 
 abbrev pub OrderIsTie : Type 0
 OrderIsTie =

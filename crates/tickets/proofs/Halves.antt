@@ -8,13 +8,13 @@ use native.Mathlib.Numerals.{add-one}
 use lib.ListN.{length, getD, take, drop, length-drop, drop-of-length-le}
 use lib.Seq.{drop-cons, getD-take, getD-drop, length-take-le}
 use Rattle.tickets.specs.declared.Ticket.{Ticket}
-use Rattle.tickets.specs.Table.{places, allPlaces, noTicket, isEmpty, ticketsIn, firstPlace}
+use Rattle.tickets.specs.Table.{places, allPlaces, noTicket, isEmptyPlace, ticketsIn, firstPlace}
 
-pub tickets-none : (t : Ticket) (ts : List Ticket) → isEmpty t ≡ true → ticketsIn (t ∷ ts) ≡ []
+pub tickets-none : (t : Ticket) (ts : List Ticket) → isEmptyPlace t ≡ true → ticketsIn (t ∷ ts) ≡ []
 unfolding ticketsIn
 tickets-none t ts e = rw e
 
-pub tickets-one : (t : Ticket) (ts : List Ticket) → isEmpty t ≡ false → ticketsIn (t ∷ ts) ≡ t ∷ ticketsIn ts
+pub tickets-one : (t : Ticket) (ts : List Ticket) → isEmptyPlace t ≡ false → ticketsIn (t ∷ ts) ≡ t ∷ ticketsIn ts
 unfolding ticketsIn
 tickets-one t ts e = rw e
 
@@ -23,13 +23,13 @@ unfolding ticketsIn
 tickets-end = refl
 
 -- The tickets are the first places, and none of those is empty.
-pub tickets-at : (h : List Ticket) (i : ℕ) → i < length (ticketsIn h) → (getD (ticketsIn h) i noTicket ≡ getD h i noTicket) × (isEmpty (getD h i noTicket) ≡ false)
+pub tickets-at : (h : List Ticket) (i : ℕ) → i < length (ticketsIn h) → (getD (ticketsIn h) i noTicket ≡ getD h i noTicket) × (isEmptyPlace (getD h i noTicket) ≡ false)
 tickets-at [] i l = absurd (let z : i < 0 = rw tickets-end at l in omega arith)
-tickets-at (t ∷ ts) i l = by-case (isEmpty t) refl i l (tickets-at ts)
+tickets-at (t ∷ ts) i l = by-case (isEmptyPlace t) refl i l (tickets-at ts)
   where
-    by-case : (b : Bool) → isEmpty t ≡ b → (i : ℕ) → i < length (ticketsIn (t ∷ ts))
-        → ((k : ℕ) → k < length (ticketsIn ts) → (getD (ticketsIn ts) k noTicket ≡ getD ts k noTicket) × (isEmpty (getD ts k noTicket) ≡ false))
-        → (getD (ticketsIn (t ∷ ts)) i noTicket ≡ getD (t ∷ ts) i noTicket) × (isEmpty (getD (t ∷ ts) i noTicket) ≡ false)
+    by-case : (b : Bool) → isEmptyPlace t ≡ b → (i : ℕ) → i < length (ticketsIn (t ∷ ts))
+        → ((k : ℕ) → k < length (ticketsIn ts) → (getD (ticketsIn ts) k noTicket ≡ getD ts k noTicket) × (isEmptyPlace (getD ts k noTicket) ≡ false))
+        → (getD (ticketsIn (t ∷ ts)) i noTicket ≡ getD (t ∷ ts) i noTicket) × (isEmptyPlace (getD (t ∷ ts) i noTicket) ≡ false)
     by-case true e i l rest = absurd (let z : i < 0 = rw (tickets-none t ts e) at l in omega arith)
     by-case false e zero l rest = (rw (tickets-one t ts e), e)
     by-case false e (suc k) l rest =
@@ -38,9 +38,9 @@ tickets-at (t ∷ ts) i l = by-case (isEmpty t) refl i l (tickets-at ts)
 
 pub tickets-fit : (h : List Ticket) → length (ticketsIn h) ≤ length h
 tickets-fit [] = rw tickets-end (omega arith)
-tickets-fit (t ∷ ts) = by-case (isEmpty t) refl (tickets-fit ts)
+tickets-fit (t ∷ ts) = by-case (isEmptyPlace t) refl (tickets-fit ts)
   where
-    by-case : (b : Bool) → isEmpty t ≡ b → length (ticketsIn ts) ≤ length ts → length (ticketsIn (t ∷ ts)) ≤ suc (length ts)
+    by-case : (b : Bool) → isEmptyPlace t ≡ b → length (ticketsIn ts) ≤ length ts → length (ticketsIn (t ∷ ts)) ≤ suc (length ts)
     by-case true e rest = rw (tickets-none t ts e) (omega arith)
     by-case false e rest = rw (tickets-one t ts e) (omega arith)
 
@@ -67,12 +67,12 @@ module _ (h : List Ticket) where
   at-place : (n : ℕ) → n < length h → ticketsIn (drop n h) ≡ ticketsIn (getD h n noTicket ∷ drop (suc n) h)
   at-place n l = ap ticketsIn (drop-cons h n noTicket l)
 
-  pub counted-more : (n : ℕ) → Counted h n → n < length h → isEmpty (getD h n noTicket) ≡ false → Counted h (n + 1)
+  pub counted-more : (n : ℕ) → Counted h n → n < length h → isEmptyPlace (getD h n noTicket) ≡ false → Counted h (n + 1)
   counted-more n c l e =
       let here : length (ticketsIn (drop n h)) ≡ suc (length (ticketsIn (drop (suc n) h))) = ap length (at-place n l ∙ tickets-one (getD h n noTicket) (drop (suc n) h) e) in
       rw (add-one n) record { within = l; so = c .so ∙ omega arith }
 
-  pub counted-to-empty : (n : ℕ) → Counted h n → n < length h → isEmpty (getD h n noTicket) ≡ true → n ≡ length (ticketsIn h)
+  pub counted-to-empty : (n : ℕ) → Counted h n → n < length h → isEmptyPlace (getD h n noTicket) ≡ true → n ≡ length (ticketsIn h)
   counted-to-empty n c l e =
       let here : length (ticketsIn (drop n h)) ≡ 0 = ap length (at-place n l ∙ tickets-none (getD h n noTicket) (drop (suc n) h) e) in
       omega (arith, c .so)

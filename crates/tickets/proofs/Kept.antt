@@ -16,7 +16,7 @@ use Rattle.tickets.specs.declared.Lasts.{Lasts}
 use Rattle.tickets.specs.declared.Filing.{Filing}
 use Rattle.tickets.specs.declared.Withdrawal.{Withdrawal}
 use Rattle.tickets.specs.Table.{offices, places, noTicket, upTo, isTicket, lastOf, waiting, rowOf, Waits, Sound}
-use Rattle.tickets.specs.Filings.{inRange, fileVerdict, numberFor, lastsWith, ticketOf, withTicket, rowWith, notFiled, filedIn, fileRow}
+use Rattle.tickets.specs.Filings.{inRange, fileVerdict, numberFor, lastsWith, ticketOf, withTicket, rowWithTicket, notFiled, filedIn, fileRow}
 use Rattle.tickets.specs.Withdrawals.{hasNumber, withoutNumber, withdrawVerdict, withoutTicket, rowLeft, withdrawRow}
 use Rattle.tickets.specs.Private.{leaving, indexOf}
 use Rattle.tickets.proofs.Sound.{and-true-both}
@@ -172,14 +172,14 @@ file-is-ticket f e =
     rw (eq-eqb (f .office) (f .office) refl, b .1, a .1, ne-eqb (numberFor f) 0 (λ z. omega arith), le-leb (numberFor f) (numberFor f) (omega arith))
 
 pub file-holds : (row : List Ticket) (f : Filing) → Stands (f .lasts) row → inRange f ≡ true → length (waiting (f .office) row) < places
-    → Holds (lastsWith (f .office) (numberFor f) (f .lasts)) (withOne 1 row (ticketOf f)) (withOne 2 row (ticketOf f)) (rowWith (ticketOf f) row)
+    → Holds (lastsWith (f .office) (numberFor f) (f .lasts)) (withOne 1 row (ticketOf f)) (withOne 2 row (ticketOf f)) (rowWithTicket (ticketOf f) row)
 file-holds row f s e l = ⊎-elim at-one at-two (office-is (f .office) (range-office f e))
   where
-    at-one : f .office ≡ 1 → Holds (lastsWith (f .office) (numberFor f) (f .lasts)) (withOne 1 row (ticketOf f)) (withOne 2 row (ticketOf f)) (rowWith (ticketOf f) row)
+    at-one : f .office ≡ 1 → Holds (lastsWith (f .office) (numberFor f) (f .lasts)) (withOne 1 row (ticketOf f)) (withOne 2 row (ticketOf f)) (rowWithTicket (ticketOf f) row)
     at-one o = made (f .office) (ticketOf f) (numberFor f) o refl refl (ap (λ k. suc (lastOf k (f .lasts))) o) (file-is-ticket f e) l
       where
         made : (k : ℕ) (t : Ticket) (n : ℕ) → k ≡ 1 → t .office ≡ k → t .number ≡ n → n ≡ suc (f .lasts .one) → isTicket k n t ≡ true → length (waiting k row) < places
-            → Holds (lastsWith k n (f .lasts)) (withOne 1 row t) (withOne 2 row t) (rowWith t row)
+            → Holds (lastsWith k n (f .lasts)) (withOne 1 row t) (withOne 2 row t) (rowWithTicket t row)
         made k t n k-is o-is n-is next it few =
             let o1 : t .office ≡ 1 = o-is ∙ k-is in
             rw (k-is, next, with-own 1 t (waiting 1 row) o1, with-other 2 t (waiting 2 row) (λ z. omega arith))
@@ -190,11 +190,11 @@ file-holds row f s e l = ⊎-elim at-one at-two (office-is (f .office) (range-of
               is = refl;
             }))
 
-    at-two : f .office ≡ 2 → Holds (lastsWith (f .office) (numberFor f) (f .lasts)) (withOne 1 row (ticketOf f)) (withOne 2 row (ticketOf f)) (rowWith (ticketOf f) row)
+    at-two : f .office ≡ 2 → Holds (lastsWith (f .office) (numberFor f) (f .lasts)) (withOne 1 row (ticketOf f)) (withOne 2 row (ticketOf f)) (rowWithTicket (ticketOf f) row)
     at-two o = made (f .office) (ticketOf f) (numberFor f) o refl refl (ap (λ k. suc (lastOf k (f .lasts))) o) (file-is-ticket f e) l
       where
         made : (k : ℕ) (t : Ticket) (n : ℕ) → k ≡ 2 → t .office ≡ k → t .number ≡ n → n ≡ suc (f .lasts .two) → isTicket k n t ≡ true → length (waiting k row) < places
-            → Holds (lastsWith k n (f .lasts)) (withOne 1 row t) (withOne 2 row t) (rowWith t row)
+            → Holds (lastsWith k n (f .lasts)) (withOne 1 row t) (withOne 2 row t) (rowWithTicket t row)
         made k t n k-is o-is n-is next it few =
             let o2 : t .office ≡ 2 = o-is ∙ k-is in
             rw (k-is, next, with-other 1 t (waiting 1 row) (λ z. omega arith), with-own 2 t (waiting 2 row) o2)

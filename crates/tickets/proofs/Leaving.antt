@@ -19,7 +19,7 @@ use Rattle.tickets.specs.declared.Ticket.{Ticket}
 use Rattle.tickets.specs.declared.Lasts.{Lasts}
 use Rattle.tickets.specs.declared.Withdrawal.{Withdrawal}
 use Rattle.tickets.specs.declared.WithdrawnRow.{WithdrawnRow}
-use Rattle.tickets.specs.Table.{offices, places, allPlaces, noTicket, upTo, firstPlace, waiting, placed, rowOf, rowVerdict, Sound}
+use Rattle.tickets.specs.Table.{offices, places, allPlaces, noTicket, upTo, firstPlace, waiting, placed, rowOf, recordsVerdict, Sound}
 use Rattle.tickets.specs.Withdrawals.{hasNumber, withoutNumber, isWaiting, withdrawVerdict, withdrawRow}
 use Rattle.tickets.specs.Private.{leaving, closedUp, indexOf}
 use Rattle.tickets.proofs.Halves.{tickets-at, tickets-fit, placesFrom, places-long, place-in-row, first-place-within}
@@ -144,14 +144,14 @@ module _ (l : Lasts) (ones twos row : List Ticket) (s : Sound l ones twos row) (
 
 -- Acceptance of a withdrawal.
 pub record Taken (len : ℕ) (row : List Ticket) (w : Withdrawal) : Type 0 where
-  pub table : refuses (rowVerdict len row (w .lasts)) ≡ false
+  pub table : refuses (recordsVerdict len row (w .lasts)) ≡ false
   pub office : upTo offices (w .office) ≡ true
   pub waits : hasNumber (w .number) (waiting (w .office) row) ≡ true
 
 pub withdraw-accepted : (len : ℕ) (row : List Ticket) (w : Withdrawal) → refuses (withdrawVerdict len row w) ≡ false → Taken len row w
 unfolding withdrawVerdict
 withdraw-accepted len row w e =
-    let each = all-accept (rowVerdict len row (w .lasts) ∷ refuseIf (not (isWaiting (w .office) (w .number) row)) NotWaiting ∷ []) e in
+    let each = all-accept (recordsVerdict len row (w .lasts) ∷ refuseIf (not (isWaiting (w .office) (w .number) row)) NotWaiting ∷ []) e in
     let it = not-false (isWaiting (w .office) (w .number) row) (accepts-if (not (isWaiting (w .office) (w .number) row)) NotWaiting refl (each .1 .0)) in
     let both = and-true-both (upTo offices (w .office)) (hasNumber (w .number) (waiting (w .office) row)) it in
     record { table = each .0; office = both .0; waits = both .1 }

@@ -12,7 +12,7 @@ use Rattle.refusals.specs.Refusals.{firstWhere}
 use Rattle.runs.proofs.Search.{first-all}
 use Rattle.tickets.specs.declared.Ticket.{Ticket}
 use Rattle.tickets.specs.declared.Lasts.{Lasts}
-use Rattle.tickets.specs.Table.{places, allPlaces, noTicket, isEmpty, isTicket, lastOf, officeAt, isFirstPlace, isOutOfTurn, badRecord, half, ticketsIn, waiting, placed, rowOf, Waits, Sound, rowWithout}
+use Rattle.tickets.specs.Table.{places, allPlaces, noTicket, isEmptyPlace, isTicket, lastOf, officeAt, isFirstPlace, isOutOfTurn, badRecord, half, ticketsIn, waiting, placed, rowOf, Waits, Sound, rowWithout}
 use Rattle.tickets.specs.Private.{leaving, closedUp}
 use Rattle.tickets.proofs.Halves.{tickets-none, tickets-one, tickets-end, placesFrom, places-long, place-in-row}
 use Rattle.tickets.proofs.Sound.{ticket-not-empty}
@@ -215,7 +215,7 @@ module _ (l : Lasts) (row : List Ticket) (office first : ℕ) (some : 0 < office
 
       a-ticket : (j : ℕ) → j < places → j < length ts → badRecord l row (first + j) ≡ false
       a-ticket j c d =
-          tests-pass (isEmpty (getD row (first + j) noTicket)) (isTicket (officeAt (first + j)) (lastOf (officeAt (first + j)) l) (getD row (first + j) noTicket)) (isOutOfTurn row (first + j))
+          tests-pass (isEmptyPlace (getD row (first + j) noTicket)) (isTicket (officeAt (first + j)) (lastOf (officeAt (first + j)) l) (getD row (first + j) noTicket)) (isOutOfTurn row (first + j))
           (rw (here j c, at j c) (waits .each j d)) (in-turn j c d)
 
 pub none-bad : (l : Lasts) (ones twos row : List Ticket) → Sound l ones twos row → firstWhere (badRecord l row) allPlaces ≡ 0

@@ -10,20 +10,20 @@ use Rattle.runs.specs.Run.{mostFiles}
 use Rattle.tickets.specs.declared.Ticket.{Ticket}
 use Rattle.tickets.specs.declared.Lasts.{Lasts}
 use Rattle.tickets.specs.declared.Filing.{Filing}
-use Rattle.tickets.specs.Table.{offices, mostCount, noTicket, isEmpty, upTo, isTicket, follows, lastOf, officeAt, isFirstPlace, badRecord}
+use Rattle.tickets.specs.Table.{offices, mostCount, noTicket, isEmptyPlace, upTo, isTicket, follows, lastOf, officeAt, isFirstPlace, badRecord}
 use Rattle.tickets.specs.Filings.{inRange}
 
 module _ (t : Ticket) where
-  pub empty-no-office : (t .office ≡ 0 → ⊥) → false ≡ isEmpty t
+  pub empty-no-office : (t .office ≡ 0 → ⊥) → false ≡ isEmptyPlace t
   empty-no-office h = rw (ne-eqb (t .office) 0 h)
 
-  pub empty-no-file : t .office ≡ 0 → (t .file ≡ 0 → ⊥) → false ≡ isEmpty t
+  pub empty-no-file : t .office ≡ 0 → (t .file ≡ 0 → ⊥) → false ≡ isEmptyPlace t
   empty-no-file o h = rw (eq-eqb (t .office) 0 o, ne-eqb (t .file) 0 h)
 
-  pub empty-no-count : t .office ≡ 0 → t .file ≡ 0 → (t .count ≡ 0 → ⊥) → false ≡ isEmpty t
+  pub empty-no-count : t .office ≡ 0 → t .file ≡ 0 → (t .count ≡ 0 → ⊥) → false ≡ isEmptyPlace t
   empty-no-count o f h = rw (eq-eqb (t .office) 0 o, eq-eqb (t .file) 0 f, ne-eqb (t .count) 0 h)
 
-  pub empty-number : t .office ≡ 0 → t .file ≡ 0 → t .count ≡ 0 → lib.Dec.eqb (t .number) 0 ≡ isEmpty t
+  pub empty-number : t .office ≡ 0 → t .file ≡ 0 → t .count ≡ 0 → lib.Dec.eqb (t .number) 0 ≡ isEmptyPlace t
   empty-number o f c = rw (eq-eqb (t .office) 0 o, eq-eqb (t .file) 0 f, eq-eqb (t .count) 0 c)
 
 module _ (office last : ℕ) (t : Ticket) where
@@ -56,16 +56,16 @@ module _ (l : Lasts) (row : List Ticket) (i : ℕ) where
   abbrev pub isTicketHere : Bool
   isTicketHere = isTicket (officeAt i) (lastOf (officeAt i) l) (getD row i noTicket)
 
-  pub bad-not-empty : isEmpty (getD row i noTicket) ≡ true → false ≡ badRecord l row i
+  pub bad-not-empty : isEmptyPlace (getD row i noTicket) ≡ true → false ≡ badRecord l row i
   bad-not-empty e = rw e
 
-  pub bad-not-ticket : isEmpty (getD row i noTicket) ≡ false → isTicketHere ≡ false → true ≡ badRecord l row i
+  pub bad-not-ticket : isEmptyPlace (getD row i noTicket) ≡ false → isTicketHere ≡ false → true ≡ badRecord l row i
   bad-not-ticket e t = rw (e, t)
 
-  pub bad-first : isEmpty (getD row i noTicket) ≡ false → isTicketHere ≡ true → isFirstPlace i ≡ true → false ≡ badRecord l row i
+  pub bad-first : isEmptyPlace (getD row i noTicket) ≡ false → isTicketHere ≡ true → isFirstPlace i ≡ true → false ≡ badRecord l row i
   bad-first e t f = rw (e, t, f)
 
-  pub bad-behind : {x : Bool} → isEmpty (getD row i noTicket) ≡ false → isTicketHere ≡ true → isFirstPlace i ≡ false
+  pub bad-behind : {x : Bool} → isEmptyPlace (getD row i noTicket) ≡ false → isTicketHere ≡ true → isFirstPlace i ≡ false
       → x ≡ follows (getD row (i - 1) noTicket) (getD row i noTicket) → not x ≡ badRecord l row i
   bad-behind e t f is = rw (e, t, f) (ap not is)
 

@@ -14,7 +14,7 @@ use Rattle.refusals.specs.Refusals.{firstWhere}
 use Rattle.runs.proofs.Search.{true-or-false, first-zero}
 use Rattle.tickets.specs.declared.Ticket.{Ticket}
 use Rattle.tickets.specs.declared.Lasts.{Lasts}
-use Rattle.tickets.specs.Table.{places, allPlaces, noTicket, isEmpty, isTicket, follows, lastOf, officeAt, isFirstPlace, isOutOfTurn, badRecord, ticketsIn, waiting, placed, Waits, Sound, upTo}
+use Rattle.tickets.specs.Table.{places, allPlaces, noTicket, isEmptyPlace, isTicket, follows, lastOf, officeAt, isFirstPlace, isOutOfTurn, badRecord, ticketsIn, waiting, placed, Waits, Sound, upTo}
 use Rattle.tickets.proofs.Halves.{tickets-none, tickets-one, tickets-end, tickets-at, tickets-fit, placesFrom, places-long, place-in-row}
 
 pub and-true-both : (a b : Bool) → (a && b) ≡ true → (a ≡ true) × (b ≡ true)
@@ -22,7 +22,7 @@ and-true-both true b e = (refl, e)
 and-true-both false b e = absurd (true≢false (sym e))
 
 -- An empty record is the empty place.
-pub empty-is : (t : Ticket) → isEmpty t ≡ true → t ≡ noTicket
+pub empty-is : (t : Ticket) → isEmptyPlace t ≡ true → t ≡ noTicket
 empty-is t e =
     let last = and-true-both (eqb (t .office) 0 && eqb (t .file) 0 && eqb (t .count) 0) (eqb (t .number) 0) e in
     let first = and-true-both (eqb (t .office) 0 && eqb (t .file) 0) (eqb (t .count) 0) (last .0) in
@@ -41,33 +41,33 @@ ticket-office office last t is =
     eqb-true (t .office) office (and-true-both (eqb (t .office) office) (upTo 4096 (t .file)) (first .0) .0)
 
 -- A ticket of office 1 or 2 is not empty.
-pub ticket-not-empty : (office last : ℕ) (t : Ticket) → 0 < office → isTicket office last t ≡ true → isEmpty t ≡ false
+pub ticket-not-empty : (office last : ℕ) (t : Ticket) → 0 < office → isTicket office last t ≡ true → isEmptyPlace t ≡ false
 ticket-not-empty office last t some is = let o = ticket-office office last t is in rw (ne-eqb (t .office) 0 (λ z. omega arith))
 
-pub follows-says : (a t : Ticket) → follows a t ≡ true → (isEmpty a ≡ false) × (a .number < t .number)
+pub follows-says : (a t : Ticket) → follows a t ≡ true → (isEmptyPlace a ≡ false) × (a .number < t .number)
 follows-says a t e =
-    let both = and-true-both (not (isEmpty a)) (ltb (a .number) (t .number)) e in
-    (not-true (isEmpty a) (both .0), ltb-true (a .number) (t .number) (both .1))
+    let both = and-true-both (not (isEmptyPlace a)) (ltb (a .number) (t .number)) e in
+    (not-true (isEmptyPlace a) (both .0), ltb-true (a .number) (t .number) (both .1))
 
 -- Places at which each record is empty, or a ticket of the office that follows the one ahead of it.
 abbrev pub Fine : ℕ → ℕ → List Ticket → Type 0
 Fine office last h =
-    (i : ℕ) → i < length h → isEmpty (getD h i noTicket) ≡ false
+    (i : ℕ) → i < length h → isEmptyPlace (getD h i noTicket) ≡ false
     → (isTicket office last (getD h i noTicket) ≡ true) × ((j : ℕ) → suc j ≡ i → follows (getD h j noTicket) (getD h i noTicket) ≡ true)
 
 module _ (office last : ℕ) where
   fine-rest : (t : Ticket) (ts : List Ticket) → Fine office last (t ∷ ts) → Fine office last ts
   fine-rest t ts fine i l full = let here = fine (suc i) (omega arith) full in (here .0, λ j e. here .1 (suc j) (ap suc e))
 
-  empty-behind : (t : Ticket) (ts : List Ticket) → Fine office last (t ∷ ts) → isEmpty t ≡ true → (i : ℕ) → i < length ts → isEmpty (getD ts i noTicket) ≡ true
+  empty-behind : (t : Ticket) (ts : List Ticket) → Fine office last (t ∷ ts) → isEmptyPlace t ≡ true → (i : ℕ) → i < length ts → isEmptyPlace (getD ts i noTicket) ≡ true
   empty-behind t ts fine e zero l =
       ⊎-elim (λ h. h) (λ h. absurd (true≢false (sym e ∙ follows-says t (getD ts 0 noTicket) (fine 1 (omega arith) h .1 0 refl) .0)))
-      (true-or-false (isEmpty (getD ts 0 noTicket)))
+      (true-or-false (isEmptyPlace (getD ts 0 noTicket)))
   empty-behind t ts fine e (suc i) l =
       ⊎-elim (λ h. h) (λ h. absurd (true≢false (sym (empty-behind t ts fine e i (omega arith)) ∙ follows-says (getD ts i noTicket) (getD ts (suc i) noTicket) (fine (suc (suc i)) (omega arith) h .1 (suc i) refl) .0)))
-      (true-or-false (isEmpty (getD ts (suc i) noTicket)))
+      (true-or-false (isEmptyPlace (getD ts (suc i) noTicket)))
 
-  all-empty : (ts : List Ticket) → ((i : ℕ) → i < length ts → isEmpty (getD ts i noTicket) ≡ true) → ts ≡ replicate (length ts) noTicket
+  all-empty : (ts : List Ticket) → ((i : ℕ) → i < length ts → isEmptyPlace (getD ts i noTicket) ≡ true) → ts ≡ replicate (length ts) noTicket
   all-empty ts h =
       ext-getD noTicket ts (replicate (length ts) noTicket) (sym (length-replicate (length ts) noTicket))
       (λ i l. empty-is (getD ts i noTicket) (h i l) ∙ sym (getD-replicate (length ts) i noTicket noTicket l))
@@ -75,9 +75,9 @@ module _ (office last : ℕ) where
   -- Such places are their tickets, then empty ones.
   pub fine-placed : (h : List Ticket) → Fine office last h → h ≡ ticketsIn h ++ replicate (length h - length (ticketsIn h)) noTicket
   fine-placed [] fine = rw tickets-end
-  fine-placed (t ∷ ts) fine = by-case (isEmpty t) refl (fine-placed ts (fine-rest t ts fine))
+  fine-placed (t ∷ ts) fine = by-case (isEmptyPlace t) refl (fine-placed ts (fine-rest t ts fine))
     where
-      by-case : (b : Bool) → isEmpty t ≡ b → ts ≡ ticketsIn ts ++ replicate (length ts - length (ticketsIn ts)) noTicket
+      by-case : (b : Bool) → isEmptyPlace t ≡ b → ts ≡ ticketsIn ts ++ replicate (length ts - length (ticketsIn ts)) noTicket
           → t ∷ ts ≡ ticketsIn (t ∷ ts) ++ replicate (suc (length ts) - length (ticketsIn (t ∷ ts))) noTicket
       by-case true e rest =
           rw (tickets-none t ts e, sub-zero)
@@ -100,10 +100,10 @@ module _ (office last : ℕ) where
 
 -- What acceptance of a record says, by its index in the row.
 module _ (lasts : Lasts) (row : List Ticket) (all : length row ≡ allPlaces) (none : firstWhere (badRecord lasts row) allPlaces ≡ 0) where
-  record-fine : (i : ℕ) → i < allPlaces → isEmpty (getD row i noTicket) ≡ false
+  record-fine : (i : ℕ) → i < allPlaces → isEmptyPlace (getD row i noTicket) ≡ false
       → (isTicket (officeAt i) (lastOf (officeAt i) lasts) (getD row i noTicket) ≡ true) × (isOutOfTurn row i ≡ false)
   record-fine i l full =
-      by-tests (isEmpty (getD row i noTicket)) (isTicket (officeAt i) (lastOf (officeAt i) lasts) (getD row i noTicket)) (isOutOfTurn row i) full
+      by-tests (isEmptyPlace (getD row i noTicket)) (isTicket (officeAt i) (lastOf (officeAt i) lasts) (getD row i noTicket)) (isOutOfTurn row i) full
       (first-zero (badRecord lasts row) allPlaces none i l)
     where
       by-tests : (e t b : Bool) → e ≡ false → (not e && (not t || b)) ≡ false → (t ≡ true) × (b ≡ false)
@@ -120,7 +120,7 @@ module _ (lasts : Lasts) (row : List Ticket) (all : length row ≡ allPlaces) (n
   fine-one : Fine 1 (lasts .one) (placesFrom 0 row)
   fine-one i l full =
       let below : i < 16 = rw (places-long 0 row (omega arith) all) at l in
-      let full' : isEmpty (getD row (0 + i) noTicket) ≡ false = rw (place-in-row 0 row (omega arith) all i below) at full in
+      let full' : isEmptyPlace (getD row (0 + i) noTicket) ≡ false = rw (place-in-row 0 row (omega arith) all i below) at full in
       let zero-on : 0 + i ≡ i = omega arith in
       let here = record-fine i (omega arith) (rw zero-on at full') in (
         rw (place-in-row 0 row (omega arith) all i below, zero-on) (rw (lt-ltb i 16 below) at (here .0)),
@@ -134,7 +134,7 @@ module _ (lasts : Lasts) (row : List Ticket) (all : length row ≡ allPlaces) (n
   fine-two : Fine 2 (lasts .two) (placesFrom 16 row)
   fine-two i l full =
       let below : i < 16 = rw (places-long 16 row (omega arith) all) at l in
-      let full' : isEmpty (getD row (16 + i) noTicket) ≡ false = rw (place-in-row 16 row (omega arith) all i below) at full in
+      let full' : isEmptyPlace (getD row (16 + i) noTicket) ≡ false = rw (place-in-row 16 row (omega arith) all i below) at full in
       let here = record-fine (16 + i) (omega arith) full' in (
         rw (place-in-row 16 row (omega arith) all i below) (rw (le-ltb (16 + i) 16 (omega arith)) at (here .0)),
         λ j e.

@@ -18,24 +18,24 @@ use Rattle.tickets.specs.declared.Ticket.{Ticket}
 use Rattle.tickets.specs.declared.Lasts.{Lasts}
 use Rattle.tickets.specs.declared.Filing.{Filing}
 use Rattle.tickets.specs.declared.FiledRow.{FiledRow}
-use Rattle.tickets.specs.Table.{offices, places, allPlaces, upTo, lastOf, waiting, rowOf, badRecord, rowVerdict, firstPlace, Sound}
+use Rattle.tickets.specs.Table.{offices, places, allPlaces, upTo, lastOf, waiting, rowOf, badRecord, recordsVerdict, firstPlace, Sound}
 use Rattle.tickets.specs.Filings.{inRange, isFull, mostNumber, isSpent, fileVerdict, numberFor, lastsWith, ticketOf, notFiled, fileRow}
 use Rattle.tickets.proofs.Sound.{row-sound, and-true-both}
 use Rattle.tickets.proofs.Placed.{row-more-one, row-more-two}
 
 -- Acceptance of a row: it is long enough, and no record is bad.
-pub row-accepted : (len : ℕ) (row : List Ticket) (l : Lasts) → refuses (rowVerdict len row l) ≡ false → firstWhere (badRecord l row) allPlaces ≡ 0
-unfolding rowVerdict
+pub row-accepted : (len : ℕ) (row : List Ticket) (l : Lasts) → refuses (recordsVerdict len row l) ≡ false → firstWhere (badRecord l row) allPlaces ≡ 0
+unfolding recordsVerdict
 row-accepted len row l e =
     let each = all-accept (refuseIf (ltb len allPlaces) ShortRow ∷ refuseAt (firstWhere (badRecord l row) allPlaces) BadRecord ∷ []) e in
     accepts-at (firstWhere (badRecord l row) allPlaces) BadRecord refl (each .1 .0)
 
-pub accepted-sound : (len : ℕ) (row : List Ticket) (l : Lasts) → length row ≡ allPlaces → refuses (rowVerdict len row l) ≡ false → Sound l (waiting 1 row) (waiting 2 row) row
+pub accepted-sound : (len : ℕ) (row : List Ticket) (l : Lasts) → length row ≡ allPlaces → refuses (recordsVerdict len row l) ≡ false → Sound l (waiting 1 row) (waiting 2 row) row
 accepted-sound len row l all e = row-sound l row all (row-accepted len row l e)
 
 -- Acceptance of a filing.
 pub record Accepted (len : ℕ) (row : List Ticket) (f : Filing) : Type 0 where
-  pub table : refuses (rowVerdict len row (f .lasts)) ≡ false
+  pub table : refuses (recordsVerdict len row (f .lasts)) ≡ false
   pub ranged : inRange f ≡ true
   pub free : length (waiting (f .office) row) < places
   pub unspent : lastOf (f .office) (f .lasts) < mostNumber
@@ -45,7 +45,7 @@ unfolding fileVerdict
 file-accepted len row f e =
     let each =
     all-accept
-    (rowVerdict len row (f .lasts)
+    (recordsVerdict len row (f .lasts)
     ∷ refuseIf (not (inRange f)) BadTicket
     ∷ refuseIf (isFull (f .office) row) OfficeFull
     ∷ refuseIf (isSpent (f .office) (f .lasts)) NumbersSpent

@@ -12,7 +12,7 @@ use Rattle.tickets.specs.declared.Ticket.{Ticket}
 use Rattle.tickets.specs.declared.Lasts.{Lasts}
 use Rattle.tickets.specs.declared.Filing.{Filing}
 use Rattle.tickets.specs.declared.FiledRow.{FiledRow}
-use Rattle.tickets.specs.Table.{offices, places, mostCount, upTo, lastOf, waiting, rowOf, rowVerdict}
+use Rattle.tickets.specs.Table.{offices, places, mostCount, upTo, lastOf, waiting, rowOf, recordsVerdict}
 
 -- The office is 1 or 2, the file number 1 to the tape's number of files, at most 4,096, and the count 1 to 128.
 abbrev pub inRange : Filing → Bool
@@ -33,7 +33,7 @@ isSpent office l = leb mostNumber (lastOf office l)
 unfoldable pub fileVerdict : ℕ → List Ticket → Filing → Verdict
 fileVerdict len row f =
     firstOf
-    (rowVerdict len row (f .lasts)
+    (recordsVerdict len row (f .lasts)
     ∷ refuseIf (not (inRange f)) BadTicket
     ∷ refuseIf (isFull (f .office) row) OfficeFull
     ∷ refuseIf (isSpent (f .office) (f .lasts)) NumbersSpent
@@ -54,8 +54,8 @@ ticketOf f = record { office = f .office; file = f .file; count = f .count; numb
 abbrev pub withTicket : ℕ → Ticket → List Ticket → List Ticket
 withTicket office t ts = cond (eqb (t .office) office) (ts ++ t ∷ []) ts
 
-abbrev pub rowWith : Ticket → List Ticket → List Ticket
-rowWith t row = rowOf (withTicket 1 t (waiting 1 row)) (withTicket 2 t (waiting 2 row))
+abbrev pub rowWithTicket : Ticket → List Ticket → List Ticket
+rowWithTicket t row = rowOf (withTicket 1 t (waiting 1 row)) (withTicket 2 t (waiting 2 row))
 
 -- Refused: the row and the last numbers as they were. Filed: a ticket more, and its number.
 abbrev pub notFiled : List Ticket → Filing → Verdict → FiledRow
@@ -65,7 +65,7 @@ abbrev pub filedIn : List Ticket → Filing → Verdict → FiledRow
 filedIn row f v =
     record {
       filed = record { verdict = v; number = numberFor f; lasts = lastsWith (f .office) (numberFor f) (f .lasts) };
-      row = rowWith (ticketOf f) row;
+      row = rowWithTicket (ticketOf f) row;
     }
 
 -- The answer and the row afterwards.

@@ -31,8 +31,8 @@ mostCount = 128
 abbrev pub noTicket : Ticket
 noTicket = record { office = 0; file = 0; count = 0; number = 0 }
 
-abbrev pub isEmpty : Ticket → Bool
-isEmpty t = eqb (t .office) 0 && eqb (t .file) 0 && eqb (t .count) 0 && eqb (t .number) 0
+abbrev pub isEmptyPlace : Ticket → Bool
+isEmptyPlace t = eqb (t .office) 0 && eqb (t .file) 0 && eqb (t .count) 0 && eqb (t .number) 0
 
 -- Whether a number is one of 1 to `most`.
 abbrev pub upTo : ℕ → ℕ → Bool
@@ -49,7 +49,7 @@ isTicket office last t =
 
 -- Whether a ticket may stand directly behind a record of the same office: that is a ticket, and numbers ascend.
 abbrev pub follows : Ticket → Ticket → Bool
-follows ahead t = not (isEmpty ahead) && ltb (ahead .number) (t .number)
+follows ahead t = not (isEmptyPlace ahead) && ltb (ahead .number) (t .number)
 
 -- The first place of an office, counted from 0, and its places.
 abbrev pub firstPlace : ℕ → ℕ
@@ -61,7 +61,7 @@ half office row = take places (drop (firstPlace office) row)
 -- The tickets of some places: those before the first empty one.
 unfoldable pub ticketsIn : List Ticket → List Ticket
 ticketsIn [] = []
-ticketsIn (t ∷ ts) = cond (isEmpty t) [] (t ∷ ticketsIn ts)
+ticketsIn (t ∷ ts) = cond (isEmptyPlace t) [] (t ∷ ticketsIn ts)
 
 -- The tickets of an office that wait, in order of filing.
 abbrev pub waiting : ℕ → List Ticket → List Ticket
@@ -100,12 +100,12 @@ isOutOfTurn row i = not (isFirstPlace i) && not (follows (getD row (i - 1) noTic
 -- 26: neither empty nor a ticket of its place's office, or a ticket directly behind an empty place or a number that is not below its own.
 abbrev pub badRecord : Lasts → List Ticket → ℕ → Bool
 badRecord l row i =
-    not (isEmpty (getD row i noTicket))
+    not (isEmptyPlace (getD row i noTicket))
     && (not (isTicket (officeAt i) (lastOf (officeAt i) l) (getD row i noTicket)) || isOutOfTurn row i)
 
 -- 8, by the number of places of the lent row, then 26 with the first bad record.
-unfoldable pub rowVerdict : ℕ → List Ticket → Lasts → Verdict
-rowVerdict len row l =
+unfoldable pub recordsVerdict : ℕ → List Ticket → Lasts → Verdict
+recordsVerdict len row l =
     firstOf
     (refuseIf (ltb len allPlaces) ShortRow
     ∷ refuseAt (firstWhere (badRecord l row) allPlaces) BadRecord

@@ -9,7 +9,7 @@ use Rattle.refusals.specs.Refusals.{isRefusal, refuseIf, firstOf}
 use Rattle.tickets.specs.declared.Ticket.{Ticket}
 use Rattle.tickets.specs.declared.Withdrawal.{Withdrawal}
 use Rattle.tickets.specs.declared.WithdrawnRow.{WithdrawnRow}
-use Rattle.tickets.specs.Table.{offices, upTo, waiting, rowOf, rowVerdict}
+use Rattle.tickets.specs.Table.{offices, upTo, waiting, rowOf, recordsVerdict}
 
 -- Whether one of some tickets has a number; and the tickets without it, in their order.
 unfoldable pub hasNumber : ℕ → List Ticket → Bool
@@ -28,7 +28,7 @@ isWaiting office n row = upTo offices office && hasNumber n (waiting office row)
 unfoldable pub withdrawVerdict : ℕ → List Ticket → Withdrawal → Verdict
 withdrawVerdict len row w =
     firstOf
-    (rowVerdict len row (w .lasts)
+    (recordsVerdict len row (w .lasts)
     ∷ refuseIf (not (isWaiting (w .office) (w .number) row)) NotWaiting
     ∷ [])
 

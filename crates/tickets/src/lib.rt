@@ -6,7 +6,7 @@ ghost use Prim.Native.Nat.{_<_, _≤_};
 ghost use lib.ListN.{length, getD};
 ghost use lib.Seq.{paste};
 ghost use Rattle.refusals.specs.Refusals.{firstWhere};
-ghost use Rattle.tickets.specs.Table.{isEmpty, upTo, isTicket, follows, lastOf, firstPlace, waiting, officeAt, isFirstPlace, badRecord, rowVerdict, placed, rowWithout, noTicket, places};
+ghost use Rattle.tickets.specs.Table.{isEmptyPlace, upTo, isTicket, follows, lastOf, firstPlace, waiting, officeAt, isFirstPlace, badRecord, recordsVerdict, placed, rowWithout, noTicket, places};
 ghost use Rattle.tickets.specs.Filings.{inRange, fileVerdict, lastsWith, fileRow};
 ghost use Rattle.tickets.specs.Withdrawals.{isWaiting, withdrawVerdict, withdrawRow};
 ghost use Rattle.tickets.specs.Private.{closedUp, indexOf};
@@ -85,7 +85,7 @@ pub struct WithdrawnRow {
 }
 
 fn is_empty(t: Ticket) -> bool
-    ensures { λ r. ⌜ r ≡ isEmpty t ⌝ }
+    ensures { λ r. ⌜ r ≡ isEmptyPlace t ⌝ }
 {
     if t.office != 0 {
         return false;
@@ -194,7 +194,7 @@ fn first_bad_record(row: [Ticket; 32], lasts: Lasts) -> u64
 
 // The verdict on a lent row of so many places that begins with these records, by the last numbers given: 8, then 26.
 pub fn judge_row(len: usize, row: [Ticket; 32], lasts: Lasts) -> Verdict
-    ensures { λ r. ⌜ r ≡ rowVerdict len row lasts ⌝ }
+    ensures { λ r. ⌜ r ≡ recordsVerdict len row lasts ⌝ }
 {
     let short = refuse_if(len < ALL_PLACES, Refusal::ShortRow);
     if refused(short) {

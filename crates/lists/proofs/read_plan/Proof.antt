@@ -1,6 +1,6 @@
 -- `lists::read_plan` meets its contract: 12, or the answer to the form that was found.
 -- Assumes nothing.
-use Rattle.lists.specs.Form.{planBadLine, planDetours, detourText}
+use Rattle.lists.specs.Form.{planBadLine, detoursTold, detourText}
 use Rattle.lists.specs.Reading.{planForm}
 use Rattle.lists.proofs.Answers.{form-within, read-long, read-formed}
 use borrow.Author.Needs.{needs}
@@ -15,13 +15,13 @@ refused-requires c κs = search needs
 
 returns : tie.Need-returns
 unfolding planForm
-returns c = read-long (planBadLine (c .before .before .before .before .before .before .args .plan .now)) (planDetours (c .before .before .before .before .before .before .args .plan .now)) (detourText (c .before .before .before .before .before .before .args .plan .now)) (c .before .before .before .before .before .before .args .plan .now) (c .before .before .before .before .before .before .args .froms .now) (c .before .before .before .before .before .before .args .tos .now) _ (c .before .before .refuse-if .ensures) _ (c .before .refused .ensures) (c .if1 .taken)
+returns c = read-long (planBadLine (c .before .before .before .before .before .before .args .plan .now)) (detoursTold (c .before .before .before .before .before .before .args .plan .now)) (detourText (c .before .before .before .before .before .before .args .plan .now)) (c .before .before .before .before .before .before .args .plan .now) (c .before .before .before .before .before .before .args .froms .now) (c .before .before .before .before .before .before .args .tos .now) _ (c .before .before .refuse-if .ensures) _ (c .before .refused .ensures) (c .if1 .taken)
 
 judge-plan-requires : tie.Need-judge-plan-requires
 judge-plan-requires c κs = search needs
 
 read-as-requires : tie.Need-read-as-requires
-read-as-requires c κs = form-within (planBadLine (c .before .before .before .before .before .before .before .before .before .args .plan .now)) (planDetours (c .before .before .before .before .before .before .before .before .before .args .plan .now)) (detourText (c .before .before .before .before .before .before .before .before .before .args .plan .now)) (c .before .before .before .before .before .before .before .before .before .args .plan .now) (c .before .before .before .before .before .before .before .before .before .args .froms .now) (c .before .before .before .before .before .before .before .before .before .args .tos .now) (c .before .before .judge-plan .result) (c .before .before .judge-plan .ensures)
+read-as-requires c κs = form-within (planBadLine (c .before .before .before .before .before .before .before .before .before .args .plan .now)) (detoursTold (c .before .before .before .before .before .before .before .before .before .args .plan .now)) (detourText (c .before .before .before .before .before .before .before .before .before .args .plan .now)) (c .before .before .before .before .before .before .before .before .before .args .plan .now) (c .before .before .before .before .before .before .before .before .before .args .froms .now) (c .before .before .before .before .before .before .before .before .before .args .tos .now) (c .before .before .judge-plan .result) (c .before .before .judge-plan .ensures)
 
 same-length : tie.Need-same-length
 same-length c = search needs
@@ -31,7 +31,7 @@ same-length-2 c = search needs
 
 returns-2 : tie.Need-returns-2
 unfolding planForm
-returns-2 c = read-formed (planBadLine (c .before .before .before .before .before .before .before .before .before .before .before .before .before .before .args .plan .now)) (planDetours (c .before .before .before .before .before .before .before .before .before .before .before .before .before .before .args .plan .now)) (detourText (c .before .before .before .before .before .before .before .before .before .before .before .before .before .before .args .plan .now)) (c .before .before .before .before .before .before .before .before .before .before .before .before .before .before .args .plan .now) (c .before .before .before .before .before .before .before .before .before .before .before .before .before .before .args .froms .now) (c .before .before .before .before .before .before .before .before .before .before .before .before .before .before .args .tos .now) _ (c .before .before .before .before .before .before .before .before .before .before .refuse-if .ensures) _ (c .before .before .before .before .before .before .before .before .before .refused .ensures) (c .before .before .before .before .before .before .before .before .if1 .left) (c .before .before .before .before .before .before .before .judge-plan .result) (c .before .before .before .before .before .before .before .judge-plan .ensures) _ _ _ (c .before .before .before .before .read-as .ensures)
+returns-2 c = read-formed (planBadLine (c .before .before .before .before .before .before .before .before .before .before .before .before .before .before .args .plan .now)) (detoursTold (c .before .before .before .before .before .before .before .before .before .before .before .before .before .before .args .plan .now)) (detourText (c .before .before .before .before .before .before .before .before .before .before .before .before .before .before .args .plan .now)) (c .before .before .before .before .before .before .before .before .before .before .before .before .before .before .args .plan .now) (c .before .before .before .before .before .before .before .before .before .before .before .before .before .before .args .froms .now) (c .before .before .before .before .before .before .before .before .before .before .before .before .before .before .args .tos .now) _ (c .before .before .before .before .before .before .before .before .before .before .refuse-if .ensures) _ (c .before .before .before .before .before .before .before .before .before .refused .ensures) (c .before .before .before .before .before .before .before .before .if1 .left) (c .before .before .before .before .before .before .before .judge-plan .result) (c .before .before .before .before .before .before .before .judge-plan .ensures) _ _ _ (c .before .before .before .before .read-as .ensures)
 
 pub read-plan-spec : {M : Type 1} → statement M
 read-plan-spec =

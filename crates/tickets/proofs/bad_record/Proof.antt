@@ -4,7 +4,7 @@ use mathlib.Core.Path.{_≡_, sym, _∙_}
 use mathlib.Core.Bool.{Bool, true, false}
 use native.Mathlib.Omega.{arith}
 use lib.ListN.{getD}
-use Rattle.tickets.specs.Table.{noTicket, isEmpty}
+use Rattle.tickets.specs.Table.{noTicket, isEmptyPlace}
 use Rattle.tickets.proofs.Records.{isTicketHere, bad-not-empty, bad-not-ticket, bad-first, bad-behind, behind-another}
 use borrow.Author.Needs.{needs}
 use Rattle.tickets.proofs.bad_record.Statement.{statement}
@@ -41,7 +41,7 @@ start e = e .before .before .before
 abbrev tested : tie.After-is-ticket → tie.Else1
 tested t = t .before .before .before
 
-full : (e : tie.Else1) → isEmpty (getD (start e .args .t1) (start e .args .i) noTicket) ≡ false
+full : (e : tie.Else1) → isEmptyPlace (getD (start e .args .t1) (start e .args .i) noTicket) ≡ false
 full e = sym (e .before .is-empty .ensures) ∙ e .if1 .left
 
 ticket : (b : Bool) (t : tie.After-is-ticket) → t .is-ticket .result ≡ b → isTicketHere (start (tested t) .args .lasts) (start (tested t) .args .t1) (start (tested t) .args .i) ≡ b

@@ -7,7 +7,7 @@ use native.Mathlib.Omega.{arith}
 use borrow.Author.Needs.{needs}
 use lib.ListN.{length, getD}
 use Rattle.tickets.proofs.Halves.{CountedAt, placesFrom, places-long, place-in-row, counted-none, counted-more, counted-to-empty, counted-all, first-place-within}
-use Rattle.tickets.specs.Table.{noTicket, isEmpty}
+use Rattle.tickets.specs.Table.{noTicket, isEmptyPlace}
 use mathlib.Core.Bool.{Bool}
 use Rattle.tickets.proofs.count_waiting.Statement.{statement}
 use Rattle.tickets.proofs.count_waiting.Tie as tie
@@ -51,7 +51,7 @@ row a = a .before .before .args .t1
 abbrev first : tie.At-loop Inv-loop μ-loop → Prim.Native.Nat.ℕ
 first a = a .before .first-place .result
 
-here : (b : Bool) (e : tie.After-is-empty Inv-loop μ-loop) → e .is-empty .result ≡ b → isEmpty (getD (placesFrom (first (at e)) (row (at e))) (at e .loop .n) noTicket) ≡ b
+here : (b : Bool) (e : tie.After-is-empty Inv-loop μ-loop) → e .is-empty .result ≡ b → isEmptyPlace (getD (placesFrom (first (at e)) (row (at e))) (at e .loop .n) noTicket) ≡ b
 here b e h = let a = at e in rw (place-in-row (first a) (row a) (a .loop .inv .in-row) (long (a .before .before)) (a .loop .n) (e .before .before .loop-test .taken)) (sym (e .is-empty .ensures) ∙ h)
 
 below : (e : tie.After-is-empty Inv-loop μ-loop) → at e .loop .n < length (placesFrom (first (at e)) (row (at e)))

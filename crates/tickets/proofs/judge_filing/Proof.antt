@@ -6,7 +6,7 @@ use lib.Dec.{leb}
 use Rattle.refusals.specs.declared.Refusal.the-variants.{BadTicket, OfficeFull, NumbersSpent}
 use Rattle.refusals.specs.Refusals.{refuseIf}
 use Rattle.refusals.proofs.Verdicts.{refuses, test-says, last-if}
-use Rattle.tickets.specs.Table.{places, rowVerdict}
+use Rattle.tickets.specs.Table.{places, recordsVerdict}
 use Rattle.tickets.specs.Filings.{inRange, isFull, mostNumber, fileVerdict}
 use borrow.Author.Needs.{needs}
 use Rattle.tickets.proofs.judge_filing.Statement.{statement}
@@ -28,7 +28,7 @@ tabled r = r .before .before
 abbrev ticketed : tie.After-refuse-if2 → tie.Else2
 ticketed r = r .before .before
 
-table-fine : (e : tie.Else1) → refuses (rowVerdict (start e .args .len) (start e .args .row) (start e .args .filing .lasts)) ≡ false
+table-fine : (e : tie.Else1) → refuses (recordsVerdict (start e .args .len) (start e .args .row) (start e .args .filing .lasts)) ≡ false
 table-fine e = test-says (e .before .before .judge-row .ensures) (e .before .refused .ensures) (e .if1 .left)
 
 -- What 15 and 16 are judged by.

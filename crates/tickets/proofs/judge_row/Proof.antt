@@ -3,7 +3,7 @@
 use mathlib.Core.Path.{refl}
 use Rattle.refusals.specs.declared.Refusal.the-variants.{BadRecord}
 use Rattle.refusals.proofs.Verdicts.{test-says, last-at}
-use Rattle.tickets.specs.Table.{rowVerdict}
+use Rattle.tickets.specs.Table.{recordsVerdict}
 use borrow.Author.Needs.{needs}
 use Rattle.tickets.proofs.judge_row.Statement.{statement}
 use Rattle.tickets.proofs.judge_row.Tie as tie
@@ -15,7 +15,7 @@ refused-requires : tie.Need-refused-requires
 refused-requires c κs = search needs
 
 returns : tie.Need-returns
-unfolding rowVerdict
+unfolding recordsVerdict
 returns c = let is = c .before .before .refuse-if .ensures in rw (test-says is (c .before .refused .ensures) (c .if1 .taken)) is
 
 first-bad-record-requires : tie.Need-first-bad-record-requires
@@ -25,7 +25,7 @@ refuse-at-requires : tie.Need-refuse-at-requires
 refuse-at-requires c κs = search needs
 
 returns-2 : tie.Need-returns-2
-unfolding rowVerdict
+unfolding recordsVerdict
 returns-2 c =
     let e = c .before .before in
     let is = e .before .before .refuse-if .ensures in
