@@ -39,7 +39,8 @@ use Rattle.lists.specs.Reading.{planForm, listForm}
 use Rattle.lists.proofs.RoundTrip.{plan-formed, froms-back, tos-back}
 use Rattle.checks.specs.Pricing.{priceChecks, pricingVerdict, priceText, SheetPriced}
 use Rattle.checks.specs.Checking.{formedYes, formedNo, walkYes, walkNo, leastYes, leastNo, firstDifference, walkLine, differenceLines, sameList, leastLine, verdictLines, checkText, checkChecks, checkVerdict, SheetChecked}
-use Rattle.promises.specs.Checks.{Larger, Told, CheckTells, CheckPrinted, PlanChecks, PriceTells}
+use Rattle.promises.proofs.Differs.{first-differs}
+use Rattle.promises.specs.Checks.{Larger, FirstDiffers, Told, CheckTells, CheckPrinted, PlanChecks, PriceTells}
 
 -- Two texts are the same exactly where the test says so.
 text-same : (a b : List ℕ) → isText a b ≡ true → b ≡ a
@@ -182,6 +183,16 @@ module _ (name : List ℕ) (run : Run) (plan froms tos : List ℕ) (even : lengt
       λ e. ap (lineAfter 1) (formed-so w) ∙ walk-so plan expected run froms tos list (same-text expected plan e),
     )
 
+    tells-differs : (n : ℕ) → lineAfter 1 said ≡ bytes "walk=no," ++ decimal n → FirstDiffers plan expected n
+    tells-differs n h =
+        ⊎-elim
+        (λ (e : isText expected plan ≡ true). absurd (not-walk-yes (decimal n) (sym h ∙ ap (lineAfter 1) (formed-so w) ∙ walk-so plan expected run froms tos list e)))
+        (λ (e : isText expected plan ≡ false).
+        let same : decimal n ≡ decimal (firstDifference plan expected .line) = ap (drop 8) (sym h ∙ ap (lineAfter 1) (formed-so w) ∙ walk-not plan expected run froms tos list e) in
+        let is : n ≡ firstDifference plan expected .line = sym (decimal-value n) ∙ ap valueOf same ∙ decimal-value (firstDifference plan expected .line) in
+        subst (λ m. FirstDiffers plan expected m) (sym is) (first-differs plan expected (λ q. true≢false (sym (same-text expected plan q) ∙ e))))
+        (true-or-false (isText expected plan))
+
     tells-least : (lineAfter 2 said ≡ bytes "least=yes") ↔ LeastForRun run (listOf froms tos)
     tells-least = (
       λ h. ⊎-elim (λ (e : sameList froms tos list ≡ true). subst (λ l. LeastForRun run l) (sym (list-same froms tos even list e)) least) (λ (e : sameList froms tos list ≡ false). absurd (not-least-yes _ (sym (least-not plan expected run froms tos list e) ∙ sym (ap (lineAfter 2) (formed-so w)) ∙ h))) (true-or-false (sameList froms tos list)),
@@ -206,6 +217,7 @@ check-tells sheet plan row n row′ c e =
     (record {
       formed = tells-formed (sheetName sheet) (sheetRun sheet) plan (planFroms plan) (planTos plan) (even-plan plan) (v .list) (v .least);
       walk = tells-walk (sheetName sheet) (sheetRun sheet) plan (planFroms plan) (planTos plan) (even-plan plan) (v .list) (v .least);
+      differs = tells-differs (sheetName sheet) (sheetRun sheet) plan (planFroms plan) (planTos plan) (even-plan plan) (v .list) (v .least);
       least = tells-least (sheetName sheet) (sheetRun sheet) plan (planFroms plan) (planTos plan) (even-plan plan) (v .list) (v .least);
       by = tells-by (sheetName sheet) (sheetRun sheet) plan (planFroms plan) (planTos plan) (even-plan plan) (v .list) (v .least);
     })

@@ -20,4 +20,5 @@ pub mod MonthTotals
 pub mod MonthNames
 pub mod MonthInput
 pub mod MonthOrder
+mod Differs
 pub mod Checks

@@ -1,17 +1,18 @@
--- Pricing a list and checking a plan sheet. `check` says `walk=yes` exactly when the sheet handed in is the plan sheet of its list, and `least=yes`
--- exactly when that list is the least one, and else by how much its sum is larger; what `plan` prints for a run checks as both. `price` answers with
--- the plan sheet of the list handed in.
-use Prim.Native.Nat.{ℕ, _+_, _≤_, _<_}
+-- Pricing a list and checking a plan sheet. `check` says `walk=yes` exactly when the sheet handed in is the plan sheet of its list, and else names the
+-- first line that differs; and `least=yes` exactly when that list is the least one, and else by how much its sum is larger; what `plan` prints for a run
+-- checks as both. `price` answers with the plan sheet of the list handed in.
+use Prim.Native.Nat.{ℕ, suc, _+_, _-_, _≤_, _<_}
 use mathlib.Core.Path.{_≡_}
 use mathlib.Core.Logic.{_↔_}
-use mathlib.Core.Bool.{false}
-use mathlib.Core.List.{List, _++_}
+use mathlib.Core.Bool.{false, cond}
+use mathlib.Core.List.{List, [], _∷_, _++_}
 use lib.ListN.{length, take}
+use lib.Dec.{eqb}
 use Rattle.refusals.specs.Refusals.{isRefusal}
 use Rattle.runs.specs.Run.{Run, stopsOf}
 use Rattle.runs.specs.Lists.{Detour, WellFormed, listOf}
 use Rattle.least.specs.Least.{LeastForRun, listSum}
-use Rattle.texts.specs.Text.{bytes, decimal}
+use Rattle.texts.specs.Text.{bytes, decimal, lineFeed}
 use Rattle.lines.specs.Lines.{lineAfter}
 use Rattle.sheets.specs.Sheet.{sheetRun, sheetName}
 use Rattle.writers.specs.PlanSheet.{planText}
@@ -26,10 +27,23 @@ pub record Larger (run : Run) (list : List Detour) (by : ℕ) : Type 0 where
   pub is : LeastForRun run least
   pub sum : listSum (run .turn) (run .head) (stopsOf run) list ≡ listSum (run .turn) (run .head) (stopsOf run) least + by
 
+-- The first so many lines of a text, each with its LF; the whole of it where it has no more.
+unfoldable pub firstLines : List ℕ → ℕ → List ℕ
+firstLines [] n = []
+firstLines (b ∷ text) n = cond (eqb n 0) [] (b ∷ firstLines text (cond (eqb b lineFeed) (n - 1) n))
+
+-- A line, counted from 1, is the first in which two texts differ: those before it are the same in both, byte for byte, and with it they are not.
+pub record FirstDiffers (found expected : List ℕ) (line : ℕ) : Type 0 where
+  pub before : ℕ
+  pub next : line ≡ suc before
+  pub same : firstLines found before ≡ firstLines expected before
+  pub differ : firstLines found line ≡ firstLines expected line → ⊥
+
 -- What the lines of a verdict say of a plan sheet, for a tape name and a run.
 pub record Told (name : List ℕ) (run : Run) (plan froms tos text : List ℕ) : Type 0 where
   pub formed : (lineAfter 0 text ≡ bytes "formed=yes") ↔ WellFormed (stopsOf run) (listOf froms tos)
   pub walk : WellFormed (stopsOf run) (listOf froms tos) → ((lineAfter 1 text ≡ bytes "walk=yes") ↔ (plan ≡ planText name run froms tos))
+  pub differs : WellFormed (stopsOf run) (listOf froms tos) → (n : ℕ) → lineAfter 1 text ≡ bytes "walk=no," ++ decimal n → FirstDiffers plan (planText name run froms tos) n
   pub least : WellFormed (stopsOf run) (listOf froms tos) → ((lineAfter 2 text ≡ bytes "least=yes") ↔ LeastForRun run (listOf froms tos))
   pub by : WellFormed (stopsOf run) (listOf froms tos) → (n : ℕ) → lineAfter 2 text ≡ bytes "least=no," ++ decimal n → Larger run (listOf froms tos) n
 
