@@ -5,6 +5,7 @@ pub mod DeskSteps
 pub mod Desk
 pub mod DeskRefusals
 pub mod DeskWants
+pub mod DeskLines
 pub mod DeskTape
 pub mod DeskCases
 pub mod Gathered

@@ -1,0 +1,34 @@
+-- Request L6: each ticket that boards has its want. Its file stands among the wants of the boarded run, and the line that closes the ticket tells the
+-- time and the leg which the rows hold for that want; that these are the walk's, `BoardedRunHolds` says.
+use Prim.Native.Nat.{ℕ, _<_}
+use mathlib.Core.Path.{_≡_}
+use mathlib.Core.Bool.{false}
+use mathlib.Core.List.{List}
+use lib.ListN.{length, getD}
+use Rattle.refusals.specs.Refusals.{isRefusal}
+use Rattle.runs.specs.Run.{Run}
+use Rattle.planner.specs.Plan.{Rows}
+use Rattle.tickets.specs.declared.Ticket.{Ticket}
+use Rattle.tickets.specs.Table.{noTicket}
+use Rattle.boardings.specs.declared.Boarding.{Boarding}
+use Rattle.boardings.specs.declared.BoardedRow.{BoardedRow}
+use Rattle.boardings.specs.Boarders.{boarders}
+use Rattle.boardings.specs.Boardings.{Tape, boardRun, Boards}
+use Rattle.days.specs.declared.Reads.{Reads}
+use Rattle.days.specs.Answers.{ticketLine, closedLine}
+use Rattle.days.specs.Days.{readsBoarded}
+
+-- Which of a run's wants a ticket's is, counted from 0, and the line that closes the ticket.
+pub record HasItsWant (run : Run) (reads : Reads) (t : Ticket) : Type 0 where
+  pub want : ℕ
+  pub among : want < length (run .numbers)
+  pub file : getD (run .numbers) want 0 ≡ t .file
+  pub line : closedLine reads t ≡ ticketLine t (getD (reads .times) want 0) (getD (reads .legs) want 0)
+
+abbrev pub TicketsHaveWants : Type 0
+TicketsHaveWants =
+    (len : ℕ) (tape : Tape) (row : List Ticket) (b : Boarding) (before after : Rows) (r : BoardedRow) (i : ℕ)
+    → Boards len tape row b before r after
+    → isRefusal (r .boarded .answer .refusal) ≡ false
+    → i < length (boarders row)
+    → HasItsWant (boardRun tape row b) (readsBoarded r after) (getD (boarders row) i noTicket)
