@@ -1,15 +1,14 @@
 -- Each ticket that boards has its want: adding a want puts its file among the numbers, and takes none away.
 use Prim.Native.Nat.{ℕ, zero, suc, _<_}
-use mathlib.Core.Path.{_≡_, refl, sym, ap, _∙_, subst}
+use mathlib.Core.Path.{_≡_, refl, sym, ap, _∙_}
 use mathlib.Core.Bool.{Bool, true, false, cond, true≢false}
 use mathlib.Core.Logic.{⊎-elim}
 use mathlib.Core.List.{List, [], _∷_, _++_}
 use native.Mathlib.Omega.{arith}
-use lib.Dec.{eqb, ltb}
+use lib.Dec.{eqb}
 use lib.ListN.{length, getD}
 use borrow.Author.Tests.{lt-ltb, le-ltb, eq-eqb, ne-eqb, eqb-true}
 use Rattle.refusals.specs.Refusals.{isRefusal}
-use Rattle.runs.specs.Run.{Run}
 use Rattle.runs.proofs.Search.{true-or-false}
 use Rattle.planner.specs.Plan.{Rows}
 use Rattle.tickets.specs.declared.Ticket.{Ticket}
@@ -17,11 +16,10 @@ use Rattle.tickets.specs.Table.{noTicket, recordsVerdict}
 use Rattle.boardings.specs.declared.Boarding.{Boarding}
 use Rattle.boardings.specs.declared.BoardedRow.{BoardedRow}
 use Rattle.boardings.specs.Boarders.{Want, wantOf, addWant, withWants, wantsOf, fileNumbers, boarders}
-use Rattle.boardings.specs.Boardings.{Tape, boardRun, eight, boardedBy, Boards}
+use Rattle.boardings.specs.Boardings.{Tape, eight, Boards}
 use Rattle.boardings.proofs.Adding.{by-order}
 use Rattle.days.specs.Answers.{placeIn}
-use Rattle.days.specs.Days.{readsBoarded}
-use Rattle.promises.specs.DeskLines.{HasItsWant, TicketsHaveWants}
+use Rattle.promises.specs.DeskLines.{TicketsHaveWants}
 
 -- A file stands among some numbers.
 abbrev Among : ℕ → List ℕ → Type 0

@@ -6,6 +6,7 @@ pub mod Desk
 pub mod DeskRefusals
 pub mod DeskWants
 pub mod DeskLines
+pub mod DeskRows
 pub mod DeskTape
 pub mod DeskCases
 pub mod Gathered

@@ -3,6 +3,7 @@ pub mod Desk
 pub mod DeskRefusals
 pub mod DeskWants
 pub mod DeskLines
+pub mod DeskRows
 pub mod DeskCases
 pub mod Mends
 pub mod Months

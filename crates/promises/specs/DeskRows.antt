@@ -1,0 +1,54 @@
+-- Requests L6 and L7 in the form that 01 names: a lent row of records. Calls of desk's three functions on one row, one after the other, are a day on the
+-- table that its first 32 records hold: so every promise over days (Desk) holds of the lent row, and its later records stay as they were.
+use Prim.Native.Nat.{_≤_}
+use mathlib.Core.Path.{_≡_}
+use mathlib.Core.List.{List, [], _∷_}
+use lib.ListN.{length, drop}
+use Rattle.planner.specs.Plan.{Rows}
+use Rattle.tickets.specs.declared.Ticket.{Ticket}
+use Rattle.tickets.specs.declared.Lasts.{Lasts}
+use Rattle.tickets.specs.declared.Filing.{Filing}
+use Rattle.tickets.specs.declared.Filed.{Filed}
+use Rattle.tickets.specs.declared.Withdrawal.{Withdrawal}
+use Rattle.tickets.specs.declared.Withdrawn.{Withdrawn}
+use Rattle.tickets.specs.Filings.{fileRow}
+use Rattle.tickets.specs.Withdrawals.{withdrawRow}
+use Rattle.boardings.specs.declared.Boarding.{Boarding}
+use Rattle.boardings.specs.declared.Boarded.{Boarded}
+use Rattle.boardings.specs.Boardings.{Tape}
+use Rattle.desk.specs.Desk.{tableIn, withTable, BoardsLent}
+use Rattle.promises.specs.Desk.{Kept, IsTable, Call, filing, withdrawal, boarding, Day}
+
+-- A call on a lent row that fits desk's contract: the row and the last numbers go in, the next ones come back. The call that it is: what was handed in,
+-- what came back, and the table in the row afterwards.
+pub data LentFits : List Ticket → Lasts → Call → List Ticket → Lasts → Type 0 where
+  files : {ts exit : List Ticket} {l : Lasts} {f : Filing} {r : Filed}
+      → f .lasts ≡ l
+      → r ≡ fileRow (length ts) (tableIn ts) f .filed
+      → exit ≡ withTable (fileRow (length ts) (tableIn ts) f .row) ts
+      → LentFits ts l (filing (length ts) f (record { filed = r; row = tableIn exit })) exit (r .lasts)
+  withdraws : {ts exit : List Ticket} {l : Lasts} {w : Withdrawal} {r : Withdrawn}
+      → w .lasts ≡ l
+      → r ≡ withdrawRow (length ts) (tableIn ts) w .withdrawn
+      → exit ≡ withTable (withdrawRow (length ts) (tableIn ts) w .row) ts
+      → LentFits ts l (withdrawal (length ts) w (record { withdrawn = r; row = tableIn exit })) exit (r .lasts)
+  boards : {ts exit : List Ticket} {l : Lasts} {tape : Tape} {b : Boarding} {before after : Rows} {r : Boarded}
+      → b .lasts ≡ l
+      → BoardsLent ts tape b before r after exit
+      → LentFits ts l (boarding (length ts) tape b before after (record { boarded = r; row = tableIn exit })) exit (r .lasts)
+
+pub data LentDay : List Ticket → Lasts → List Call → List Ticket → Lasts → Type 0 where
+  over : {ts : List Ticket} {l : Lasts} → LentDay ts l [] ts l
+  then : {ts next last : List Ticket} {l m n : Lasts} {c : Call} {cs : List Call} → LentFits ts l c next m → LentDay next m cs last n → LentDay ts l (c ∷ cs) last n
+
+-- The table in a row, with the last numbers.
+abbrev pub keptIn : List Ticket → Lasts → Kept
+keptIn ts l = record { row = tableIn ts; lasts = l }
+
+abbrev pub DayOnALentRow : Type 0
+DayOnALentRow =
+    (ts last : List Ticket) (l m : Lasts) (cs : List Call)
+    → 32 ≤ length ts
+    → IsTable (keptIn ts l)
+    → LentDay ts l cs last m
+    → Day (keptIn ts l) cs (keptIn last m) × (drop 32 last ≡ drop 32 ts)
