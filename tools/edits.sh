@@ -5,7 +5,7 @@
 #
 # An edit costs a check of its whole crate, so the gate tries what a reader needs (crates/NAME/must-fail) and this the rest: once before an edit
 # moves here, and whenever its crate has changed. It works on a copy, in which what was proved here need not be proved again (rt check).
-# What rt says of each edit stands on standard output; the logs are kept in the folder that is named at the end, if anything is not as it must be.
+# What rt says of each edit stands on standard output, the logs in target/must-fail/NAME/EDIT/.log, as of the gate's own edits.
 set -eu
 here=$(cd "$(dirname "$0")/.." && pwd)
 
@@ -28,11 +28,15 @@ else
 fi
 
 work=$(mktemp -d)
+trap 'rm -rf "$work"' EXIT
 cp -R "$here/crates" "$here/crates.txt" "$work"
 [ ! -d "$here/target" ] || cp -R "$here/target" "$work/target"
 rm -f "$work"/crates/*/must-fail/*.edit
 for name in $names; do mv "$work/crates/$name"/must-fail/more/*.edit "$work/crates/$name/must-fail"; done
 
+status=0
 # shellcheck disable=SC2086  # names of crates
-(cd "$work" && rt must-fail $names) || fail "not as it must be; the copy is kept: $work"
-rm -rf "$work"
+(cd "$work" && rt must-fail $names) || status=$?
+mkdir -p "$here/target/must-fail"
+cp -R "$work/target/must-fail/." "$here/target/must-fail"
+exit "$status"
