@@ -1,15 +1,18 @@
--- `cmd_month::read_line` stays within its row.
+-- `inputs::read_line` stays within its row.
 -- Assumes nothing.
 use Prim.Native.Nat.{_≤_, _-_}
+use mathlib.Core.Path.{_≡_}
+use native.Mathlib.Omega.{arith}
+use lib.ListN.{length, length-set}
 use borrow.Author.Needs.{needs}
-use Rattle.cmd_month.proofs.read_line.Statement.{statement}
-use Rattle.cmd_month.proofs.read_line.Tie as tie
+use Rattle.inputs.proofs.read_line.Statement.{statement}
+use Rattle.inputs.proofs.read_line.Tie as tie
 
 abbrev Inv-loop : tie.InvT-loop
-Inv-loop line₀ n₀ line n = n ≤ 21
+Inv-loop line₀ n₀ line n = (n ≤ length line) × (length line ≡ length line₀)
 
 abbrev μ-loop : tie.MeasureT-loop
-μ-loop line₀ n₀ line n = 21 - n
+μ-loop line₀ n₀ line n = length line - n
 
 loop-holds : tie.Need-loop-holds Inv-loop μ-loop
 loop-holds c = search needs
@@ -23,23 +26,32 @@ enum-known-byte c = search needs
 enum-told : tie.Need-enum-told Inv-loop μ-loop
 enum-told c = search needs
 
+same-length : tie.Need-same-length Inv-loop μ-loop
+same-length c = search needs
+
 returns : tie.Need-returns Inv-loop μ-loop
 returns c = search needs
 
-element-write-line : tie.Need-element-write-line Inv-loop μ-loop
-element-write-line c = search needs
+slice-write-line : tie.Need-slice-write-line Inv-loop μ-loop
+slice-write-line c = search needs
 
 add-n : tie.Need-add-n Inv-loop μ-loop
 add-n c = search needs
+
+same-length-2 : tie.Need-same-length-2 Inv-loop μ-loop
+same-length-2 c = search needs
 
 returns-2 : tie.Need-returns-2 Inv-loop μ-loop
 returns-2 c = search needs
 
 loop-less : tie.Need-loop-less Inv-loop μ-loop
-loop-less c = search needs
+loop-less c = simp length-set (omega arith)
 
 loop-again : tie.Need-loop-again Inv-loop μ-loop
-loop-again c = search needs
+loop-again c = (simp length-set (omega arith), simp length-set (omega arith))
+
+same-length-3 : tie.Need-same-length-3 Inv-loop μ-loop
+same-length-3 c = search needs
 
 returns-3 : tie.Need-returns-3 Inv-loop μ-loop
 returns-3 c = search needs
@@ -54,10 +66,13 @@ read-line-spec =
     next-byte-requires
     enum-known-byte
     enum-told
+    same-length
     returns
-    element-write-line
+    slice-write-line
     add-n
+    same-length-2
     returns-2
     loop-less
     loop-again
+    same-length-3
     returns-3)

@@ -1,9 +1,9 @@
--- `cmd_desk::pass_over` ends: what is left falls with each read.
+-- `inputs::pass_over` ends: what is left falls with each read.
 -- Assumes nothing.
 use Prim.Native.Nat.{_≤_}
 use borrow.Author.Needs.{needs}
-use Rattle.cmd_desk.proofs.pass_over.Statement.{statement}
-use Rattle.cmd_desk.proofs.pass_over.Tie as tie
+use Rattle.inputs.proofs.pass_over.Statement.{statement}
+use Rattle.inputs.proofs.pass_over.Tie as tie
 
 abbrev Inv-loop : tie.InvT-loop
 Inv-loop bytes left₀ left = left ≤ bytes

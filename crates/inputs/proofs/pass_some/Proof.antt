@@ -1,10 +1,10 @@
--- `cmd_month::pass_some` reads into the front of its row.
+-- `inputs::pass_some` reads into the front of its row.
 -- Assumes nothing.
 use mathlib.Core.Path.{sym}
 use lib.Seq.{length-take-le}
 use borrow.Author.Needs.{needs}
-use Rattle.cmd_month.proofs.pass_some.Statement.{statement}
-use Rattle.cmd_month.proofs.pass_some.Tie as tie
+use Rattle.inputs.proofs.pass_some.Statement.{statement}
+use Rattle.inputs.proofs.pass_some.Tie as tie
 
 large-buffer-requires : tie.Need-large-buffer-requires
 large-buffer-requires c κs = search needs

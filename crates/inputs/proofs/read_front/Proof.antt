@@ -1,10 +1,10 @@
--- `cmd_desk::read_kept` reads into the front of its row.
+-- `inputs::read_front` reads into the front of its row.
 -- Assumes nothing.
 use mathlib.Core.Path.{sym}
 use lib.Seq.{length-take-le}
 use borrow.Author.Needs.{needs}
-use Rattle.cmd_desk.proofs.read_kept.Statement.{statement}
-use Rattle.cmd_desk.proofs.read_kept.Tie as tie
+use Rattle.inputs.proofs.read_front.Statement.{statement}
+use Rattle.inputs.proofs.read_front.Tie as tie
 
 slice-relend-prefix-read-full : tie.Need-slice-relend-prefix-read-full
 slice-relend-prefix-read-full c = search needs
@@ -24,8 +24,8 @@ returns c = search needs
 returns-2 : tie.Need-returns-2
 returns-2 c = search needs
 
-pub read-kept-spec : {M : Type 1} → statement M
-read-kept-spec =
+pub read-front-spec : {M : Type 1} → statement M
+read-front-spec =
     tie.close
     (tie.spec
     slice-relend-prefix-read-full

@@ -1,0 +1,2 @@
+-- The laws of an input of two texts.
+pub mod Parts

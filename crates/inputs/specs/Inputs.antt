@@ -1,0 +1,32 @@
+-- An input of two texts: a line with the number of the first one's bytes, so many bytes, and the other text to the end.
+use Prim.Native.Nat.{ℕ, _+_, _-_, _≤_}
+use mathlib.Core.Bool.{Bool, cond, _&&_}
+use mathlib.Core.List.{List}
+use lib.ListN.{length, take, drop}
+use lib.Dec.{leb}
+use Rattle.texts.specs.Text.{lineFeed, behind, isNumber, valueOf}
+use Rattle.lines.specs.Lines.{lineOf}
+use Rattle.inputs.specs.declared.Framed.{Framed}
+use Rattle.inputs.specs.declared.Framed.the-variants.{Sheet, Bad}
+use Rattle.inputs.specs.declared.Got.{Got}
+
+-- A text of so many bytes from a place on, where so many are left. Of an input that was cut off it is what is left.
+abbrev pub framedBehind : ℕ → ℕ → ℕ → Bool → Framed
+framedBehind from bytes left cut = cond (leb bytes left) (Sheet from (from + bytes)) (cond cut (Sheet from (from + left)) Bad)
+
+-- Where the first text begins and where it ends.
+unfoldable pub framed : List ℕ → Bool → Framed
+framed input cut =
+    cond (isNumber (lineOf input))
+    (framedBehind (length input - length (behind lineFeed input)) (valueOf (lineOf input)) (length (behind lineFeed input)) cut)
+    Bad
+
+-- The bytes from one place to another; the whole text where these are no places in it.
+abbrev pub partIn : List ℕ → ℕ → ℕ → List ℕ
+partIn text from to = cond (leb from to && leb to (length text)) (take (to - from) (drop from text)) text
+
+-- What was read of so many bytes: no more is kept than the row holds, and no more was there than was asked for.
+pub record ReadOf (room bytes : ℕ) (got : Got) : Type 0 where
+  pub held : got .kept ≤ room
+  pub part : got .kept ≤ got .all
+  pub most : got .all ≤ bytes
