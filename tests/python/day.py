@@ -61,16 +61,10 @@ class Desk:
             counts[file] = counts.get(file, 0) + count
         asked = sorted(counts.items())
         runs.judge(head, turn, self.table, asked)
-        files = [first for first, _ in runs.stops(self.table, asked)]
-
-        def total(detours):
-            times = runs.walk(head, turn, self.table, asked, detours)[0]
-            return sum(count * times[number] for number, count in asked)
-
-        best = min(runs.lists(files), key=lambda d: (total(d), runs.order(files, d)))
+        best = runs.least(head, turn, self.table, asked)
         times, legs, clock, place = runs.walk(head, turn, self.table, asked, best)
         self.waiting = {office: self.waiting[office][taken[office]:] for office in (1, 2)}
-        return (f"boarded={taken[1]},{taken[2]}\nsum={total(best)}\nfinish={clock}\nend={place}\ndetours={len(best)}\n"
+        return (f"boarded={taken[1]},{taken[2]}\nsum={runs.total(head, turn, self.table, asked, best)}\nfinish={clock}\nend={place}\ndetours={len(best)}\n"
                 + "".join(f"detour={a},{b}\n" for a, b in best)
                 + "".join(f"ticket={office},{number},{file},{count},{times[file]},{legs[file]}\n" for office, number, file, count in tickets))
 

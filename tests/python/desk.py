@@ -8,8 +8,6 @@ usage: tests/python/desk.py            compares
 The program draws a day of 1,500 filings, withdrawals and boardings of two offices; the same day is drawn here. Each office's tickets are a list of its own, a
 plan is the best of all lists, and the judging and the walk are those of runs.py; they share nothing with the crates.
 """
-import argparse
-import os
 import re
 import sys
 
@@ -99,13 +97,9 @@ def plan(head, turn, asked, rows, room):
     if room < len(files) ** 2 * (sum(count for _, count in asked) + 1):
         raise Refused(9)
 
-    def total(detours):
-        times = runs.walk(head, turn, TAPE, asked, detours)[0]
-        return sum(count * times[number] for number, count in asked)
-
-    best = min(runs.lists(files), key=lambda d: (total(d), runs.order(files, d)))
+    best = runs.least(head, turn, TAPE, asked)
     times, legs, clock, place = runs.walk(head, turn, TAPE, asked, best)
-    return (total(best), clock, place, len(best)), best, [times[n] for n, _ in asked], [legs[n] for n, _ in asked], len(files) ** 2 * (sum(c for _, c in asked) + 1)
+    return (runs.total(head, turn, TAPE, asked, best), clock, place, len(best)), best, [times[n] for n, _ in asked], [legs[n] for n, _ in asked], len(files) ** 2 * (sum(c for _, c in asked) + 1)
 
 
 def board(places, records, lasts, head, turn, rows, room):
@@ -218,22 +212,8 @@ def lines(day, events=EVENTS):
 
 
 def main():
-    reader = argparse.ArgumentParser(description=__doc__.split("\n")[0])
-    reader.add_argument("--print", action="store_true", help="print the text, and compare nothing")
-    words = reader.parse_args()
     day = Day()
-    text = "\n".join(lines(day)) + "\n"
-    if words.print:
-        sys.stdout.write(text)
-        return
-    path = os.path.join(programs.ROOT, "crates/check_desk/stdout")
-    with open(path, encoding="utf-8") as handle:
-        held = handle.read()
-    for must, stands in zip(text.split("\n"), held.split("\n")):
-        if must != stands:
-            sys.exit(f"desk.py: {path} has the line {stands!r} where it must have {must!r}")
-    if held != text:
-        sys.exit(f"desk.py: {path} has not as many lines as it must have")
+    programs.recorded(__doc__, "check_desk", "\n".join(lines(day)) + "\n")
     kinds = [f"filing {n}" for n in (0, 8, 15, 16, 18, 26)] + [f"withdrawal {n}" for n in (0, 8, 17, 26)] + [f"boarding {n}" for n in (4, 6, 7, 8, 9, 26)] + [f"boarded {n}" for n in ("4 and 4", "5 and 3", "3 and 5")]
     few = [kind for kind in kinds if day.met.get(kind, 0) < 2]
     if few:

@@ -8,8 +8,6 @@ usage: tests/python/figures.py            compares
 The program draws 3,000 runs and lists and writes the figure sheet of each; the same are drawn here. The judging and the walk are those of
 runs.py; they share nothing with the crates.
 """
-import argparse
-import os
 import sys
 
 import programs
@@ -21,11 +19,8 @@ PRIME = 2**31 - 1
 
 def figures(head, turn, table, asked, detours):
     """The sum of a list, and for each entry the sum without it less that sum."""
-    def total(entries):
-        times = runs.walk(head, turn, table, asked, entries)[0]
-        return sum(count * times[number] for number, count in asked)
-    whole = total(detours)
-    return whole, [total(detours[:i] + detours[i + 1:]) - whole for i in range(len(detours))]
+    whole = runs.total(head, turn, table, asked, detours)
+    return whole, [runs.total(head, turn, table, asked, detours[:i] + detours[i + 1:]) - whole for i in range(len(detours))]
 
 
 def sheet(name, head, turn, table, asked, detours):
@@ -95,22 +90,8 @@ def lines(met):
 
 
 def main():
-    reader = argparse.ArgumentParser(description=__doc__.split("\n")[0])
-    reader.add_argument("--print", action="store_true", help="print the text, and compare nothing")
-    words = reader.parse_args()
     met = Met()
-    text = "\n".join(lines(met)) + "\n"
-    if words.print:
-        sys.stdout.write(text)
-        return
-    path = os.path.join(programs.ROOT, "crates/check_figures/stdout")
-    with open(path) as handle:
-        held = handle.read()
-    for must, stands in zip(text.split("\n"), held.split("\n")):
-        if must != stands:
-            sys.exit(f"figures.py: {path} has the line {stands!r} where it must have {must!r}")
-    if held != text:
-        sys.exit(f"figures.py: {path} has not as many lines as it must have")
+    programs.recorded(__doc__, "check_figures", "\n".join(lines(met)) + "\n")
     if min(met.refused, met.below, met.zero, met.above) < 5:
         sys.exit(f"figures.py: too few of a kind: {vars(met)}")
     print(f"figures.py: 3000 lists as they must be, {met.refused} of them refused; figures below zero {met.below}, zero {met.zero}, above {met.above}")

@@ -18,9 +18,8 @@ import tempfile
 import time
 
 import programs
-from plan import aggregate_example, contents, drawn, full_sheet, sheet_of
-from runs import Refused, judge, lists, order, stops, walk
-from sheets import read
+from plan import accepted, aggregate_example, contents, drawn, full_sheet, sheet_of
+from runs import Refused, least, total, walk
 
 KNOWN = {}
 
@@ -34,25 +33,17 @@ def outcome(sheet):
 
 def worked_out(sheet):
     try:
-        name, head, turn, table, asked = read(sheet)
-        judge(head, turn, table, asked)
-        reads = sum(count for _, count in asked)
-        files = [first for first, _ in stops(table, asked)]
-        if len(files) ** 2 * (reads + 1) > 5120:
-            raise Refused(9)
+        name, head, turn, table, asked = accepted(sheet)
     except Refused as refusal:
         return int(re.match(rb"refused=(\d+)", refusal.args[0]).group(1))
-
-    def total(detours):
-        times = walk(head, turn, table, asked, detours)[0]
-        return sum(count * times[number] for number, count in asked)
-    best = min(lists(files), key=lambda d: (total(d), order(files, d)))
+    best = least(head, turn, table, asked)
     times = walk(head, turn, table, asked, best)[0]
     longest = (0, b"", 0)
     for number, _ in asked:
         if times[number] > longest[0]:
             longest = times[number], name, number
-    return reads, total(best), total([]) - total(best), longest
+    planned, swept = (total(head, turn, table, asked, detours) for detours in (best, []))
+    return sum(count for _, count in asked), planned, swept - planned, longest
 
 
 def divided(text):

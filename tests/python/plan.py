@@ -14,32 +14,32 @@ import subprocess
 import sys
 
 import programs
-from runs import Refused, judge, lists, order, stops, walk
+from runs import Refused, judge, least, stops, total, walk
 from sheets import read
+
+
+def accepted(sheet):
+    """Name, head, turn price, table and wants of a sheet that can be planned in 5,120 words."""
+    name, head, turn, table, asked = read(sheet)
+    judge(head, turn, table, asked)
+    if len(stops(table, asked)) ** 2 * (sum(count for _, count in asked) + 1) > 5120:
+        raise Refused(9)
+    return name, head, turn, table, asked
 
 
 def answer(sheet):
     try:
-        name, head, turn, table, asked = read(sheet)
-        judge(head, turn, table, asked)
-        reads = sum(count for _, count in asked)
-        files = [first for first, _ in stops(table, asked)]
-        if len(files) ** 2 * (reads + 1) > 5120:
-            raise Refused(9)
+        name, head, turn, table, asked = accepted(sheet)
     except Refused as refusal:
         return refusal.args[0]
-    return None if len(files) > 10 else sheet_of_plan(name, head, turn, table, asked)
+    return None if len(stops(table, asked)) > 10 else sheet_of_plan(name, head, turn, table, asked)
 
 
 def sheet_of_plan(name, head, turn, table, asked):
     """The plan sheet of a run that is accepted, by a search over all lists."""
-    files = [first for first, _ in stops(table, asked)]
-    def total(detours):
-        times = walk(head, turn, table, asked, detours)[0]
-        return sum(count * times[number] for number, count in asked)
-    best = min(lists(files), key=lambda d: (total(d), order(files, d)))
+    best = least(head, turn, table, asked)
     times, legs, clock, place = walk(head, turn, table, asked, best)
-    lines = [b"tape=" + name, b"sum=%d" % total(best), b"reads=%d" % sum(count for _, count in asked), b"finish=%d" % clock, b"end=%d" % place,
+    lines = [b"tape=" + name, b"sum=%d" % total(head, turn, table, asked, best), b"reads=%d" % sum(count for _, count in asked), b"finish=%d" % clock, b"end=%d" % place,
              b"detours=%d" % len(best)]
     lines += [b"detour=%d,%d" % d for d in best] + [b"time=%d,%d,%d" % (n, times[n], legs[n]) for n, _ in asked]
     return b"\n".join(lines) + b"\n"

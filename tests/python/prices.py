@@ -7,9 +7,6 @@ usage: tests/python/prices.py            compares
 
 The judging and the walk are those of runs.py; they share nothing with the crates.
 """
-import argparse
-import os
-import sys
 
 import programs
 import runs
@@ -89,18 +86,8 @@ def aggregate_runs():
 
 
 def main():
-    reader = argparse.ArgumentParser(description="Compares what check_prices must print with what document 01 gives.")
-    reader.add_argument("--print", action="store_true", help="print the text instead")
-    words = reader.parse_args()
     must = "".join(text + "\n" for group in (small_runs(), sheet_runs(), limits(), aggregate_runs()) for text in group)
-    if words.print:
-        sys.stdout.write(must)
-        return
-    path = os.path.join(programs.ROOT, "crates/check_prices/stdout")
-    with open(path, encoding="ascii") as handle:
-        held = handle.read()
-    if held != must:
-        sys.exit("prices.py: crates/check_prices/stdout is not what document 01 gives; 'tests/python/prices.py --print' shows that")
+    programs.recorded(__doc__, "check_prices", must)
     print(f"prices.py: the {must.count(chr(10))} lines that check_prices must print are as worked out here")
 
 

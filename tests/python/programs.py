@@ -59,3 +59,20 @@ def tried(about, crate, compare, sheets):
     say_if_emulated(start)
     for name, sheet in sheets:
         print(f"{name} ({len(sheet)} bytes): {timed(start, sheet)}")
+
+
+def recorded(about, crate, text):
+    """Compares a text with the one that the gate holds a program to, crates/CRATE/stdout; or with --print prints it, and does no more."""
+    reader = argparse.ArgumentParser(description=about.split("\n")[0])
+    reader.add_argument("--print", action="store_true", help="print the text, and compare nothing")
+    if reader.parse_args().print:
+        sys.stdout.write(text)
+        sys.exit()
+    path = os.path.join(ROOT, "crates", crate, "stdout")
+    with open(path, encoding="utf-8") as handle:
+        held = handle.read()
+    for i, (must, stands) in enumerate(zip(text.split("\n"), held.split("\n")), 1):
+        if must != stands:
+            sys.exit(f"{sys.argv[0]}: line {i} of {path} is {stands!r} and must be {must!r}")
+    if held != text:
+        sys.exit(f"{sys.argv[0]}: {path} has not as many lines as it must have")

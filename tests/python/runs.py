@@ -87,3 +87,15 @@ def lists(files):
 def order(files, detours):
     starts = {b: a for a, b in detours}
     return [(f in starts, -starts.get(f, 0)) for f in reversed(files)]
+
+
+def total(head, turn, table, asked, detours):
+    """What all reads wait by a list, added up."""
+    times = walk(head, turn, table, asked, detours)[0]
+    return sum(count * times[number] for number, count in asked)
+
+
+def least(head, turn, table, asked):
+    """The least rule's list, by a search over all."""
+    files = [first for first, _ in stops(table, asked)]
+    return min(lists(files), key=lambda d: (total(head, turn, table, asked, d), order(files, d)))
