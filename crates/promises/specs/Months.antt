@@ -108,6 +108,15 @@ NoReadsNoName =
     → addedAll emptyMonth runs .reads ≡ 0
     → NoneRead runs (addedAll emptyMonth runs)
 
+-- With reads a run is named: each read takes its time, so some time is above 0.
+abbrev pub ReadsNameARun : Type 0
+ReadsNameARun =
+    (sheets : List (List ℕ)) (runs : List Outcome)
+    → length sheets ≤ 1000
+    → Outcomes sheets runs
+    → 0 < addedAll emptyMonth runs .reads
+    → FirstLongest runs (addedAll emptyMonth runs)
+
 -- The mean: the sum is so many times the reads and a remainder below them; 0 and 0 where nothing is read.
 pub record MeanIs (sum reads : ℕ) (mean : Mean) : Type 0 where
   pub none : reads ≡ 0 → (mean .whole ≡ 0) × (mean .rest ≡ 0)
