@@ -1,9 +1,9 @@
 -- A month without reads names no tape: a run without reads has no wants, so no time. One with reads does: what is read takes time.
-use Prim.Native.Nat.{ℕ, zero, suc, _+_, _≤_, _<_}
+use Prim.Native.Nat.{ℕ, _≤_, _<_}
 use mathlib.Core.Path.{_≡_, refl, sym, ap, _∙_, subst}
 use mathlib.Core.Bool.{Bool, true, false, cond, true≢false}
 use mathlib.Core.Logic.{_⊎_, inl, inr, by-cases, ⊎-elim}
-use mathlib.Core.List.{List, [], _∷_, _++_}
+use mathlib.Core.List.{List, [], _∷_}
 use native.Mathlib.Omega.{arith}
 use native.Mathlib.Decide.{decLt}
 use lib.ListN.{length, getD, length-map}
@@ -32,7 +32,6 @@ use Rattle.recalls.specs.Recall.{runChecks, verdictBy, recallVerdict}
 use Rattle.outcomes.specs.declared.Outcome.{Outcome}
 use Rattle.outcomes.specs.declared.Longest.{Longest}
 use Rattle.outcomes.specs.Outcomes.{longer, longestFrom, longestOf, refusedOutcome, plannedOutcome, OutcomeOf}
-use Rattle.months.specs.declared.Month.{Month}
 use Rattle.months.specs.Month.{emptyMonth, addedAll}
 use Rattle.promises.specs.Months.{Every, Outcomes, ofAccepted, inAll, longestTime, NoneRead, FirstLongest, NoReadsNoName, ReadsNameARun}
 use Rattle.promises.proofs.MonthTotals.{every-at, month-counts}
