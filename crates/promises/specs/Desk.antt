@@ -153,7 +153,7 @@ NoneGivenTwice =
     → (i j : ℕ) → i < j → j < length (given office cs) → getD (given office cs) i 0 < getD (given office cs) j 0
 
 -- Order of filing is kept: an office's tickets are those that waited and joined, in order, less the withdrawn and those boarded from the front. What the
--- other office does stands nowhere in it.
+-- other office files and withdraws stands nowhere in it; how many board, each boarding's answer says.
 abbrev pub InOrder : Type 0
 InOrder =
     (office : ℕ) (k last : Kept) (cs : List Call)
