@@ -1,7 +1,7 @@
 -- Each ticket that boards has its want: adding a want puts its file among the numbers, and takes none away.
 use Prim.Native.Nat.{ℕ, zero, suc, _<_}
 use mathlib.Core.Path.{_≡_, refl, sym, ap, _∙_}
-use mathlib.Core.Bool.{Bool, true, false, cond, true≢false}
+use mathlib.Core.Bool.{Bool, true, false, cond}
 use mathlib.Core.Logic.{⊎-elim}
 use mathlib.Core.List.{List, [], _∷_, _++_}
 use native.Mathlib.Omega.{arith}
@@ -12,13 +12,14 @@ use Rattle.refusals.specs.Refusals.{isRefusal}
 use Rattle.runs.proofs.Search.{true-or-false}
 use Rattle.planner.specs.Plan.{Rows}
 use Rattle.tickets.specs.declared.Ticket.{Ticket}
-use Rattle.tickets.specs.Table.{noTicket, recordsVerdict}
+use Rattle.tickets.specs.Table.{noTicket}
 use Rattle.boardings.specs.declared.Boarding.{Boarding}
 use Rattle.boardings.specs.declared.BoardedRow.{BoardedRow}
 use Rattle.boardings.specs.Boarders.{Want, wantOf, addWant, withWants, wantsOf, fileNumbers, boarders}
 use Rattle.boardings.specs.Boardings.{Tape, eight, Boards}
 use Rattle.boardings.proofs.Adding.{by-order}
 use Rattle.days.specs.Answers.{placeIn}
+use Rattle.promises.proofs.DeskSteps.{board-accepted}
 use Rattle.promises.specs.DeskLines.{TicketsHaveWants}
 
 -- A file stands among some numbers.
@@ -97,15 +98,8 @@ not-moved f (n ∷ ns) ms h =
 
 -- The numbers that an accepted boarding tells: those of the wants, and zeros.
 module _ (len : ℕ) (tape : Tape) (row : List Ticket) (b : Boarding) (before after : Rows) (r : BoardedRow) (boards : Boards len tape row b before r after) (e : isRefusal (r .boarded .answer .refusal) ≡ false) where
-  row-accepted : isRefusal (recordsVerdict len row (b .lasts) .refusal) ≡ false
-  row-accepted =
-      ⊎-elim
-      (λ (t : isRefusal (recordsVerdict len row (b .lasts) .refusal) ≡ true). absurd (true≢false (sym t ∙ sym (ap (λ (x : BoardedRow). isRefusal (x .boarded .answer .refusal)) (boards .refused t .says)) ∙ e)))
-      (λ (t : isRefusal (recordsVerdict len row (b .lasts) .refusal) ≡ false). t)
-      (true-or-false (isRefusal (recordsVerdict len row (b .lasts) .refusal)))
-
   numbers-told : r .boarded .wants .numbers ≡ eight (fileNumbers (wantsOf row))
-  numbers-told = ap (λ (x : BoardedRow). x .boarded .wants .numbers) (boards .planned row-accepted .says) ∙ rw e
+  numbers-told = ap (λ (x : BoardedRow). x .boarded .wants .numbers) (boards .planned (board-accepted len tape row b before after r boards e) .says) ∙ rw e
 
 pub tickets-have-wants : TicketsHaveWants
 unfolding wantsOf

@@ -1,23 +1,34 @@
 -- A day on a lent row is a day on the table in it: what a call leaves has 32 records, so the next call finds just that table.
-use Prim.Native.Nat.{_+_, _-_, _≤_}
+use Prim.Native.Nat.{ℕ, _+_, _-_, _≤_}
 use mathlib.Core.Path.{_≡_, refl, sym, ap, _∙_, subst}
 use mathlib.Core.List.{List, [], _∷_}
 use native.Mathlib.Omega.{arith}
-use lib.ListN.{length, drop, replicate, length-append, length-replicate}
+use mathlib.Core.Bool.{false}
+use mathlib.Core.Logic.{⊎-elim}
+use lib.ListN.{length, take, drop, replicate, length-append, length-replicate}
+use lib.Seq.{length-take-le}
 use Rattle.tickets.specs.declared.Ticket.{Ticket}
 use Rattle.tickets.specs.declared.Lasts.{Lasts}
 use Rattle.tickets.specs.declared.Filed.{Filed}
 use Rattle.tickets.specs.declared.FiledRow.{FiledRow}
 use Rattle.tickets.specs.declared.Withdrawn.{Withdrawn}
 use Rattle.tickets.specs.declared.WithdrawnRow.{WithdrawnRow}
-use Rattle.tickets.specs.Table.{noTicket, places, placed, waiting}
-use Rattle.tickets.specs.Filings.{fileRow}
-use Rattle.tickets.specs.Withdrawals.{withdrawRow}
+use Rattle.refusals.specs.Refusals.{isRefusal}
+use Rattle.refusals.proofs.Verdicts.{refuses}
+use Rattle.runs.proofs.Search.{true-or-false}
+use Rattle.tickets.specs.Table.{Sound, noTicket, places, placed, waiting, recordsVerdict}
+use Rattle.tickets.specs.Filings.{fileVerdict, fileRow}
+use Rattle.tickets.specs.Withdrawals.{withdrawVerdict, withdrawRow}
+use Rattle.tickets.proofs.Storing.{accepted-sound, file-accepted}
+use Rattle.tickets.proofs.Leaving.{withdraw-accepted}
+use Rattle.tickets.proofs.Kept.{not-filed-so, not-withdrawn-so}
+use Rattle.boardings.specs.declared.BoardedRow.{BoardedRow}
 use Rattle.boardings.specs.Boardings.{Boards}
 use Rattle.desk.specs.Desk.{tableIn, withTable, boardedRow}
 use Rattle.desk.proofs.Kept.{row-keeps-its-length, later-records-kept, table-comes-back}
 use Rattle.promises.specs.Desk.{Kept, IsTable, Call, Fits, Day}
 use Rattle.promises.specs.DeskRows.{LentFits, LentDay, keptIn, DayOnALentRow}
+use Rattle.promises.proofs.DeskSteps.{board-accepted, refused-is}
 use Rattle.promises.proofs.Desk.{table-stays}
 
 placed-length : (ts : List Ticket) → length ts ≤ places → length (placed ts) ≡ places
@@ -30,9 +41,41 @@ table-whole k s =
     let twos = waiting 2 (k .row) in
     ap length (s .is) ∙ length-append (placed ones) (placed twos) ∙ omega (arith, placed-length ones (s .one .few), placed-length twos (s .two .few))
 
+-- The table in a row of 32 records or more has 32.
+row-whole : (ts : List Ticket) → 32 ≤ length ts → length (tableIn ts) ≡ 32
+unfolding tableIn
+row-whole ts long =
+    length-append (take 32 ts) (replicate (32 - length ts) noTicket)
+    ∙ omega (arith, length-take-le 32 ts long, length-replicate (32 - length ts) noTicket)
+
 -- A call from a sound table leaves a sound table.
 call-stays : (k next : Kept) (c : Call) → IsTable k → Fits k c next → IsTable next
 call-stays k next c s f = table-stays k next (c ∷ []) s (Day.then f Day.over)
+
+-- Whatever a table of 32 records holds, a call leaves 32: a refused one the same, and an accepted one has found a sound table.
+module _ (k : Kept) (all : length (k .row) ≡ 32) where
+  found-sound : (len : ℕ) (l : Lasts) → l ≡ k .lasts → refuses (recordsVerdict len (k .row) l) ≡ false → IsTable k
+  found-sound len l is e = subst (λ (m : Lasts). Sound m (waiting 1 (k .row)) (waiting 2 (k .row)) (k .row)) is (accepted-sound len (k .row) l all e)
+
+  whole-after : {next : Kept} {c : Call} → Fits k c next → length (next .row) ≡ 32
+  whole-after fits = by-answer fits fits
+    where
+      by-answer : {next : Kept} {c : Call} → Fits k c next → Fits k c next → length (next .row) ≡ 32
+      by-answer {next} (Fits.files {len = len} {f = f} {r = r} last is) fits =
+          ⊎-elim
+          (λ t. ap (λ (x : FiledRow). length (x .row)) (is ∙ not-filed-so len (k .row) f t) ∙ all)
+          (λ p. table-whole next (call-stays k next _ (found-sound len (f .lasts) last (file-accepted len (k .row) f p .table)) fits))
+          (true-or-false (refuses (fileVerdict len (k .row) f)))
+      by-answer {next} (Fits.withdraws {len = len} {w = w} {r = r} last is) fits =
+          ⊎-elim
+          (λ t. ap (λ (x : WithdrawnRow). length (x .row)) (is ∙ not-withdrawn-so len (k .row) w t) ∙ all)
+          (λ p. table-whole next (call-stays k next _ (found-sound len (w .lasts) last (withdraw-accepted len (k .row) w p .table)) fits))
+          (true-or-false (refuses (withdrawVerdict len (k .row) w)))
+      by-answer {next} (Fits.boards {len = len} {tape = tape} {b = b} {before = before} {after = after} {r = r} last boards) fits =
+          ⊎-elim
+          (λ t. ap (λ (x : BoardedRow). length (x .row)) (refused-is len tape (k .row) b before after r boards t) ∙ all)
+          (λ p. table-whole next (call-stays k next _ (found-sound len (b .lasts) last (board-accepted len tape (k .row) b before after r boards p)) fits))
+          (true-or-false (isRefusal (r .boarded .answer .refusal)))
 
 -- What a call on the row is, once the table that it leaves has 32 records.
 filed-as : (d : FiledRow) (r : Filed) (row : List Ticket) → r ≡ d .filed → row ≡ d .row → _≡_ {A = FiledRow} (record { filed = r; row = row }) d
@@ -60,30 +103,30 @@ record OneCall (ts : List Ticket) (l : Lasts) (c : Call) (next : List Ticket) (m
   long : length next ≡ length ts
   later : drop 32 next ≡ drop 32 ts
 
-one-call : {ts next : List Ticket} {l m : Lasts} {c : Call} → 32 ≤ length ts → IsTable (keptIn ts l) → LentFits ts l c next m → OneCall ts l c next m
-one-call {ts} {next} {l} long table (LentFits.files {f = f} {r = r} last says writes) =
+one-call : {ts next : List Ticket} {l m : Lasts} {c : Call} → 32 ≤ length ts → LentFits ts l c next m → OneCall ts l c next m
+one-call {ts} {next} {l} long (LentFits.files {f = f} {r = r} last says writes) =
     let d = fileRow (length ts) (tableIn ts) f in
-    let b = back ts next (d .row) long (table-whole _ (call-stays (keptIn ts l) _ _ table (Fits.files last refl))) writes in
+    let b = back ts next (d .row) long (whole-after (keptIn ts l) (row-whole ts long) (Fits.files last refl)) writes in
     record { fits = Fits.files last (filed-as d r (tableIn next) says (b .found)); long = b .long; later = b .later }
-one-call {ts} {next} {l} long table (LentFits.withdraws {w = w} {r = r} last says writes) =
+one-call {ts} {next} {l} long (LentFits.withdraws {w = w} {r = r} last says writes) =
     let d = withdrawRow (length ts) (tableIn ts) w in
-    let b = back ts next (d .row) long (table-whole _ (call-stays (keptIn ts l) _ _ table (Fits.withdraws last refl))) writes in
+    let b = back ts next (d .row) long (whole-after (keptIn ts l) (row-whole ts long) (Fits.withdraws last refl)) writes in
     record { fits = Fits.withdraws last (withdrawn-as d r (tableIn next) says (b .found)); long = b .long; later = b .later }
-one-call {ts} {next} {l} long table (LentFits.boards {tape = tape} {b = given} {before = before} {after = after} {r = r} last lent) =
+one-call {ts} {next} {l} long (LentFits.boards {tape = tape} {b = given} {before = before} {after = after} {r = r} last lent) =
     let d = boardedRow (tableIn ts) r in
-    let b = back ts next (d .row) long (table-whole _ (call-stays (keptIn ts l) _ _ table (Fits.boards last (lent .boards)))) (lent .row) in
+    let b = back ts next (d .row) long (whole-after (keptIn ts l) (row-whole ts long) (Fits.boards last (lent .boards))) (lent .row) in
     record {
       fits = Fits.boards last (subst (λ (row : List Ticket). Boards (length ts) tape (tableIn ts) given before (record { boarded = r; row = row }) after) (sym (b .found)) (lent .boards));
       long = b .long;
       later = b .later;
     }
 
-on-a-row : {ts last : List Ticket} {l m : Lasts} {cs : List Call} → 32 ≤ length ts → IsTable (keptIn ts l) → LentDay ts l cs last m → Day (keptIn ts l) cs (keptIn last m) × (drop 32 last ≡ drop 32 ts)
-on-a-row long table LentDay.over = (Day.over, refl)
-on-a-row {ts} {last} {l} {m} long table (LentDay.then {next = next} {m = k} {c = c} first rest) =
-    let one = one-call long table first in
-    let more = on-a-row (omega (arith, long, one .long)) (call-stays (keptIn ts l) (keptIn next k) c table (one .fits)) rest in
+on-a-row : {ts last : List Ticket} {l m : Lasts} {cs : List Call} → 32 ≤ length ts → LentDay ts l cs last m → Day (keptIn ts l) cs (keptIn last m) × (drop 32 last ≡ drop 32 ts)
+on-a-row long LentDay.over = (Day.over, refl)
+on-a-row long (LentDay.then first rest) =
+    let one = one-call long first in
+    let more = on-a-row (omega (arith, long, one .long)) rest in
     (Day.then (one .fits) (more .0), more .1 ∙ one .later)
 
 pub day-on-a-lent-row : DayOnALentRow
-day-on-a-lent-row ts last l m cs long table day = on-a-row long table day
+day-on-a-lent-row ts last l m cs long day = on-a-row long day

@@ -189,6 +189,7 @@ module _ (len : ℕ) (tape : Tape) (row : List Ticket) (b : Boarding) (before af
         all = rw (one, two) (share-all (length (waiting 1 row)) (length (waiting 2 row)));
         stay-one = ap (waiting 1) next ∙ h .one ∙ ap (λ n. drop n (waiting 1 row)) (sym one);
         stay-two = ap (waiting 2) next ∙ h .two ∙ ap (λ n. drop n (waiting 2 row)) (sym two);
+        who = rw (one, two);
       }
 
   pub boarding-step : (office : ℕ) → IsOffice office → Stands (b .lasts) row → Step office row (r .row) (boarding len tape b before after r) × Stands (r .boarded .lasts) (r .row)

@@ -6,7 +6,7 @@ use mathlib.Core.Bool.{Bool, true, false, not, cond, _&&_}
 use mathlib.Core.Logic.{_⊎_}
 use mathlib.Core.List.{List, [], _∷_, _++_}
 use lib.Dec.{eqb}
-use lib.ListN.{length, getD, drop, replicate}
+use lib.ListN.{length, getD, take, drop, replicate}
 use Rattle.refusals.specs.declared.Refusal.{Refusal}
 use Rattle.refusals.specs.declared.Refusal.the-variants.{Accepted}
 use Rattle.refusals.specs.Refusals.{isRefusal}
@@ -26,6 +26,7 @@ use Rattle.tickets.specs.Filings.{inRange, ticketOf, fileRow}
 use Rattle.tickets.specs.Withdrawals.{withoutNumber, withdrawRow}
 use Rattle.boardings.specs.declared.Boarding.{Boarding}
 use Rattle.boardings.specs.declared.BoardedRow.{BoardedRow}
+use Rattle.boardings.specs.Boarders.{boarders}
 use Rattle.boardings.specs.Boardings.{Tape, boardRun, Boards}
 use Rattle.demands.specs.Demand2.{IsTheWalk, IsLeast}
 use Rattle.demands.specs.Demand3.{AsksNoLess}
@@ -255,7 +256,7 @@ abbrev pub RefusedChangesNothing : Type 0
 RefusedChangesNothing = (k next : Kept) (c : Call) → Fits k c next → (answered c ≡ Accepted → ⊥) → (next .row ≡ k .row) × (next .lasts ≡ k .lasts)
 
 -- What one boarding does: accepted, it takes the first tickets of each office, four or all it has, at most eight in all, and eight where so many wait;
--- refused, none.
+-- refused, none. They are the boarders, of whose tickets the wants are made.
 pub record Takes (row : List Ticket) (r : BoardedRow) : Type 0 where
   pub one : min 4 (length (waiting 1 row)) ≤ r .boarded .taken .one
   pub two : min 4 (length (waiting 2 row)) ≤ r .boarded .taken .two
@@ -264,6 +265,7 @@ pub record Takes (row : List Ticket) (r : BoardedRow) : Type 0 where
   pub all : r .boarded .taken .one + r .boarded .taken .two ≡ min 8 (length (waiting 1 row) + length (waiting 2 row))
   pub stay-one : waiting 1 (r .row) ≡ drop (r .boarded .taken .one) (waiting 1 row)
   pub stay-two : waiting 2 (r .row) ≡ drop (r .boarded .taken .two) (waiting 2 row)
+  pub who : boarders row ≡ take (r .boarded .taken .one) (waiting 1 row) ++ take (r .boarded .taken .two) (waiting 2 row)
 
 abbrev pub BoardingTakes : Type 0
 BoardingTakes =

@@ -17,7 +17,7 @@ use Rattle.boardings.specs.declared.Boarding.{Boarding}
 use Rattle.boardings.specs.declared.Boarded.{Boarded}
 use Rattle.boardings.specs.Boardings.{Tape}
 use Rattle.desk.specs.Desk.{tableIn, withTable, BoardsLent}
-use Rattle.promises.specs.Desk.{Kept, IsTable, Call, filing, withdrawal, boarding, Day}
+use Rattle.promises.specs.Desk.{Kept, Call, filing, withdrawal, boarding, Day}
 
 -- A call on a lent row that fits desk's contract: the row and the last numbers go in, the next ones come back. The call that it is: what was handed in,
 -- what came back, and the table in the row afterwards.
@@ -49,6 +49,5 @@ abbrev pub DayOnALentRow : Type 0
 DayOnALentRow =
     (ts last : List Ticket) (l m : Lasts) (cs : List Call)
     → 32 ≤ length ts
-    → IsTable (keptIn ts l)
     → LentDay ts l cs last m
     → Day (keptIn ts l) cs (keptIn last m) × (drop 32 last ≡ drop 32 ts)
