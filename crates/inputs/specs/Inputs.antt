@@ -1,10 +1,11 @@
 -- An input of two texts: a line with the number of the first one's bytes, so many bytes, and the other text to the end.
-use Prim.Native.Nat.{ℕ, _+_, _-_, _≤_}
-use mathlib.Core.Bool.{Bool, cond, _&&_}
+use Prim.Native.Nat.{ℕ, _+_, _-_, _≤_, min}
+use mathlib.Core.Path.{_≡_}
+use mathlib.Core.Bool.{Bool, false, cond, _&&_}
 use mathlib.Core.List.{List}
 use lib.ListN.{length, take, drop}
 use lib.Dec.{leb}
-use Rattle.texts.specs.Text.{lineFeed, behind, isNumber, valueOf}
+use Rattle.texts.specs.Text.{lineFeed, has, behind, isNumber, valueOf}
 use Rattle.lines.specs.Lines.{lineOf}
 use Rattle.inputs.specs.declared.Framed.{Framed}
 use Rattle.inputs.specs.declared.Framed.the-variants.{Sheet, Bad}
@@ -25,8 +26,13 @@ framed input cut =
 abbrev pub partIn : List ℕ → ℕ → ℕ → List ℕ
 partIn text from to = cond (leb from to && leb to (length text)) (take (to - from) (drop from text)) text
 
--- What was read of so many bytes: no more is kept than the row holds, and no more was there than was asked for.
+-- A line read into a row: no more than the row holds, no LF but at its end, and what stands behind it in the row is as it was.
+pub record LineRead (row : List ℕ) (n : ℕ) (row′ : List ℕ) : Type 0 where
+  pub held : n ≤ length row
+  pub one : has lineFeed (take (n - 1) row′) ≡ false
+  pub kept : drop n row′ ≡ drop n row
+
+-- What was read of so many bytes: no more was there than was asked for, and as much of it is kept as the row holds.
 pub record ReadOf (room bytes : ℕ) (got : Got) : Type 0 where
-  pub held : got .kept ≤ room
-  pub part : got .kept ≤ got .all
   pub most : got .all ≤ bytes
+  pub kept : got .kept ≡ min (got .all) room

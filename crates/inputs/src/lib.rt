@@ -1,9 +1,9 @@
 // inputs: what programs share that take several texts from one standard input, each behind a line with the number of its bytes.
 // What is read is the system's: contracts say where it is put and how much it can be. How an input that was read is cut, they say in full.
 ghost use mathlib.Core.Path.{_≡_};
-ghost use Prim.Native.Nat.{_+_, _≤_};
+ghost use Prim.Native.Nat.{_+_, _≤_, min};
 ghost use lib.ListN.{length, take};
-ghost use Rattle.inputs.specs.Inputs.{framed, framedBehind, partIn, ReadOf};
+ghost use Rattle.inputs.specs.Inputs.{framed, framedBehind, partIn, LineRead, ReadOf};
 use libc::STDIN_FILENO;
 use lines::NumberLine;
 
@@ -89,7 +89,7 @@ fn next_byte() -> Next {
 
 // Up to the LF, which is among the bytes, to the end of the input or to the end of the row: how many bytes there are.
 pub fn read_line(line: &mut [u8]) -> usize
-    ensures { λ r. ⌜ r ≤ length (now (line .entry)) ⌝ }
+    ensures { λ r. ⌜ LineRead (now (line .entry)) r (now (line .exit)) ⌝ }
 {
     let mut n: usize = 0;
     while n < line.len() {
@@ -106,8 +106,7 @@ pub fn read_line(line: &mut [u8]) -> usize
 }
 
 fn least(a: u64, b: u64) -> u64
-    ensures { λ r. ⌜ r ≤ a ⌝ }
-    ensures { λ r. ⌜ r ≤ b ⌝ }
+    ensures { λ r. ⌜ r ≡ min a b ⌝ }
 {
     if a < b {
         return a;
@@ -148,12 +147,15 @@ fn read_front(row: &mut [u8], most: usize) -> usize {
     0
 }
 
-// So many bytes: as many as a row holds are kept in its front, the rest is passed over.
+// So many bytes: as many as a row holds are kept in its front, the rest is passed over. Where the input ends before the row is full there is no rest.
 pub fn read_bytes(row: &mut [u8], bytes: u64) -> Got
     ensures { λ r. ⌜ ReadOf (length (now (row .entry))) bytes r ⌝ }
 {
     let most = least(bytes, row.len() as u64);
     let kept = least(read_front(row, most as usize) as u64, most);
+    if kept < most {
+        return Got { kept, all: kept };
+    }
     let more = pass_over(bytes - most);
     Got {
         kept,

@@ -14,7 +14,9 @@ use Rattle.refusals.specs.declared.Refusal.the-variants.{Accepted}
 use Rattle.refusals.specs.Refusals.{isRefusal, accepted}
 use Rattle.refusals.proofs.Verdicts.{refuses}
 use Rattle.runs.proofs.Search.{true-or-false}
-use Rattle.walk.specs.Price.{pricedAnswer}
+use Rattle.walk.specs.declared.Answer.{Answer}
+use Rattle.walk.specs.Price.{pricedAnswer, refusalAnswer}
+use Rattle.planner.specs.Plan.{Plans}
 use Rattle.tickets.specs.declared.Ticket.{Ticket}
 use Rattle.tickets.specs.declared.Lasts.{Lasts}
 use Rattle.tickets.specs.declared.Filing.{Filing}
@@ -27,9 +29,13 @@ use Rattle.tickets.specs.Withdrawals.{withdrawVerdict, withdrawRow}
 use Rattle.tickets.proofs.Storing.{file-accepted, office-is, range-office}
 use Rattle.tickets.proofs.Placed.{none-bad}
 use Rattle.tickets.proofs.Kept.{Stands, sound-stands, filed-so, not-filed-so, withdrawn-so, not-withdrawn-so}
+use Rattle.boardings.specs.declared.BoardedRow.{BoardedRow}
+use Rattle.boardings.specs.Boarders.{rowStaying, wantsOf}
+use Rattle.boardings.specs.Boardings.{boardRun, wantRows, takenOf, notBoarded, boardedBy}
+use Rattle.demands.proofs.Fits.{planAnswer, planRows, plans-for-every-input}
 use Rattle.demands.proofs.Demand2.{demand2-walk, demand2-least}
 use Rattle.demands.proofs.Demand3.{demand3}
-use Rattle.promises.specs.Desk.{Kept, atFirst, IsTable, IsOffice, Call, filing, Fits, files, withdraws, boards, Day, over, then, departs, departures, leaving, joining, withdrawn, withdrawnIn, queueIn, givenBy, given, countedFrom, Fate, LeavesOn, TableStays, TableFromEmpty, NumbersCountUp, NoneGivenTwice, InOrder, StandByNumber, FreedPlaceServes, OnlyTheseTakeAway, LeavesInTime, FiledBehind, answered, RefusedChangesNothing, BoardingTakes, RefusalKeeps, OwnOfficeDecides, BoardedRunHolds}
+use Rattle.promises.specs.Desk.{Kept, atFirst, IsTable, IsOffice, Call, filing, Fits, files, withdraws, boards, Day, over, then, departs, departures, leaving, joining, withdrawn, withdrawnIn, queueIn, givenBy, given, countedFrom, Fate, LeavesOn, TableStays, TableFromEmpty, NumbersCountUp, NoneGivenTwice, InOrder, StandByNumber, FreedPlaceServes, OnlyTheseTakeAway, LeavesInTime, FiledBehind, answered, RefusedChangesNothing, BoardingTakes, EveryBoardingAnswered, RefusalKeeps, OwnOfficeDecides, BoardedRunHolds}
 use Rattle.promises.proofs.DeskSteps.{step, gives, fate, not-accepted, takes, refused-is, board-accepted}
 
 stays : {k last : Kept} {cs : List Call} → IsTable k → Day k cs last → IsTable last
@@ -290,3 +296,36 @@ refusal-keeps len tape row b before after r fits some =
         ⊎-elim (λ t. plans .refused t .kept) (λ p. absurd (true≢false (sym e ∙ ap (λ a. isRefusal (a .refusal)) (plans .planned p .says))))
         (true-or-false _))
         (true-or-false (refuses (recordsVerdict len row (b .lasts))))
+
+-- The answer to a boarding: the row's refusal, or by the plan that there is of every run.
+answer-told : (row : List Ticket) (l : Lasts) (a : Answer) → boardedBy row l a .boarded .answer ≡ a
+answer-told row l a = by-test (isRefusal (a .refusal))
+  where
+    by-test : (c : Bool) → cond {A = BoardedRow} c (notBoarded row l a) (record { boarded = record { answer = a; taken = takenOf row; wants = wantRows (wantsOf row); lasts = l }; row = rowStaying row }) .boarded .answer ≡ a
+    by-test true = refl
+    by-test false = refl
+
+pub every-boarding-answered : EveryBoardingAnswered
+every-boarding-answered len tape row b before =
+    ⊎-elim
+    (λ (e : refuses (recordsVerdict len row (b .lasts)) ≡ true). (
+      notBoarded row (b .lasts) (refusalAnswer (recordsVerdict len row (b .lasts))),
+      (before, record { refused = λ h. record { says = refl; kept = refl }; planned = λ h. absurd (true≢false (sym e ∙ h)) }),
+    ))
+    (λ (e : refuses (recordsVerdict len row (b .lasts)) ≡ false).
+    let run = boardRun tape row b in
+    let a = planAnswer run before in
+    let told = answer-told row (b .lasts) a in (
+      boardedBy row (b .lasts) a,
+      (
+        planRows run before,
+        record {
+          refused = λ h. absurd (true≢false (sym h ∙ e));
+          planned = λ h. record {
+            plans = subst (λ x. Plans run before x (planRows run before)) (sym told) (plans-for-every-input run before);
+            says = ap (boardedBy row (b .lasts)) (sym told);
+          };
+        },
+      ),
+    ))
+    (true-or-false (refuses (recordsVerdict len row (b .lasts))))

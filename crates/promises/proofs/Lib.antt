@@ -21,6 +21,7 @@ pub mod Mends
 pub mod MonthTotals
 pub mod MonthNames
 pub mod MonthInput
+pub mod MonthReads
 pub mod MonthOrder
 mod Differs
 pub mod Checks

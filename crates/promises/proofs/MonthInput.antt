@@ -166,7 +166,7 @@ kept-outcome sheet o p =
     })
 
 -- The sheets are counted.
-one-more-sheet : (m : Month) (o : Outcome) → m .sheets < 1000 → added m o .sheets ≡ m .sheets + 1
+pub one-more-sheet : (m : Month) (o : Outcome) → m .sheets < 1000 → added m o .sheets ≡ m .sheets + 1
 unfolding added withRefused withLongest withTotals grown
 one-more-sheet m o l = go (isRefusal (o .refusal)) (ltb (m .time) (o .time))
   where

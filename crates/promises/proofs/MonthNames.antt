@@ -55,7 +55,7 @@ no-time : (name : List ℕ) (run : Run) (list : List Detour) → refuses (judgeO
 unfolding plannedOutcome
 no-time name run list ok e = none-longest (run .numbers) _ (none-wanted run ok e)
 
-judged : (sheet : List ℕ) → isRefusal (recallVerdict sheet .refusal) ≡ false → refuses (judgeOf (sheetRun sheet)) ≡ false
+pub judged : (sheet : List ℕ) → isRefusal (recallVerdict sheet .refusal) ≡ false → refuses (judgeOf (sheetRun sheet)) ≡ false
 unfolding verdictBy
 judged sheet passes = all-accept (sheetVerdict sheet ∷ ruleVerdict sheet ∷ runChecks (sheetRun sheet)) passes .1 .1 .0
 

@@ -275,6 +275,11 @@ BoardingTakes =
     → r .boarded .answer .refusal ≡ Accepted
     → Takes row r
 
+-- Whatever is handed in, some answer fits; of a filing and of a withdrawal the contract is an equation.
+abbrev pub EveryBoardingAnswered : Type 0
+EveryBoardingAnswered =
+    (len : ℕ) (tape : Tape) (row : List Ticket) (b : Boarding) (before : Rows) → (r : BoardedRow) × ((after : Rows) × Boards len tape row b before r after)
+
 abbrev pub RefusalKeeps : Type 0
 RefusalKeeps =
     (len : ℕ) (tape : Tape) (row : List Ticket) (b : Boarding) (before after : Rows) (r : BoardedRow)

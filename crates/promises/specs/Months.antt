@@ -180,6 +180,10 @@ pub record MonthOfInput (input : List ℕ) (m : Month) (good : Bool) : Type 0 wh
 abbrev pub PartByPart : Type 0
 PartByPart = (input : List ℕ) (m : Month) (good : Bool) → ReadsOn emptyMonth input m good → MonthOfInput input m good
 
+-- And every input is so read, to its end or to where it is not good.
+abbrev pub EveryInputIsRead : Type 0
+EveryInputIsRead = (input : List ℕ) → (m : Month) × ((good : Bool) × ReadsOn emptyMonth input m good)
+
 -- A list in another order: neighbours change places, again and again.
 pub data Reordered {A : Type 0} : List A → List A → Type 0 where
   same : {xs : List A} → Reordered xs xs
