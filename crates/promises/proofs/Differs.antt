@@ -11,38 +11,38 @@ use borrow.Author.Tests.{eq-eqb, ne-eqb, eqb-true}
 use Rattle.runs.proofs.Search.{true-or-false}
 use Rattle.texts.specs.Text.{lineFeed}
 use Rattle.checks.specs.Checking.{differFrom, firstDifference}
-use Rattle.promises.specs.Checks.{firstLines, FirstDiffers}
+use Rattle.promises.specs.Checks.{leadingLines, FirstDiffers}
 
 -- So many whole lines are common to two texts, and no more; the line that is named lies that many behind the one at which the search began.
 record Common (line : ℕ) (a b : List ℕ) (named : ℕ) : Type 0 where
   many : ℕ
   is : named ≡ line + many
-  same : firstLines a many ≡ firstLines b many
-  differ : firstLines a (suc many) ≡ firstLines b (suc many) → ⊥
+  same : leadingLines a many ≡ leadingLines b many
+  differ : leadingLines a (suc many) ≡ leadingLines b (suc many) → ⊥
 
-no-lines : (a : List ℕ) → firstLines a 0 ≡ []
-unfolding firstLines
+no-lines : (a : List ℕ) → leadingLines a 0 ≡ []
+unfolding leadingLines
 no-lines [] = refl
 no-lines (x ∷ a) = refl
 
-none-common : (line : ℕ) (a b : List ℕ) → (firstLines a 1 ≡ firstLines b 1 → ⊥) → Common line a b line
+none-common : (line : ℕ) (a b : List ℕ) → (leadingLines a 1 ≡ leadingLines b 1 → ⊥) → Common line a b line
 none-common line a b differ = record { many = 0; is = omega arith; same = no-lines a ∙ sym (no-lines b); differ = differ }
 
 -- The lines behind a byte that ends one, and behind one that does not.
 module _ (x : ℕ) (a : List ℕ) (n : ℕ) where
-  behind-line : eqb x lineFeed ≡ true → firstLines (x ∷ a) (suc n) ≡ x ∷ firstLines a n
-  unfolding firstLines
-  behind-line e = rw (ne-eqb (suc n) 0 (λ z. omega arith), e) (ap (λ m. x ∷ firstLines a m) (less-one n))
+  behind-line : eqb x lineFeed ≡ true → leadingLines (x ∷ a) (suc n) ≡ x ∷ leadingLines a n
+  unfolding leadingLines
+  behind-line e = rw (ne-eqb (suc n) 0 (λ z. omega arith), e) (ap (λ m. x ∷ leadingLines a m) (less-one n))
     where
       less-one : (m : ℕ) → suc m - 1 ≡ m
       less-one m = omega arith
 
-  behind-byte : eqb x lineFeed ≡ false → firstLines (x ∷ a) n ≡ cond (eqb n 0) [] (x ∷ firstLines a n)
-  unfolding firstLines
+  behind-byte : eqb x lineFeed ≡ false → leadingLines (x ∷ a) n ≡ cond (eqb n 0) [] (x ∷ leadingLines a n)
+  unfolding leadingLines
   behind-byte e = rw e
 
-  behind-some : eqb x lineFeed ≡ false → firstLines (x ∷ a) (suc n) ≡ x ∷ firstLines a (suc n)
-  unfolding firstLines
+  behind-some : eqb x lineFeed ≡ false → leadingLines (x ∷ a) (suc n) ≡ x ∷ leadingLines a (suc n)
+  unfolding leadingLines
   behind-some e = rw (ne-eqb (suc n) 0 (λ z. omega arith), e)
 
 -- A byte that both have: it ends a line, or does not.
@@ -79,12 +79,12 @@ same-byte x a b ih line start at n =
     (true-or-false (eqb x lineFeed))
 
 other-byte : (x y : ℕ) (a b : List ℕ) → eqb x y ≡ false → FromAnyPlace (x ∷ a) (y ∷ b)
-unfolding differFrom firstLines
+unfolding differFrom leadingLines
 other-byte x y a b e line start at n =
     rw e (none-common line (x ∷ a) (y ∷ b) (λ h. true≢false (sym (eq-eqb x y (ap (λ l. getD l 0 0) h)) ∙ e)))
 
 common : (a b : List ℕ) → FromAnyPlace a b
-unfolding differFrom firstLines
+unfolding differFrom leadingLines
 common [] [] = λ line start at n. absurd (n refl)
 common [] (y ∷ b) = λ line start at n. none-common line [] (y ∷ b) (λ h. let z = ap length h in omega arith)
 common (x ∷ a) [] = λ line start at n. none-common line (x ∷ a) [] (λ h. let z = ap length h in omega arith)

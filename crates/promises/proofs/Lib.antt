@@ -14,6 +14,7 @@ pub mod Copied
 pub mod Again
 pub mod Canonical
 pub mod Same
+pub mod Written
 pub mod Taken
 pub mod Described
 pub mod Strict

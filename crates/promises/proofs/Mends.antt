@@ -4,7 +4,7 @@ use mathlib.Core.Path.{_≡_, refl, ap, sym, _∙_}
 use mathlib.Core.Bool.{Bool, true, false, true≢false, not, cond}
 use mathlib.Core.List.{List, [], _∷_, _++_, append-assoc}
 use native.Mathlib.Omega.{arith}
-use lib.ListN.{length, take, drop, getD}
+use lib.ListN.{length, drop, getD}
 use lib.Seq.{take-append-seam, drop-append-seam}
 use lib.Dec.{eqb, ltb}
 use borrow.Author.Tests.{eq-eqb, ne-eqb, eqb-true, eqb-false, lt-ltb, le-ltb, ltb-true, ltb-false}
@@ -27,17 +27,17 @@ use Rattle.loose.specs.Reading.{looseVerdict}
 use Rattle.mends.specs.declared.Mended.{Mended}
 use Rattle.mends.specs.declared.wants.Fate.{Fate}
 use Rattle.mends.specs.declared.wants.Fate.the-variants.{Stays, Moved, Added, Dropped}
-use Rattle.mends.specs.Wants.{remaining, readsInAll, askedOf, readsOfWant, readsEach, sameAbove, higherAbove, fateOf}
+use Rattle.mends.specs.Wants.{readsInAll, askedOf, readsOfWant, sameAbove, higherAbove, fateOf}
 use Rattle.mends.specs.Mending.{firstLines, sheetRemaining, sheetReads, mendedText, changeIf, changesText, fateLine, fateLines, wantsVerdicts, textsVerdicts, mendVerdict, SheetMended}
 use Rattle.mends.proofs.Answers.{mend-determined}
-use Rattle.promises.specs.Mends.{InRows, MendedRows, MendingDetermined, WasMended, SameReads, ReadsKept, Orderly, SheetInOrder, MendedInOrder, ReadAsARun, MendedIsRead, SameFile, HigherFile, FateBy, FatesByConditions, SaidOf, EveryFateListed, ListedWhen, SaidAbove, TopChangesListed, OnceIsEnough, ComesBack, AcceptedComesBack, Taken, AcceptedTaken}
+use Rattle.promises.specs.Mends.{InRows, MendedRows, MendingDetermined, WasMended, SameReads, ReadsKept, SheetInOrder, MendedInOrder, MendedIsRead, SameFile, HigherFile, FateBy, FatesByConditions, SaidOf, EveryFateListed, ListedWhen, TopChangesListed, OnceIsEnough, AcceptedComesBack, AcceptedAsWritten, AcceptedTaken}
 use Rattle.promises.proofs.Gathered.{rising-at, Clean, remaining-clean, clean-remaining, clean-each, clean-stays, reads-kept, total-kept}
 use Rattle.runs.specs.Judging.{judgeOf}
 use Rattle.lines.specs.Lines.{afterLines, lineAfter, valueText}
 use Rattle.sheets.specs.Reading.{sheetVerdict, ruleVerdict}
-use Rattle.sheets.proofs.Good.{short-sheet}
 use Rattle.promises.proofs.Same.{empty-is, old-sheet, new-sheet, same-sheet, one-change}
-use Rattle.promises.proofs.Taken.{taken, too-long, five-longer}
+use Rattle.promises.proofs.Written.{written-so, mended-short}
+use Rattle.promises.proofs.Taken.{taken, five-longer}
 use Rattle.promises.proofs.Strict.{strict, numbers-read, counts-read}
 use Rattle.promises.proofs.Again.{lines-even, upper-again, turn-again, price-there, rule-there, files-said, files-again, table-again, wants-said, wants-again, named-again, asked-again, good-again, remaining-once, reads-once, fates-none}
 
@@ -393,9 +393,12 @@ accepted-comes-back sheet read least fair =
       listed = one-change sheet good run least;
     }
 
+pub accepted-as-written : AcceptedAsWritten
+accepted-as-written sheet read least fair = written-so sheet (rw read) (rw fair) least
+
 pub accepted-taken : AcceptedTaken
 accepted-taken sheet read least fair out notes answer out′ notes′ h row list =
-    record { within = fits; over = λ over. h .answer ∙ rw (too-long sheet good run least out notes over); given = given; left-out = five-longer sheet good run least }
+    record { taken = fits; given = given; left-out = five-longer sheet good run least }
   where
     good : isRefusal (sheetVerdict sheet .refusal) ≡ false
     good = rw read
@@ -403,11 +406,11 @@ accepted-taken sheet read least fair out notes answer out′ notes′ h row list
     run : isRefusal (judgeOf (sheetRun sheet) .refusal) ≡ false
     run = rw fair
 
-    fits : length (mendedText sheet) ≤ longestSheet → answer ≡ record { refusal = Accepted; place = 0; bytes = length (mendedText sheet); noted = length (changesText sheet) }
-    fits short = h .answer ∙ rw (taken sheet good run least out notes short row list)
+    fits : answer ≡ record { refusal = Accepted; place = 0; bytes = length (mendedText sheet); noted = length (changesText sheet) }
+    fits = h .answer ∙ rw (taken sheet good run least out notes (mended-short sheet good run least fair) row list)
 
     given : priceLeftOut sheet ≡ false → answer ≡ record { refusal = Accepted; place = 0; bytes = length sheet; noted = 0 }
     given there =
         let same = same-sheet sheet good run least there in
         let none : changesText sheet ≡ [] = one-change sheet good run least ∙ rw there in
-        fits (rw same (short-sheet sheet good)) ∙ rw (same, none)
+        fits ∙ rw (same, none)

@@ -33,27 +33,27 @@ use Rattle.promises.proofs.Again.{come-so-many, not-file, not-want, reg
 use Rattle.promises.proofs.Canonical.{number-text}
 
 -- A text is its first line, with its LF, and what stands behind it.
-text-line : (k : ℕ) (key value text : List ℕ) → startsWith (k ∷ key) (lineOf text) ≡ true → lineOf text ≡ (k ∷ key) ++ value → text ≡ line (k ∷ key) value ++ behind lineFeed text
+pub text-line : (k : ℕ) (key value text : List ℕ) → startsWith (k ∷ key) (lineOf text) ≡ true → lineOf text ≡ (k ∷ key) ++ value → text ≡ line (k ∷ key) value ++ behind lineFeed text
 text-line k key value text begun is =
     line-split k key text begun ∙ ap (λ t. t ++ (lineFeed ∷ behind lineFeed text)) is ∙ sym (append-assoc ((k ∷ key) ++ value) (lineFeed ∷ []) (behind lineFeed text))
 
 -- What stands on a line, from its numbers.
-number-line : (key text : List ℕ) → isNumberLine key text ≡ true → text ≡ key ++ decimal (numberBehind key text)
+pub number-line : (key text : List ℕ) → isNumberLine key text ≡ true → text ≡ key ++ decimal (numberBehind key text)
 unfolding isNumberLine
 number-line key text e =
     let both = and-true-both (startsWith key text) (isNumber (valueText key text)) e in
     key-split key text (both .0) ∙ ap (λ t. key ++ t) (sym (number-text (valueText key text) (both .1)))
 
-behind-none : (c : ℕ) (text : List ℕ) → has c text ≡ false → behind c text ≡ []
+pub behind-none : (c : ℕ) (text : List ℕ) → has c text ≡ false → behind c text ≡ []
 unfolding has behind
 behind-none c [] e = refl
 behind-none c (b ∷ text) e = let both = or-false-both (eqb b c) (has c text) e in rw (both .0) (behind-none c text (both .1))
 
-no-number : isNumber [] ≡ false
+pub no-number : isNumber [] ≡ false
 unfolding isNumber
 no-number = refl
 
-pair-value : (text : List ℕ) → isPair text ≡ true → text ≡ pairText (valueOf (before comma text)) (valueOf (behind comma text))
+pub pair-value : (text : List ℕ) → isPair text ≡ true → text ≡ pairText (valueOf (before comma text)) (valueOf (behind comma text))
 unfolding isPair
 pair-value text e = go (has comma text) refl
   where
@@ -190,7 +190,7 @@ module _ (sheet : List ℕ) (good : refuses (sheetVerdict sheet) ≡ false) (fai
   files-number = and-true-both (isNumberLine filesKey (lineAfter 4 sheet)) (leb (numberBehind filesKey (lineAfter 4 sheet)) mostSheetFiles) (g .files) .0
 
   -- The lines that come are those that the counts say.
-  files-same : looseFiles sheet ≡ sheetFiles sheet
+  pub files-same : looseFiles sheet ≡ sheetFiles sheet
   unfolding looseFiles firstBadOf wantsText
   files-same =
       come-so-many (isTripleLine fileKey) mostSheetFiles (sheetFiles sheet) (fileText sheet) (few-files sheet good)
@@ -232,7 +232,7 @@ module _ (sheet : List ℕ) (good : refuses (sheetVerdict sheet) ≡ false) (fai
   pub remain : sheetRemaining sheet ≡ wantedFiles sheet
   remain = remaining-once sheet (wantedFiles sheet) (wantedCounts sheet) refl refl (clean-remaining (wantedFiles sheet) (wantedCounts sheet) clean)
 
-  ask : sheetReads sheet ≡ wantedCounts sheet
+  pub ask : sheetReads sheet ≡ wantedCounts sheet
   ask = reads-once sheet (wantedFiles sheet) (wantedCounts sheet) refl refl remain (clean-each (wantedFiles sheet) (wantedCounts sheet) clean)
 
   long : length (sheetRemaining sheet) ≡ sheetWants sheet
@@ -295,7 +295,7 @@ module _ (sheet : List ℕ) (good : refuses (sheetVerdict sheet) ≡ false) (fai
       lines ∙ ap (λ t. pairLines wantKey (wantedFiles sheet) (wantedCounts sheet) ++ t) none ∙ append-nil (pairLines wantKey (wantedFiles sheet) (wantedCounts sheet))
       ∙ rw (remain, ask)
 
-  lower-is : afterLines 3 sheet ≡ line ruleKey leastText ++ (numberLine filesKey (looseFiles sheet) ++ (firstLines (looseFiles sheet) (fileText sheet)
+  pub lower-is : afterLines 3 sheet ≡ line ruleKey leastText ++ (numberLine filesKey (looseFiles sheet) ++ (firstLines (looseFiles sheet) (fileText sheet)
       ++ (numberLine wantsKey (length (sheetRemaining sheet)) ++ pairLines wantKey (sheetRemaining sheet) (sheetReads sheet))))
   lower-is =
       fourth ∙ ap (λ t. line ruleKey leastText ++ t)

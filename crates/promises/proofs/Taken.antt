@@ -1,12 +1,11 @@
 -- The sheet of an accepted run is taken by the mender.
-use Prim.Native.Nat.{ℕ, zero, suc, _+_, _≤_, _<_}
+use Prim.Native.Nat.{ℕ, zero, suc, _+_, _≤_}
 use mathlib.Core.Path.{_≡_, refl, ap, _∙_}
 use mathlib.Core.Bool.{true, false}
 use mathlib.Core.List.{List, [], _∷_, _++_}
 use native.Mathlib.Omega.{arith}
 use lib.ListN.{length, getD, length-append}
-use borrow.Author.Tests.{lt-ltb, le-ltb}
-use Rattle.refusals.specs.declared.Refusal.the-variants.{LongSheet}
+use borrow.Author.Tests.{le-ltb}
 use Rattle.refusals.specs.Refusals.{accepted}
 use Rattle.refusals.proofs.Verdicts.{refuses}
 use Rattle.runs.specs.Run.{mostWants, mostReads, total}
@@ -76,17 +75,6 @@ module _ (sheet : List ℕ) (good : refuses (sheetVerdict sheet) ≡ false) (fai
         le-ltb longestSheet (length (mendedText sheet)) fits,
         le-ltb (length out) (length (mendedText sheet)) row,
         le-ltb (length notes) (length (changesText sheet)) list,
-      )
-
-  pub too-long : (out notes : List ℕ) → longestSheet < length (mendedText sheet) → mendVerdict sheet out notes ≡ record { refusal = LongSheet; place = 0 }
-  unfolding mendVerdict looseVerdict
-  too-long out notes over =
-      rw (
-        le-ltb longestSheet (length sheet) (short-sheet sheet good),
-        described,
-        le-ltb mostWants (length (sheetRemaining sheet)) few,
-        le-ltb mostReads (readsInAll (wantedCounts sheet)) reads,
-        lt-ltb longestSheet (length (mendedText sheet)) over,
       )
 
   pub five-longer : priceLeftOut sheet ≡ true → length (mendedText sheet) ≡ length sheet + 5

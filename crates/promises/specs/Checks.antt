@@ -28,16 +28,16 @@ pub record Larger (run : Run) (list : List Detour) (by : ℕ) : Type 0 where
   pub sum : listSum (run .turn) (run .head) (stopsOf run) list ≡ listSum (run .turn) (run .head) (stopsOf run) least + by
 
 -- The first so many lines of a text, each with its LF; the whole of it where it has no more.
-unfoldable pub firstLines : List ℕ → ℕ → List ℕ
-firstLines [] n = []
-firstLines (b ∷ text) n = cond (eqb n 0) [] (b ∷ firstLines text (cond (eqb b lineFeed) (n - 1) n))
+unfoldable pub leadingLines : List ℕ → ℕ → List ℕ
+leadingLines [] n = []
+leadingLines (b ∷ text) n = cond (eqb n 0) [] (b ∷ leadingLines text (cond (eqb b lineFeed) (n - 1) n))
 
 -- A line, counted from 1, is the first in which two texts differ: those before it are the same in both, byte for byte, and with it they are not.
 pub record FirstDiffers (found expected : List ℕ) (line : ℕ) : Type 0 where
   pub before : ℕ
   pub next : line ≡ suc before
-  pub same : firstLines found before ≡ firstLines expected before
-  pub differ : firstLines found line ≡ firstLines expected line → ⊥
+  pub same : leadingLines found before ≡ leadingLines expected before
+  pub differ : leadingLines found line ≡ leadingLines expected line → ⊥
 
 -- What the lines of a verdict say of a plan sheet, for a tape name and a run.
 pub record Told (name : List ℕ) (run : Run) (plan froms tos text : List ℕ) : Type 0 where

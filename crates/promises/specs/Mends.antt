@@ -6,16 +6,17 @@ use mathlib.Core.Path.{_≡_}
 use mathlib.Core.Bool.{true, false}
 use mathlib.Core.List.{List, [], _++_}
 use lib.ListN.{length, take, drop, getD}
-use Rattle.refusals.specs.declared.Refusal.the-variants.{Accepted, LongSheet}
+use Rattle.refusals.specs.declared.Refusal.the-variants.{Accepted}
 use Rattle.refusals.specs.Refusals.{accepted}
 use Rattle.runs.specs.Run.{mostWants}
 use Rattle.runs.specs.Judging.{judgeOf}
 use Rattle.texts.specs.Text.{bytes}
 use Rattle.lines.specs.Lines.{lineAfter, valueText}
 use Rattle.sheets.specs.Lines.{turnKey, ruleKey, sweepText}
-use Rattle.sheets.specs.Sheet.{longestSheet, sheetTurn, saysSweep, sheetFiles, sheetRun}
+use Rattle.sheets.specs.Sheet.{sheetTurn, saysSweep, sheetFiles, sheetName, sheetRun}
 use Rattle.sheets.specs.Reading.{sheetVerdict, ruleVerdict}
 use Rattle.prints.specs.Printing.{line, numberLine}
+use Rattle.writers.specs.Writing.{sheetText}
 use Rattle.loose.specs.Loose.{looseFiles, looseWants, wantsSaid, priceLeftOut, firstBadLoose, wantedFiles, wantedCounts}
 use Rattle.mends.specs.declared.Mended.{Mended}
 use Rattle.mends.specs.declared.wants.Fate.{Fate}
@@ -175,12 +176,18 @@ AcceptedComesBack =
     → judgeOf (sheetRun sheet) ≡ accepted
     → ComesBack sheet
 
--- And it is accepted, given rows that take both texts: 11, 3 and 5 never apply to it. 12 does where the mended sheet is over the limit, which comes of an
--- empty price alone: written out it has five digits, and a sheet with a price given is always accepted.
+-- What comes back is the sheet that the writer writes for that run and that name.
+abbrev pub AcceptedAsWritten : Type 0
+AcceptedAsWritten =
+    (sheet : List ℕ)
+    → sheetVerdict sheet ≡ accepted
+    → saysSweep sheet ≡ false
+    → judgeOf (sheetRun sheet) ≡ accepted
+    → mendedText sheet ≡ sheetText (sheetName sheet) (sheetRun sheet)
+
+-- And it is accepted, given rows that take both texts: 12, 11, 3 and 5 never apply to it. An empty price, written out, has five digits.
 pub record Taken (sheet : List ℕ) (answer : Mended) : Type 0 where
-  pub within : length (mendedText sheet) ≤ longestSheet
-      → answer ≡ record { refusal = Accepted; place = 0; bytes = length (mendedText sheet); noted = length (changesText sheet) }
-  pub over : longestSheet < length (mendedText sheet) → answer ≡ record { refusal = LongSheet; place = 0; bytes = 0; noted = 0 }
+  pub taken : answer ≡ record { refusal = Accepted; place = 0; bytes = length (mendedText sheet); noted = length (changesText sheet) }
   pub given : priceLeftOut sheet ≡ false → answer ≡ record { refusal = Accepted; place = 0; bytes = length sheet; noted = 0 }
   pub left-out : priceLeftOut sheet ≡ true → length (mendedText sheet) ≡ length sheet + 5
 
