@@ -104,15 +104,15 @@ record OneCall (ts : List Ticket) (l : Lasts) (c : Call) (next : List Ticket) (m
   later : drop 32 next ≡ drop 32 ts
 
 one-call : {ts next : List Ticket} {l m : Lasts} {c : Call} → 32 ≤ length ts → LentFits ts l c next m → OneCall ts l c next m
-one-call {ts} {next} {l} long (LentFits.files {f = f} {r = r} last says writes) =
+one-call {ts} {next} {l} long (LentFits.lent-filing {f = f} {r = r} last says writes) =
     let d = fileRow (length ts) (tableIn ts) f in
     let b = back ts next (d .row) long (whole-after (keptIn ts l) (row-whole ts long) (Fits.files last refl)) writes in
     record { fits = Fits.files last (filed-as d r (tableIn next) says (b .found)); long = b .long; later = b .later }
-one-call {ts} {next} {l} long (LentFits.withdraws {w = w} {r = r} last says writes) =
+one-call {ts} {next} {l} long (LentFits.lent-withdrawal {w = w} {r = r} last says writes) =
     let d = withdrawRow (length ts) (tableIn ts) w in
     let b = back ts next (d .row) long (whole-after (keptIn ts l) (row-whole ts long) (Fits.withdraws last refl)) writes in
     record { fits = Fits.withdraws last (withdrawn-as d r (tableIn next) says (b .found)); long = b .long; later = b .later }
-one-call {ts} {next} {l} long (LentFits.boards {tape = tape} {b = given} {before = before} {after = after} {r = r} last lent) =
+one-call {ts} {next} {l} long (LentFits.lent-boarding {tape = tape} {b = given} {before = before} {after = after} {r = r} last lent) =
     let d = boardedRow (tableIn ts) r in
     let b = back ts next (d .row) long (whole-after (keptIn ts l) (row-whole ts long) (Fits.boards last (lent .boards))) (lent .row) in
     record {
@@ -122,8 +122,8 @@ one-call {ts} {next} {l} long (LentFits.boards {tape = tape} {b = given} {before
     }
 
 on-a-row : {ts last : List Ticket} {l m : Lasts} {cs : List Call} → 32 ≤ length ts → LentDay ts l cs last m → Day (keptIn ts l) cs (keptIn last m) × (drop 32 last ≡ drop 32 ts)
-on-a-row long LentDay.over = (Day.over, refl)
-on-a-row long (LentDay.then first rest) =
+on-a-row long LentDay.lent-over = (Day.over, refl)
+on-a-row long (LentDay.lent-then first rest) =
     let one = one-call long first in
     let more = on-a-row (omega (arith, long, one .long)) rest in
     (Day.then (one .fits) (more .0), more .1 ∙ one .later)

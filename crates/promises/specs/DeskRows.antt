@@ -22,24 +22,24 @@ use Rattle.promises.specs.Desk.{Kept, Call, filing, withdrawal, boarding
 -- A call on a lent row that fits desk's contract: the row and the last numbers go in, the next ones come back. The call that it is: what was handed in,
 -- what came back, and the table in the row afterwards.
 pub data LentFits : List Ticket → Lasts → Call → List Ticket → Lasts → Type 0 where
-  files : {ts exit : List Ticket} {l : Lasts} {f : Filing} {r : Filed}
+  lent-filing : {ts exit : List Ticket} {l : Lasts} {f : Filing} {r : Filed}
       → f .lasts ≡ l
       → r ≡ fileRow (length ts) (tableIn ts) f .filed
       → exit ≡ withTable (fileRow (length ts) (tableIn ts) f .row) ts
       → LentFits ts l (filing (length ts) f (record { filed = r; row = tableIn exit })) exit (r .lasts)
-  withdraws : {ts exit : List Ticket} {l : Lasts} {w : Withdrawal} {r : Withdrawn}
+  lent-withdrawal : {ts exit : List Ticket} {l : Lasts} {w : Withdrawal} {r : Withdrawn}
       → w .lasts ≡ l
       → r ≡ withdrawRow (length ts) (tableIn ts) w .withdrawn
       → exit ≡ withTable (withdrawRow (length ts) (tableIn ts) w .row) ts
       → LentFits ts l (withdrawal (length ts) w (record { withdrawn = r; row = tableIn exit })) exit (r .lasts)
-  boards : {ts exit : List Ticket} {l : Lasts} {tape : Tape} {b : Boarding} {before after : Rows} {r : Boarded}
+  lent-boarding : {ts exit : List Ticket} {l : Lasts} {tape : Tape} {b : Boarding} {before after : Rows} {r : Boarded}
       → b .lasts ≡ l
       → BoardsLent ts tape b before r after exit
       → LentFits ts l (boarding (length ts) tape b before after (record { boarded = r; row = tableIn exit })) exit (r .lasts)
 
 pub data LentDay : List Ticket → Lasts → List Call → List Ticket → Lasts → Type 0 where
-  over : {ts : List Ticket} {l : Lasts} → LentDay ts l [] ts l
-  then : {ts next last : List Ticket} {l m n : Lasts} {c : Call} {cs : List Call} → LentFits ts l c next m → LentDay next m cs last n → LentDay ts l (c ∷ cs) last n
+  lent-over : {ts : List Ticket} {l : Lasts} → LentDay ts l [] ts l
+  lent-then : {ts next last : List Ticket} {l m n : Lasts} {c : Call} {cs : List Call} → LentFits ts l c next m → LentDay next m cs last n → LentDay ts l (c ∷ cs) last n
 
 -- The table in a row, with the last numbers.
 abbrev pub keptIn : List Ticket → Lasts → Kept
