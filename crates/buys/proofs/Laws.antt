@@ -22,7 +22,8 @@ use Rattle.writers.proofs.Sheets.{last-verdict}
 use Rattle.recalls.specs.Recall.{runChecks, recallVerdict}
 use Rattle.recalls.proofs.Planned.{handed-bytes, handed-row, Lent, run-refusal, planned, accepts, listed-froms, listed-tos, list-passes, run-passes}
 use Rattle.recalls.proofs.Read.{Wide, sheet-refusal, run-is, name-is, run-decides}
-use Rattle.buys.specs.Bought.{Answers, Bought, RunBought, SheetBought}
+use Rattle.buys.specs.Bought.{Answers, Bought, SheetBought}
+use Rattle.buys.specs.Private.{RunBought}
 
 handed-out : (text row : List ℕ) (w : Written) (row′ : List ℕ) → Handed (rowVerdict text row) text row w row′ → (v : Verdict) (name : List ℕ) (run : Run) → Answers v name run text
     → Bought v name run row (w .bytes) row′

@@ -32,10 +32,6 @@ pub record Bought (v : Verdict) (name : List ℕ) (run : Run) (row : List ℕ) (
   pub bytes : n ≡ bytesPut text row
   pub left : row′ ≡ rowPut text row
 
--- The answer to a run and a tape name.
-abbrev pub RunBought : List ℕ → Run → List ℕ → ℕ → List ℕ → Type 0
-RunBought name run row n row′ = Bought (firstOf (runChecks run)) name run row n row′
-
 -- The answer to a sheet.
 abbrev pub SheetBought : List ℕ → List ℕ → ℕ → List ℕ → Type 0
 SheetBought sheet row n row′ = Bought (recallVerdict sheet) (sheetName sheet) (sheetRun sheet) row n row′

@@ -4,7 +4,8 @@ ghost use mathlib.Core.Path.{_≡_};
 ghost use mathlib.Core.Bool.{true};
 ghost use Rattle.runs.specs.Run.{runAt};
 ghost use Rattle.texts.specs.Text.{isName};
-ghost use Rattle.buys.specs.Bought.{RunBought, SheetBought};
+ghost use Rattle.buys.specs.Bought.{SheetBought};
+ghost use Rattle.buys.specs.Private.{RunBought};
 use refusals::Verdict;
 use refusals::refused;
 

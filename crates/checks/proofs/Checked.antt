@@ -31,8 +31,8 @@ use Rattle.lists.specs.Form.{detoursTold, detourText, planFroms, planTos, start
 use Rattle.lists.specs.Reading.{planForm}
 use Rattle.checks.specs.declared.checking.LeastBeside.{LeastBeside}
 use Rattle.checks.specs.Pricing.{Holds}
-use Rattle.checks.specs.Checking.{formedYes, formedNo, walkLine, differenceLines, sameList, leastLine, verdictLines, checkText, checkChecks, Answers, Checked, RunChecked}
-use Rattle.checks.specs.Private.{LeastIs, LeastFound, leastLineBy, verdictBy, ListChecked}
+use Rattle.checks.specs.Checking.{formedYes, formedNo, walkLine, differenceLines, sameList, leastLine, verdictLines, checkText, checkChecks, Answers, Checked}
+use Rattle.checks.specs.Private.{LeastIs, LeastFound, leastLineBy, verdictBy, ListChecked, RunChecked}
 use Rattle.checks.proofs.Sheets.{handed-holds, listChecks}
 
 not-so : (b : Bool) → not b ≡ true → b ≡ false

@@ -28,8 +28,9 @@ use Rattle.recalls.proofs.Read.{Wide, sheet-refusal, run-is, name-is, run-decid
 use Rattle.lists.specs.Form.{planFroms, planTos, listDetours, listText, listFroms, listTos, startsOn, endsOn}
 use Rattle.lists.specs.Reading.{listForm}
 use Rattle.lists.proofs.RoundTrip.{plan-short}
-use Rattle.checks.specs.Pricing.{priceChecks, priceText, Holds, RunPriced, SheetPriced}
-use Rattle.checks.specs.Checking.{checkChecks, Checked, RunChecked, SheetChecked}
+use Rattle.checks.specs.Pricing.{priceChecks, priceText, Holds, SheetPriced}
+use Rattle.checks.specs.Checking.{checkChecks, Checked, SheetChecked}
+use Rattle.checks.specs.Private.{RunChecked, RunPriced}
 
 -- 1 to 7, then 10.
 abbrev pub listChecks : Run → List ℕ → List ℕ → List Verdict

@@ -120,9 +120,6 @@ pub record Checked (v : Verdict) (name : List ℕ) (run : Run) (plan froms tos r
   pub answers : Answers v name run plan froms tos text
   pub holds : Holds text row n row′
 
--- The answer to a run, a tape name and a plan sheet, and to a run sheet and a plan sheet: on the list that the plan sheet holds.
-abbrev pub RunChecked : List ℕ → Run → List ℕ → List ℕ → ℕ → List ℕ → Type 0
-RunChecked name run plan row n row′ = Checked (firstOf (checkChecks plan run)) name run plan (planFroms plan) (planTos plan) row n row′
-
+-- The answer to a run sheet and a plan sheet: on the list that the plan sheet holds.
 abbrev pub SheetChecked : List ℕ → List ℕ → List ℕ → ℕ → List ℕ → Type 0
 SheetChecked sheet plan row n row′ = Checked (checkVerdict sheet plan) (sheetName sheet) (sheetRun sheet) plan (planFroms plan) (planTos plan) row n row′

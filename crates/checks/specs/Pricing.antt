@@ -32,9 +32,6 @@ pub record Holds (text row : List ℕ) (n : ℕ) (row′ : List ℕ) : Type 0 wh
   pub bytes : n ≡ bytesPut text row
   pub left : row′ ≡ rowPut text row
 
--- The answer to a run, a tape name and a list, and to a sheet and a list.
-abbrev pub RunPriced : List ℕ → Run → List ℕ → List ℕ → ℕ → List ℕ → Type 0
-RunPriced name run list row n row′ = Holds (priceText (firstOf (priceChecks list run)) name run list) row n row′
-
+-- The answer to a sheet and a list.
 abbrev pub SheetPriced : List ℕ → List ℕ → List ℕ → ℕ → List ℕ → Type 0
 SheetPriced sheet list row n row′ = Holds (priceText (pricingVerdict sheet list) (sheetName sheet) (sheetRun sheet) list) row n row′

@@ -12,7 +12,9 @@ use Rattle.least.specs.Least.{LeastForRun}
 use Rattle.prints.specs.Printing.{numberLine}
 use Rattle.recalls.specs.Recall.{runChecks}
 use Rattle.checks.specs.declared.checking.LeastBeside.{LeastBeside}
-use Rattle.checks.specs.Checking.{formedYes, leastYes, leastNo, walkLine, differenceLines, sameList, Checked}
+use Rattle.checks.specs.Checking.{formedYes, leastYes, leastNo, walkLine, differenceLines, sameList, Checked, checkChecks}
+use Rattle.lists.specs.Form.{planFroms, planTos}
+use Rattle.checks.specs.Pricing.{priceChecks, priceText, Holds}
 
 -- The least list of an accepted run, beside another.
 pub record LeastIs (run : Run) (froms tos : List ℕ) (r : LeastBeside) : Type 0 where
@@ -39,3 +41,11 @@ differenceMost plan expected = (6 + length plan + 1) + (9 + length expected + 1)
 -- The answer to a run and a list, once the plan sheet has been read.
 abbrev pub ListChecked : List ℕ → Run → List ℕ → List ℕ → List ℕ → List ℕ → ℕ → List ℕ → Type 0
 ListChecked name run plan froms tos row n row′ = Checked (firstOf (runChecks run)) name run plan froms tos row n row′
+
+-- The answer to a run, a tape name and a plan sheet: on the list that the plan sheet holds.
+abbrev pub RunChecked : List ℕ → Run → List ℕ → List ℕ → ℕ → List ℕ → Type 0
+RunChecked name run plan row n row′ = Checked (firstOf (checkChecks plan run)) name run plan (planFroms plan) (planTos plan) row n row′
+
+-- The answer to a run, a tape name and a list.
+abbrev pub RunPriced : List ℕ → Run → List ℕ → List ℕ → ℕ → List ℕ → Type 0
+RunPriced name run list row n row′ = Holds (priceText (firstOf (priceChecks list run)) name run list) row n row′

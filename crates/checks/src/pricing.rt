@@ -3,7 +3,8 @@ ghost use mathlib.Core.Path.{_≡_};
 ghost use mathlib.Core.Bool.{true};
 ghost use Rattle.runs.specs.Run.{runAt};
 ghost use Rattle.texts.specs.Text.{isName};
-ghost use Rattle.checks.specs.Pricing.{RunPriced, SheetPriced};
+ghost use Rattle.checks.specs.Pricing.{SheetPriced};
+ghost use Rattle.checks.specs.Private.{RunPriced};
 use refusals::Verdict;
 use refusals::refused;
 

@@ -27,7 +27,8 @@ use Rattle.writers.specs.PlanSheet.{planText, planSheetVerdict}
 use Rattle.writers.specs.RefusalLines.{refusalText}
 use Rattle.writers.proofs.Sheets.{last-verdict}
 use Rattle.recalls.proofs.Planned.{handed-out, refused-out}
-use Rattle.fields.specs.Field.{fieldChecks, RunFielded}
+use Rattle.fields.specs.Field.{fieldChecks}
+use Rattle.fields.specs.Private.{RunFielded}
 
 -- The program's rows.
 pub record Lent (rows : PlainRows) : Type 0 where

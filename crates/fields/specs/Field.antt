@@ -9,7 +9,7 @@ use Rattle.refusals.specs.Refusals.{refuseIf, firstOf}
 use Rattle.runs.specs.Run.{Run}
 use Rattle.runs.specs.Judging.{tableChecks, judgeOf}
 use Rattle.plain.specs.Plain.{unevenWants, mostPlainWants}
-use Rattle.recalls.specs.Recall.{RunRecalledBy, SheetRecalledBy}
+use Rattle.recalls.specs.Recall.{SheetRecalledBy}
 
 -- 1, 2 and 3, then 24, then 4 to 7. The rows suffice for eight wants, so 8 never applies.
 abbrev pub fieldChecks : Run → List Verdict
@@ -19,10 +19,6 @@ fieldChecks run =
     ∷ refuseIf (ltb mostPlainWants (length (run .numbers))) OverEightWants
     ∷ judgeOf run
     ∷ []
-
--- The answer to a run and a tape name.
-abbrev pub RunFielded : List ℕ → Run → List ℕ → ℕ → List ℕ → Type 0
-RunFielded name run row n row′ = RunRecalledBy fieldChecks name run row n row′
 
 -- The answer to a sheet: 12, 11 and 19 before these checks.
 abbrev pub SheetFielded : List ℕ → List ℕ → ℕ → List ℕ → Type 0

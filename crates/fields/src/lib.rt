@@ -4,7 +4,8 @@ ghost use mathlib.Core.Path.{_≡_};
 ghost use mathlib.Core.Bool.{true};
 ghost use Rattle.runs.specs.Run.{runAt};
 ghost use Rattle.texts.specs.Text.{isName};
-ghost use Rattle.fields.specs.Field.{RunFielded, SheetFielded};
+ghost use Rattle.fields.specs.Field.{SheetFielded};
+ghost use Rattle.fields.specs.Private.{RunFielded};
 use refusals::Verdict;
 use refusals::refused;
 

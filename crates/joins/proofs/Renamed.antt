@@ -16,7 +16,7 @@ use Rattle.runs.specs.Lists.{Detour, wanted, leftmost, badAlone, badAfter, badE
 use Rattle.runs.proofs.Search.{ltb-same, leb-not-ltb, true-or-false, or-false-both, first-same, first-zero, any-same}
 use Rattle.runs.proofs.Sound.{Sound}
 use Rattle.runs.proofs.Formed.{names-rise, formed-names}
-use Rattle.joins.specs.Table.{renumbered, nameOf, entryNamed, listNamed}
+use Rattle.joins.specs.Private.{renumbered, nameOf, entryNamed, listNamed}
 
 -- A number of the joined table.
 pub record Within (ss : List Stop) (a : ℕ) : Type 0 where

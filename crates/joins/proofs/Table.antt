@@ -18,7 +18,7 @@ use Rattle.runs.proofs.Judged.{GoodWants, GoodHead, GoodRun, accepted-run}
 use Rattle.runs.proofs.Stops.{run-sound, stops-few, stops-reads}
 use Rattle.runs.proofs.Alone.{alone-stops, alone-accepted, plain-length, plain-at}
 use Rattle.joins.specs.Joining.{lengthOf}
-use Rattle.joins.specs.Table.{countUp, tableOf, joinedTable, renumbered}
+use Rattle.joins.specs.Private.{countUp, tableOf, joinedTable, renumbered}
 
 pub count-length : (n k : ℕ) → length (countUp n k) ≡ k
 unfolding countUp

@@ -1,4 +1,3 @@
--- What a reader of the joining must believe stands in Joining and, for the engines, in Table; Private is for the contracts of private functions.
+-- What a reader of the joining must believe stands in Joining; Private is for the contracts of private functions, those of the engines too.
 pub mod Joining
-pub mod Table
 pub mod Private

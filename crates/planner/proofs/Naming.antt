@@ -15,7 +15,6 @@ use Rattle.runs.specs.Judging.{judgeOf}
 use Rattle.runs.specs.Lists.{Detour, entryOf}
 use Rattle.runs.proofs.Sound.{Sound}
 use Rattle.runs.proofs.Stops.{accepted-sound}
-use Rattle.joins.specs.Table.{countUp, joinedTable, nameOf, entryNamed, listNamed}
 use Rattle.joins.proofs.Table.{joined-stops, joined-accepted, joined-wants, joined-reads}
 use Rattle.joins.proofs.Renamed.{Within, InTable, formed-within}
 use Rattle.tables.specs.declared.Listed.{Listed}
@@ -25,6 +24,7 @@ use Rattle.planner.specs.Private.{Holds, nameIn, stopsVerdict, ListsName
 use Rattle.joins.proofs.Halves.{front, behind, holds-front, entry-in}
 use Rattle.planner.proofs.Joined.{few-stops}
 use Rattle.planner.proofs.Named.{least-named}
+use Rattle.joins.specs.Private.{countUp, joinedTable, nameOf, entryNamed, listNamed}
 
 -- An answer that says a verdict where that refuses, and accepts where it does not, refuses where the verdict does.
 pub told : (v w : Verdict) → (refuses v ≡ true → w ≡ v) → (refuses v ≡ false → w ≡ accepted) → refuses w ≡ refuses v

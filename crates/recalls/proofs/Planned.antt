@@ -26,7 +26,8 @@ use Rattle.writers.specs.Writing.{Handed, rowVerdict, writtenAnswer, writtenRow
 use Rattle.writers.specs.PlanSheet.{planText, planSheetVerdict}
 use Rattle.writers.specs.RefusalLines.{refusalText}
 use Rattle.writers.proofs.Sheets.{last-verdict}
-use Rattle.recalls.specs.Recall.{roomWords, runChecks, Answers, Recalled, RunRecalled, bytesPut, rowPut}
+use Rattle.recalls.specs.Recall.{roomWords, runChecks, Answers, Recalled, bytesPut, rowPut}
+use Rattle.recalls.specs.Private.{RunRecalled}
 
 -- A text that is handed out is in the row, where it has the room.
 module _ (text row : List ℕ) (w : Written) (row′ : List ℕ) (h : Handed (rowVerdict text row) text row w row′) where

@@ -23,8 +23,9 @@ use Rattle.sheets.proofs.Answers.{in-turn}
 use Rattle.writers.specs.declared.Written.{Written}
 use Rattle.writers.specs.Writing.{Handed, rowVerdict}
 use Rattle.writers.specs.RefusalLines.{refusalText}
-use Rattle.recalls.specs.Recall.{verdictBy, Recalled, RunRecalledBy, SheetRecalledBy}
+use Rattle.recalls.specs.Recall.{verdictBy, Recalled, SheetRecalledBy}
 use Rattle.recalls.proofs.Planned.{refused-out}
+use Rattle.recalls.specs.Private.{RunRecalledBy}
 
 -- The program's rows.
 pub record Wide (rows : RunRows) : Type 0 where

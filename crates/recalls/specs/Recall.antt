@@ -60,16 +60,9 @@ pub record Recalled (v : Verdict) (name : List ℕ) (run : Run) (row : List ℕ)
   pub bytes : n ≡ bytesPut text row
   pub left : row′ ≡ rowPut text row
 
--- The answer to a run and a tape name, and to a sheet, under an engine's checks.
-abbrev pub RunRecalledBy : (Run → List Verdict) → List ℕ → Run → List ℕ → ℕ → List ℕ → Type 0
-RunRecalledBy checks name run row n row′ = Recalled (firstOf (checks run)) name run row n row′
-
+-- The answer to a sheet, under an engine's checks; and under the planner's.
 abbrev pub SheetRecalledBy : (Run → List Verdict) → List ℕ → List ℕ → ℕ → List ℕ → Type 0
 SheetRecalledBy checks sheet row n row′ = Recalled (verdictBy checks sheet) (sheetName sheet) (sheetRun sheet) row n row′
-
--- Under the planner's.
-abbrev pub RunRecalled : List ℕ → Run → List ℕ → ℕ → List ℕ → Type 0
-RunRecalled name run row n row′ = RunRecalledBy runChecks name run row n row′
 
 abbrev pub SheetRecalled : List ℕ → List ℕ → ℕ → List ℕ → Type 0
 SheetRecalled sheet row n row′ = SheetRecalledBy runChecks sheet row n row′

@@ -4,7 +4,8 @@ ghost use mathlib.Core.Path.{_≡_};
 ghost use mathlib.Core.Bool.{true};
 ghost use Rattle.runs.specs.Run.{runAt};
 ghost use Rattle.texts.specs.Text.{isName};
-ghost use Rattle.recalls.specs.Recall.{RunRecalled, SheetRecalled};
+ghost use Rattle.recalls.specs.Recall.{SheetRecalled};
+ghost use Rattle.recalls.specs.Private.{RunRecalled};
 use refusals::Verdict;
 use refusals::refused;
 

@@ -6,9 +6,10 @@ use mathlib.Core.List.{List, [], _∷_}
 use lib.ListN.{length, getD}
 use lib.Dec.{leb, ltb, eqb}
 use Rattle.refusals.specs.Refusals.{firstWhere}
-use Rattle.runs.specs.Run.{goesOn, lastMember}
+use Rattle.runs.specs.Run.{goesOn, lastMember, Lent, Stop, wantStops, plainStops}
 use Rattle.runs.specs.Judging.{badPlace}
 use Rattle.runs.specs.Lists.{Detour, badAfter, anyBelow}
+use denote.Ref.{now}
 
 -- A table of files that passed 1 and 2 by their places.
 pub record SoundTable (starts lengths : List ℕ) : Type 0 where
@@ -58,3 +59,11 @@ rowClash froms tos i = anyBelow (λ j. badAfter (rowEntry froms tos j) (rowEntry
 
 abbrev pub rowBad : List ℕ → List ℕ → List ℕ → List ℕ → ℕ → Bool
 rowBad aggregates numbers froms tos i = rowAlone aggregates numbers (getD froms i 0) (getD tos i 0) || rowClash froms tos i
+
+-- The stops that a function's parameters hold: of files in no aggregate, and of wants as handed in.
+abbrev pub plainStopsAt : {S L N C : Type 0} → Lent S → Lent L → Lent N → Lent C → List Stop
+plainStopsAt starts lengths numbers counts = plainStops (starts .entry .now) (lengths .entry .now) (numbers .entry .now) (counts .entry .now)
+
+abbrev pub wantStopsAt : {S L A N C : Type 0} → Lent S → Lent L → Lent A → Lent N → Lent C → List Stop
+wantStopsAt starts lengths aggregates numbers counts =
+    wantStops (starts .entry .now) (lengths .entry .now) (aggregates .entry .now) (numbers .entry .now) (counts .entry .now)

@@ -143,10 +143,6 @@ wantStopsOf r = wantStops (r .starts) (r .lengths) (r .aggregates) (r .numbers) 
 abbrev pub stopsOf : Run → List Stop
 stopsOf r = joined (wantStopsOf r)
 
-abbrev pub wantStopsAt : {S L A N C : Type 0} → Lent S → Lent L → Lent A → Lent N → Lent C → List Stop
-wantStopsAt starts lengths aggregates numbers counts =
-    wantStops (starts .entry .now) (lengths .entry .now) (aggregates .entry .now) (numbers .entry .now) (counts .entry .now)
-
 -- The stops of files that lie in no aggregate: one for each want, with that file's own number, start and end.
 abbrev pub plainStop : List ℕ → List ℕ → ℕ → ℕ → Stop
 plainStop starts lengths f c =
@@ -156,9 +152,6 @@ unfoldable pub plainStops : List ℕ → List ℕ → List ℕ → List ℕ → 
 plainStops starts lengths [] cs = []
 plainStops starts lengths (f ∷ fs) [] = []
 plainStops starts lengths (f ∷ fs) (c ∷ cs) = plainStop starts lengths f c ∷ plainStops starts lengths fs cs
-
-abbrev pub plainStopsAt : {S L N C : Type 0} → Lent S → Lent L → Lent N → Lent C → List Stop
-plainStopsAt starts lengths numbers counts = plainStops (starts .entry .now) (lengths .entry .now) (numbers .entry .now) (counts .entry .now)
 
 -- A stop by its index, from 0.
 abbrev pub stopAt : List Stop → ℕ → Stop

@@ -2,9 +2,9 @@
 ghost use mathlib.Core.Path.{_≡_};
 ghost use Prim.Native.Nat.{suc, _+_, _-_, _*_, _≤_, _<_};
 ghost use lib.ListN.{length, getD};
-ghost use Rattle.runs.specs.Run.{plainStopsAt};
 ghost use Rattle.least.specs.Recurrence.{lower};
 ghost use Rattle.tables.specs.Private.{Written, SkipFits, RowTask, DetourFrom, SoFar, ColumnTask, DoneUpTo, Judged, Filled, Beyond, tableSize, rowAt, readsIn, worth, choiceWorth};
+ghost use Rattle.runs.specs.Private.{plainStopsAt};
 use crate::blocks::lower_row;
 use crate::stops::early_of;
 use crate::stops::row;

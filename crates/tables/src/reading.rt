@@ -2,8 +2,9 @@
 ghost use mathlib.Core.Path.{_≡_};
 ghost use Prim.Native.Nat.{suc, _+_, _-_, _≤_, _<_};
 ghost use lib.ListN.{length};
-ghost use Rattle.runs.specs.Run.{plainStops, plainStopsAt};
+ghost use Rattle.runs.specs.Run.{plainStops};
 ghost use Rattle.tables.specs.Private.{Asked, DetourFrom, Filled, ListWritten, worth, choiceWorth, chosen, listAt};
+ghost use Rattle.runs.specs.Private.{plainStopsAt};
 use crate::stops::early_of;
 use crate::stops::reads_before;
 use crate::stops::row;

@@ -13,8 +13,8 @@ use Rattle.walk.specs.declared.Head.{Head}
 use Rattle.walk.specs.declared.Leg.{Leg}
 use Rattle.walk.specs.declared.Read.{Read}
 use Rattle.runs.specs.Run.{Stop, stopOf, wantStops, total, mostReads, lastPlace, highestTurn}
-use Rattle.walk.specs.Walk.{headAt, setOff, afterLeg, Moves, walked, reads, timeOf, legFor, readOf, timesOf, legsFor, sumOf}
-use Rattle.walk.specs.Private.{legAt, Walkable}
+use Rattle.walk.specs.Walk.{headAt, setOff, afterLeg, Moves, walked, reads, timeOf, legFor, timesOf, legsFor, sumOf}
+use Rattle.walk.specs.Private.{legAt, Walkable, readOf}
 use Rattle.runs.proofs.Search.{true-or-false}
 use Rattle.runs.proofs.Accepted.{total-drop}
 use Rattle.runs.proofs.Joined.{Places}

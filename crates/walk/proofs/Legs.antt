@@ -12,8 +12,8 @@ use Rattle.walk.specs.declared.Head.{Head}
 use Rattle.walk.specs.declared.Leg.{Leg}
 use Rattle.walk.specs.declared.Read.{Read}
 use Rattle.runs.specs.Run.{Stop, lastPlace}
-use Rattle.walk.specs.Walk.{headAt, runRight, setOff, afterLeg, Moves, walked, timeOf, legFrom, legFor, readOf}
-use Rattle.walk.specs.Private.{leftOf, rightOf, detourLegs, sweepLegs, rowLegs, legAt, Walkable}
+use Rattle.walk.specs.Walk.{headAt, runRight, setOff, afterLeg, Moves, walked, timeOf, legFrom, legFor}
+use Rattle.walk.specs.Private.{leftOf, rightOf, detourLegs, sweepLegs, rowLegs, legAt, Walkable, readOf}
 use Rattle.walk.proofs.Steps.{ready-place, set-off-clock, read-inside}
 
 module _ (starts lengths aggregates : List ℕ) where

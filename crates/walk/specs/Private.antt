@@ -6,9 +6,11 @@ use mathlib.Core.List.{List, [], _∷_, _++_}
 use lib.ListN.{length, getD}
 use lib.Dec.{leb}
 use Rattle.walk.specs.declared.Leg.{Leg}
-use Rattle.runs.specs.Run.{Row, Lent, endAt, goesOn, firstMember, lastMember, mostWants, lastPlace, highestTurn}
-use Rattle.walk.specs.Walk.{Moves}
+use Rattle.runs.specs.Run.{Row, Lent, endAt, goesOn, firstMember, lastMember, mostWants, lastPlace, highestTurn, Stop}
+use Rattle.walk.specs.Walk.{Moves, timeOf, legFor}
 use Rattle.runs.specs.Private.{SoundTable, InTable}
+use Rattle.walk.specs.declared.Head.{Head}
+use Rattle.walk.specs.declared.Read.{Read}
 
 -- Where a file's aggregate starts and where it ends.
 abbrev pub leftOf : List ℕ → List ℕ → ℕ → ℕ
@@ -85,3 +87,7 @@ pub record WalkFits (starts lengths aggregates numbers froms tos : List ℕ) (re
   pub fit : RowsFit starts lengths aggregates numbers froms tos
   pub within : Walkable (rowLegs starts lengths aggregates numbers froms tos reach) head turn
   pub all : many ≡ length (rowLegs starts lengths aggregates numbers froms tos reach)
+
+-- When a movement reads a file, and which of its legs does.
+abbrev pub readOf : ℕ → Head → List Leg → Stop → Read
+readOf price h gs s = record { time = timeOf price h gs s; leg = legFor gs s }

@@ -82,10 +82,6 @@ legFrom n (g ∷ gs) s = cond (reads g s) n (legFrom (suc n) gs s)
 abbrev pub legFor : List Leg → Stop → ℕ
 legFor gs s = legFrom 1 gs s
 
--- When a movement reads a file, and which of its legs does.
-abbrev pub readOf : ℕ → Head → List Leg → Stop → Read
-readOf price h gs s = record { time = timeOf price h gs s; leg = legFor gs s }
-
 -- One time and one leg for each file.
 unfoldable pub timesOf : ℕ → Head → List Leg → List Stop → List ℕ
 timesOf price h gs ss = map (timeOf price h gs) ss
