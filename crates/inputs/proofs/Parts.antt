@@ -13,7 +13,7 @@ use Rattle.lines.specs.Lines.{lineOf, isNumberLine, numberBehind}
 use Rattle.lines.specs.Found.{NumberLineFound}
 use Rattle.inputs.specs.declared.Framed.{Framed}
 use Rattle.inputs.specs.declared.Framed.the-variants.{Sheet, Bad}
-use Rattle.inputs.specs.Inputs.{framed, framedBehind, partIn}
+use Rattle.inputs.specs.Inputs.{framed, framedBehind, partIn, partPlace}
 
 -- A text of so many bytes from a place on.
 module _ (from bytes left : ℕ) (cut : Bool) where
@@ -64,6 +64,17 @@ module _ (text : List ℕ) (from to : ℕ) where
 
   pub part-backwards : to < from → text ≡ partIn text from to
   part-backwards l = rw (lt-leb from to l)
+
+-- And where they lie.
+module _ (bytes from to : ℕ) (place : ℕ × ℕ) where
+  pub place-there : from ≤ to → to ≤ bytes → (place .0, from + place .1) ≡ partPlace bytes from to place
+  place-there l m = rw (le-leb from to l, le-leb to bytes m)
+
+  pub place-beyond : from ≤ to → bytes < to → place ≡ partPlace bytes from to place
+  place-beyond l m = rw (le-leb from to l, lt-leb to bytes m)
+
+  pub place-backwards : to < from → place ≡ partPlace bytes from to place
+  place-backwards l = rw (lt-leb from to l)
 
 -- The first n bytes of a row that has fewer.
 pub whole-row : (row : List ℕ) (n : ℕ) → length row < n → row ≡ take n row

@@ -26,6 +26,10 @@ framed input cut =
 abbrev pub partIn : List ℕ → ℕ → ℕ → List ℕ
 partIn text from to = cond (leb from to && leb to (length text)) (take (to - from) (drop from text)) text
 
+-- Where that part of a text of so many bytes lies, for a text that lies at a place: in the same memory, so many bytes on; the whole text at its place.
+abbrev pub partPlace : ℕ → ℕ → ℕ → ℕ × ℕ → ℕ × ℕ
+partPlace bytes from to place = cond (leb from to && leb to bytes) (place .0, from + place .1) place
+
 -- A line read into a row: no more than the row holds, no LF but at its end, and what stands behind it in the row is as it was.
 pub record LineRead (row : List ℕ) (n : ℕ) (row′ : List ℕ) : Type 0 where
   pub held : n ≤ length row

@@ -3,7 +3,7 @@
 ghost use mathlib.Core.Path.{_≡_};
 ghost use Prim.Native.Nat.{_+_, _≤_, min};
 ghost use lib.ListN.{length, take};
-ghost use Rattle.inputs.specs.Inputs.{framed, framedBehind, partIn, LineRead, ReadOf};
+ghost use Rattle.inputs.specs.Inputs.{framed, framedBehind, partIn, partPlace, LineRead, ReadOf};
 use libc::STDIN_FILENO;
 use lines::NumberLine;
 
@@ -53,6 +53,7 @@ pub fn frame(input: &[u8], cut: bool) -> Framed
 // The bytes from one place to another; the whole text where these are no places in it.
 pub fn part(text: &[u8], from: usize, to: usize) -> &[u8]
     ensures { λ r. ⌜ now r ≡ partIn (now (text .entry)) from to ⌝ }
+    ensures { λ r. ⌜ r .ptr ≡ partPlace (length (now (text .entry))) from to (text .entry .ptr) ⌝ }
 {
     if from <= to {
         if to <= text.len() {
@@ -65,6 +66,7 @@ pub fn part(text: &[u8], from: usize, to: usize) -> &[u8]
 // The first n bytes of a row, or the row where it has fewer.
 pub fn front(row: &[u8], n: u64) -> &[u8]
     ensures { λ r. ⌜ now r ≡ take n (now (row .entry)) ⌝ }
+    ensures { λ r. ⌜ r .ptr ≡ row .entry .ptr ⌝ }
 {
     let end = n as usize;
     if end <= row.len() {

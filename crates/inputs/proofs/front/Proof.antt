@@ -1,6 +1,6 @@
 -- `inputs::front` meets its contract: a row of fewer bytes is all of its first n.
 -- Assumes nothing.
-use mathlib.Core.Path.{sym}
+use mathlib.Core.Path.{sym, refl}
 use lib.Seq.{length-take-le}
 use Rattle.inputs.proofs.Parts.{whole-row}
 use borrow.Author.Needs.{needs}
@@ -14,7 +14,7 @@ returns : tie.Need-returns
 returns c = search needs
 
 returns-2 : tie.Need-returns-2
-returns-2 c = whole-row _ _ (c .if1 .left)
+returns-2 c = (whole-row _ _ (c .if1 .left), refl)
 
 pub front-spec : {M : Type 1} → statement M
 front-spec = tie.close (tie.spec slice-aggregate-result returns returns-2)
