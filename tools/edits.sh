@@ -3,7 +3,7 @@
 #
 #   tools/edits.sh [NAME..]      of these crates; without a name of all
 #
-# An edit costs a check of its whole crate, so the gate tries what a reader needs (crates/NAME/must-fail) and this the rest: once before an edit
+# A file of edits costs a check of its whole crate, so the gate tries what a reader needs (crates/NAME/must-fail) and this the rest: once before an edit
 # moves here, and whenever its crate has changed. It works on a copy, in which what was proved here need not be proved again (rt check).
 # What rt says of each edit stands on standard output, the logs in target/must-fail/NAME/EDIT/.log, as of the gate's own edits.
 set -eu

@@ -192,7 +192,7 @@ def runs():
         yield plan.drawn(draw, wants, draw.randrange(wants, 30))
 
 
-def price_cases():
+def cases_to_price():
     draw = random.Random(3)
     for sheet in runs():
         run = read(sheet)
@@ -276,7 +276,7 @@ def main():
     words = reader.parse_args()
     paths = words.programs or [os.path.join(programs.ROOT, "target/bin", crate) for crate in ("cmd_price", "cmd_check")]
     starts = [programs.started(argparse.Namespace(program=path, native=words.native)) for path in paths]
-    priced, seen = compare("price", starts[0], price_cases(), price_answer)
+    priced, seen = compare("price", starts[0], cases_to_price(), price_answer)
     missing = {b"refused=%d" % n for n in (7, 10, 11, 12, 19)} - set(seen)
     checked, told = compare("check", starts[1], check_cases(), check_answer)
     missing |= {b"refused=%d" % n for n in (7, 9, 11, 12, 19)} - set(told)

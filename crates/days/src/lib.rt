@@ -2,6 +2,7 @@
 // For the program, which reads a line, calls this and writes. It stands on the promises of the waiting table, of the boarding, of the line readers and
 // of the writers; the rows that a boarding is lent, but for its working room, are on its own stack.
 ghost use mathlib.Core.Path.{_≡_};
+ghost use Rattle.tickets.specs.Table.{noTicket};
 ghost use Rattle.boardings.specs.Boardings.{tapeAt};
 ghost use Rattle.lines.specs.Lines.{lineOf};
 ghost use Rattle.days.specs.Events.{eventOf};
@@ -48,16 +49,23 @@ pub struct Answered {
     pub described: bool,
 }
 
-// A day's beginning: nobody waits and no number is given.
-pub fn morning() -> Day
-    ensures { λ r. ⌜ r ≡ morningDay ⌝ }
+// An empty place.
+fn nobody() -> Ticket
+    ensures { λ r. ⌜ r ≡ noTicket ⌝ }
 {
-    let none = Ticket {
+    Ticket {
         office: 0,
         file: 0,
         count: 0,
         number: 0,
-    };
+    }
+}
+
+// A day's beginning: nobody waits and no number is given.
+pub fn morning() -> Day
+    ensures { λ r. ⌜ r ≡ morningDay ⌝ }
+{
+    let none = nobody();
     Day {
         row: [none; 32],
         lasts: Lasts { one: 0, two: 0 },
