@@ -38,10 +38,13 @@ can_start() {
     done
 }
 
-# start CRATE LANE
+# start CRATE LANE: a call in the background, which ends with a line in the pipe: the crate, the lane, the status.
 start() {
-    (cd "$rooms/$2" && RT_JOBS=1 rt check "$1") > "$rooms/$2/said" 2>&1 &
-    crate_of[$!]=$1 lane_of[$!]=$2 state[$1]=begun
+    {
+        (cd "$rooms/$2" && RT_JOBS=1 rt check "$1") > "$rooms/$2/said" 2>&1 3>&-
+        printf '%s %s %s\n' "$1" "$2" "$?" >&3
+    } &
+    state[$1]=begun running=$((running + 1))
 }
 
 # Starts what can be started, as long as a lane is free.
@@ -58,12 +61,9 @@ start_some() {
 
 # Waits for one call; sets ended to its status.
 end_one() {
-    local call crate lane
-    wait -n -p call "${!crate_of[@]}"
-    ended=$?
-    crate=${crate_of[$call]} lane=${lane_of[$call]}
-    unset "crate_of[$call]" "lane_of[$call]"
-    free+=("$lane")
+    local crate lane
+    read -r crate lane ended <&3
+    free+=("$lane") running=$((running - 1))
     if [ "$ended" -eq 0 ]; then
         state[$crate]=proved
         grep "^rt: $crate " "$rooms/$lane/said"
@@ -72,8 +72,8 @@ end_one() {
     fi
 }
 
-declare -A names state crate_of lane_of
-order=() free=() unproved=0
+declare -A names state
+order=() free=() running=0 unproved=0
 while read -r crate named; do
     order+=("$crate") names[$crate]=$named state[$crate]=waits
     [ -e "$here/target/stamp/$crate" ] || unproved=$((unproved + 1))
@@ -86,9 +86,11 @@ for ((lane = 1; lane <= lanes; lane++)); do
     free+=("$lane")
 done
 
+mkfifo "$rooms/ends" && exec 3<> "$rooms/ends" || exit 1
+
 status=0
 start_some
-while [ "${#crate_of[@]}" -gt 0 ]; do
+while [ "$running" -gt 0 ]; do
     end_one
     [ "$ended" -eq 0 ] || [ "$status" -ne 0 ] || status=$ended
     [ "$status" -ne 0 ] || start_some
