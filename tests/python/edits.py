@@ -67,6 +67,12 @@ def changed(crate, triples, texts, found):
     return functions
 
 
+def shared(triple):
+    """Whether a change is of a definition or of a contract, and so not of one function alone."""
+    file, old, new = triple
+    return file.startswith("specs/") or any(word + " {" in text for word in ("ensures", "requires") for text in (old, new))
+
+
 def proof_of(crate, function):
     """Where the proof of a function stands below the crate's proofs/, or its name, where rt proves it without a file."""
     module, name = function
@@ -128,6 +134,7 @@ def main():
             found += [] if triples else [f"{wrong} changes nothing"]
             found += [f"{wrong} is there twice in {crate}"] if names[crate, wrong] > 1 else []
             found += [f"{wrong}: programs and statements in one file"] if bool(law) != bool(several[0][2]) or law and functions else []
+            found += [f"{wrong} changes what its callers rest on"] if len(several) > 1 and not law and any(map(shared, triples)) else []
         if "/more/" in edit:
             more += len(several)
         else:
