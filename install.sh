@@ -8,7 +8,8 @@
 # `rt staticlib boundary` makes, by default target/staticlib/libboundary.a; the programs are those in target/bin. What was
 # installed is written down in PREFIX/libexec/violstream/installed, for `violstream uninstall`.
 set -eu
-
+# Nothing else of the environment is read.
+unset -v CDPATH archive destdir here made own prefix program root script shared soname version word words
 here=$(cd "$(dirname "$0")" && pwd)
 . "$here/tools/machine.sh"
 prefix=${PREFIX:-/usr/local}

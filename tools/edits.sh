@@ -7,6 +7,7 @@
 # moves here, and whenever its crate has changed. It works on a copy, in which what was proved here need not be proved again (rt check).
 # What rt says of each edit stands on standard output, the logs in target/must-fail/NAME/EDIT/.log, as of the gate's own edits.
 set -eu
+unset -v CDPATH crate folder here name names status work
 here=$(cd "$(dirname "$0")/.." && pwd)
 
 fail() {

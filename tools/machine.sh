@@ -6,6 +6,7 @@
 #   machine, emulated   the processor's name; yes if it is not x86-64, else no
 #   cc, cxx             the compilers of C and C++
 #   emulator, cross     what runs the programs that these or rustc have linked, and where it finds their libraries
+unset -v cc cross cxx emulated emulator libraries loader machine rt runner tools
 machine=$(uname -m)
 cross=/usr/x86_64-linux-gnu
 case $machine in

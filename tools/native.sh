@@ -7,7 +7,7 @@
 #
 # The crates below CRATE must be proved already (rt check CRATE).
 set -eu
-
+unset -v CDPATH clang crate here kit layout library out own source tool triple work
 here=$(cd "$(dirname "$0")/.." && pwd)
 . "$here/tools/machine.sh"
 

@@ -8,6 +8,7 @@
 # are its own, so that two calls do not meet. Printed is what rt prints of each crate; the status is 0, or that of the first call that fails.
 # Nothing is decided here: `rt check CRATE` comes after this, and proves whatever is not proved.
 set -u
+unset -v CDPATH crate ended free here lane lanes name named names order rooms running state status unproved
 here=$(cd "$(dirname "$0")/.." && pwd)
 rooms=$2
 lanes=${RT_JOBS:-$(nproc 2> /dev/null || echo 1)}

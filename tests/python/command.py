@@ -694,6 +694,66 @@ def building_interrupted(at):
     at.must("./violstream plan examples/VX0041.run", 0, PLAN, ["building cmd_plan"])
 
 
+SCRIPTS = ("violstream", "install.sh", "tools/edits.sh", "tools/machine.sh", "tools/native.sh", "tools/prove.sh")
+# Names that are the caller's to set, and those of the shell itself.
+OUTSIDE = {"PATH", "TMPDIR", "DESTDIR", "PREFIX", "RATTLE_HOME", "RT_JOBS", "VIOLSTREAM_SILENCE", "PIPESTATUS", "SECONDS"}
+
+
+def names_in(script):
+    """The variables that a script reads, and those that it empties before anything else."""
+    text = re.sub(r"<< 'TEXT'.*?\nTEXT\n", "", contents(script).decode(), flags=re.S)
+    text = re.sub(r"(?m)(?:^|\s)#.*$", "", text)
+    emptied = set(re.search(r"(?m)^unset -v ((?:.*\\\n)*.*)", text)[1].replace("\\\n", " ").split())
+    text = re.sub(r"\\\$|'\$[a-z]", "", text)
+    return set(re.findall(r"\$(?:\{[#!]?|\(\()?([A-Za-z_][A-Za-z_0-9]*)", text)) - OUTSIDE, emptied
+
+
+def surrounded(at):
+    """No name of the environment reaches into the scripts: every one that they use is set to something hostile, and all is as without."""
+    names = {"CDPATH"}
+    for script in SCRIPTS:
+        read, emptied = names_in(script)
+        names |= read | emptied
+        machine = names_in("tools/machine.sh")[1] if b"/machine.sh\"" in contents(script) else set()
+        if read - emptied - machine:
+            raise Wrong(f"{script} reads what it has not emptied first: {sorted(read - emptied - machine)}")
+    at.write("month", b"%d\n" % len(RUN) + RUN)
+    run, plan = "examples/VX0041.run", "examples/VX0041.plan"
+    lines = [f"./violstream plan {run}", f"./violstream field {run}", f"./violstream buys {run}", f"./violstream price {run} examples/VX0041.list",
+             f"./violstream check {run} {plan}", f"./violstream explain --svg picture {run} && cat picture", f"./violstream rewrite {run}",
+             f"./violstream mend {run}", "./violstream month month", f"./violstream ltfs VX0041 {LABEL} {INDEX}",
+             "./violstream desk examples/day.run examples/day.events", f"./violstream plan {plan}", f"./violstream ltfs VX0041 {LABEL} /dev/null",
+             "./violstream version", "./violstream help", "./violstream", "./violstream nothing", "./violstream build",
+             "./violstream install /nowhere/../proc/none", f"./violstream install '{at.root}/prefix'", f"./violstream uninstall '{at.root}/prefix'",
+             f"./install.sh 'PREFIX={at.root}/prefix' no-such", "tools/edits.sh no-such", "tools/native.sh"]
+    unbuilt(at)
+    os.rename(at.path("kept"), at.path("target.kept"))
+
+    def all_lines():
+        """What every line gives, from nothing built on."""
+        shutil.rmtree(at.path("target"), ignore_errors=True)
+        shutil.copytree(at.path("target.kept"), at.path("kept"), dirs_exist_ok=True)
+        return [(line, *at.shell(line)) for line in lines]
+
+    must = all_lines()
+    canary = at.path("canary")
+    os.makedirs(os.path.join(canary, "tools/tools"))
+    sleeper = subprocess.Popen(["sleep", str(LIMIT * 10)])
+    try:
+        for hostile in (canary, str(sleeper.pid), "cat"):
+            at.surroundings.update({name: hostile for name in names})
+            for clean, now in zip(must, all_lines()):
+                if (clean[1], clean[3]) != (now[1], now[3]) or sorted(clean[2].split("\n")) != sorted(now[2].split("\n")):
+                    raise Wrong(f"with every name set to {hostile!r} {now[0]!r} gives {now[1:]}, and must give {clean[1:]}")
+        if not os.path.isdir(os.path.join(canary, "tools/tools")) or os.listdir(canary) != ["tools"]:
+            raise Wrong("a folder that a name of the environment holds was changed")
+        if sleeper.poll() is not None:
+            raise Wrong("a process whose number a name of the environment holds was ended")
+    finally:
+        sleeper.kill()
+        sleeper.wait()
+
+
 def until(true, otherwise):
     for _ in range(200):
         if true():
@@ -703,7 +763,7 @@ def until(true, otherwise):
 
 
 TESTS = (answers, fielding, figures, pairs, explained, rewriting, mending, monthly, desk, statuses, help_and_version, nothing_lost, broken_program, several, ltfs_inputs, words_of_sheets, words_of_damaged_sheets,
-         words_of_tapes, keyboard, transcripts, manual, interrupted, building, building_fails, building_twice, building_interrupted)
+         words_of_tapes, keyboard, transcripts, manual, interrupted, building, building_fails, building_twice, building_interrupted, surrounded)
 
 
 def main():
