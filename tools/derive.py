@@ -1,7 +1,7 @@
 #!/usr/bin/env python3
 """Writes the walks of functions over a lent slice of structs, which the front end declines to write.
 
-    tools/derive.py CRATE HOME::STRUCT        tools/derive.py desk tickets::Ticket
+    tools/derive.py CRATE HOME::STRUCT        tools/derive.py desk_rows desk_tickets::Ticket
 
 The borrow checker's rules hold for any element type that is copied, but the front end writes a walk only for slices of
 numbers and of arrays of numbers. So the walk of each function is taken from a twin: the same function over a slice of arrays

@@ -60,20 +60,20 @@ fn taken_up(row: [Ticket; 40], before: [Ticket; 32], len: usize) -> [Ticket; 32]
 """
 FILED = """{
     let mut row = laid(table);
-    let filed = desk::file(&mut row[..len], filing);
+    let filed = desk_rows::file(&mut row[..len], filing);
     let after = taken_up(row, table, len);
     FiledRow { filed, row: after }
 }
 """
 WITHDRAWN = """{
     let mut row = laid(table);
-    let withdrawn = desk::withdraw(&mut row[..len], withdrawal);
+    let withdrawn = desk_rows::withdraw(&mut row[..len], withdrawal);
     let after = taken_up(row, table, len);
     WithdrawnRow { withdrawn, row: after }
 }
 """
 BOARDED = """    let mut row = laid(table);
-    let boarded = desk::board(
+    let boarded = desk_rows::board(
         &mut row[..len],
         boarding,
         &starts,
@@ -99,9 +99,9 @@ def replaced(text, old, new, flags=0):
 
 def lending(text):
     """The text of check_desk over a lent row."""
-    text = replaced(text, r"\{\n    tickets::file_in\(len, table, filing\)\n\}\n", FILED)
-    text = replaced(text, r"\{\n    tickets::withdraw_in\(len, table, withdrawal\)\n\}\n", WITHDRAWN)
-    text = replaced(text, r"    boardings::board_in\(\n.*?\n    \)\n", BOARDED, re.S)
+    text = replaced(text, r"\{\n    desk_tickets::file_in\(len, table, filing\)\n\}\n", FILED)
+    text = replaced(text, r"\{\n    desk_tickets::withdraw_in\(len, table, withdrawal\)\n\}\n", WITHDRAWN)
+    text = replaced(text, r"    desk_boardings::board_in\(\n.*?\n    \)\n", BOARDED, re.S)
     text = replaced(text, rf"first < {desk.EVENTS} ", f"first < {EVENTS} ")
     return replaced(text, r"\n// A filing in a row", LENT + "// A filing in a row")
 
@@ -110,7 +110,7 @@ def main():
     crates = os.path.join(programs.ROOT, "crates")
     with open(os.path.join(programs.ROOT, "crates.txt"), encoding="utf-8") as handle:
         lines = {line.split(":")[0].strip(): line for line in handle if ":" in line.split("#")[0]}
-    needed = [name for name in lines["desk"].split(":")[1].split()] + ["desk"]
+    needed = [name for name in lines["desk_rows"].split(":")[1].split()] + ["desk_rows"]
     with tempfile.TemporaryDirectory() as folder:
         for name in needed:
             shutil.copytree(os.path.join(crates, name), os.path.join(folder, "crates", name))

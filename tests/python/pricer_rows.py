@@ -36,7 +36,7 @@ PLANTED = (
     ("let own: &[u64; 64] = other;", "the type of an array"),
     ("let own: Vec<u64> = other;", "the type Vec"),
     ("let own = vec![0u64];", "the macro vec"),
-    ("tables::list(own);", "calls tables::list"),
+    ("engine_table::list(own);", "calls engine_table::list"),
     ("io::price(own);", "calls io::price"),
     ("FUNCTION();", "recursion"),
 )

@@ -1,16 +1,16 @@
 // A long day of two offices at one tape, over the by-value functions of the desk: 1,500 filings, withdrawals and boardings are drawn, on sound rows of
 // records and on damaged ones, and for every fifty of them one number is printed, which all answers and all rows go into. What it must print stands
 // beside it in stdout; tests/python/desk.py draws the same day and works it out from the requests' sentences.
-use boardings::BoardedRow;
-use boardings::Boarding;
+use desk_boardings::BoardedRow;
+use desk_boardings::Boarding;
+use desk_tickets::FiledRow;
+use desk_tickets::Filing;
+use desk_tickets::Lasts;
+use desk_tickets::Ticket;
+use desk_tickets::Withdrawal;
+use desk_tickets::WithdrawnRow;
 use libc::STDOUT_FILENO;
 use refusals::number;
-use tickets::FiledRow;
-use tickets::Filing;
-use tickets::Lasts;
-use tickets::Ticket;
-use tickets::Withdrawal;
-use tickets::WithdrawnRow;
 
 // The tape: where its files start, how long they are, and which lie in an aggregate.
 const STARTS: [u64; 20] = [
@@ -125,12 +125,12 @@ fn mixed_table(before: u64, table: [Ticket; 32]) -> u64 {
 
 // A filing in a row of records of this length that begins with the table.
 fn filed(len: usize, table: [Ticket; 32], filing: Filing) -> FiledRow {
-    tickets::file_in(len, table, filing)
+    desk_tickets::file_in(len, table, filing)
 }
 
 // A withdrawal from such a row.
 fn withdrawn(len: usize, table: [Ticket; 32], withdrawal: Withdrawal) -> WithdrawnRow {
-    tickets::withdraw_in(len, table, withdrawal)
+    desk_tickets::withdraw_in(len, table, withdrawal)
 }
 
 // A boarding from such a row, for one tape table.
@@ -147,7 +147,7 @@ fn boarded(
     let starts = STARTS;
     let lengths = LENGTHS;
     let aggregates = AGGREGATES;
-    boardings::board_in(
+    desk_boardings::board_in(
         len,
         table,
         boarding,

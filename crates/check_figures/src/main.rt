@@ -74,7 +74,7 @@ fn show(a: u64, b: u64, c: u64, before: u64) -> u64 {
     let tos = [first + c / 4 % 2, second + c / 8 % 4, 2 + c / 32 % 5];
     let n = (c / 256 % 4) as usize;
     let mut out = [0u8; 4492];
-    let sheet = figure_sheets::write_figures(
+    let sheet = sheet_figures::write_figures(
         b"D",
         &starts,
         &lengths,
@@ -93,7 +93,7 @@ fn show(a: u64, b: u64, c: u64, before: u64) -> u64 {
         place: sheet.place,
     };
     if refused(verdict) {
-        let lines = writers::write_refusal(verdict, &mut out);
+        let lines = sheet_writer::write_refusal(verdict, &mut out);
         return mixed(front(&out, lines.bytes), before);
     }
     mixed(front(&out, sheet.bytes), before)

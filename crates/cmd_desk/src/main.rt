@@ -1,15 +1,15 @@
 // cmd_desk: a day at the desk of two offices. Standard input: a line with the byte count of a run sheet, the sheet, whose wants are not looked at, and
 // then one event a line; each event's answer goes to standard output before the next event is read.
-// The answers are proved in `days`; what is read and written here, and the order of it, is tested and not proved.
-use days::Answered;
-use days::Day;
+// The answers are proved in `answer_desk`; what is read and written here, and the order of it, is tested and not proved.
+use answer_desk::Answered;
+use answer_desk::Day;
 use libc::STDOUT_FILENO;
-use lines::NumberLine;
 use refusals::Refusal;
 use refusals::Verdict;
+use text_lines::NumberLine;
 
 // A day, and whether it goes on.
-struct Turn {
+struct Step {
     day: Day,
     goes_on: bool,
 }
@@ -26,17 +26,17 @@ fn entries(row: &[u64], n: u64) -> &[u64] {
 
 fn print_refusal(refusal: Refusal, place: u64) {
     let mut out = [0u8; 56];
-    let lines = writers::write_refusal(Verdict { refusal, place }, &mut out);
-    io::write_all(STDOUT_FILENO, inputs::front(&out, lines.bytes));
+    let lines = sheet_writer::write_refusal(Verdict { refusal, place }, &mut out);
+    io::write_all(STDOUT_FILENO, text_inputs::front(&out, lines.bytes));
 }
 
 fn print_waiting(day: Day) {
     let row = day.row;
     let mut out = [0u8; 50];
-    let ones = tickets::count_waiting(row, 1) as u64;
-    let twos = tickets::count_waiting(row, 2) as u64;
-    let bytes = prints::put_pair_line(&mut out, 0, b"waiting=", ones, twos);
-    io::write_all(STDOUT_FILENO, inputs::front(&out, bytes as u64));
+    let ones = desk_tickets::count_waiting(row, 1) as u64;
+    let twos = desk_tickets::count_waiting(row, 2) as u64;
+    let bytes = text_pages::put_pair_line(&mut out, 0, b"waiting=", ones, twos);
+    io::write_all(STDOUT_FILENO, text_inputs::front(&out, bytes as u64));
 }
 
 // The answer to the first n bytes of a line.
@@ -50,9 +50,9 @@ fn answer_line(
     room: &mut [u64],
     out: &mut [u8],
 ) -> Answered {
-    days::answer(
+    answer_desk::answer(
         day,
-        inputs::front(line, n as u64),
+        text_inputs::front(line, n as u64),
         starts,
         lengths,
         aggregates,
@@ -70,13 +70,13 @@ fn take_event(
     lengths: &[u64],
     aggregates: &[u64],
     room: &mut [u64],
-) -> Turn {
+) -> Step {
     let mut line = [0u8; 68];
     let mut out = [0u8; 2677];
-    let n = inputs::read_line(&mut line);
+    let n = text_inputs::read_line(&mut line);
     if n == 0 {
         print_waiting(day);
-        return Turn {
+        return Step {
             day,
             goes_on: false,
         };
@@ -86,9 +86,9 @@ fn take_event(
         print_refusal(Refusal::BadLine, place);
     }
     let written = answered.written;
-    io::write_all(STDOUT_FILENO, inputs::front(&out, written.bytes));
+    io::write_all(STDOUT_FILENO, text_inputs::front(&out, written.bytes));
     let next = answered.day;
-    Turn {
+    Step {
         day: next,
         goes_on: answered.described,
     }
@@ -96,8 +96,8 @@ fn take_event(
 
 // The events of a day at one tape, counted from 1.
 fn hold_day(starts: &[u64], lengths: &[u64], aggregates: &[u64], room: &mut [u64]) {
-    let mut turn = Turn {
-        day: days::morning(),
+    let mut turn = Step {
+        day: answer_desk::morning(),
         goes_on: true,
     };
     let mut place: u64 = 0;
@@ -118,7 +118,7 @@ fn open_desk(sheet: &[u8]) {
     let mut aggregates = [0u64; 256];
     let mut numbers = [0u64; 64];
     let mut counts = [0u64; 64];
-    let read = sheets::read_sheet(
+    let read = sheet_reader::read_sheet(
         sheet,
         &mut starts,
         &mut lengths,
@@ -144,22 +144,22 @@ fn open_desk(sheet: &[u8]) {
 // A sheet of so many bytes, of which one more than a sheet may have is kept.
 fn take_sheet(bytes: u64) {
     let mut sheet = [0u8; 16385];
-    let got = inputs::read_bytes(&mut sheet, bytes);
+    let got = text_inputs::read_bytes(&mut sheet, bytes);
     if got.all != bytes {
         print_refusal(Refusal::BadSheetCount, 1);
         return;
     }
-    open_desk(inputs::front(&sheet, got.kept));
+    open_desk(text_inputs::front(&sheet, got.kept));
 }
 
 // The number of a line of a number alone.
 fn count_in(line: &[u8; 68], n: usize) -> NumberLine {
-    lines::number_line(inputs::front(line, n as u64), 0, b"")
+    text_lines::number_line(text_inputs::front(line, n as u64), 0, b"")
 }
 
 fn main() {
     let mut line = [0u8; 68];
-    let n = inputs::read_line(&mut line);
+    let n = text_inputs::read_line(&mut line);
     let NumberLine::Value { number, next: _ } = count_in(&line, n) else {
         print_refusal(Refusal::BadSheetCount, 1);
         return;

@@ -1,5 +1,5 @@
 // cmd_field: a run sheet from standard input, its plan sheet by the plain engine to standard output; or two lines that say why not.
-// The answer is proved in `fields`; what is read and written here is tested and not proved.
+// The answer is proved in `answer_field`; what is read and written here is tested and not proved.
 use libc::STDIN_FILENO;
 use libc::STDOUT_FILENO;
 
@@ -18,6 +18,6 @@ fn main() {
     let mut sheet = [0u8; 16385];
     let mut out = [0u8; 7644];
     let n = io::read_full(STDIN_FILENO, &mut sheet);
-    let bytes = fields::field(&sheet[..n], &mut out);
+    let bytes = answer_field::field(&sheet[..n], &mut out);
     io::write_all(STDOUT_FILENO, front(&out, bytes));
 }

@@ -86,7 +86,7 @@ fn part_at(input: &[u8], at: usize, key: &[u8]) -> Part {
     if input.len() < at {
         return Part::Missing;
     }
-    if !texts::starts(&input[at..], key) {
+    if !text_bytes::starts(&input[at..], key) {
         return Part::Missing;
     }
     if input.len() - at < key.len() {
@@ -118,7 +118,7 @@ fn slice(input: &[u8], from: usize, to: usize) -> &[u8] {
 
 fn print_sheet(name: &[u8], label: &[u8], index: &[u8]) {
     let mut out = [0u8; 16384];
-    let report = ltfs::table_sheet(name, label, index, &mut out);
+    let report = answer_ltfs::table_sheet(name, label, index, &mut out);
     let kind = report.refusal;
     if refusals::number(kind) != 0 {
         refused(kind, report.place);
@@ -163,11 +163,11 @@ fn answer(input: &[u8]) {
         refused(Refusal::BadName, 0);
         return;
     }
-    if !texts::starts(input, b"tape=") {
+    if !text_bytes::starts(input, b"tape=") {
         refused(Refusal::BadName, 0);
         return;
     }
-    if !texts::is_name(slice(input, 5, end)) {
+    if !text_bytes::is_name(slice(input, 5, end)) {
         refused(Refusal::BadName, 0);
         return;
     }

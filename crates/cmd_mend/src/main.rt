@@ -1,5 +1,5 @@
 // cmd_mend: a run sheet from standard input, the mended sheet to standard output and a line for each change to standard error; or two lines that
-// say why not to standard output. The answer is proved in `mends` and `writers`; what is read and written here is tested and not proved.
+// say why not to standard output. The answer is proved in `answer_mend` and `sheet_writer`; what is read and written here is tested and not proved.
 use libc::STDERR_FILENO;
 use libc::STDIN_FILENO;
 use libc::STDOUT_FILENO;
@@ -19,7 +19,7 @@ fn front(row: &[u8], n: u64) -> &[u8] {
 // The two lines of a refusal, which are at most 38 bytes.
 fn print_refusal(verdict: Verdict) {
     let mut lines = [0u8; 38];
-    let said = writers::write_refusal(verdict, &mut lines);
+    let said = sheet_writer::write_refusal(verdict, &mut lines);
     io::write_all(STDOUT_FILENO, front(&lines, said.bytes));
 }
 
@@ -29,7 +29,7 @@ fn main() {
     let mut out = [0u8; 16384];
     let mut notes = [0u8; 98424];
     let n = io::read_full(STDIN_FILENO, &mut sheet);
-    let mended = mends::mend(&sheet[..n], &mut out, &mut notes);
+    let mended = answer_mend::mend(&sheet[..n], &mut out, &mut notes);
     let refusal = mended.refusal;
     let verdict = Verdict {
         refusal,

@@ -1,24 +1,29 @@
 // cmd_month: run sheets from standard input, each behind a line with its byte count, and the month's page to standard output.
 // It reads part by part: of a sheet at most one byte more than a sheet may have is kept, and the rest is passed over. The answer is
-// proved in `outcomes` and `months`; what is read and written here is tested and not proved.
+// proved in `answer_outcome` and `answer_month`; what is read and written here is tested and not proved.
+use answer_month::Month;
+use answer_month::Part;
 use libc::STDOUT_FILENO;
-use months::Month;
-use months::Part;
 
 // A month, whether the input was good so far, and whether it has ended.
-struct Turn {
+struct Step {
     month: Month,
     good: bool,
     last: bool,
 }
 
 // A sheet of so many bytes, of which one more than a sheet may have is kept.
-fn take_sheet(month: Month, bytes: u64) -> Turn {
+fn take_sheet(month: Month, bytes: u64) -> Step {
     let mut sheet = [0u8; 16385];
-    let got = inputs::read_bytes(&mut sheet, bytes);
-    let added = months::add_sheet(month, bytes, got.all, inputs::front(&sheet, got.kept));
+    let got = text_inputs::read_bytes(&mut sheet, bytes);
+    let added = answer_month::add_sheet(
+        month,
+        bytes,
+        got.all,
+        text_inputs::front(&sheet, got.kept),
+    );
     let next = added.month;
-    Turn {
+    Step {
         month: next,
         good: added.whole,
         last: !added.whole,
@@ -26,18 +31,18 @@ fn take_sheet(month: Month, bytes: u64) -> Turn {
 }
 
 // One part of the input. A number below 2 to the 64 has at most 20 digits, and an LF ends it.
-fn take_part(month: Month) -> Turn {
+fn take_part(month: Month) -> Step {
     let mut line = [0u8; 21];
-    let n = inputs::read_line(&mut line);
-    let part = months::next_part(month, inputs::front(&line, n as u64));
+    let n = text_inputs::read_line(&mut line);
+    let part = answer_month::next_part(month, text_inputs::front(&line, n as u64));
     match part {
         Part::Sheet(bytes) => take_sheet(month, bytes),
-        Part::End => Turn {
+        Part::End => Step {
             month,
             good: true,
             last: true,
         },
-        Part::Bad => Turn {
+        Part::Bad => Step {
             month,
             good: false,
             last: true,
@@ -47,14 +52,14 @@ fn take_part(month: Month) -> Turn {
 
 fn print_page(month: Month, good: bool) {
     let mut page = [0u8; 2048];
-    let bytes = months::write_month(month, months::judge_input(month, good), &mut page);
-    io::write_all(STDOUT_FILENO, inputs::front(&page, bytes as u64));
+    let bytes = answer_month::write_month(month, answer_month::judge_input(month, good), &mut page);
+    io::write_all(STDOUT_FILENO, text_inputs::front(&page, bytes as u64));
 }
 
 // Behind a thousand sheets the input has ended, or is refused: there are no more than a thousand turns and one.
 fn main() {
-    let mut turn = Turn {
-        month: months::empty_month(),
+    let mut turn = Step {
+        month: answer_month::empty_month(),
         good: true,
         last: false,
     };

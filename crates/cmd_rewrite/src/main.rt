@@ -1,5 +1,5 @@
 // cmd_rewrite: an old run sheet from standard input, the same sheet with `turn=0` for an empty price to standard output; or two lines that
-// say why not. The answer is proved in `turns` and `writers`; what is read and written here is tested and not proved.
+// say why not. The answer is proved in `answer_rewrite` and `sheet_writer`; what is read and written here is tested and not proved.
 use libc::STDIN_FILENO;
 use libc::STDOUT_FILENO;
 use refusals::Verdict;
@@ -18,7 +18,7 @@ fn front(row: &[u8], n: u64) -> &[u8] {
 // The two lines of a refusal, which are at most 38 bytes.
 fn print_refusal(verdict: Verdict) {
     let mut lines = [0u8; 38];
-    let said = writers::write_refusal(verdict, &mut lines);
+    let said = sheet_writer::write_refusal(verdict, &mut lines);
     io::write_all(STDOUT_FILENO, front(&lines, said.bytes));
 }
 
@@ -27,7 +27,7 @@ fn main() {
     let mut sheet = [0u8; 16385];
     let mut out = [0u8; 16384];
     let n = io::read_full(STDIN_FILENO, &mut sheet);
-    let written = turns::rewrite(&sheet[..n], &mut out);
+    let written = answer_rewrite::rewrite(&sheet[..n], &mut out);
     let refusal = written.refusal;
     let verdict = Verdict {
         refusal,

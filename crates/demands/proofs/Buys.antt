@@ -31,7 +31,7 @@ use Rattle.figures.specs.Figures.{without, figureOf, figuresFrom, figuresOf, fi
 use Rattle.figures.specs.Private.{Priceable}
 use Rattle.figures.proofs.Without.{without-length, without-formed}
 use Rattle.figures.proofs.Answers.{list-accepted, list-formed, figures-length, figure-at, figured-so}
-use Rattle.demands.specs.Table.{RunApplies, ListIsBad}
+use Rattle.demands.specs.RefusalTable.{RunApplies, ListIsBad}
 use Rattle.demands.specs.Demand1.{priceOrder}
 use Rattle.demands.specs.Buys.{BuysApplies, BuysAnswers, FiguresAnswer, FiguresAnswerIff, IsLess, leftOut, IsBought, FiguresTold, FiguresTell, FiguresOne, PlanPays, PlansPay, BoughtHold}
 use Rattle.demands.proofs.Tests.{tells-below}

@@ -19,7 +19,7 @@ use Rattle.refusals.proofs.Verdicts.{none-refuses, refuses, number-small}
 use Rattle.runs.proofs.Judged.{GoodRun, accepted-run}
 use Rattle.planner.specs.Plan.{Rows, roomFor, shortRows}
 use Rattle.boundary.specs.Boundary.{shortSums, priceCall, priceReads, priceSums, PriceCalled, leastRule, badRule, planCall, PlanCalled}
-use Rattle.demands.specs.Table.{RunApplies, ListIsBad, runOrder, FirstThatApplies, none, here, later}
+use Rattle.demands.specs.RefusalTable.{RunApplies, ListIsBad, runOrder, FirstThatApplies, none, here, later}
 use Rattle.demands.specs.Demand1.{PriceApplies, PlanApplies, priceOrder}
 use Rattle.demands.specs.Calls.{PriceCallApplies, PlanCallApplies, planCallOrder, PlanCallAnswers, Demand1PriceCall, Demand1PlanCall, RefusedForItsRule}
 use Rattle.demands.proofs.Tests.{tells-equal, tells-below, tells-not, tells-either}

@@ -13,11 +13,11 @@ use Rattle.walk.specs.Walk.{headAt, walked, served, timeOf, timesOf, legFrom, l
 use Rattle.runs.specs.Lists.{Detour, firstBadEntry, wanted, anyBelow}
 use Rattle.walk.specs.Detours.{startOf, endOf, unreadEnd, sweepEnd, lastSweep, legsOf}
 use Rattle.runs.proofs.Stops.{accepted-sound}
-use Rattle.texts.proofs.Bytes.{and-true-both}
+use Rattle.text_bytes.proofs.Bytes.{and-true-both}
 use Rattle.least.specs.Least.{LeastForRun}
 use Rattle.least.specs.Recurrence.{planDetours, W, lowest, scan, filledTo, filled, candidate, next, value, choice, built, nextPlan, best, leastList}
 use Rattle.least.proofs.LeastList.{least-list, least-unique}
-use Rattle.demands.specs.Cases.{Case, Holds, AllHold, cases, CasesHold}
+use Rattle.demands.specs.Cases.{Case, CaseHolds, AllHold, cases, CasesHold}
 
 -- Whether two rows, and whether two lists, are equal.
 sameRow : List ℕ → List ℕ → Bool
@@ -87,7 +87,7 @@ least-if-same r list b accepted same =
       λ h. let unique = least-unique (r .turn) (r .head) (stopsOf r) list (leastList (r .turn) (stopsOf r)) h least in same ∙ rw (← unique) (same-list-itself list),
     )
 
-holds-if-passes : (c : Case) → passes c ≡ true → Holds c
+holds-if-passes : (c : Case) → passes c ≡ true → CaseHolds c
 unfolding passes
 holds-if-passes c e =
     let seven = and-true-both _ _ e in

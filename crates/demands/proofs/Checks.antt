@@ -12,7 +12,7 @@ use Rattle.refusals.specs.declared.Verdict.{Verdict}
 use Rattle.refusals.specs.Refusals.{numberOf, isRefusal, accepted, refuseIf, refuseAt, firstOf, firstWhere}
 use Rattle.runs.proofs.Search.{first-zero}
 use Rattle.refusals.proofs.Verdicts.{refuses}
-use Rattle.demands.specs.Table.{FirstBad, FirstThatApplies, none, here, later, SomeApplies}
+use Rattle.demands.specs.RefusalTable.{FirstBad, FirstThatApplies, none, here, later, SomeApplies}
 use Rattle.demands.proofs.Tests.{Tells}
 
 -- A check refuses with its kind, at the place at which the condition applies; or it accepts, and the condition applies at no place.

@@ -17,7 +17,7 @@ use Rattle.runs.proofs.Members.{first-below, last-above, last-within, member-fi
 use Rattle.runs.proofs.Numbers.{same-number-first, same-first-number}
 use Rattle.runs.proofs.Stops.{right-end-none, right-end-some}
 use Rattle.runs.proofs.Judged.{GoodTable, GoodWants, wants-named, not-past-last}
-use Rattle.demands.specs.Table.{IsFile, Together, Returns, FileIsBad, WantIsBad, WantedWith, WantedBeyond, startOfFile, endOfFile}
+use Rattle.demands.specs.RefusalTable.{IsFile, Together, Returns, FileIsBad, WantIsBad, WantedWith, WantedBeyond, startOfFile, endOfFile}
 use Rattle.demands.proofs.Tests.{Tells, tells-equal, tells-below, tells-at-most, tells-not, tells-either, tells-both, tells-some, tells-reworded, tells-regrouped}
 
 -- 1 and 3: too many, or rows of unequal number.

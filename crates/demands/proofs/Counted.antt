@@ -13,7 +13,7 @@ use Rattle.runs.proofs.Members.{between-first}
 use Rattle.runs.proofs.Joined.{by-name, join-none, join-same, join-other, leftmost-joined, some-joined}
 use Rattle.runs.proofs.Judged.{GoodRun, numbers-rise}
 use Rattle.runs.proofs.Stops.{first-file, wants-length, wants-drop}
-use Rattle.demands.specs.Table.{Together, StopsFrom, behind, one-more, as-many, HasStops}
+use Rattle.demands.specs.RefusalTable.{Together, StopsFrom, behind, one-more, as-many, HasStops}
 use Rattle.demands.proofs.Conditions.{together-first, first-together, named}
 
 -- A stop before others adds one to them, unless it has the name of the first.

@@ -21,7 +21,7 @@ use Rattle.refusals.proofs.Verdicts.{none-refuses, refuses}
 use Rattle.runs.proofs.Judged.{GoodRun, accepted-run}
 use Rattle.walk.proofs.Priced.{price-accepted}
 use Rattle.planner.specs.Plan.{Rows, readsIn, roomFor, Plans, shortRows, planVerdict}
-use Rattle.demands.specs.Table.{RunApplies, ListIsBad}
+use Rattle.demands.specs.RefusalTable.{RunApplies, ListIsBad}
 use Rattle.demands.specs.Demand1.{OnlyPlace, PriceApplies, PlanApplies, priceOrder, planOrder, PriceAnswers, PlanAnswers, Demand1Price, Demand1Plan, Demand1PriceIff, Demand1PlanIff}
 use Rattle.demands.proofs.Tests.{Tells, tells-below, tells-either, tells-regrouped}
 use Rattle.demands.proofs.Checks.{refused-iff, decides-if, decides-reworded, Finds, finds-none, finds-first}

@@ -13,11 +13,11 @@ use Rattle.refusals.specs.declared.Refusal.the-variants.{BadLine}
 use Rattle.refusals.specs.Refusals.{refuseAt, firstWhere}
 use Rattle.runs.specs.Run.{mostWants}
 use Rattle.runs.proofs.Search.{first-zero}
-use Rattle.texts.specs.Text.{lineFeed, isEmpty, has, behind}
-use Rattle.lines.specs.Lines.{lineOf, afterLines, lineAfter, isNumberLine, isPairLine, isTripleLine, firstBadOf}
-use Rattle.sheets.specs.Lines.{tapeKey, headKey, turnKey, ruleKey, filesKey, fileKey, wantsKey, wantKey, isTapeLine, isTurnLine, isRuleLine, isCountLine}
-use Rattle.sheets.specs.Sheet.{mostSheetFiles, sheetFiles, sheetWants, fileText, wantsText, wantText, endText, unless, shifted, firstSome, firstBadTop, firstBadBelow, firstBadLine}
-use Rattle.demands.specs.Table.{FirstBad}
+use Rattle.text_bytes.specs.Text.{lineFeed, isEmpty, has, behind}
+use Rattle.text_lines.specs.Lines.{lineOf, afterLines, lineAfter, isNumberLine, isPairLine, isTripleLine, firstBadOf}
+use Rattle.sheet_reader.specs.Lines.{tapeKey, headKey, turnKey, ruleKey, filesKey, fileKey, wantsKey, wantKey, isTapeLine, isTurnLine, isRuleLine, isCountLine}
+use Rattle.sheet_reader.specs.Sheet.{mostSheetFiles, sheetFiles, sheetWants, fileText, wantsText, wantText, endText, unless, shifted, firstSome, firstBadTop, firstBadBelow, firstBadLine}
+use Rattle.demands.specs.RefusalTable.{FirstBad}
 use Rattle.demands.specs.Lines.{Stands, Name, Number, NumberOrNothing, RuleName, UpTo, Pair, Triple, LineIsBad, linesDue, LinesByTheTable}
 use Rattle.demands.proofs.Tests.{Tells}
 use Rattle.demands.proofs.Checks.{Decides, refused, passed, found-at}

@@ -10,7 +10,7 @@ use Rattle.refusals.proofs.Verdicts.{refuses}
 use Rattle.runs.proofs.Stops.{accepted-sound}
 use Rattle.least.proofs.LeastList.{least-list}
 use Rattle.planner.specs.Plan.{Rows, rowsWith, Plans, planVerdict}
-use Rattle.plain.specs.Plain.{PlainRows, plainRowsWith, PlainPlans, plainVerdict}
+use Rattle.engine_plain.specs.Plain.{PlainRows, plainRowsWith, PlainPlans, plainVerdict}
 use Rattle.demands.proofs.Planned.{verdict-accepts-run}
 use Rattle.demands.proofs.Plain.{plain-accepts-run}
 use Rattle.least.specs.Recurrence.{leastList}

@@ -24,20 +24,20 @@ use Rattle.walk.proofs.Sweeps.{sweeps-to}
 use Rattle.least.specs.Wants.{readsOfFile}
 use Rattle.least.specs.Recurrence.{planDetours, W, lowest, scan, filledTo, filled, candidate, next, value, choice, built, nextPlan, best, leastList}
 use Rattle.planner.specs.Plan.{Rows, rowsOf, Plans, planVerdict}
-use Rattle.plain.specs.Plain.{PlainRows, plainRows, plainVerdict}
+use Rattle.engine_plain.specs.Plain.{PlainRows, plainRows, plainVerdict}
 use Rattle.boundary.specs.Boundary.{codeOf, sumsWith, priceCall, priceReads, priceSums, planCall, PlanCalled}
-use Rattle.texts.specs.Text.{bytes, allOf, isNumber, isName, valueFrom, startsWith, has, before, behind}
-use Rattle.sheets.specs.declared.Reading.{Reading}
-use Rattle.lines.specs.Lines.{lineOf, afterLines, isNumberLine, isPair, isPairLine, isTripleLine, firstBadOf}
-use Rattle.sheets.specs.Lines.{isTapeLine, isCountLine, isTurnLine, isRuleLine, namesSweep}
-use Rattle.sheets.specs.Sheet.{saysSweep, sheetFiles, fileText, wantsText, sheetWants, wantText, endText, firstBadTop, firstBadBelow, firstBadLine, sheetRun, sheetName}
-use Rattle.sheets.specs.Reading.{sheetVerdict, ruleVerdict, readVerdict, readAnswer, readRow, RunRows, runRows, rowsVerdict, readName}
-use Rattle.writers.specs.declared.Written.{Written}
-use Rattle.writers.specs.Writing.{sheetText, rowVerdict, writeVerdict, writtenAnswer, writtenRow}
-use Rattle.turns.specs.Rewriting.{priceIsEmpty, bytesBefore, rewritten, rewriteVerdict}
-use Rattle.demands.specs.Table.{FirstBad}
+use Rattle.text_bytes.specs.Text.{bytes, allOf, isNumber, isName, valueFrom, startsWith, has, before, behind}
+use Rattle.sheet_reader.specs.declared.Reading.{Reading}
+use Rattle.text_lines.specs.Lines.{lineOf, afterLines, isNumberLine, isPair, isPairLine, isTripleLine, firstBadOf}
+use Rattle.sheet_reader.specs.Lines.{isTapeLine, isCountLine, isTurnLine, isRuleLine, namesSweep}
+use Rattle.sheet_reader.specs.Sheet.{saysSweep, sheetFiles, fileText, wantsText, sheetWants, wantText, endText, firstBadTop, firstBadBelow, firstBadLine, sheetRun, sheetName}
+use Rattle.sheet_reader.specs.Reading.{sheetVerdict, ruleVerdict, readVerdict, readAnswer, readRow, RunRows, runRows, rowsVerdict, readName}
+use Rattle.sheet_writer.specs.declared.Written.{Written}
+use Rattle.sheet_writer.specs.Writing.{sheetText, rowVerdict, writeVerdict, writtenAnswer, writtenRow}
+use Rattle.answer_rewrite.specs.Rewriting.{priceIsEmpty, bytesBefore, rewritten, rewriteVerdict}
+use Rattle.demands.specs.RefusalTable.{FirstBad}
 use Rattle.demands.specs.Lines.{LineIsBad, linesDue}
-use Rattle.demands.specs.Sheets.{GivesBack, ComesBack}
+use Rattle.demands.specs.Sheets.{GivesBack, RunComesBack}
 use Rattle.demands.specs.Turns.{Rewrites}
 use Rattle.demands.specs.Formed.{ObeysTheRules}
 use Rattle.demands.specs.Demand2.{IsTheWalk, IsPriceOf, IsLeast}
@@ -310,7 +310,7 @@ rowsBack sheet =
     let run = sheetRun sheet in
     runRows (readRow v (run .starts) (sevens .starts)) (readRow v (run .lengths) (sevens .lengths)) (readRow v (run .aggregates) (sevens .aggregates)) (readRow v (run .numbers) (sevens .numbers)) (readRow v (run .counts) (sevens .counts))
 
-pub written-comes-back : ComesBack exampleName exampleRun (take (sheetWritten .bytes) sheetOut) (readBack (take (sheetWritten .bytes) sheetOut)) (rowsBack (take (sheetWritten .bytes) sheetOut))
+pub written-comes-back : RunComesBack exampleName exampleRun (take (sheetWritten .bytes) sheetOut) (readBack (take (sheetWritten .bytes) sheetOut)) (rowsBack (take (sheetWritten .bytes) sheetOut))
 unfolding readAnswer sheetRun
 written-comes-back =
     let sheet = take (sheetWritten .bytes) sheetOut in

@@ -16,7 +16,7 @@ use Rattle.runs.specs.Run.{Run, mostFiles, mostWants, mostReads, lastPlace, hig
 use Rattle.runs.specs.Judging.{badFile, badWant, tableChecks, wantsChecks, headChecks, judgeOf}
 use Rattle.refusals.proofs.Verdicts.{refuses}
 use Rattle.runs.proofs.Judged.{GoodTable, GoodWants, accepted-table, accepted-wants}
-use Rattle.demands.specs.Table.{FirstBad, FileIsBad, WantIsBad, WantedBeyond, RunApplies}
+use Rattle.demands.specs.RefusalTable.{FirstBad, FileIsBad, WantIsBad, WantedBeyond, RunApplies}
 use Rattle.demands.proofs.Tests.{tells-below, tells-either}
 use Rattle.demands.proofs.Checks.{Decides, decides-if, decides-at, decides-reworded, Finds, finds-first, first-of-joined, both-pass}
 use Rattle.demands.proofs.Conditions.{rows-unfit, table-rows-unfit, file-is-bad, want-is-bad, head-left-of-end}

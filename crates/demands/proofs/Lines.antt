@@ -9,13 +9,13 @@ use lib.ListN.{length}
 use lib.Dec.{leb, ltb, eqb}
 use borrow.Author.Tests.{eqb-true, eq-eqb}
 use Rattle.runs.proofs.Search.{or-false-both}
-use Rattle.texts.specs.Text.{lineFeed, comma, isEmpty, has, before, behind, startsWith, isText, allOf, isDigit, between, isNameByte, isNumber, isName, valueOf, leadingZero}
-use Rattle.texts.proofs.Bytes.{and-true-both, short-text}
-use Rattle.texts.proofs.Decimals.{has-append, has-none}
-use Rattle.texts.proofs.Split.{before-here, behind-here, split-at, key-split, whole-key}
-use Rattle.lines.specs.Lines.{lineOf, afterLines, lineAfter, valueText, isNumberLine, isPair, isPairLine, isTriple, isTripleLine}
-use Rattle.sheets.specs.Lines.{isTapeLine, isCountLine, isTurnLine, isRuleLine, namesSweep, tapeKey, turnKey, ruleKey, sweepText, leastText}
-use Rattle.writers.proofs.Reread.{line-first, key-begins, key-value}
+use Rattle.text_bytes.specs.Text.{lineFeed, comma, isEmpty, has, before, behind, startsWith, isText, allOf, isDigit, between, isNameByte, isNumber, isName, valueOf, leadingZero}
+use Rattle.text_bytes.proofs.Bytes.{and-true-both, short-text}
+use Rattle.text_bytes.proofs.Decimals.{has-append, has-none}
+use Rattle.text_bytes.proofs.Split.{before-here, behind-here, split-at, key-split, whole-key}
+use Rattle.text_lines.specs.Lines.{lineOf, afterLines, lineAfter, valueText, isNumberLine, isPair, isPairLine, isTriple, isTripleLine}
+use Rattle.sheet_reader.specs.Lines.{isTapeLine, isCountLine, isTurnLine, isRuleLine, namesSweep, tapeKey, turnKey, ruleKey, sweepText, leastText}
+use Rattle.sheet_writer.proofs.Reread.{line-first, key-begins, key-value}
 use Rattle.demands.specs.Lines.{Stands, Name, Number, NumberOrNothing, RuleName, UpTo, NumberAnd, Pair, Triple, Ruled}
 use Rattle.demands.proofs.Tests.{Tells, tells-true, tells-holds, tells-at-most, tells-either, tells-both}
 

@@ -17,7 +17,7 @@ use Rattle.runs.proofs.Search.{true-or-false}
 use Rattle.runs.proofs.Members.{and-true-both, goes-on-zero, goes-on-same, first-stays, first-below, last-above, member-first, same-last}
 use Rattle.runs.proofs.Judged.{GoodRun}
 use Rattle.runs.proofs.Entries.{first-bad-row}
-use Rattle.demands.specs.Table.{IsFile, NamesStop, BadByItself, BadAgainst, EntryIsBad, ListIsBad}
+use Rattle.demands.specs.RefusalTable.{IsFile, NamesStop, BadByItself, BadAgainst, EntryIsBad, ListIsBad}
 use Rattle.demands.proofs.Tests.{Tells, tells-below, tells-at-most, tells-not, tells-either, tells-reworded, tells-regrouped, tells-some}
 use Rattle.demands.proofs.Checks.{Decides, refused, decides-at, decides-alone, decides-reworded}
 use Rattle.demands.proofs.Conditions.{together-first, first-together, named}

@@ -24,11 +24,11 @@ use Rattle.walk.specs.Detours.{legsOf}
 use Rattle.planner.specs.Plan.{Rows, roomFor, planVerdict, Planned, Plans}
 use Rattle.planner.proofs.Determined.{plan-determined}
 use Rattle.least.proofs.LeastList.{least-unique}
-use Rattle.plain.specs.Plain.{PlainRows, plainReads, mostPlainWants, unevenWants, shortPlainRows, plainVerdict, plainRowsWith, PlainPlanned, PlainPlans}
-use Rattle.plain.proofs.Checks.{late-behind}
-use Rattle.plain.proofs.Determined.{plain-determined}
+use Rattle.engine_plain.specs.Plain.{PlainRows, plainReads, mostPlainWants, unevenWants, shortPlainRows, plainVerdict, plainRowsWith, PlainPlanned, PlainPlans}
+use Rattle.engine_plain.proofs.Checks.{late-behind}
+use Rattle.engine_plain.proofs.Determined.{plain-determined}
 use Rattle.runs.proofs.Judged.{GoodRun, accepted-run}
-use Rattle.demands.specs.Table.{RunApplies, FirstThatApplies, here, later}
+use Rattle.demands.specs.RefusalTable.{RunApplies, FirstThatApplies, here, later}
 use Rattle.demands.specs.Demand2.{listIn, IsTheWalk, IsLeast}
 use Rattle.demands.specs.Plain.{withRoom, plainOrder, PlainApplies, PlainAnswers, SameAnswer, PlainWalks, Demand1Plain, Demand1PlainIff, PlainAsPlanned, PlannerWithRoom, Demand2Plain, Demand2PlainOne, Demand3Plain}
 use Rattle.demands.proofs.Counted.{has-stops, stops-one}

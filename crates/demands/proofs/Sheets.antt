@@ -16,17 +16,17 @@ use Rattle.runs.specs.Judging.{judgeOf}
 use Rattle.runs.specs.Lists.{listVerdict}
 use Rattle.refusals.proofs.Verdicts.{none-refuses, refuses, all-accept, accepts-at}
 use Rattle.runs.proofs.Judged.{accepted-run}
-use Rattle.texts.specs.Text.{isName}
-use Rattle.sheets.specs.Lines.{sweepText, leastText}
-use Rattle.sheets.specs.Sheet.{longestSheet, mostSheetFiles, saysSweep, firstBadLine, sheetFiles, sheetWants}
-use Rattle.sheets.specs.Reading.{sheetVerdict, ruleVerdict, shortPairRows, shortTripleRows, readVerdict, refusedReading, readAnswer, readRow, RunRows, runRows, rowsVerdict, SheetRead}
-use Rattle.sheets.specs.declared.Reading.{Reading}
-use Rattle.sheets.proofs.Good.{good-lines}
-use Rattle.writers.specs.declared.Written.{Written}
-use Rattle.writers.specs.Writing.{refusedWriting, sheetText, rowVerdict, writeVerdict, writtenAnswer, writtenRow, Handed}
-use Rattle.writers.specs.PlanSheet.{planText, planSheetVerdict}
-use Rattle.figure_sheets.specs.FigureSheet.{figureText, figureSheetVerdict}
-use Rattle.demands.specs.Table.{FirstBad, RunApplies, ListIsBad}
+use Rattle.text_bytes.specs.Text.{isName}
+use Rattle.sheet_reader.specs.Lines.{sweepText, leastText}
+use Rattle.sheet_reader.specs.Sheet.{longestSheet, mostSheetFiles, saysSweep, firstBadLine, sheetFiles, sheetWants}
+use Rattle.sheet_reader.specs.Reading.{sheetVerdict, ruleVerdict, shortPairRows, shortTripleRows, readVerdict, refusedReading, readAnswer, readRow, RunRows, runRows, rowsVerdict, SheetRead}
+use Rattle.sheet_reader.specs.declared.Reading.{Reading}
+use Rattle.sheet_reader.proofs.Good.{good-lines}
+use Rattle.sheet_writer.specs.declared.Written.{Written}
+use Rattle.sheet_writer.specs.Writing.{refusedWriting, sheetText, rowVerdict, writeVerdict, writtenAnswer, writtenRow, Handed}
+use Rattle.sheet_writer.specs.PlanSheet.{planText, planSheetVerdict}
+use Rattle.sheet_figures.specs.FigureSheet.{figureText, figureSheetVerdict}
+use Rattle.demands.specs.RefusalTable.{FirstBad, RunApplies, ListIsBad}
 use Rattle.demands.specs.Lines.{LineIsBad, linesDue, Ruled}
 use Rattle.demands.specs.Sheets.{readOrder, ReadApplies, ReadAnswers, OneRule, writeOrder, listSheetOrder, WriteApplies, ListSheetApplies, WriteAnswers, Demand1Read, Demand1Write, Demand1PlanSheet, Demand1FigureSheet}
 use Rattle.demands.proofs.Tests.{tells-false, Tells, tells-below, tells-either}

@@ -12,15 +12,15 @@ use Rattle.refusals.specs.declared.Verdict.{Verdict}
 use Rattle.refusals.specs.Refusals.{accepted, refuseIf}
 use Rattle.runs.specs.Run.{lastPlace}
 use Rattle.refusals.proofs.Verdicts.{none-refuses, refuses}
-use Rattle.texts.specs.Text.{isName}
-use Rattle.sheets.specs.Sheet.{mostSheetFiles}
-use Rattle.writers.specs.Writing.{rowVerdict, writtenRow}
-use Rattle.markup.specs.Tree.{isBalanced, treeOf}
-use Rattle.markup.specs.Promises.{SaysForest}
-use Rattle.markup.proofs.Balanced.{balanced-exactly}
-use Rattle.ltfs.specs.Index.{some, isGoodLabel, isGoodIndex, indexFiles}
-use Rattle.ranges.specs.Ranges.{endOfRange}
-use Rattle.ltfs.specs.Table.{inSeveral, areFar, someOverlap, rangesIn, tapeTable, areGoodTexts, ltfsSheet, ltfsVerdict, ltfsReport, ltfsRow}
+use Rattle.text_bytes.specs.Text.{isName}
+use Rattle.sheet_reader.specs.Sheet.{mostSheetFiles}
+use Rattle.sheet_writer.specs.Writing.{rowVerdict, writtenRow}
+use Rattle.tape_markup.specs.Tree.{isBalanced, treeOf}
+use Rattle.tape_markup.specs.Promises.{SaysForest}
+use Rattle.tape_markup.proofs.Balanced.{balanced-exactly}
+use Rattle.answer_ltfs.specs.Index.{some, isGoodLabel, isGoodIndex, indexFiles}
+use Rattle.tape_ranges.specs.Ranges.{endOfRange}
+use Rattle.answer_ltfs.specs.TapeTable.{inSeveral, areFar, someOverlap, rangesIn, tapeTable, areGoodTexts, ltfsSheet, ltfsVerdict, ltfsReport, ltfsRow}
 use Rattle.demands.specs.Tapes.{TapeApplies, tapeOrder, TapeAnswers, Demand1Tape}
 use Rattle.demands.proofs.Tests.{Tells, tells-below, tells-either, tells-true, tells-false}
 use Rattle.demands.proofs.Checks.{decides-if, decides-reworded, Finds, finds-none, finds-first}

@@ -13,19 +13,19 @@ use Rattle.refusals.specs.declared.Refusal.the-variants.{Accepted, BadLine, Lon
 use Rattle.refusals.specs.declared.Verdict.{Verdict}
 use Rattle.refusals.specs.Refusals.{isRefusal, accepted, refuseIf, refuseAt, firstOf}
 use Rattle.refusals.proofs.Verdicts.{refuses, first-refuses, first-passes, all-accept, accepts-if}
-use Rattle.texts.specs.Text.{lineFeed, has, isEmpty, isText, startsWith}
-use Rattle.sheets.specs.declared.Reading.{Reading}
-use Rattle.lines.specs.Lines.{afterLines, lineAfter}
-use Rattle.sheets.specs.Lines.{turnKey, turnWith}
-use Rattle.sheets.specs.Sheet.{longestSheet, firstBadLine, saysSweep, sheetFiles, sheetWants, sheetTurnWith}
-use Rattle.sheets.specs.Reading.{sheetVerdict, ruleVerdict, readVerdict, refusedReading, readRow, RunRows, rowsVerdict, ReadWith, readName}
-use Rattle.sheets.proofs.Good.{short-sheet, accepted-sheet, good-lines}
-use Rattle.writers.specs.declared.Written.{Written}
-use Rattle.writers.specs.Writing.{rowVerdict, writtenAnswer, writtenRow}
-use Rattle.writers.proofs.Reread.{key-value}
-use Rattle.turns.specs.Rewriting.{priceIsEmpty, rewritten, rewriteVerdict, SheetRewritten}
-use Rattle.turns.proofs.Meaning.{upper, rest-is, old-cut, new-cut, unchanged, keeps, little-longer}
-use Rattle.demands.specs.Table.{FirstBad}
+use Rattle.text_bytes.specs.Text.{lineFeed, has, isEmpty, isText, startsWith}
+use Rattle.sheet_reader.specs.declared.Reading.{Reading}
+use Rattle.text_lines.specs.Lines.{afterLines, lineAfter}
+use Rattle.sheet_reader.specs.Lines.{turnKey, turnWith}
+use Rattle.sheet_reader.specs.Sheet.{longestSheet, firstBadLine, saysSweep, sheetFiles, sheetWants, sheetTurnWith}
+use Rattle.sheet_reader.specs.Reading.{sheetVerdict, ruleVerdict, readVerdict, refusedReading, readRow, RunRows, rowsVerdict, ReadWith, readName}
+use Rattle.sheet_reader.proofs.Good.{short-sheet, accepted-sheet, good-lines}
+use Rattle.sheet_writer.specs.declared.Written.{Written}
+use Rattle.sheet_writer.specs.Writing.{rowVerdict, writtenAnswer, writtenRow}
+use Rattle.sheet_writer.proofs.Reread.{key-value}
+use Rattle.answer_rewrite.specs.Rewriting.{priceIsEmpty, rewritten, rewriteVerdict, SheetRewritten}
+use Rattle.answer_rewrite.proofs.Meaning.{upper, rest-is, old-cut, new-cut, unchanged, keeps, little-longer}
+use Rattle.demands.specs.RefusalTable.{FirstBad}
 use Rattle.demands.specs.Lines.{Number, LineIsBad, linesDue}
 use Rattle.demands.specs.Turns.{EmptyPrice, GivenPrice, DrivesOwnPrice, RewrittenBytes, RewrittenMeans, RewrittenOnce, UnreadApplies, ResultApplies, UnreadFirst, RewriteFinds, unread, result, Demand1Rewrite}
 use Rattle.demands.proofs.Tests.{tells-below}

@@ -15,16 +15,16 @@ use Rattle.runs.specs.Judging.{tableChecks, wantsChecks, headChecks, judgeOf}
 use Rattle.refusals.proofs.Verdicts.{none-refuses, refuses, all-accept, accepts-if}
 use Rattle.runs.proofs.Search.{or-false-both}
 use Rattle.runs.proofs.Judged.{accepted-run}
-use Rattle.texts.specs.Text.{isName}
-use Rattle.sheets.specs.Sheet.{mostSheetFiles, sheetFiles, sheetWants, sheetHead, sheetTurn, sheetRun}
-use Rattle.sheets.specs.Reading.{sheetVerdict, ruleVerdict, readVerdict, readAnswer, readRow, RunRows, SheetRead}
-use Rattle.sheets.specs.declared.Reading.{Reading}
-use Rattle.writers.specs.declared.Written.{Written}
-use Rattle.writers.specs.Writing.{refusedWriting, sheetText, rowVerdict, writeVerdict, writtenAnswer, writtenRow}
-use Rattle.sheets.proofs.Rows.{length-each}
-use Rattle.writers.proofs.RoundTrip.{round-trip}
+use Rattle.text_bytes.specs.Text.{isName}
+use Rattle.sheet_reader.specs.Sheet.{mostSheetFiles, sheetFiles, sheetWants, sheetHead, sheetTurn, sheetRun}
+use Rattle.sheet_reader.specs.Reading.{sheetVerdict, ruleVerdict, readVerdict, readAnswer, readRow, RunRows, SheetRead}
+use Rattle.sheet_reader.specs.declared.Reading.{Reading}
+use Rattle.sheet_writer.specs.declared.Written.{Written}
+use Rattle.sheet_writer.specs.Writing.{refusedWriting, sheetText, rowVerdict, writeVerdict, writtenAnswer, writtenRow}
+use Rattle.sheet_reader.proofs.Rows.{length-each}
+use Rattle.sheet_writer.proofs.RoundTrip.{round-trip}
 use Rattle.demands.proofs.Sheets.{one-rule}
-use Rattle.demands.specs.Sheets.{Demand2Written, GivesBack, Demand2RoundTrip, runRead, ComesBack, WriteThenRead}
+use Rattle.demands.specs.Sheets.{Demand2Written, GivesBack, Demand2RoundTrip, runRead, RunComesBack, WriteThenRead}
 
 -- An accepted run's verdict is acceptance, place 0 included.
 judged-accepted : (r : Run) → refuses (judgeOf r) ≡ false → judgeOf r ≡ accepted
@@ -129,7 +129,7 @@ module _ (name : List ℕ) (r : Run) (before : RunRows) (answer : Reading) (afte
         take-at (r .counts) (drop (length (r .counts)) (before .counts)) (length (r .numbers)) wants,
       ))
 
-  comes-back : ComesBack name r (sheetText name r) answer after
+  comes-back : RunComesBack name r (sheetText name r) answer after
   comes-back = record { accepted = rw is-back; run = run-back; ruled = one-rule (sheetText name r) before answer after read (rw is-back); named = back .nameIs }
 
 pub write-then-read : WriteThenRead

@@ -14,7 +14,7 @@ use Rattle.runs.specs.Lists.{Detour, WellFormed, listOf}
 use Rattle.least.specs.Least.{listSum}
 use Rattle.figures.specs.Figures.{figuresAnswer, figuresRow}
 use Rattle.planner.specs.Plan.{Rows, Plans}
-use Rattle.demands.specs.Table.{RunApplies, ListIsBad, FirstThatApplies, SomeApplies}
+use Rattle.demands.specs.RefusalTable.{RunApplies, ListIsBad, FirstThatApplies, SomeApplies}
 use Rattle.demands.specs.Demand1.{OnlyPlace, priceOrder}
 use Rattle.demands.specs.Cases.{twoFiles, exampleRun}
 
@@ -99,22 +99,22 @@ PlansPay =
     → PlanPays planned answer out
 
 -- Worked by hand: the figures of a list, in a row of as many entries.
-pub record Bought : Type 0 where
+pub record WorkedFigures : Type 0 where
   pub run : Run
   pub froms : List ℕ
   pub tos : List ℕ
   pub figures : List ℤ
 
-pub record IsWorked (b : Bought) (row : List ℤ) : Type 0 where
+pub record IsWorked (b : WorkedFigures) (row : List ℤ) : Type 0 where
   pub accepted : figuresAnswer (b .run) (b .froms) (b .tos) row .refusal ≡ Accepted
   pub fills : figuresRow (b .run) (b .froms) (b .tos) row ≡ b .figures
 
 -- Zero: 01's two files, turn price 0, one read each.
-abbrev pub nothingBought : Bought
+abbrev pub nothingBought : WorkedFigures
 nothingBought = record { run = twoFiles (1 ∷ 2 ∷ []) (1 ∷ 1 ∷ []) 0; froms = 2 ∷ []; tos = 2 ∷ []; figures = pos 0 ∷ [] }
 
 -- The smallest that the limits allow, worked on paper: 2 - 2046 (2^40 + 2^32 - 1).
-abbrev pub smallestBought : Bought
+abbrev pub smallestBought : WorkedFigures
 smallestBought =
     record {
       run = runOf (0 ∷ 1 ∷ []) (1 ∷ 1099511627775 ∷ []) (0 ∷ 0 ∷ []) (1 ∷ 2 ∷ []) (1023 ∷ 1 ∷ []) 1099511627776 4294967296;
@@ -124,10 +124,10 @@ smallestBought =
     }
 
 -- 01's sheet: (3,3)(2,2), and its plan (2,2).
-abbrev pub sheetBought : Bought
+abbrev pub sheetBought : WorkedFigures
 sheetBought = record { run = exampleRun; froms = 3 ∷ 2 ∷ []; tos = 3 ∷ 2 ∷ []; figures = negsuc 197 ∷ pos 50 ∷ [] }
 
-abbrev pub planBought : Bought
+abbrev pub planBought : WorkedFigures
 planBought = record { run = exampleRun; froms = 2 ∷ []; tos = 2 ∷ []; figures = pos 40 ∷ [] }
 
 -- The largest, worked on paper too: 63 files up to the last place, all wanted, 31 of length 1 at either side of a long one; the entry (63,63) before (32,32)(31,33) … (2,62).

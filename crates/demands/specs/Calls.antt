@@ -18,7 +18,7 @@ use Rattle.walk.specs.Walk.{headAt, Moves, ServesAll, sumOf}
 use Rattle.walk.specs.Price.{ReadRows}
 use Rattle.planner.specs.Plan.{Rows}
 use Rattle.boundary.specs.Boundary.{PriceCalled, PlanCalled}
-use Rattle.demands.specs.Table.{RunApplies, runOrder, FirstThatApplies, SomeApplies}
+use Rattle.demands.specs.RefusalTable.{RunApplies, runOrder, FirstThatApplies, SomeApplies}
 use Rattle.demands.specs.Demand1.{PriceApplies, priceOrder, PlanApplies}
 use Rattle.demands.specs.Demand2.{IsTheWalk, IsPriceOf, IsLeast}
 use Rattle.demands.specs.Demand3.{AsksNoLess}

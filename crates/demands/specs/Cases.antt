@@ -24,7 +24,7 @@ pub record Case : Type 0 where
   pub end : ℕ
   pub least : Bool
 
-pub record Holds (c : Case) : Type 0 where
+pub record CaseHolds (c : Case) : Type 0 where
   pub accepted : isRefusal (judgeOf (c .run) .refusal) ≡ false
   pub formed : WellFormed (stopsOf (c .run)) (c .list)
   pub sum : sumOf (c .run .turn) (headAt (c .run .head)) (legsOf (stopsOf (c .run)) (c .list)) (stopsOf (c .run)) ≡ c .sum
@@ -36,7 +36,7 @@ pub record Holds (c : Case) : Type 0 where
 
 abbrev pub AllHold : List Case → Type 0
 AllHold [] = Unit {0}
-AllHold (c ∷ cs) = Holds c × AllHold cs
+AllHold (c ∷ cs) = CaseHolds c × AllHold cs
 
 abbrev case : Run → List Detour → ℕ → List ℕ → List ℕ → ℕ → ℕ → Bool → Case
 case run list sum times legs finish end least = record { run = run; list = list; sum = sum; times = times; legs = legs; finish = finish; end = end; least = least }

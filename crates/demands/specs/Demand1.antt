@@ -10,7 +10,7 @@ use Rattle.walk.specs.declared.Answer.{Answer}
 use Rattle.runs.specs.Run.{Run, total}
 use Rattle.walk.specs.Price.{ReadRows, priceAnswer, priceRows}
 use Rattle.planner.specs.Plan.{Rows, Plans}
-use Rattle.demands.specs.Table.{HasStops, RunApplies, ListIsBad, FirstThatApplies, SomeApplies}
+use Rattle.demands.specs.RefusalTable.{HasStops, RunApplies, ListIsBad, FirstThatApplies, SomeApplies}
 
 -- A refusal's answer: every number but the place is 0.
 pub record OnlyPlace (answer : Answer) : Type 0 where

@@ -14,7 +14,7 @@ use Rattle.walk.specs.Walk.{headAt, timesOf, sumOf}
 use Rattle.walk.specs.Detours.{legsOf, fullLegsOf}
 use Rattle.walk.specs.Price.{ReadRows, priceAnswer, priceRows}
 use Rattle.planner.specs.Plan.{Rows, Plans}
-use Rattle.demands.specs.Table.{IsFile, Together, endOfFile}
+use Rattle.demands.specs.RefusalTable.{IsFile, Together, endOfFile}
 
 -- The finish is the time of one of the wants and no want has a later one; the end is the end of the last file that lies together with it.
 pub record EndsWithARead (r : Run) (times : List ℕ) (answer : Answer) : Type 0 where

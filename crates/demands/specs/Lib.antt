@@ -1,5 +1,5 @@
 -- The three demands, in document 01's order, the table of worked cases and the promises of requests. Each statement is a type; proofs/ has its proof.
-pub mod Table
+pub mod RefusalTable
 pub mod Formed
 pub mod Demand1
 pub mod Demand2

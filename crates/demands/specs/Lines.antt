@@ -6,11 +6,11 @@ use mathlib.Core.Bool.{true}
 use mathlib.Core.Logic.{_⊎_, _↔_}
 use mathlib.Core.List.{List, [], _∷_, _++_}
 use Rattle.runs.specs.Run.{mostWants}
-use Rattle.texts.specs.Text.{lineFeed, comma, isNumber, isName, valueOf}
-use Rattle.lines.specs.Lines.{afterLines}
-use Rattle.sheets.specs.Lines.{tapeKey, headKey, turnKey, ruleKey, filesKey, fileKey, wantsKey, wantKey, sweepText, leastText}
-use Rattle.sheets.specs.Sheet.{mostSheetFiles, sheetFiles, sheetWants, firstBadLine}
-use Rattle.demands.specs.Table.{FirstBad}
+use Rattle.text_bytes.specs.Text.{lineFeed, comma, isNumber, isName, valueOf}
+use Rattle.text_lines.specs.Lines.{afterLines}
+use Rattle.sheet_reader.specs.Lines.{tapeKey, headKey, turnKey, ruleKey, filesKey, fileKey, wantsKey, wantKey, sweepText, leastText}
+use Rattle.sheet_reader.specs.Sheet.{mostSheetFiles, sheetFiles, sheetWants, firstBadLine}
+use Rattle.demands.specs.RefusalTable.{FirstBad}
 
 -- Behind i lines the sheet goes on with this key, a value of this kind and an LF. So no line that is missing or without LF is as described.
 pub record Stands (key : List ℕ) (Kind : List ℕ → Type 0) (sheet : List ℕ) (i : ℕ) : Type 0 where

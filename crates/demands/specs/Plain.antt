@@ -15,8 +15,8 @@ use Rattle.walk.specs.declared.Answer.{Answer}
 use Rattle.walk.specs.declared.Leg.{Leg}
 use Rattle.walk.specs.Walk.{headAt, Moves, ServesAll, sumOf}
 use Rattle.planner.specs.Plan.{Rows, rowsOf, roomFor, Plans}
-use Rattle.plain.specs.Plain.{PlainRows, PlainPlans}
-use Rattle.demands.specs.Table.{HasStops, RunApplies, FirstThatApplies, SomeApplies}
+use Rattle.engine_plain.specs.Plain.{PlainRows, PlainPlans}
+use Rattle.demands.specs.RefusalTable.{HasStops, RunApplies, FirstThatApplies, SomeApplies}
 use Rattle.demands.specs.Demand1.{OnlyPlace}
 use Rattle.demands.specs.Demand2.{listIn, IsTheWalk, IsLeast}
 use Rattle.demands.specs.Demand3.{AsksNoLess}

@@ -10,16 +10,16 @@ use Rattle.refusals.specs.declared.Refusal.the-variants.{Accepted, FileRows, Ba
 use Rattle.refusals.specs.Refusals.{isRefusal}
 use Rattle.runs.specs.Run.{Run, runOf}
 use Rattle.runs.specs.Judging.{judgeOf}
-use Rattle.sheets.specs.declared.Reading.{Reading}
-use Rattle.writers.specs.declared.Written.{Written}
-use Rattle.texts.specs.Text.{isName}
-use Rattle.sheets.specs.Lines.{sweepText, leastText}
-use Rattle.sheets.specs.Sheet.{longestSheet, mostSheetFiles, sheetFiles, sheetWants, sheetRun}
-use Rattle.sheets.specs.Reading.{readVerdict, readAnswer, readRow, RunRows, SheetRead, readName}
-use Rattle.writers.specs.Writing.{sheetText, writeVerdict, writtenAnswer, writtenRow, SheetWritten}
-use Rattle.writers.specs.PlanSheet.{planText, planSheetVerdict}
-use Rattle.figure_sheets.specs.FigureSheet.{figureText, figureSheetVerdict}
-use Rattle.demands.specs.Table.{FirstBad, RunApplies, ListIsBad, FirstThatApplies}
+use Rattle.sheet_reader.specs.declared.Reading.{Reading}
+use Rattle.sheet_writer.specs.declared.Written.{Written}
+use Rattle.text_bytes.specs.Text.{isName}
+use Rattle.sheet_reader.specs.Lines.{sweepText, leastText}
+use Rattle.sheet_reader.specs.Sheet.{longestSheet, mostSheetFiles, sheetFiles, sheetWants, sheetRun}
+use Rattle.sheet_reader.specs.Reading.{readVerdict, readAnswer, readRow, RunRows, SheetRead, readName}
+use Rattle.sheet_writer.specs.Writing.{sheetText, writeVerdict, writtenAnswer, writtenRow, SheetWritten}
+use Rattle.sheet_writer.specs.PlanSheet.{planText, planSheetVerdict}
+use Rattle.sheet_figures.specs.FigureSheet.{figureText, figureSheetVerdict}
+use Rattle.demands.specs.RefusalTable.{FirstBad, RunApplies, ListIsBad, FirstThatApplies}
 use Rattle.demands.specs.Lines.{LineIsBad, linesDue, Ruled}
 
 -- The reader: 12, then 11 with the first line that is not as described, then 19 with the fourth line where that names the retired rule, then 8.
@@ -151,7 +151,7 @@ pub record LongEnough (r : Run) (rows : RunRows) : Type 0 where
   pub counts : length (r .counts) ≤ length (rows .counts)
 
 -- What the writer leaves in its row, read into rows that are long enough, gives back the run and the name; its rule is least.
-pub record ComesBack (name : List ℕ) (r : Run) (sheet : List ℕ) (answer : Reading) (after : RunRows) : Type 0 where
+pub record RunComesBack (name : List ℕ) (r : Run) (sheet : List ℕ) (answer : Reading) (after : RunRows) : Type 0 where
   pub accepted : answer .refusal ≡ Accepted
   pub run : runRead answer after ≡ r
   pub ruled : Ruled leastText sheet
@@ -165,4 +165,4 @@ WriteThenRead =
     → (before : RunRows) (answer : Reading) (after : RunRows)
     → LongEnough r before
     → SheetRead (take (written .bytes) out) before answer after
-    → ComesBack name r (take (written .bytes) out) answer after
+    → RunComesBack name r (take (written .bytes) out) answer after

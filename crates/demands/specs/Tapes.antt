@@ -9,15 +9,15 @@ use lib.Dec.{ltb}
 use Rattle.refusals.specs.declared.Refusal.{Refusal}
 use Rattle.refusals.specs.declared.Refusal.the-variants.{Accepted, ShortRow, BadName, BadText, ManyExtents, Overlap, FarFile}
 use Rattle.runs.specs.Run.{lastPlace}
-use Rattle.texts.specs.Text.{isName}
-use Rattle.sheets.specs.Sheet.{mostSheetFiles}
-use Rattle.ltfs.specs.declared.Report.{Report}
-use Rattle.markup.specs.Tree.{treeOf}
-use Rattle.markup.specs.Promises.{SaysForest}
-use Rattle.ltfs.specs.Index.{some, isGoodLabel, isGoodIndex, indexFiles}
-use Rattle.ranges.specs.Ranges.{endOfRange}
-use Rattle.ltfs.specs.Table.{inSeveral, someOverlap, rangesIn, tapeTable, ltfsSheet, ltfsVerdict, ltfsReport, ltfsRow}
-use Rattle.demands.specs.Table.{FirstThatApplies}
+use Rattle.text_bytes.specs.Text.{isName}
+use Rattle.sheet_reader.specs.Sheet.{mostSheetFiles}
+use Rattle.answer_ltfs.specs.declared.Report.{Report}
+use Rattle.tape_markup.specs.Tree.{treeOf}
+use Rattle.tape_markup.specs.Promises.{SaysForest}
+use Rattle.answer_ltfs.specs.Index.{some, isGoodLabel, isGoodIndex, indexFiles}
+use Rattle.tape_ranges.specs.Ranges.{endOfRange}
+use Rattle.answer_ltfs.specs.TapeTable.{inSeveral, someOverlap, rangesIn, tapeTable, ltfsSheet, ltfsVerdict, ltfsReport, ltfsRow}
+use Rattle.demands.specs.RefusalTable.{FirstThatApplies}
 
 abbrev pub tapeOrder : List Refusal
 tapeOrder = BadName ∷ BadText ∷ ManyExtents ∷ FarFile ∷ Overlap ∷ ShortRow ∷ []

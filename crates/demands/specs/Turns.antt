@@ -9,15 +9,15 @@ use mathlib.Core.List.{List, [], _∷_, _++_}
 use lib.ListN.{length, take, drop}
 use Rattle.refusals.specs.declared.Refusal.{Refusal}
 use Rattle.refusals.specs.declared.Refusal.the-variants.{Accepted, BadLine, LongSheet, ShortRow}
-use Rattle.texts.specs.Text.{lineFeed, valueOf}
-use Rattle.sheets.specs.declared.Reading.{Reading}
-use Rattle.lines.specs.Lines.{afterLines}
-use Rattle.sheets.specs.Lines.{turnKey}
-use Rattle.sheets.specs.Sheet.{longestSheet}
-use Rattle.sheets.specs.Reading.{RunRows, ReadWith, SheetRead, readName}
-use Rattle.writers.specs.declared.Written.{Written}
-use Rattle.turns.specs.Rewriting.{rewritten, SheetRewritten}
-use Rattle.demands.specs.Table.{FirstBad, FirstThatApplies}
+use Rattle.text_bytes.specs.Text.{lineFeed, valueOf}
+use Rattle.sheet_reader.specs.declared.Reading.{Reading}
+use Rattle.text_lines.specs.Lines.{afterLines}
+use Rattle.sheet_reader.specs.Lines.{turnKey}
+use Rattle.sheet_reader.specs.Sheet.{longestSheet}
+use Rattle.sheet_reader.specs.Reading.{RunRows, ReadWith, SheetRead, readName}
+use Rattle.sheet_writer.specs.declared.Written.{Written}
+use Rattle.answer_rewrite.specs.Rewriting.{rewritten, SheetRewritten}
+use Rattle.demands.specs.RefusalTable.{FirstBad, FirstThatApplies}
 use Rattle.demands.specs.Lines.{Stands, Number, LineIsBad, linesDue}
 
 -- Behind two lines stands `turn=` with nothing after it, or with a number.

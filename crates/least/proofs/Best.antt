@@ -13,10 +13,10 @@ use Rattle.least.proofs.Plan.{Over}
 use Rattle.least.proofs.Columns.{Agree, filled-first, filled-next}
 use Rattle.least.proofs.Cost.{cost}
 use Rattle.least.proofs.Value.{choice-first, choice-value, value-none, value-least-skip, value-least}
-use Rattle.least.specs.Recurrence.{Plan, empty, skip, detour, TableOf, filled, value, candidate, choice, nextPlan, best, built}
+use Rattle.least.specs.Recurrence.{Plan, empty, skip, detour, CellsOf, filled, value, candidate, choice, nextPlan, best, built}
 
 module _ (L R C : ℕ → ℕ) (U : ℕ) where
-  built-same : (P Q : TableOf Plan) (a b s k : ℕ) → k ≤ suc b → Agree P Q b → built L R C U P a b s k ≡ built L R C U Q a b s k
+  built-same : (P Q : CellsOf Plan) (a b s k : ℕ) → k ≤ suc b → Agree P Q b → built L R C U P a b s k ≡ built L R C U Q a b s k
   unfolding built
   built-same P Q a b s zero h e = rw (e a b (s + C (suc b)) (omega arith))
   built-same P Q a b s (suc d) h e = rw (e (suc d) b (s + C (suc b)) (omega arith), e a d s (omega arith))
@@ -24,11 +24,11 @@ module _ (L R C : ℕ → ℕ) (U : ℕ) where
   choice-within : (a b s : ℕ) → a ≤ b → choice L R C U a b s ≤ suc b
   choice-within a b s h = by-cases (decLe 1 (choice L R C U a b s)) (λ l. omega (arith, choice-first L R C U a b s h .within l)) (λ n. omega arith)
 
-  nextPlan-first : (P : TableOf Plan) (a s : ℕ) → nextPlan L R C U P a 0 s ≡ empty
+  nextPlan-first : (P : CellsOf Plan) (a s : ℕ) → nextPlan L R C U P a 0 s ≡ empty
   unfolding nextPlan
   nextPlan-first P a s = refl
 
-  nextPlan-same : (P Q : TableOf Plan) (n : ℕ) → Agree P Q n → Agree (nextPlan L R C U P) (nextPlan L R C U Q) (suc n)
+  nextPlan-same : (P Q : CellsOf Plan) (n : ℕ) → Agree P Q n → Agree (nextPlan L R C U P) (nextPlan L R C U Q) (suc n)
   unfolding nextPlan
   nextPlan-same P Q n e a zero s h = refl
   nextPlan-same P Q n e a (suc b) s h =

@@ -5,14 +5,14 @@ use native.Mathlib.Decide.{decLe}
 use native.Mathlib.Nat.{le-refl}
 use mathlib.Core.Path.{_≡_, refl, _∙_}
 use mathlib.Core.Logic.{by-cases}
-use Rattle.least.specs.Recurrence.{TableOf, filledTo, filled}
+use Rattle.least.specs.Recurrence.{CellsOf, filledTo, filled}
 
 -- Two tables agree in the columns up to n.
-abbrev pub Agree : {A : Type 0} → TableOf A → TableOf A → ℕ → Type 0
+abbrev pub Agree : {A : Type 0} → CellsOf A → CellsOf A → ℕ → Type 0
 Agree E F n = (a b s : ℕ) → b ≤ n → E a b s ≡ F a b s
 
-module _ {A : Type 0} (blank : A) (next : TableOf A → TableOf A) where
-  module _ (first : (E : TableOf A) (a s : ℕ) → next E a 0 s ≡ blank) (same : (E F : TableOf A) (n : ℕ) → Agree E F n → Agree (next E) (next F) (suc n)) where
+module _ {A : Type 0} (blank : A) (next : CellsOf A → CellsOf A) where
+  module _ (first : (E : CellsOf A) (a s : ℕ) → next E a 0 s ≡ blank) (same : (E F : CellsOf A) (n : ℕ) → Agree E F n → Agree (next E) (next F) (suc n)) where
     filled-stays : (f : ℕ) → Agree (filledTo blank next (suc f)) (filledTo blank next f) f
     unfolding filledTo
     filled-stays zero a b s h = let e : b ≡ 0 = omega arith in rw e (first (λ a b s. blank) a s)

@@ -6,7 +6,7 @@ use native.Mathlib.Nat.{le-refl}
 use mathlib.Core.Path.{_≡_, sym, _∙_}
 use mathlib.Core.Logic.{by-cases}
 use Rattle.least.specs.Recurrence.{W, early, trip, wait, lowest, candidate, value}
-use Rattle.least.specs.Lines.{Supported}
+use Rattle.least.specs.Slopes.{Supported}
 use Rattle.least.proofs.Lines.{supported-line, supported-sum, supported-from, supported-same, supported-lowest}
 use Rattle.least.proofs.Value.{value-none, value-step}
 

@@ -8,7 +8,7 @@ use mathlib.Core.Logic.{by-cases}
 use lib.Dec.{ltb}
 use borrow.Author.Tests.{le-leb, lt-leb, lt-ltb, le-ltb}
 use Rattle.least.specs.Recurrence.{lower, lowest}
-use Rattle.least.specs.Lines.{Support, Supported}
+use Rattle.least.specs.Slopes.{Support, Supported}
 use Rattle.least.proofs.Scan.{lowest-end, lowest-turn}
 
 -- Two lines: not above the other at 0 and at j, a line is not above it between.

@@ -8,20 +8,20 @@ use mathlib.Core.Logic.{_≢_}
 use lib.Dec.{leb}
 use borrow.Author.Tests.{le-leb, lt-leb}
 use Rattle.least.proofs.Columns.{Agree, filled-first, filled-next}
-use Rattle.least.specs.Recurrence.{TableOf, filled, early, wait, lowest, scan, next, choice, candidate, value, Table}
+use Rattle.least.specs.Recurrence.{CellsOf, filled, early, wait, lowest, scan, next, choice, candidate, value, Cells}
 use Rattle.least.proofs.Scan.{lowest-same, lowest-scan, First, scan-all, first-skip, first-here}
 
 module _ (L R C : ℕ → ℕ) (U : ℕ) where
-  candidate-same : (E F : Table) (a b s k : ℕ) → k ≤ suc b → Agree E F b → candidate L R C U E a b s k ≡ candidate L R C U F a b s k
+  candidate-same : (E F : Cells) (a b s k : ℕ) → k ≤ suc b → Agree E F b → candidate L R C U E a b s k ≡ candidate L R C U F a b s k
   unfolding candidate
   candidate-same E F a b s zero h e = rw (e a b (s + C (suc b)) (omega arith))
   candidate-same E F a b s (suc d) h e = rw (e (suc d) b (s + C (suc b)) (omega arith), e a d s (omega arith))
 
-  next-first : (E : Table) (a s : ℕ) → next L R C U E a 0 s ≡ 0
+  next-first : (E : Cells) (a s : ℕ) → next L R C U E a 0 s ≡ 0
   unfolding next
   next-first E a s = refl
 
-  next-same : (E F : Table) (n : ℕ) → Agree E F n → Agree (next L R C U E) (next L R C U F) (suc n)
+  next-same : (E F : Cells) (n : ℕ) → Agree E F n → Agree (next L R C U E) (next L R C U F) (suc n)
   unfolding next
   next-same E F n e a zero s h = refl
   next-same E F n e a (suc b) s h =

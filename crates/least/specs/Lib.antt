@@ -2,4 +2,4 @@
 pub mod Least
 pub mod Wants
 pub mod Recurrence
-pub mod Lines
+pub mod Slopes

@@ -29,21 +29,21 @@ scan f a zero k = k
 scan f a (suc d) k = cond (leb a d) (scan f a d (cond (ltb (f (suc d)) (f k)) (suc d) k)) k
 
 -- A table: from a, b and s to what stands there. It is filled column by column, b rising, each column from those before it.
-abbrev pub TableOf : Type 0 → Type 0
-TableOf A = ℕ → ℕ → ℕ → A
+abbrev pub CellsOf : Type 0 → Type 0
+CellsOf A = ℕ → ℕ → ℕ → A
 
-module _ {A : Type 0} (blank : A) (next : TableOf A → TableOf A) where
+module _ {A : Type 0} (blank : A) (next : CellsOf A → CellsOf A) where
   -- The table with the columns up to f filled, and the whole.
-  unfoldable pub filledTo : ℕ → TableOf A
+  unfoldable pub filledTo : ℕ → CellsOf A
   filledTo zero = λ a b s. blank
   filledTo (suc f) = next (filledTo f)
 
-  unfoldable pub filled : TableOf A
+  unfoldable pub filled : CellsOf A
   filled a b s = filledTo b a b s
 
 -- A table of numbers, by a, b and s.
-abbrev pub Table : Type 0
-Table = TableOf ℕ
+abbrev pub Cells : Type 0
+Cells = CellsOf ℕ
 
 -- What stop b pays when it is read by the leg from a and not by one of its own.
 abbrev pub early : (ℕ → ℕ) → (ℕ → ℕ) → ℕ → ℕ → ℕ
@@ -61,16 +61,16 @@ module _ (L R C : ℕ → ℕ) (U : ℕ) where
 
   -- What a choice at stop suc b comes to, for the window (a, suc b] with s reads skipped right of it: 0 skips the stop, suc d starts a detour
   -- to it at suc d.
-  unfoldable pub candidate : Table → ℕ → ℕ → ℕ → ℕ → ℕ
+  unfoldable pub candidate : Cells → ℕ → ℕ → ℕ → ℕ → ℕ
   candidate E a b s zero = early L C a (suc b) + E a b (s + C (suc b))
   candidate E a b s (suc d) = wait (suc d) (suc b) s + early L C (suc d) (suc b) + E (suc d) b (s + C (suc b)) + E a d s
 
-  unfoldable pub next : Table → Table
+  unfoldable pub next : Cells → Cells
   next E a zero s = 0
   next E a (suc b) s = cond (leb a b) (lowest (candidate E a b s) a (suc b) (candidate E a b s 0)) 0
 
   -- The least that the window (a, b] can cost, with s reads skipped right of it: the lowest over the choices at its last stop.
-  unfoldable pub value : Table
+  unfoldable pub value : Cells
   value = filled 0 next
 
   -- The choice made at stop suc b for the window (a, suc b]: the first, in the order 0, suc b, b, …, whose candidate is the window's value.
@@ -94,15 +94,15 @@ planDetours F (detour d inner rest) (suc b) = planDetours F inner b ++ record { 
 
 module _ (L R C : ℕ → ℕ) (U : ℕ) where
   -- The plan over (a, suc b] that makes the choice k at suc b, and the plan that makes every choice so.
-  unfoldable pub built : TableOf Plan → ℕ → ℕ → ℕ → ℕ → Plan
+  unfoldable pub built : CellsOf Plan → ℕ → ℕ → ℕ → ℕ → Plan
   built P a b s zero = skip (P a b (s + C (suc b)))
   built P a b s (suc d) = detour d (P (suc d) b (s + C (suc b))) (P a d s)
 
-  unfoldable pub nextPlan : TableOf Plan → TableOf Plan
+  unfoldable pub nextPlan : CellsOf Plan → CellsOf Plan
   nextPlan P a zero s = empty
   nextPlan P a (suc b) s = cond (leb a b) (built P a b s (choice L R C U a b s)) empty
 
-  unfoldable pub best : TableOf Plan
+  unfoldable pub best : CellsOf Plan
   best = filled empty nextPlan
 
 -- The stops' file numbers, starts, ends and counts by index.

@@ -9,11 +9,11 @@ use Rattle.runs.specs.Run.{Run, stopsOf}
 use Rattle.runs.specs.Judging.{judgeOf}
 use Rattle.runs.proofs.Judged.{accepted-run}
 use Rattle.runs.proofs.Stops.{stops-few}
-use Rattle.joins.specs.declared.Joined.{Joined}
-use Rattle.joins.specs.Joining.{JoinRows, joinAnswer, joinRowsOf}
-use Rattle.joins.proofs.Held.{freshRows, Front}
-use Rattle.joins.proofs.Held as held
-use Rattle.planner.specs.Private.{Holds}
+use Rattle.engine_stops.specs.declared.Joined.{Joined}
+use Rattle.engine_stops.specs.Joining.{JoinRows, joinAnswer, joinRowsOf}
+use Rattle.engine_stops.proofs.Held.{freshRows, Front}
+use Rattle.engine_stops.proofs.Held as held
+use Rattle.planner.specs.Private.{RunInRows}
 
 -- An accepted run has at most 64 stops.
 pub few-stops : (r : Run) → refuses (judgeOf r) ≡ false → length (stopsOf r) ≤ 64
@@ -27,7 +27,7 @@ module _ (r : Run) (j : Joined) (after : JoinRows) (j-is : j ≡ joinAnswer r (f
     pub join-front : Front (j .stops) after (stopsOf r)
     join-front = held.join-front r 64 (few-stops r) j after j-is after-is accepts
 
-    pub join-holds : Holds r (take (j .stops) (after .firsts)) (take (j .stops) (after .lefts)) (take (j .stops) (after .spans)) (take (j .stops) (after .reads)) (r .head) (r .turn)
+    pub join-holds : RunInRows r (take (j .stops) (after .firsts)) (take (j .stops) (after .lefts)) (take (j .stops) (after .spans)) (take (j .stops) (after .reads)) (r .head) (r .turn)
     join-holds =
         record {
           accepts = accepts;

@@ -11,13 +11,13 @@ use Rattle.runs.specs.Judging.{judgeOf}
 use Rattle.runs.specs.Lists.{Detour}
 use Rattle.runs.proofs.Sound.{Sound}
 use Rattle.runs.proofs.Stops.{accepted-sound}
-use Rattle.joins.proofs.Table.{joined-stops, joined-accepted, renumbered-at, renumbered-length}
+use Rattle.engine_stops.proofs.Table.{joined-stops, joined-accepted, renumbered-at, renumbered-length}
 use Rattle.least.specs.Least.{LeastFor, LeastForRun}
 use Rattle.least.specs.Recurrence.{Plan, empty, skip, detour, planDetours, fileAt, leftAt, rightAt, countAt, best, bestPlan, leastList}
 use Rattle.least.proofs.Plan.{Over}
 use Rattle.least.proofs.Best.{best-over}
 use Rattle.least.proofs.LeastList.{least-list, least-unique}
-use Rattle.joins.specs.Private.{joinedTable, renumbered, entryNamed, listNamed}
+use Rattle.engine_stops.specs.Private.{joinedTable, renumbered, entryNamed, listNamed}
 
 -- Renumbering changes no place and no count; the stop at an index has the next number.
 renumbered-by : (g : Stop → ℕ) → ((s : Stop) (n : ℕ) → g (record { file = n; start = s .start; end = s .end; count = s .count }) ≡ g s)

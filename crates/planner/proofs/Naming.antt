@@ -15,16 +15,16 @@ use Rattle.runs.specs.Judging.{judgeOf}
 use Rattle.runs.specs.Lists.{Detour, entryOf}
 use Rattle.runs.proofs.Sound.{Sound}
 use Rattle.runs.proofs.Stops.{accepted-sound}
-use Rattle.joins.proofs.Table.{joined-stops, joined-accepted, joined-wants, joined-reads}
-use Rattle.joins.proofs.Renamed.{Within, InTable, formed-within}
-use Rattle.tables.specs.declared.Listed.{Listed}
-use Rattle.tables.specs.Listing.{ListRows, listRows, Lists, IsListed, NotListed, listingVerdict, shortListRows, roomSize}
+use Rattle.engine_stops.proofs.Table.{joined-stops, joined-accepted, joined-wants, joined-reads}
+use Rattle.engine_stops.proofs.Renamed.{Within, InTable, formed-within}
+use Rattle.engine_table.specs.declared.Listed.{Listed}
+use Rattle.engine_table.specs.Listing.{ListRows, listRows, Lists, IsListed, NotListed, listingVerdict, shortListRows, roomSize}
 use Rattle.planner.specs.Plan.{roomFor}
-use Rattle.planner.specs.Private.{Holds, nameIn, stopsVerdict, ListsNamed}
-use Rattle.joins.proofs.Halves.{front, behind, holds-front, entry-in}
+use Rattle.planner.specs.Private.{RunInRows, nameIn, stopsVerdict, ListsNamed}
+use Rattle.engine_stops.proofs.Halves.{front, behind, holds-front, entry-in}
 use Rattle.planner.proofs.Joined.{few-stops}
 use Rattle.planner.proofs.Named.{least-named}
-use Rattle.joins.specs.Private.{countUp, joinedTable, nameOf, entryNamed, listNamed}
+use Rattle.engine_stops.specs.Private.{countUp, joinedTable, nameOf, entryNamed, listNamed}
 
 -- An answer that says a verdict where that refuses, and accepts where it does not, refuses where the verdict does.
 pub told : (v w : Verdict) → (refuses v ≡ true → w ≡ v) → (refuses v ≡ false → w ≡ accepted) → refuses w ≡ refuses v
@@ -76,7 +76,7 @@ module _ (r : Run) (accepts : refuses (judgeOf r) ≡ false) where
       ∙ ap (λ k. firstOf (refuseIf (shortListRows k rows) ShortRow ∷ refuseIf (ltb (length (rows .room)) (roomSize (joinedTable r))) ShortRoom ∷ [])) (joined-wants r accepts)
       ∙ ap (λ n. firstOf (refuseIf (shortListRows (length (stopsOf r)) rows) ShortRow ∷ refuseIf (ltb (length (rows .room)) n) ShortRoom ∷ [])) room-same
 
-module _ (r : Run) (firsts lefts spans reads : List ℕ) (head turn : ℕ) (h : Holds r firsts lefts spans reads head turn) where
+module _ (r : Run) (firsts lefts spans reads : List ℕ) (head turn : ℕ) (h : RunInRows r firsts lefts spans reads head turn) where
   size : length firsts ≡ length (stopsOf r)
   size = ap length (h .first-files) ∙ length-map (stopsOf r) (λ s. s .file)
 

@@ -11,14 +11,14 @@ use Rattle.refusals.specs.Refusals.{isRefusal, accepted, refuseIf, firstOf}
 use Rattle.runs.specs.Run.{Run, stopsOf}
 use Rattle.runs.specs.Judging.{judgeOf}
 use Rattle.runs.specs.Lists.{Detour}
-use Rattle.joins.specs.Joining.{lengthOf}
+use Rattle.engine_stops.specs.Joining.{lengthOf}
 use Rattle.least.specs.Least.{LeastForRun}
-use Rattle.tables.specs.declared.Listed.{Listed}
-use Rattle.tables.specs.Listing.{ListRows, shortListRows, NotListed}
+use Rattle.engine_table.specs.declared.Listed.{Listed}
+use Rattle.engine_table.specs.Listing.{ListRows, shortListRows, NotListed}
 use Rattle.planner.specs.Plan.{roomFor}
 
 -- Four rows that hold the stops of an accepted run.
-pub record Holds (r : Run) (firsts lefts spans reads : List ℕ) (head turn : ℕ) : Type 0 where
+pub record RunInRows (r : Run) (firsts lefts spans reads : List ℕ) (head turn : ℕ) : Type 0 where
   pub accepts : isRefusal (judgeOf r .refusal) ≡ false
   pub first-files : firsts ≡ map (λ s. s .file) (stopsOf r)
   pub starts : lefts ≡ map (λ s. s .start) (stopsOf r)
@@ -29,7 +29,7 @@ pub record Holds (r : Run) (firsts lefts spans reads : List ℕ) (head turn : �
 
 pub record HoldsSome (firsts lefts spans reads : List ℕ) (head turn : ℕ) : Type 0 where
   pub run : Run
-  pub holds : Holds run firsts lefts spans reads head turn
+  pub holds : RunInRows run firsts lefts spans reads head turn
 
 -- A file of the joined table by its first file.
 abbrev pub nameIn : List ℕ → ℕ → ℕ

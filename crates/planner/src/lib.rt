@@ -5,14 +5,14 @@ ghost use mathlib.Core.List.{map, _++_};
 ghost use Prim.Native.Nat.{ℕ, _≤_, _<_};
 ghost use lib.ListN.{length, getD, take, drop};
 ghost use Rattle.runs.specs.Run.{Run, runAt};
-ghost use Rattle.tables.specs.Listing.{listRowsBefore, listRowsAfter};
+ghost use Rattle.engine_table.specs.Listing.{listRowsBefore, listRowsAfter};
 ghost use Rattle.planner.specs.Plan.{Plans, rowsBefore, rowsAfter};
-ghost use Rattle.planner.specs.Private.{Holds, HoldsSome, nameIn, ListsNamed};
-ghost use Rattle.joins.specs.Private.{countUp};
+ghost use Rattle.planner.specs.Private.{RunInRows, HoldsSome, nameIn, ListsNamed};
+ghost use Rattle.engine_stops.specs.Private.{countUp};
+use engine_table::Listed;
 use refusals::Refusal;
 use refusals::Verdict;
 use refusals::refused;
-use tables::Listed;
 use walk::Answer;
 
 // The numbers from 1 on.
@@ -53,12 +53,12 @@ fn list_named(
     room: &mut [u64],
 ) -> Listed
     requires { ⌜ HoldsSome (now firsts) (now lefts) (now spans) (now reads) head turn ⌝ }
-    ensures { λ l. ⌜ ((r : Run) → Holds r (now (firsts .entry)) (now (lefts .entry)) (now (spans .entry)) (now (reads .entry)) head turn → ListsNamed r (listRowsBefore froms tos room) l (listRowsAfter froms tos room)) ⌝ }
+    ensures { λ l. ⌜ ((r : Run) → RunInRows r (now (firsts .entry)) (now (lefts .entry)) (now (spans .entry)) (now (reads .entry)) head turn → ListsNamed r (listRowsBefore froms tos room) l (listRowsAfter froms tos room)) ⌝ }
 {
     let mut numbers = [0u64; 64];
     count_up(&mut numbers);
     let k = firsts.len();
-    let list = tables::list(
+    let list = engine_table::list(
         lefts,
         spans,
         &numbers[..k],
@@ -100,7 +100,7 @@ pub fn plan(
     let mut lefts = [0u64; 64];
     let mut spans = [0u64; 64];
     let mut reads = [0u64; 64];
-    let joined = joins::join(
+    let joined = engine_stops::join(
         starts,
         lengths,
         aggregates,

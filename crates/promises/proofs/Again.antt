@@ -10,22 +10,22 @@ use borrow.Author.Tests.{not-false, ltb-true, ltb-false}
 use Rattle.refusals.specs.Refusals.{firstWhere}
 use Rattle.runs.specs.Run.{mostWants, mostReads}
 use Rattle.runs.proofs.Search.{first-all, first-here, first-zero}
-use Rattle.texts.specs.Text.{lineFeed, comma, has, before, behind, isEmpty, isNumber, isName, isDigit, leadingZero, allOf, startsWith, decimal, valueOf}
-use Rattle.texts.proofs.Bytes.{and-true-both, not-empty}
-use Rattle.texts.proofs.Decimals.{decimal-without, decimal-some, decimal-value, decimal-number}
-use Rattle.lines.specs.Lines.{lineOf, afterLines, lineAfter, valueText, isNumberLine, numberBehind, isPair, isPairLine, firstIn, secondIn, isTriple, isTripleLine, firstBadOf, eachOf}
-use Rattle.sheets.specs.Lines.{tapeKey, headKey, turnKey, ruleKey, leastText, filesKey, fileKey, wantsKey, wantKey, isTapeLine, isTurnLine, turnWith, emptyTurn, isRuleLine, namesSweep}
-use Rattle.sheets.specs.Sheet.{longestSheet, mostSheetFiles, sheetTurn, sheetTurnWith, saysSweep, sheetFiles, fileText, unless, firstSome}
-use Rattle.prints.specs.Printing.{line, numberLine, pairLines}
-use Rattle.writers.proofs.Reread.{line-first, line-behind, key-begins, key-value, number-back, value-back, pairs-behind, pairs-good, firsts-back, seconds-back}
-use Rattle.loose.specs.Loose.{linesBefore, looseFiles, looseWantsText, looseWantText, looseWants, looseEnd, wantsSaid, priceLeftOut, firstBadLooseTop, firstBadLooseBelow, firstBadLoose, wantedFiles, wantedCounts}
-use Rattle.loose.proofs.Wants.{lines-good, want-lines-good}
-use Rattle.sheets.proofs.Rows.{length-each}
-use Rattle.mends.specs.declared.wants.Fate.the-variants.{Stays}
-use Rattle.mends.specs.Wants.{sumBelow, enter, remaining, readsInAll, askedOf, readsOfWant, readsEach, fateOf}
-use Rattle.mends.proofs.Counting.{sum-below, asked-within}
-use Rattle.mends.proofs.Texts.{each-long, each-at, few-files}
-use Rattle.mends.specs.Mending.{firstLines, sheetRemaining, sheetReads, mendedText, fateLines}
+use Rattle.text_bytes.specs.Text.{lineFeed, comma, has, before, behind, isEmpty, isNumber, isName, isDigit, leadingZero, allOf, startsWith, decimal, valueOf}
+use Rattle.text_bytes.proofs.Bytes.{and-true-both, not-empty}
+use Rattle.text_bytes.proofs.Decimals.{decimal-without, decimal-some, decimal-value, decimal-number}
+use Rattle.text_lines.specs.Lines.{lineOf, afterLines, lineAfter, valueText, isNumberLine, numberBehind, isPair, isPairLine, firstIn, secondIn, isTriple, isTripleLine, firstBadOf, eachOf}
+use Rattle.sheet_reader.specs.Lines.{tapeKey, headKey, turnKey, ruleKey, leastText, filesKey, fileKey, wantsKey, wantKey, isTapeLine, isTurnLine, turnWith, emptyTurn, isRuleLine, namesSweep}
+use Rattle.sheet_reader.specs.Sheet.{longestSheet, mostSheetFiles, sheetTurn, sheetTurnWith, saysSweep, sheetFiles, fileText, unless, firstSome}
+use Rattle.text_pages.specs.Printing.{line, numberLine, pairLines}
+use Rattle.sheet_writer.proofs.Reread.{line-first, line-behind, key-begins, key-value, number-back, value-back, pairs-behind, pairs-good, firsts-back, seconds-back}
+use Rattle.sheet_loose.specs.Loose.{linesBefore, looseFiles, looseWantsText, looseWantText, looseWants, looseEnd, wantsSaid, priceLeftOut, firstBadLooseTop, firstBadLooseBelow, firstBadLoose, wantedFiles, wantedCounts}
+use Rattle.sheet_loose.proofs.Wants.{lines-good, want-lines-good}
+use Rattle.sheet_reader.proofs.Rows.{length-each}
+use Rattle.answer_mend.specs.declared.wants.Fate.the-variants.{Stays}
+use Rattle.answer_mend.specs.Wants.{sumBelow, enter, remaining, readsInAll, askedOf, readsOfWant, readsEach, fateOf}
+use Rattle.answer_mend.proofs.Counting.{sum-below, asked-within}
+use Rattle.answer_mend.proofs.Texts.{each-long, each-at, few-files}
+use Rattle.answer_mend.specs.Mending.{firstLines, sheetRemaining, sheetReads, mendedText, fateLines}
 use Rattle.promises.proofs.Copied.{Ended, ended-all, copied-after, copied-line, copied-again}
 
 -- A line that is not empty has its LF.

@@ -9,8 +9,8 @@ use native.Mathlib.Nat.{zero-add}
 use lib.Dec.{eqb, ltb}
 use lib.Seq.{append-snoc}
 use borrow.Author.Tests.{lt-ltb, le-ltb, ltb-true, eqb-false, not-true, leb-true}
-use Rattle.texts.specs.Text.{isEmpty, isNumber, leadingZero, allOf, isDigit, valueFrom, valueOf, decimalIn, decimal}
-use Rattle.texts.proofs.Bytes.{and-true-both, DigitBounds, digit-bounds}
+use Rattle.text_bytes.specs.Text.{isEmpty, isNumber, leadingZero, allOf, isDigit, valueFrom, valueOf, decimalIn, decimal}
+use Rattle.text_bytes.proofs.Bytes.{and-true-both, DigitBounds, digit-bounds}
 
 -- So many digits or more: the text is the same.
 decimal-enough : (a b n : ℕ) → n ≤ a → n ≤ b → decimalIn a n ≡ decimalIn b n

@@ -20,25 +20,25 @@ use Rattle.walk.specs.Price.{pricedAnswer}
 use Rattle.least.specs.Least.{LeastForRun, listSum}
 use Rattle.least.proofs.LeastList.{least-unique}
 use Rattle.figures.proofs.Answers.{list-formed}
-use Rattle.joins.proofs.Halves.{list-accepted, list-of-halves, halves-even}
-use Rattle.texts.specs.Text.{bytes, lineFeed, has, behind, isText, startsWith, isName, valueOf, decimal}
-use Rattle.texts.proofs.Bytes.{and-true-both}
-use Rattle.texts.proofs.Decimals.{decimal-without, decimal-value}
-use Rattle.texts.proofs.Split.{whole-key}
-use Rattle.lines.specs.Lines.{lineOf, afterLines, lineAfter, firstIn, secondIn}
-use Rattle.prints.specs.Printing.{line, numberLine}
-use Rattle.sheets.specs.Sheet.{sheetRun, sheetName}
-use Rattle.sheets.specs.Reading.{sheetVerdict, ruleVerdict}
-use Rattle.sheets.proofs.Good.{good-name}
-use Rattle.sheets.proofs.Rows.{length-each}
-use Rattle.writers.specs.PlanSheet.{planText, detourKey}
-use Rattle.writers.proofs.Reread.{line-first, line-behind, key-begins}
-use Rattle.recalls.specs.Recall.{runChecks, verdictBy, recallVerdict, SheetRecalled, bytesPut, rowPut}
-use Rattle.lists.specs.Form.{detoursTold, detourText, planFroms, planTos, listFroms, listTos}
-use Rattle.lists.specs.Reading.{planForm, listForm}
-use Rattle.lists.proofs.RoundTrip.{plan-formed, froms-back, tos-back}
-use Rattle.checks.specs.Pricing.{priceChecks, pricingVerdict, priceText, SheetPriced}
-use Rattle.checks.specs.Checking.{formedYes, formedNo, walkYes, walkNo, leastYes, leastNo, firstDifference, walkLine, differenceLines, sameList, leastLine, verdictLines, checkText, checkChecks, checkVerdict, SheetChecked}
+use Rattle.engine_stops.proofs.Halves.{list-accepted, list-of-halves, halves-even}
+use Rattle.text_bytes.specs.Text.{bytes, lineFeed, has, behind, isText, startsWith, isName, valueOf, decimal}
+use Rattle.text_bytes.proofs.Bytes.{and-true-both}
+use Rattle.text_bytes.proofs.Decimals.{decimal-without, decimal-value}
+use Rattle.text_bytes.proofs.Split.{whole-key}
+use Rattle.text_lines.specs.Lines.{lineOf, afterLines, lineAfter, firstIn, secondIn}
+use Rattle.text_pages.specs.Printing.{line, numberLine}
+use Rattle.sheet_reader.specs.Sheet.{sheetRun, sheetName}
+use Rattle.sheet_reader.specs.Reading.{sheetVerdict, ruleVerdict}
+use Rattle.sheet_reader.proofs.Good.{good-name}
+use Rattle.sheet_reader.proofs.Rows.{length-each}
+use Rattle.sheet_writer.specs.PlanSheet.{planText, detourKey}
+use Rattle.sheet_writer.proofs.Reread.{line-first, line-behind, key-begins}
+use Rattle.answer_plan.specs.Recall.{runChecks, verdictBy, recallVerdict, SheetRecalled, bytesPut, rowPut}
+use Rattle.sheet_lists.specs.Form.{detoursTold, detourText, planFroms, planTos, listFroms, listTos}
+use Rattle.sheet_lists.specs.Reading.{planForm, listForm}
+use Rattle.sheet_lists.proofs.RoundTrip.{plan-formed, froms-back, tos-back}
+use Rattle.answer_check.specs.Pricing.{priceChecks, pricingVerdict, priceText, SheetPriced}
+use Rattle.answer_check.specs.Checking.{formedYes, formedNo, walkYes, walkNo, leastYes, leastNo, firstDifference, walkLine, differenceLines, sameList, leastLine, verdictLines, checkText, checkChecks, checkVerdict, SheetChecked}
 use Rattle.promises.proofs.Differs.{first-differs}
 use Rattle.promises.specs.Checks.{Larger, FirstDiffers, Told, CheckTells, CheckPrinted, PlanChecks, PriceTells}
 

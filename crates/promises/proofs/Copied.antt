@@ -6,12 +6,12 @@ use mathlib.Core.List.{List, [], _∷_, _++_, append-assoc}
 use native.Mathlib.Omega.{arith}
 use lib.ListN.{length, take, length-append}
 use lib.Seq.{take-append-add}
-use Rattle.texts.specs.Text.{lineFeed, has, before, behind}
-use Rattle.texts.proofs.Split.{split-at, none-before, has-here, before-here, behind-here}
-use Rattle.lines.specs.Lines.{lineOf, afterLines, lineAfter}
-use Rattle.writers.proofs.Reread.{after-front}
-use Rattle.loose.proofs.Ends.{after-ends}
-use Rattle.mends.specs.Mending.{firstLines}
+use Rattle.text_bytes.specs.Text.{lineFeed, has, before, behind}
+use Rattle.text_bytes.proofs.Split.{split-at, none-before, has-here, before-here, behind-here}
+use Rattle.text_lines.specs.Lines.{lineOf, afterLines, lineAfter}
+use Rattle.sheet_writer.proofs.Reread.{after-front}
+use Rattle.sheet_loose.proofs.Ends.{after-ends}
+use Rattle.answer_mend.specs.Mending.{firstLines}
 
 -- The first of several lines, with its LF, and the others.
 module _ (text : List ℕ) (ended : has lineFeed text ≡ true) where

@@ -4,11 +4,11 @@ use mathlib.Core.Path.{_≡_}
 use mathlib.Core.Bool.{true}
 use mathlib.Core.List.{List, [], _∷_}
 use native.Mathlib.Omega.{arith}
-use Rattle.texts.specs.Text.{isEmpty}
-use Rattle.lines.specs.Lines.{lineOf, lineAfter, isNumberLine}
-use Rattle.sheets.specs.Lines.{headKey, filesKey, wantsKey, isTapeLine, isTurnLine, isRuleLine}
-use Rattle.sheets.specs.Sheet.{unless}
-use Rattle.loose.specs.Loose.{looseFiles, looseWantsText, looseWants, looseEnd, firstBadLooseTop, firstBadLooseBelow, firstBadLoose}
+use Rattle.text_bytes.specs.Text.{isEmpty}
+use Rattle.text_lines.specs.Lines.{lineOf, lineAfter, isNumberLine}
+use Rattle.sheet_reader.specs.Lines.{headKey, filesKey, wantsKey, isTapeLine, isTurnLine, isRuleLine}
+use Rattle.sheet_reader.specs.Sheet.{unless}
+use Rattle.sheet_loose.specs.Loose.{looseFiles, looseWantsText, looseWants, looseEnd, firstBadLooseTop, firstBadLooseBelow, firstBadLoose}
 use Rattle.promises.proofs.Again.{none-more, line-good}
 
 pub record Described (text : List ℕ) : Type 0 where

@@ -17,21 +17,21 @@ use Rattle.runs.proofs.Search.{true-or-false}
 use Rattle.walk.specs.declared.Answer.{Answer}
 use Rattle.walk.specs.Price.{pricedAnswer, refusalAnswer}
 use Rattle.planner.specs.Plan.{Plans}
-use Rattle.tickets.specs.declared.Ticket.{Ticket}
-use Rattle.tickets.specs.declared.Lasts.{Lasts}
-use Rattle.tickets.specs.declared.Filing.{Filing}
-use Rattle.tickets.specs.declared.FiledRow.{FiledRow}
-use Rattle.tickets.specs.declared.Withdrawal.{Withdrawal}
-use Rattle.tickets.specs.declared.WithdrawnRow.{WithdrawnRow}
-use Rattle.tickets.specs.Table.{places, allPlaces, noTicket, lastOf, waiting, recordsVerdict, Waits, Sound}
-use Rattle.tickets.specs.Filings.{inRange, mostNumber, numberFor, ticketOf, fileVerdict, notFiled, filedIn, fileRow}
-use Rattle.tickets.specs.Withdrawals.{withdrawVerdict, withdrawRow}
-use Rattle.tickets.proofs.Storing.{file-accepted, office-is, range-office}
-use Rattle.tickets.proofs.Placed.{none-bad}
-use Rattle.tickets.proofs.Kept.{Stands, sound-stands, filed-so, not-filed-so, withdrawn-so, not-withdrawn-so}
-use Rattle.boardings.specs.declared.BoardedRow.{BoardedRow}
-use Rattle.boardings.specs.Boarders.{rowStaying, wantsOf}
-use Rattle.boardings.specs.Boardings.{boardRun, wantRows, takenOf, notBoarded, boardedBy}
+use Rattle.desk_tickets.specs.declared.Ticket.{Ticket}
+use Rattle.desk_tickets.specs.declared.Lasts.{Lasts}
+use Rattle.desk_tickets.specs.declared.Filing.{Filing}
+use Rattle.desk_tickets.specs.declared.FiledRow.{FiledRow}
+use Rattle.desk_tickets.specs.declared.Withdrawal.{Withdrawal}
+use Rattle.desk_tickets.specs.declared.WithdrawnRow.{WithdrawnRow}
+use Rattle.desk_tickets.specs.WaitingTable.{places, allPlaces, noTicket, lastOf, waiting, recordsVerdict, Waits, Sound}
+use Rattle.desk_tickets.specs.Filings.{inRange, mostNumber, numberFor, ticketOf, fileVerdict, notFiled, filedIn, fileRow}
+use Rattle.desk_tickets.specs.Withdrawals.{withdrawVerdict, withdrawRow}
+use Rattle.desk_tickets.proofs.Storing.{file-accepted, office-is, range-office}
+use Rattle.desk_tickets.proofs.Placed.{none-bad}
+use Rattle.desk_tickets.proofs.Kept.{Stands, sound-stands, filed-so, not-filed-so, withdrawn-so, not-withdrawn-so}
+use Rattle.desk_boardings.specs.declared.BoardedRow.{BoardedRow}
+use Rattle.desk_boardings.specs.Boarders.{rowStaying, wantsOf}
+use Rattle.desk_boardings.specs.Boardings.{boardRun, wantRows, takenOf, notBoarded, boardedBy}
 use Rattle.demands.proofs.Fits.{planAnswer, planRows, plans-for-every-input}
 use Rattle.demands.proofs.Demand2.{demand2-walk, demand2-least}
 use Rattle.demands.proofs.Demand3.{demand3}

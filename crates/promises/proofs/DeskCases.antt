@@ -1,10 +1,10 @@
 -- The worked cases of requests L6 and L7 compute.
 use mathlib.Core.Path.{refl}
 use Rattle.refusals.specs.Refusals.{firstWhere}
-use Rattle.tickets.specs.Table.{ticketsIn, recordsVerdict}
-use Rattle.tickets.specs.Filings.{fileVerdict, fileRow}
-use Rattle.tickets.specs.Withdrawals.{hasNumber, withoutNumber, withdrawVerdict, withdrawRow}
-use Rattle.boardings.specs.Boarders.{addWant, withWants}
+use Rattle.desk_tickets.specs.WaitingTable.{ticketsIn, recordsVerdict}
+use Rattle.desk_tickets.specs.Filings.{fileVerdict, fileRow}
+use Rattle.desk_tickets.specs.Withdrawals.{hasNumber, withoutNumber, withdrawVerdict, withdrawRow}
+use Rattle.desk_boardings.specs.Boarders.{addWant, withWants}
 use Rattle.promises.specs.Desk.{files, withdraws, over, then}
 use Rattle.promises.specs.DeskCases.{ShareCases, WantsCase, RowCases, FilingCases, WithdrawalCases, DayCase}
 

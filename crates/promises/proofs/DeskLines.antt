@@ -11,14 +11,14 @@ use borrow.Author.Tests.{lt-ltb, le-ltb, eq-eqb, ne-eqb, eqb-true}
 use Rattle.refusals.specs.Refusals.{isRefusal}
 use Rattle.runs.proofs.Search.{true-or-false}
 use Rattle.planner.specs.Plan.{Rows}
-use Rattle.tickets.specs.declared.Ticket.{Ticket}
-use Rattle.tickets.specs.Table.{noTicket}
-use Rattle.boardings.specs.declared.Boarding.{Boarding}
-use Rattle.boardings.specs.declared.BoardedRow.{BoardedRow}
-use Rattle.boardings.specs.Boarders.{Want, wantOf, addWant, withWants, wantsOf, fileNumbers, boarders}
-use Rattle.boardings.specs.Boardings.{Tape, eight, Boards}
-use Rattle.boardings.proofs.Adding.{by-order}
-use Rattle.days.specs.Answers.{placeIn}
+use Rattle.desk_tickets.specs.declared.Ticket.{Ticket}
+use Rattle.desk_tickets.specs.WaitingTable.{noTicket}
+use Rattle.desk_boardings.specs.declared.Boarding.{Boarding}
+use Rattle.desk_boardings.specs.declared.BoardedRow.{BoardedRow}
+use Rattle.desk_boardings.specs.Boarders.{Want, wantOf, addWant, withWants, wantsOf, fileNumbers, boarders}
+use Rattle.desk_boardings.specs.Boardings.{Tape, eight, Boards}
+use Rattle.desk_boardings.proofs.Adding.{by-order}
+use Rattle.answer_desk.specs.Answers.{placeIn}
 use Rattle.promises.proofs.DeskSteps.{board-accepted}
 use Rattle.promises.specs.DeskLines.{TicketsHaveWants}
 

@@ -14,18 +14,18 @@ use Rattle.refusals.specs.Refusals.{isRefusal, refuseIf, refuseAt, firstWhere}
 use Rattle.refusals.proofs.Verdicts.{refuses}
 use Rattle.runs.proofs.Search.{true-or-false, first-zero, first-all}
 use Rattle.runs.specs.Run.{mostFiles}
-use Rattle.tickets.specs.declared.Ticket.{Ticket}
-use Rattle.tickets.specs.declared.Lasts.{Lasts}
-use Rattle.tickets.specs.declared.Filing.{Filing}
-use Rattle.tickets.specs.declared.Withdrawal.{Withdrawal}
-use Rattle.tickets.specs.Table.{offices, places, allPlaces, mostCount, noTicket, isEmptyPlace, upTo, isTicket, follows, lastOf, officeAt, isFirstPlace, isOutOfTurn, badRecord, waiting, recordsVerdict}
-use Rattle.tickets.specs.Filings.{inRange, isFull, mostNumber, isSpent, fileVerdict, fileRow}
-use Rattle.tickets.specs.Withdrawals.{hasNumber, isWaiting, withdrawVerdict, withdrawRow}
-use Rattle.tickets.proofs.Sound.{empty-is, row-sound}
-use Rattle.tickets.proofs.Placed.{padded-at, none-bad}
-use Rattle.tickets.proofs.Kept.{filed-so, not-filed-so, withdrawn-so, not-withdrawn-so}
-use Rattle.boardings.specs.Boardings.{boardRun}
-use Rattle.demands.specs.Table.{FirstBad}
+use Rattle.desk_tickets.specs.declared.Ticket.{Ticket}
+use Rattle.desk_tickets.specs.declared.Lasts.{Lasts}
+use Rattle.desk_tickets.specs.declared.Filing.{Filing}
+use Rattle.desk_tickets.specs.declared.Withdrawal.{Withdrawal}
+use Rattle.desk_tickets.specs.WaitingTable.{offices, places, allPlaces, mostCount, noTicket, isEmptyPlace, upTo, isTicket, follows, lastOf, officeAt, isFirstPlace, isOutOfTurn, badRecord, waiting, recordsVerdict}
+use Rattle.desk_tickets.specs.Filings.{inRange, isFull, mostNumber, isSpent, fileVerdict, fileRow}
+use Rattle.desk_tickets.specs.Withdrawals.{hasNumber, isWaiting, withdrawVerdict, withdrawRow}
+use Rattle.desk_tickets.proofs.Sound.{empty-is, row-sound}
+use Rattle.desk_tickets.proofs.Placed.{padded-at, none-bad}
+use Rattle.desk_tickets.proofs.Kept.{filed-so, not-filed-so, withdrawn-so, not-withdrawn-so}
+use Rattle.desk_boardings.specs.Boardings.{boardRun}
+use Rattle.demands.specs.RefusalTable.{FirstBad}
 use Rattle.demands.proofs.Tests.{Tells, tells-equal, tells-below, tells-at-most, tells-not, tells-either, tells-both, tells-reworded}
 use Rattle.demands.proofs.Checks.{Decides, decides-if, decides-at, decides-reworded, Finds, finds-none, finds-first, first-of-joined, refused-iff}
 use Rattle.demands.proofs.Demand1.{demand1-plan}

@@ -7,25 +7,25 @@ use mathlib.Core.Bool.{false}
 use mathlib.Core.Logic.{⊎-elim}
 use lib.ListN.{length, take, drop, replicate, length-append, length-replicate}
 use lib.Seq.{length-take-le}
-use Rattle.tickets.specs.declared.Ticket.{Ticket}
-use Rattle.tickets.specs.declared.Lasts.{Lasts}
-use Rattle.tickets.specs.declared.Filed.{Filed}
-use Rattle.tickets.specs.declared.FiledRow.{FiledRow}
-use Rattle.tickets.specs.declared.Withdrawn.{Withdrawn}
-use Rattle.tickets.specs.declared.WithdrawnRow.{WithdrawnRow}
+use Rattle.desk_tickets.specs.declared.Ticket.{Ticket}
+use Rattle.desk_tickets.specs.declared.Lasts.{Lasts}
+use Rattle.desk_tickets.specs.declared.Filed.{Filed}
+use Rattle.desk_tickets.specs.declared.FiledRow.{FiledRow}
+use Rattle.desk_tickets.specs.declared.Withdrawn.{Withdrawn}
+use Rattle.desk_tickets.specs.declared.WithdrawnRow.{WithdrawnRow}
 use Rattle.refusals.specs.Refusals.{isRefusal}
 use Rattle.refusals.proofs.Verdicts.{refuses}
 use Rattle.runs.proofs.Search.{true-or-false}
-use Rattle.tickets.specs.Table.{Sound, noTicket, places, placed, waiting, recordsVerdict}
-use Rattle.tickets.specs.Filings.{fileVerdict, fileRow}
-use Rattle.tickets.specs.Withdrawals.{withdrawVerdict, withdrawRow}
-use Rattle.tickets.proofs.Storing.{accepted-sound, file-accepted}
-use Rattle.tickets.proofs.Leaving.{withdraw-accepted}
-use Rattle.tickets.proofs.Kept.{not-filed-so, not-withdrawn-so}
-use Rattle.boardings.specs.declared.BoardedRow.{BoardedRow}
-use Rattle.boardings.specs.Boardings.{Boards}
-use Rattle.desk.specs.Desk.{tableIn, withTable, boardedRow}
-use Rattle.desk.proofs.Kept.{row-keeps-its-length, later-records-kept, table-comes-back}
+use Rattle.desk_tickets.specs.WaitingTable.{Sound, noTicket, places, placed, waiting, recordsVerdict}
+use Rattle.desk_tickets.specs.Filings.{fileVerdict, fileRow}
+use Rattle.desk_tickets.specs.Withdrawals.{withdrawVerdict, withdrawRow}
+use Rattle.desk_tickets.proofs.Storing.{accepted-sound, file-accepted}
+use Rattle.desk_tickets.proofs.Leaving.{withdraw-accepted}
+use Rattle.desk_tickets.proofs.Kept.{not-filed-so, not-withdrawn-so}
+use Rattle.desk_boardings.specs.declared.BoardedRow.{BoardedRow}
+use Rattle.desk_boardings.specs.Boardings.{Boards}
+use Rattle.desk_rows.specs.Desk.{tableIn, withTable, boardedRow}
+use Rattle.desk_rows.proofs.Kept.{row-keeps-its-length, later-records-kept, table-comes-back}
 use Rattle.promises.specs.Desk.{Kept, IsTable, Call, Fits, Day}
 use Rattle.promises.specs.DeskRows.{LentFits, LentDay, keptIn, DayOnALentRow}
 use Rattle.promises.proofs.DeskSteps.{board-accepted, refused-is}

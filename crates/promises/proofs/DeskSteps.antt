@@ -16,23 +16,23 @@ use Rattle.refusals.specs.Refusals.{isRefusal}
 use Rattle.refusals.proofs.Verdicts.{refuses}
 use Rattle.runs.proofs.Search.{true-or-false}
 use Rattle.planner.specs.Plan.{Rows}
-use Rattle.tickets.specs.declared.Ticket.{Ticket}
-use Rattle.tickets.specs.declared.Lasts.{Lasts}
-use Rattle.tickets.specs.declared.Filing.{Filing}
-use Rattle.tickets.specs.declared.FiledRow.{FiledRow}
-use Rattle.tickets.specs.declared.Withdrawal.{Withdrawal}
-use Rattle.tickets.specs.declared.WithdrawnRow.{WithdrawnRow}
-use Rattle.tickets.specs.Table.{noTicket, lastOf, waiting, recordsVerdict}
-use Rattle.tickets.specs.Filings.{fileVerdict, numberFor, lastsWith, ticketOf, withTicket, rowWithTicket, notFiled, filedIn, fileRow}
-use Rattle.tickets.specs.Withdrawals.{withoutNumber, withdrawVerdict, withoutTicket, rowLeft, withdrawRow}
-use Rattle.tickets.proofs.Storing.{file-accepted, office-is, range-office}
-use Rattle.tickets.proofs.Leaving.{withdraw-accepted, without-here, without-later}
-use Rattle.tickets.proofs.Kept.{Stands, Holds, without-holds, file-holds, withdraw-holds, filed-so, not-filed-so, withdrawn-so, not-withdrawn-so}
-use Rattle.boardings.specs.declared.Boarding.{Boarding}
-use Rattle.boardings.specs.declared.BoardedRow.{BoardedRow}
-use Rattle.boardings.specs.Boarders.{share, shareOne, shareTwo, rowStaying, wantsOf}
-use Rattle.boardings.specs.Boardings.{Tape, takenOf, wantRows, notBoarded, Boards}
-use Rattle.boardings.proofs.Who.{share-within}
+use Rattle.desk_tickets.specs.declared.Ticket.{Ticket}
+use Rattle.desk_tickets.specs.declared.Lasts.{Lasts}
+use Rattle.desk_tickets.specs.declared.Filing.{Filing}
+use Rattle.desk_tickets.specs.declared.FiledRow.{FiledRow}
+use Rattle.desk_tickets.specs.declared.Withdrawal.{Withdrawal}
+use Rattle.desk_tickets.specs.declared.WithdrawnRow.{WithdrawnRow}
+use Rattle.desk_tickets.specs.WaitingTable.{noTicket, lastOf, waiting, recordsVerdict}
+use Rattle.desk_tickets.specs.Filings.{fileVerdict, numberFor, lastsWith, ticketOf, withTicket, rowWithTicket, notFiled, filedIn, fileRow}
+use Rattle.desk_tickets.specs.Withdrawals.{withoutNumber, withdrawVerdict, withoutTicket, rowLeft, withdrawRow}
+use Rattle.desk_tickets.proofs.Storing.{file-accepted, office-is, range-office}
+use Rattle.desk_tickets.proofs.Leaving.{withdraw-accepted, without-here, without-later}
+use Rattle.desk_tickets.proofs.Kept.{Stands, Holds, without-holds, file-holds, withdraw-holds, filed-so, not-filed-so, withdrawn-so, not-withdrawn-so}
+use Rattle.desk_boardings.specs.declared.Boarding.{Boarding}
+use Rattle.desk_boardings.specs.declared.BoardedRow.{BoardedRow}
+use Rattle.desk_boardings.specs.Boarders.{share, shareOne, shareTwo, rowStaying, wantsOf}
+use Rattle.desk_boardings.specs.Boardings.{Tape, takenOf, wantRows, notBoarded, Boards}
+use Rattle.desk_boardings.proofs.Who.{share-within}
 use Rattle.promises.specs.Desk.{Kept, IsTable, IsOffice, Call, filing, withdrawal, boarding, Fits, files, withdraws, boards, departs, leaving, joining, takesBack, withdrawn, queueAfter, givenBy, WaitsOn, Fate, Takes}
 
 -- A kind other than acceptance refuses.

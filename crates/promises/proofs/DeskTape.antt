@@ -10,18 +10,18 @@ use lib.ListN.{length, getD, drop}
 use borrow.Author.Tests.{leb-true}
 use Rattle.refusals.specs.Refusals.{isRefusal}
 use Rattle.runs.specs.Run.{mostFiles}
-use Rattle.tickets.specs.declared.Ticket.{Ticket}
-use Rattle.tickets.specs.declared.Lasts.{Lasts}
-use Rattle.tickets.specs.declared.Filing.{Filing}
-use Rattle.tickets.specs.declared.FiledRow.{FiledRow}
-use Rattle.tickets.specs.Table.{offices, mostCount, noTicket, upTo, waiting}
-use Rattle.tickets.specs.Filings.{inRange, ticketOf, fileRow}
-use Rattle.tickets.specs.Withdrawals.{withoutNumber}
-use Rattle.tickets.proofs.Sound.{and-true-both}
-use Rattle.tickets.proofs.Placed.{waiting-one, waiting-two}
-use Rattle.tickets.proofs.Storing.{file-accepted}
-use Rattle.tickets.proofs.Kept.{Stands}
-use Rattle.boardings.specs.Boardings.{Tape}
+use Rattle.desk_tickets.specs.declared.Ticket.{Ticket}
+use Rattle.desk_tickets.specs.declared.Lasts.{Lasts}
+use Rattle.desk_tickets.specs.declared.Filing.{Filing}
+use Rattle.desk_tickets.specs.declared.FiledRow.{FiledRow}
+use Rattle.desk_tickets.specs.WaitingTable.{offices, mostCount, noTicket, upTo, waiting}
+use Rattle.desk_tickets.specs.Filings.{inRange, ticketOf, fileRow}
+use Rattle.desk_tickets.specs.Withdrawals.{withoutNumber}
+use Rattle.desk_tickets.proofs.Sound.{and-true-both}
+use Rattle.desk_tickets.proofs.Placed.{waiting-one, waiting-two}
+use Rattle.desk_tickets.proofs.Storing.{file-accepted}
+use Rattle.desk_tickets.proofs.Kept.{Stands}
+use Rattle.desk_boardings.specs.Boardings.{Tape}
 use Rattle.promises.specs.Desk.{Kept, atFirst, IsOffice, Call, filing, withdrawal, files, withdraws, boards, Day, over, then, leaving, joining, takesBack, queueIn}
 use Rattle.promises.specs.DeskWants.{ForTape, RefusedForTheRunFromEmpty}
 use Rattle.promises.proofs.Desk.{told, empty-sound, empty-table, table-from-empty, in-order}

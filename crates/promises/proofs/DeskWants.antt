@@ -18,15 +18,15 @@ use Rattle.runs.proofs.Search.{true-or-false, first-all}
 use Rattle.walk.specs.Price.{pricedAnswer}
 use Rattle.least.specs.Wants.{readsOfFile}
 use Rattle.planner.specs.Plan.{Rows, planVerdict, shortRows, roomFor}
-use Rattle.tickets.specs.declared.Ticket.{Ticket}
-use Rattle.tickets.specs.declared.Lasts.{Lasts}
-use Rattle.tickets.specs.Table.{mostCount, noTicket, isTicket, upTo, waiting, allPlaces, recordsVerdict}
-use Rattle.tickets.proofs.Sound.{and-true-both}
-use Rattle.tickets.proofs.Placed.{none-bad}
-use Rattle.boardings.specs.Boarders.{Want, wantOf, addWant, withWants, wantsOf, fileNumbers, readCounts, shareOne, shareTwo, boarders}
-use Rattle.boardings.specs.Boardings.{boardRun}
-use Rattle.boardings.proofs.Adding.{by-order, add-longer, add-total}
-use Rattle.boardings.proofs.Who.{share-within, shares-fit}
+use Rattle.desk_tickets.specs.declared.Ticket.{Ticket}
+use Rattle.desk_tickets.specs.declared.Lasts.{Lasts}
+use Rattle.desk_tickets.specs.WaitingTable.{mostCount, noTicket, isTicket, upTo, waiting, allPlaces, recordsVerdict}
+use Rattle.desk_tickets.proofs.Sound.{and-true-both}
+use Rattle.desk_tickets.proofs.Placed.{none-bad}
+use Rattle.desk_boardings.specs.Boarders.{Want, wantOf, addWant, withWants, wantsOf, fileNumbers, readCounts, shareOne, shareTwo, boarders}
+use Rattle.desk_boardings.specs.Boardings.{boardRun}
+use Rattle.desk_boardings.proofs.Adding.{by-order, add-longer, add-total}
+use Rattle.desk_boardings.proofs.Who.{share-within, shares-fit}
 use Rattle.promises.specs.Desk.{IsTable}
 use Rattle.promises.specs.DeskWants.{asked, WantsAdded, OnlyTheRun, nothing, turn-price, head-place, short-row, short-room, RefusedForTheRun}
 

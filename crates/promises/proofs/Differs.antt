@@ -9,8 +9,8 @@ use lib.ListN.{length, drop, getD}
 use lib.Dec.{eqb}
 use borrow.Author.Tests.{eq-eqb, ne-eqb, eqb-true}
 use Rattle.runs.proofs.Search.{true-or-false}
-use Rattle.texts.specs.Text.{lineFeed}
-use Rattle.checks.specs.Checking.{differFrom, firstDifference}
+use Rattle.text_bytes.specs.Text.{lineFeed}
+use Rattle.answer_check.specs.Checking.{differFrom, firstDifference}
 use Rattle.promises.specs.Checks.{leadingLines, FirstDiffers}
 
 -- So many whole lines are common to two texts, and no more; the line that is named lies that many behind the one at which the search began.

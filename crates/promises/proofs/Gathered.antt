@@ -11,9 +11,9 @@ use lib.Dec.{eqb, ltb}
 use borrow.Author.Tests.{eq-eqb, ne-eqb, eqb-true, eqb-false, lt-ltb, le-ltb, ltb-true, ltb-false, not-true, not-false}
 use Rattle.runs.specs.Lists.{anyBelow}
 use Rattle.runs.proofs.Search.{any-here, any-zero, or-false-both}
-use Rattle.mends.specs.declared.wants.Fate.the-variants.{Stays}
-use Rattle.mends.specs.Wants.{sumBelow, lowerFile, higherFile, enter, entered, remaining, readsInAll, askedOf, readsOfWant, readsEach, sameAbove, higherAbove, fateOf}
-use Rattle.mends.proofs.Texts.{each-long, each-at}
+use Rattle.answer_mend.specs.declared.wants.Fate.the-variants.{Stays}
+use Rattle.answer_mend.specs.Wants.{sumBelow, lowerFile, higherFile, enter, entered, remaining, readsInAll, askedOf, readsOfWant, readsEach, sameAbove, higherAbove, fateOf}
+use Rattle.answer_mend.proofs.Texts.{each-long, each-at}
 
 -- Ascending, from a number on.
 abbrev pub Rising : ℕ → List ℕ → Type 0

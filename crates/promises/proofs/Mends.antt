@@ -16,25 +16,25 @@ use Rattle.refusals.proofs.Verdicts.{all-accept, accepts-if, accepts-at}
 use Rattle.runs.specs.Run.{mostWants, mostReads}
 use Rattle.runs.specs.Lists.{anyBelow}
 use Rattle.runs.proofs.Search.{any-here}
-use Rattle.sheets.specs.Reading.{readRow}
-use Rattle.texts.specs.Text.{bytes, isEmpty, startsWith, isText}
-use Rattle.texts.proofs.Bytes.{and-true-both}
-use Rattle.texts.proofs.Split.{key-split, whole-key}
-use Rattle.sheets.specs.Lines.{turnKey, ruleKey, sweepText, namesSweep}
-use Rattle.sheets.specs.Sheet.{longestSheet, sheetTurn, saysSweep, sheetFiles, fileText, sheetRun}
-use Rattle.loose.specs.Loose.{looseFiles, looseWants, wantsSaid, priceLeftOut, firstBadLoose, wantedFiles, wantedCounts}
-use Rattle.loose.specs.Reading.{looseVerdict}
-use Rattle.mends.specs.declared.Mended.{Mended}
-use Rattle.mends.specs.declared.wants.Fate.{Fate}
-use Rattle.mends.specs.declared.wants.Fate.the-variants.{Stays, Moved, Added, Dropped}
-use Rattle.mends.specs.Wants.{readsInAll, askedOf, readsOfWant, sameAbove, higherAbove, fateOf}
-use Rattle.mends.specs.Mending.{firstLines, sheetRemaining, sheetReads, mendedText, changeIf, changesText, fateLine, fateLines, wantsVerdicts, textsVerdicts, mendVerdict, SheetMended}
-use Rattle.mends.proofs.Answers.{mend-determined}
+use Rattle.sheet_reader.specs.Reading.{readRow}
+use Rattle.text_bytes.specs.Text.{bytes, isEmpty, startsWith, isText}
+use Rattle.text_bytes.proofs.Bytes.{and-true-both}
+use Rattle.text_bytes.proofs.Split.{key-split, whole-key}
+use Rattle.sheet_reader.specs.Lines.{turnKey, ruleKey, sweepText, namesSweep}
+use Rattle.sheet_reader.specs.Sheet.{longestSheet, sheetTurn, saysSweep, sheetFiles, fileText, sheetRun}
+use Rattle.sheet_loose.specs.Loose.{looseFiles, looseWants, wantsSaid, priceLeftOut, firstBadLoose, wantedFiles, wantedCounts}
+use Rattle.sheet_loose.specs.Reading.{looseVerdict}
+use Rattle.answer_mend.specs.declared.Mended.{Mended}
+use Rattle.answer_mend.specs.declared.wants.Fate.{Fate}
+use Rattle.answer_mend.specs.declared.wants.Fate.the-variants.{Stays, Moved, Added, Dropped}
+use Rattle.answer_mend.specs.Wants.{readsInAll, askedOf, readsOfWant, sameAbove, higherAbove, fateOf}
+use Rattle.answer_mend.specs.Mending.{firstLines, sheetRemaining, sheetReads, mendedText, changeIf, changesText, fateLine, fateLines, wantsVerdicts, textsVerdicts, mendVerdict, SheetMended}
+use Rattle.answer_mend.proofs.Answers.{mend-determined}
 use Rattle.promises.specs.Mends.{InRows, MendedRows, MendingDetermined, WasMended, SameReads, ReadsKept, SheetInOrder, MendedInOrder, MendedIsRead, SameFile, HigherFile, FateBy, FatesByConditions, SaidOf, EveryFateListed, ListedWhen, TopChangesListed, OnceIsEnough, AcceptedComesBack, AcceptedAsWritten, AcceptedTaken}
 use Rattle.promises.proofs.Gathered.{rising-at, Clean, remaining-clean, clean-remaining, clean-each, clean-stays, reads-kept, total-kept}
 use Rattle.runs.specs.Judging.{judgeOf}
-use Rattle.lines.specs.Lines.{afterLines, lineAfter, valueText}
-use Rattle.sheets.specs.Reading.{sheetVerdict, ruleVerdict}
+use Rattle.text_lines.specs.Lines.{afterLines, lineAfter, valueText}
+use Rattle.sheet_reader.specs.Reading.{sheetVerdict, ruleVerdict}
 use Rattle.promises.proofs.Same.{empty-is, old-sheet, new-sheet, same-sheet, one-change}
 use Rattle.promises.proofs.Written.{written-so, mended-short}
 use Rattle.promises.proofs.Taken.{taken, five-longer}

@@ -16,21 +16,21 @@ use Rattle.refusals.specs.declared.Refusal.the-variants.{Accepted, BadSheetCoun
 use Rattle.refusals.specs.declared.Verdict.{Verdict}
 use Rattle.refusals.specs.Refusals.{numberOf, isRefusal}
 use Rattle.runs.proofs.Search.{or-false-both}
-use Rattle.texts.specs.Text.{lineFeed, isEmpty, has, before, behind, valueFrom, valueOf, leadingZero, allOf, isDigit, isNumber}
-use Rattle.texts.proofs.Bytes.{and-true-both}
-use Rattle.texts.proofs.Split.{has-here, before-here, behind-here, split-at, none-before}
-use Rattle.sheets.specs.Sheet.{sheetRun, sheetName}
-use Rattle.sheets.specs.Reading.{sheetVerdict}
-use Rattle.recalls.specs.Recall.{verdictBy, recallVerdict}
-use Rattle.outcomes.specs.declared.Outcome.{Outcome}
-use Rattle.outcomes.specs.Outcomes.{refusedOutcome, OutcomeOf}
-use Rattle.months.specs.declared.Month.{Month}
-use Rattle.months.specs.declared.Part.{Part}
-use Rattle.months.specs.declared.Part.the-variants.{End, Sheet, Bad}
-use Rattle.months.specs.declared.Added.{Added}
-use Rattle.months.specs.Month.{grown, emptyMonth, withRefused, withTotals, namedBy, withLongest, added, addedAll}
-use Rattle.months.specs.Parts.{isCount, countOf, partOf, SheetAdded, inputVerdict}
-use Rattle.promises.specs.Months.{Outcomes, isWhole, divided, lineHeld, restOf, keptOf, ReadsOn, at-end, no-part, cut-short, one-more, FiguresOf, MonthOfInput, PartByPart}
+use Rattle.text_bytes.specs.Text.{lineFeed, isEmpty, has, before, behind, valueFrom, valueOf, leadingZero, allOf, isDigit, isNumber}
+use Rattle.text_bytes.proofs.Bytes.{and-true-both}
+use Rattle.text_bytes.proofs.Split.{has-here, before-here, behind-here, split-at, none-before}
+use Rattle.sheet_reader.specs.Sheet.{sheetRun, sheetName}
+use Rattle.sheet_reader.specs.Reading.{sheetVerdict}
+use Rattle.answer_plan.specs.Recall.{verdictBy, recallVerdict}
+use Rattle.answer_outcome.specs.declared.Outcome.{Outcome}
+use Rattle.answer_outcome.specs.Outcomes.{refusedOutcome, OutcomeOf}
+use Rattle.answer_month.specs.declared.Month.{Month}
+use Rattle.answer_month.specs.declared.Part.{Part}
+use Rattle.answer_month.specs.declared.Part.the-variants.{End, Sheet, Bad}
+use Rattle.answer_month.specs.declared.Added.{Added}
+use Rattle.answer_month.specs.Month.{grown, emptyMonth, withRefused, withTotals, namedBy, withLongest, added, addedAll}
+use Rattle.answer_month.specs.Parts.{isCount, countOf, partOf, SheetAdded, inputVerdict}
+use Rattle.promises.specs.Months.{Outcomes, isWhole, divided, lineHeld, restOf, keptOf, ReadsOn, at-end, no-part, cut-short, one-more, MonthFigures, MonthOfInput, PartByPart}
 use Rattle.promises.proofs.MonthTotals.{outcomes-small, grown-fits, month-counts}
 
 -- A number below 2 to the 64 has at most twenty digits.
@@ -372,7 +372,7 @@ unfolding inputVerdict
 part-by-part input m good r =
     let t = reads-on r 1000 refl in
     let few = few-sheets 1000 input in
-    let figures : FiguresOf (t .runs) m = subst (FiguresOf (t .runs)) (sym (t .month)) (month-counts (divided 1000 input .sheets) (t .runs) few (t .outcomes)) in
+    let figures : MonthFigures (t .runs) m = subst (MonthFigures (t .runs)) (sym (t .month)) (month-counts (divided 1000 input .sheets) (t .runs) few (t .outcomes)) in
     let size : m .sheets ≡ length (divided 1000 input .sheets) = figures .sheets ∙ outcomes-small (divided 1000 input .sheets) (t .runs) (t .outcomes) .1 in
     record {
       runs = t .runs;

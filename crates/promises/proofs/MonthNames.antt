@@ -25,14 +25,14 @@ use Rattle.walk.specs.Price.{pricedTimes}
 use Rattle.walk.proofs.Joins.{served-same}
 use Rattle.least.proofs.Sweeps.{each-served}
 use Rattle.demands.proofs.Ends.{size, stop-of-want, entry-at}
-use Rattle.texts.proofs.Bytes.{and-true-both}
-use Rattle.sheets.specs.Sheet.{sheetRun, sheetName}
-use Rattle.sheets.specs.Reading.{sheetVerdict, ruleVerdict}
-use Rattle.recalls.specs.Recall.{runChecks, verdictBy, recallVerdict}
-use Rattle.outcomes.specs.declared.Outcome.{Outcome}
-use Rattle.outcomes.specs.declared.Longest.{Longest}
-use Rattle.outcomes.specs.Outcomes.{longer, longestFrom, longestOf, refusedOutcome, plannedOutcome, OutcomeOf}
-use Rattle.months.specs.Month.{emptyMonth, addedAll}
+use Rattle.text_bytes.proofs.Bytes.{and-true-both}
+use Rattle.sheet_reader.specs.Sheet.{sheetRun, sheetName}
+use Rattle.sheet_reader.specs.Reading.{sheetVerdict, ruleVerdict}
+use Rattle.answer_plan.specs.Recall.{runChecks, verdictBy, recallVerdict}
+use Rattle.answer_outcome.specs.declared.Outcome.{Outcome}
+use Rattle.answer_outcome.specs.declared.Longest.{Longest}
+use Rattle.answer_outcome.specs.Outcomes.{longer, longestFrom, longestOf, refusedOutcome, plannedOutcome, OutcomeOf}
+use Rattle.answer_month.specs.Month.{emptyMonth, addedAll}
 use Rattle.promises.specs.Months.{Every, Outcomes, ofAccepted, inAll, longestTime, NoneRead, FirstLongest, NoReadsNoName, ReadsNameARun}
 use Rattle.promises.proofs.MonthTotals.{every-at, month-counts}
 

@@ -11,13 +11,13 @@ use lib.Dec.{eqb}
 use borrow.Author.Tests.{eq-eqb}
 use Rattle.refusals.specs.declared.Verdict.{Verdict}
 use Rattle.refusals.specs.Refusals.{isRefusal}
-use Rattle.outcomes.specs.declared.Outcome.{Outcome}
-use Rattle.outcomes.specs.Outcomes.{OutcomeOf}
-use Rattle.outcomes.proofs.Outcomes.{outcome-once}
-use Rattle.months.specs.declared.Month.{Month}
-use Rattle.months.specs.Month.{emptyMonth, addedAll}
-use Rattle.months.specs.Page.{PagePut}
-use Rattle.promises.specs.Months.{Every, Outcomes, howManyRuns, isAcceptedRun, ofAccepted, inAll, isRefusedBy, longestTime, NoneRead, FirstLongest, FiguresOf, Reordered, same, behind-first, swapped, both, SameTotals, SameNames, OneLongest, OrderIsTie, OnePage}
+use Rattle.answer_outcome.specs.declared.Outcome.{Outcome}
+use Rattle.answer_outcome.specs.Outcomes.{OutcomeOf}
+use Rattle.answer_outcome.proofs.Outcomes.{outcome-once}
+use Rattle.answer_month.specs.declared.Month.{Month}
+use Rattle.answer_month.specs.Month.{emptyMonth, addedAll}
+use Rattle.answer_month.specs.Page.{PagePut}
+use Rattle.promises.specs.Months.{Every, Outcomes, howManyRuns, isAcceptedRun, ofAccepted, inAll, isRefusedBy, longestTime, NoneRead, FirstLongest, MonthFigures, Reordered, same, behind-first, swapped, both, SameTotals, SameNames, OneLongest, OrderIsTie, OnePage}
 use Rattle.promises.proofs.MonthTotals.{every-map, every-append, every-at, many-append, none-longer, month-counts}
 
 -- The outcomes of sheets are one list.
@@ -84,7 +84,7 @@ back swapped = swapped
 back (both p q) = both (back q) (back p)
 
 -- The longest time of one list is no longer than that of the other.
-no-longer : {xs ys : List Outcome} → Reordered xs ys → (m m′ : Month) → FiguresOf xs m → FiguresOf ys m′ → m .time ≤ m′ .time
+no-longer : {xs ys : List Outcome} → Reordered xs ys → (m m′ : Month) → MonthFigures xs m → MonthFigures ys m′ → m .time ≤ m′ .time
 no-longer {xs} {ys} p m m′ f g = go (f .longest)
   where
     go : NoneRead xs m ⊎ FirstLongest xs m → m .time ≤ m′ .time
@@ -117,7 +117,7 @@ alone test earlier x later q few =
     every-append (λ r. test r ≡ true → r ≡ x) earlier (x ∷ later) (none-of test x earlier (omega (arith, parts, here)))
     (λ z. refl, none-of test x later (omega (arith, parts, here)))
 
-module _ {xs ys : List Outcome} (p : Reordered xs ys) (m m′ : Month) (f : FiguresOf xs m) (g : FiguresOf ys m′) where
+module _ {xs ys : List Outcome} (p : Reordered xs ys) (m m′ : Month) (f : MonthFigures xs m) (g : MonthFigures ys m′) where
   same-time : m .time ≡ m′ .time
   same-time = omega (arith, no-longer p m m′ f g, no-longer (back p) m′ m g f)
 

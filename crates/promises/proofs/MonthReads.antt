@@ -13,16 +13,16 @@ use Rattle.runs.specs.Run.{stopsOf}
 use Rattle.runs.proofs.Stops.{accepted-sound}
 use Rattle.least.specs.Recurrence.{leastList}
 use Rattle.least.proofs.LeastList.{least-list}
-use Rattle.texts.specs.Text.{isEmpty}
-use Rattle.sheets.specs.Sheet.{sheetRun, sheetName}
-use Rattle.recalls.specs.Recall.{recallVerdict}
-use Rattle.outcomes.specs.declared.Outcome.{Outcome}
-use Rattle.outcomes.specs.Outcomes.{refusedOutcome, plannedOutcome, OutcomeOf}
-use Rattle.months.specs.declared.Month.{Month}
-use Rattle.months.specs.declared.Part.{Part}
-use Rattle.months.specs.declared.Part.the-variants.{End, Sheet, Bad}
-use Rattle.months.specs.Month.{emptyMonth, added}
-use Rattle.months.specs.Parts.{partOf}
+use Rattle.text_bytes.specs.Text.{isEmpty}
+use Rattle.sheet_reader.specs.Sheet.{sheetRun, sheetName}
+use Rattle.answer_plan.specs.Recall.{recallVerdict}
+use Rattle.answer_outcome.specs.declared.Outcome.{Outcome}
+use Rattle.answer_outcome.specs.Outcomes.{refusedOutcome, plannedOutcome, OutcomeOf}
+use Rattle.answer_month.specs.declared.Month.{Month}
+use Rattle.answer_month.specs.declared.Part.{Part}
+use Rattle.answer_month.specs.declared.Part.the-variants.{End, Sheet, Bad}
+use Rattle.answer_month.specs.Month.{emptyMonth, added}
+use Rattle.answer_month.specs.Parts.{partOf}
 use Rattle.promises.specs.Months.{lineHeld, restOf, keptOf, ReadsOn, at-end, no-part, cut-short, one-more, EveryInputIsRead}
 use Rattle.promises.proofs.MonthNames.{judged}
 use Rattle.promises.proofs.MonthInput.{one-more-sheet}

@@ -13,13 +13,13 @@ use lib.Dec.{ltb, leb, eqb}
 use borrow.Author.Tests.{lt-ltb, le-ltb, ltb-true, ltb-false, lt-leb, eqb-true, eqb-false, eq-eqb, ne-eqb}
 use Rattle.refusals.specs.Refusals.{numberOf, isRefusal}
 use Rattle.refusals.proofs.Verdicts.{number-small}
-use Rattle.outcomes.specs.declared.Outcome.{Outcome}
-use Rattle.outcomes.specs.Outcomes.{OutcomeOf}
-use Rattle.outcomes.proofs.Bounds.{Small, outcome-small}
-use Rattle.months.specs.declared.Month.{Month}
-use Rattle.months.specs.Month.{tooLarge, grown, emptyMonth, refusedWith, withRefused, withTotals, namedBy, withLongest, added, addedAll}
-use Rattle.months.specs.Page.{meanOf}
-use Rattle.promises.specs.Months.{Every, Outcomes, howManyRuns, isAcceptedRun, ofAccepted, inAll, isRefusedBy, longestTime, NoneRead, FirstLongest, FiguresOf, MonthCounts, MeanIs, MeanExact}
+use Rattle.answer_outcome.specs.declared.Outcome.{Outcome}
+use Rattle.answer_outcome.specs.Outcomes.{OutcomeOf}
+use Rattle.answer_outcome.proofs.Bounds.{Small, outcome-small}
+use Rattle.answer_month.specs.declared.Month.{Month}
+use Rattle.answer_month.specs.Month.{tooLarge, grown, emptyMonth, refusedWith, withRefused, withTotals, namedBy, withLongest, added, addedAll}
+use Rattle.answer_month.specs.Page.{meanOf}
+use Rattle.promises.specs.Months.{Every, Outcomes, howManyRuns, isAcceptedRun, ofAccepted, inAll, isRefusedBy, longestTime, NoneRead, FirstLongest, MonthFigures, MonthCounts, MeanIs, MeanExact}
 
 module _ {A : Type 0} {P Q : A → Type 0} where
   pub every-map : ((x : A) → P x → Q x) → (xs : List A) → Every P xs → Every Q xs
@@ -306,7 +306,7 @@ held-none =
       longest = inl (record { none = tt; time = refl; file = refl; letters = refl });
     }
 
-figures-of : (runs : List Outcome) → Every Small runs → length runs ≤ 1000 → FiguresOf runs (addedAll emptyMonth runs)
+figures-of : (runs : List Outcome) → Every Small runs → length runs ≤ 1000 → MonthFigures runs (addedAll emptyMonth runs)
 figures-of runs smalls few =
     let h = held-all runs [] emptyMonth held-none tt smalls (omega arith) in
     let t = h .totals in

@@ -7,13 +7,13 @@ use native.Mathlib.Omega.{arith}
 use lib.Dec.{leb}
 use borrow.Author.Tests.{le-leb}
 use Rattle.runs.specs.Run.{mostWants}
-use Rattle.texts.specs.Text.{isEmpty}
-use Rattle.lines.specs.Lines.{lineOf, afterLines, lineAfter, isNumberLine, numberBehind, isPairLine, firstIn, secondIn, isTripleLine, firstBadOf, eachOf}
-use Rattle.sheets.specs.Lines.{headKey, filesKey, fileKey, wantsKey, wantKey, isTapeLine, isCountLine, isTurnLine, isRuleLine}
-use Rattle.sheets.specs.Sheet.{mostSheetFiles, sheetFiles, fileText, wantsText, sheetWants, wantText, endText, unless, shifted, firstBadTop, firstBadBelow, firstBadLine, sheetRun}
-use Rattle.loose.specs.Loose.{looseFiles, looseWantsText, looseWantText, looseWants, looseEnd, wantsSaid, firstBadLoose, wantedFiles, wantedCounts}
-use Rattle.loose.proofs.Wants.{lines-good, want-lines-good}
-use Rattle.mends.proofs.Texts.{few-files}
+use Rattle.text_bytes.specs.Text.{isEmpty}
+use Rattle.text_lines.specs.Lines.{lineOf, afterLines, lineAfter, isNumberLine, numberBehind, isPairLine, firstIn, secondIn, isTripleLine, firstBadOf, eachOf}
+use Rattle.sheet_reader.specs.Lines.{headKey, filesKey, fileKey, wantsKey, wantKey, isTapeLine, isCountLine, isTurnLine, isRuleLine}
+use Rattle.sheet_reader.specs.Sheet.{mostSheetFiles, sheetFiles, fileText, wantsText, sheetWants, wantText, endText, unless, shifted, firstBadTop, firstBadBelow, firstBadLine, sheetRun}
+use Rattle.sheet_loose.specs.Loose.{looseFiles, looseWantsText, looseWantText, looseWants, looseEnd, wantsSaid, firstBadLoose, wantedFiles, wantedCounts}
+use Rattle.sheet_loose.proofs.Wants.{lines-good, want-lines-good}
+use Rattle.answer_mend.proofs.Texts.{few-files}
 use Rattle.promises.proofs.Described.{described}
 
 count-line : (key : List ℕ) (most : ℕ) (text : List ℕ) → isNumberLine key text ≡ true → numberBehind key text ≤ most → isCountLine key most text ≡ true

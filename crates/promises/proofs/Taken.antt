@@ -11,17 +11,17 @@ use Rattle.refusals.proofs.Verdicts.{refuses}
 use Rattle.runs.specs.Run.{mostWants, mostReads, total}
 use Rattle.runs.specs.Judging.{judgeOf}
 use Rattle.runs.proofs.Judged.{accepted-run}
-use Rattle.texts.specs.Text.{bytes, lineFeed, isNumber, allOf, valueFrom, decimal}
-use Rattle.lines.specs.Lines.{lineOf, afterLines, lineAfter, valueText, isNumberLine}
-use Rattle.sheets.specs.Lines.{turnKey, wantsKey, turnWith, emptyTurn}
-use Rattle.sheets.specs.Sheet.{longestSheet, sheetTurn, sheetTurnWith, saysSweep, endText, sheetRun}
-use Rattle.sheets.specs.Reading.{sheetVerdict}
-use Rattle.sheets.proofs.Good.{short-sheet}
-use Rattle.prints.specs.Printing.{line}
-use Rattle.loose.specs.Loose.{looseWantsText, looseEnd, priceLeftOut, firstBadLooseTop, firstBadLooseBelow, firstBadLoose, wantedCounts}
-use Rattle.loose.specs.Reading.{looseVerdict}
-use Rattle.mends.specs.Wants.{sumBelow, readsInAll}
-use Rattle.mends.specs.Mending.{firstLines, sheetRemaining, mendedText, changesText, mendVerdict}
+use Rattle.text_bytes.specs.Text.{bytes, lineFeed, isNumber, allOf, valueFrom, decimal}
+use Rattle.text_lines.specs.Lines.{lineOf, afterLines, lineAfter, valueText, isNumberLine}
+use Rattle.sheet_reader.specs.Lines.{turnKey, wantsKey, turnWith, emptyTurn}
+use Rattle.sheet_reader.specs.Sheet.{longestSheet, sheetTurn, sheetTurnWith, saysSweep, endText, sheetRun}
+use Rattle.sheet_reader.specs.Reading.{sheetVerdict}
+use Rattle.sheet_reader.proofs.Good.{short-sheet}
+use Rattle.text_pages.specs.Printing.{line}
+use Rattle.sheet_loose.specs.Loose.{looseWantsText, looseEnd, priceLeftOut, firstBadLooseTop, firstBadLooseBelow, firstBadLoose, wantedCounts}
+use Rattle.sheet_loose.specs.Reading.{looseVerdict}
+use Rattle.answer_mend.specs.Wants.{sumBelow, readsInAll}
+use Rattle.answer_mend.specs.Mending.{firstLines, sheetRemaining, mendedText, changesText, mendVerdict}
 use Rattle.promises.proofs.Canonical.{number-text}
 use Rattle.promises.proofs.Same.{empty-is, g, below, wants-number, files-number, tail-same, body-same, wants-same, named, counted, remain, old-sheet, new-sheet}
 

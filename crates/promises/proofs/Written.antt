@@ -13,20 +13,20 @@ use Rattle.refusals.specs.Refusals.{accepted}
 use Rattle.refusals.proofs.Verdicts.{refuses}
 use Rattle.runs.specs.Judging.{judgeOf}
 use Rattle.runs.proofs.Search.{true-or-false, first-zero}
-use Rattle.texts.specs.Text.{lineFeed, comma, has, before, behind, isNumber, isName, startsWith, valueOf, decimal}
-use Rattle.texts.proofs.Bytes.{and-true-both}
-use Rattle.texts.proofs.Split.{split-at, key-split}
-use Rattle.lines.specs.Lines.{afterLines, lineAfter, valueText, isNumberLine, isPair, isTriple, isTripleLine, firstIn, middleIn, thirdIn, firstBadOf, eachOf}
-use Rattle.sheets.specs.Lines.{tapeKey, headKey, turnKey, ruleKey, leastText, filesKey, fileKey, wantsKey, wantKey, isTapeLine}
-use Rattle.sheets.specs.Sheet.{longestSheet, sheetHead, sheetTurn, saysSweep, sheetFiles, fileText, sheetName, sheetRun}
-use Rattle.sheets.specs.Reading.{sheetVerdict}
-use Rattle.sheets.proofs.Good.{good-name, few-files}
-use Rattle.sheets.proofs.Rows.{length-each}
-use Rattle.prints.specs.Printing.{line, numberLine, pairLines, tripleText, tripleLine, tripleLines}
-use Rattle.writers.specs.Writing.{topText, sheetText}
-use Rattle.writers.proofs.RoundTrip.{round-trip}
-use Rattle.loose.specs.Loose.{looseFiles}
-use Rattle.mends.specs.Mending.{firstLines, sheetRemaining, sheetReads, mendedText}
+use Rattle.text_bytes.specs.Text.{lineFeed, comma, has, before, behind, isNumber, isName, startsWith, valueOf, decimal}
+use Rattle.text_bytes.proofs.Bytes.{and-true-both}
+use Rattle.text_bytes.proofs.Split.{split-at, key-split}
+use Rattle.text_lines.specs.Lines.{afterLines, lineAfter, valueText, isNumberLine, isPair, isTriple, isTripleLine, firstIn, middleIn, thirdIn, firstBadOf, eachOf}
+use Rattle.sheet_reader.specs.Lines.{tapeKey, headKey, turnKey, ruleKey, leastText, filesKey, fileKey, wantsKey, wantKey, isTapeLine}
+use Rattle.sheet_reader.specs.Sheet.{longestSheet, sheetHead, sheetTurn, saysSweep, sheetFiles, fileText, sheetName, sheetRun}
+use Rattle.sheet_reader.specs.Reading.{sheetVerdict}
+use Rattle.sheet_reader.proofs.Good.{good-name, few-files}
+use Rattle.sheet_reader.proofs.Rows.{length-each}
+use Rattle.text_pages.specs.Printing.{line, numberLine, pairLines, tripleText, tripleLine, tripleLines}
+use Rattle.sheet_writer.specs.Writing.{topText, sheetText}
+use Rattle.sheet_writer.proofs.RoundTrip.{round-trip}
+use Rattle.sheet_loose.specs.Loose.{looseFiles}
+use Rattle.answer_mend.specs.Mending.{firstLines, sheetRemaining, sheetReads, mendedText}
 use Rattle.promises.proofs.Canonical.{number-text}
 use Rattle.promises.proofs.Same.{text-line, number-line, behind-none, no-number, pair-value, g, below, files-same, named, counted, remain, ask, lower-is, new-sheet}
 

@@ -12,14 +12,14 @@ use Rattle.refusals.specs.Refusals.{isRefusal}
 use Rattle.runs.specs.Run.{Run, stopsOf}
 use Rattle.runs.specs.Lists.{Detour, WellFormed, listOf}
 use Rattle.least.specs.Least.{LeastForRun, listSum}
-use Rattle.texts.specs.Text.{bytes, decimal, lineFeed}
-use Rattle.lines.specs.Lines.{lineAfter}
-use Rattle.sheets.specs.Sheet.{sheetRun, sheetName}
-use Rattle.writers.specs.PlanSheet.{planText}
-use Rattle.recalls.specs.Recall.{recallVerdict, SheetRecalled}
-use Rattle.lists.specs.Form.{planFroms, planTos, listFroms, listTos}
-use Rattle.checks.specs.Pricing.{pricingVerdict, SheetPriced}
-use Rattle.checks.specs.Checking.{checkVerdict, SheetChecked}
+use Rattle.text_bytes.specs.Text.{bytes, decimal, lineFeed}
+use Rattle.text_lines.specs.Lines.{lineAfter}
+use Rattle.sheet_reader.specs.Sheet.{sheetRun, sheetName}
+use Rattle.sheet_writer.specs.PlanSheet.{planText}
+use Rattle.answer_plan.specs.Recall.{recallVerdict, SheetRecalled}
+use Rattle.sheet_lists.specs.Form.{planFroms, planTos, listFroms, listTos}
+use Rattle.answer_check.specs.Pricing.{pricingVerdict, SheetPriced}
+use Rattle.answer_check.specs.Checking.{checkVerdict, SheetChecked}
 
 -- By how much the sum of a list is larger than the least sum of a run.
 pub record Larger (run : Run) (list : List Detour) (by : ℕ) : Type 0 where

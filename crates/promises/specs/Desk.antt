@@ -15,19 +15,19 @@ use Rattle.runs.specs.Judging.{judgeOf}
 use Rattle.walk.specs.declared.Leg.{Leg}
 use Rattle.walk.specs.Walk.{headAt, Moves, ServesAll, sumOf}
 use Rattle.planner.specs.Plan.{Rows}
-use Rattle.tickets.specs.declared.Ticket.{Ticket}
-use Rattle.tickets.specs.declared.Lasts.{Lasts}
-use Rattle.tickets.specs.declared.Filing.{Filing}
-use Rattle.tickets.specs.declared.FiledRow.{FiledRow}
-use Rattle.tickets.specs.declared.Withdrawal.{Withdrawal}
-use Rattle.tickets.specs.declared.WithdrawnRow.{WithdrawnRow}
-use Rattle.tickets.specs.Table.{Sound, noTicket, lastOf, waiting}
-use Rattle.tickets.specs.Filings.{inRange, ticketOf, fileRow}
-use Rattle.tickets.specs.Withdrawals.{withoutNumber, withdrawRow}
-use Rattle.boardings.specs.declared.Boarding.{Boarding}
-use Rattle.boardings.specs.declared.BoardedRow.{BoardedRow}
-use Rattle.boardings.specs.Boarders.{boarders}
-use Rattle.boardings.specs.Boardings.{Tape, boardRun, Boards}
+use Rattle.desk_tickets.specs.declared.Ticket.{Ticket}
+use Rattle.desk_tickets.specs.declared.Lasts.{Lasts}
+use Rattle.desk_tickets.specs.declared.Filing.{Filing}
+use Rattle.desk_tickets.specs.declared.FiledRow.{FiledRow}
+use Rattle.desk_tickets.specs.declared.Withdrawal.{Withdrawal}
+use Rattle.desk_tickets.specs.declared.WithdrawnRow.{WithdrawnRow}
+use Rattle.desk_tickets.specs.WaitingTable.{Sound, noTicket, lastOf, waiting}
+use Rattle.desk_tickets.specs.Filings.{inRange, ticketOf, fileRow}
+use Rattle.desk_tickets.specs.Withdrawals.{withoutNumber, withdrawRow}
+use Rattle.desk_boardings.specs.declared.Boarding.{Boarding}
+use Rattle.desk_boardings.specs.declared.BoardedRow.{BoardedRow}
+use Rattle.desk_boardings.specs.Boarders.{boarders}
+use Rattle.desk_boardings.specs.Boardings.{Tape, boardRun, Boards}
 use Rattle.demands.specs.Demand2.{IsTheWalk, IsLeast}
 use Rattle.demands.specs.Demand3.{AsksNoLess}
 

@@ -7,15 +7,15 @@ use Rattle.refusals.specs.declared.Refusal.{Refusal}
 use Rattle.refusals.specs.declared.Refusal.the-variants.{ShortRow, BadTicket, NotWaiting, NumbersSpent, BadRecord}
 use Rattle.refusals.specs.declared.Verdict.{Verdict}
 use Rattle.refusals.specs.Refusals.{accepted}
-use Rattle.tickets.specs.declared.Ticket.{Ticket}
-use Rattle.tickets.specs.declared.Lasts.{Lasts}
-use Rattle.tickets.specs.declared.Filing.{Filing}
-use Rattle.tickets.specs.declared.FiledRow.{FiledRow}
-use Rattle.tickets.specs.declared.Withdrawal.{Withdrawal}
-use Rattle.tickets.specs.Table.{noTicket, rowOf, recordsVerdict}
-use Rattle.tickets.specs.Filings.{fileVerdict}
-use Rattle.tickets.specs.Withdrawals.{withoutNumber, withdrawVerdict}
-use Rattle.boardings.specs.Boarders.{Want, share, withWants}
+use Rattle.desk_tickets.specs.declared.Ticket.{Ticket}
+use Rattle.desk_tickets.specs.declared.Lasts.{Lasts}
+use Rattle.desk_tickets.specs.declared.Filing.{Filing}
+use Rattle.desk_tickets.specs.declared.FiledRow.{FiledRow}
+use Rattle.desk_tickets.specs.declared.Withdrawal.{Withdrawal}
+use Rattle.desk_tickets.specs.WaitingTable.{noTicket, rowOf, recordsVerdict}
+use Rattle.desk_tickets.specs.Filings.{fileVerdict}
+use Rattle.desk_tickets.specs.Withdrawals.{withoutNumber, withdrawVerdict}
+use Rattle.desk_boardings.specs.Boarders.{Want, share, withWants}
 use Rattle.promises.specs.Desk.{atFirst, filing, withdrawal, Day}
 
 -- Office, file, count and number.

@@ -8,15 +8,15 @@ use lib.ListN.{length, getD}
 use Rattle.refusals.specs.Refusals.{isRefusal}
 use Rattle.runs.specs.Run.{Run}
 use Rattle.planner.specs.Plan.{Rows}
-use Rattle.tickets.specs.declared.Ticket.{Ticket}
-use Rattle.tickets.specs.Table.{noTicket}
-use Rattle.boardings.specs.declared.Boarding.{Boarding}
-use Rattle.boardings.specs.declared.BoardedRow.{BoardedRow}
-use Rattle.boardings.specs.Boarders.{boarders}
-use Rattle.boardings.specs.Boardings.{Tape, boardRun, Boards}
-use Rattle.days.specs.declared.Reads.{Reads}
-use Rattle.days.specs.Answers.{ticketLine, closedLine}
-use Rattle.days.specs.Days.{readsBoarded}
+use Rattle.desk_tickets.specs.declared.Ticket.{Ticket}
+use Rattle.desk_tickets.specs.WaitingTable.{noTicket}
+use Rattle.desk_boardings.specs.declared.Boarding.{Boarding}
+use Rattle.desk_boardings.specs.declared.BoardedRow.{BoardedRow}
+use Rattle.desk_boardings.specs.Boarders.{boarders}
+use Rattle.desk_boardings.specs.Boardings.{Tape, boardRun, Boards}
+use Rattle.answer_desk.specs.declared.Reads.{Reads}
+use Rattle.answer_desk.specs.Answers.{ticketLine, closedLine}
+use Rattle.answer_desk.specs.Days.{readsBoarded}
 
 -- Which of a run's wants a ticket's is, counted from 0, and the line that closes the ticket.
 pub record HasItsWant (run : Run) (reads : Reads) (t : Ticket) : Type 0 where

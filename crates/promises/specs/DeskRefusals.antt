@@ -7,20 +7,20 @@ use mathlib.Core.List.{List, [], _∷_}
 use lib.ListN.{length, getD, take}
 use Rattle.refusals.specs.declared.Refusal.{Refusal}
 use Rattle.refusals.specs.declared.Refusal.the-variants.{ShortRow, BadTicket, OfficeFull, NotWaiting, NumbersSpent, BadRecord}
-use Rattle.tickets.specs.declared.Ticket.{Ticket}
-use Rattle.tickets.specs.declared.Lasts.{Lasts}
-use Rattle.tickets.specs.declared.Filing.{Filing}
-use Rattle.tickets.specs.declared.FiledRow.{FiledRow}
-use Rattle.tickets.specs.declared.Withdrawal.{Withdrawal}
-use Rattle.tickets.specs.declared.WithdrawnRow.{WithdrawnRow}
-use Rattle.tickets.specs.Table.{noTicket, lastOf, officeAt, waiting}
-use Rattle.tickets.specs.Filings.{fileRow}
-use Rattle.tickets.specs.Withdrawals.{withdrawRow}
+use Rattle.desk_tickets.specs.declared.Ticket.{Ticket}
+use Rattle.desk_tickets.specs.declared.Lasts.{Lasts}
+use Rattle.desk_tickets.specs.declared.Filing.{Filing}
+use Rattle.desk_tickets.specs.declared.FiledRow.{FiledRow}
+use Rattle.desk_tickets.specs.declared.Withdrawal.{Withdrawal}
+use Rattle.desk_tickets.specs.declared.WithdrawnRow.{WithdrawnRow}
+use Rattle.desk_tickets.specs.WaitingTable.{noTicket, lastOf, officeAt, waiting}
+use Rattle.desk_tickets.specs.Filings.{fileRow}
+use Rattle.desk_tickets.specs.Withdrawals.{withdrawRow}
 use Rattle.planner.specs.Plan.{Rows}
-use Rattle.boardings.specs.declared.Boarding.{Boarding}
-use Rattle.boardings.specs.declared.BoardedRow.{BoardedRow}
-use Rattle.boardings.specs.Boardings.{Tape, boardRun, Boards}
-use Rattle.demands.specs.Table.{FirstBad, FirstThatApplies, SomeApplies}
+use Rattle.desk_boardings.specs.declared.Boarding.{Boarding}
+use Rattle.desk_boardings.specs.declared.BoardedRow.{BoardedRow}
+use Rattle.desk_boardings.specs.Boardings.{Tape, boardRun, Boards}
+use Rattle.demands.specs.RefusalTable.{FirstBad, FirstThatApplies, SomeApplies}
 use Rattle.demands.specs.Demand1.{PlanApplies, planOrder}
 use Rattle.promises.specs.Desk.{IsTable}
 

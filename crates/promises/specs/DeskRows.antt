@@ -5,18 +5,18 @@ use mathlib.Core.Path.{_≡_}
 use mathlib.Core.List.{List, [], _∷_}
 use lib.ListN.{length, drop}
 use Rattle.planner.specs.Plan.{Rows}
-use Rattle.tickets.specs.declared.Ticket.{Ticket}
-use Rattle.tickets.specs.declared.Lasts.{Lasts}
-use Rattle.tickets.specs.declared.Filing.{Filing}
-use Rattle.tickets.specs.declared.Filed.{Filed}
-use Rattle.tickets.specs.declared.Withdrawal.{Withdrawal}
-use Rattle.tickets.specs.declared.Withdrawn.{Withdrawn}
-use Rattle.tickets.specs.Filings.{fileRow}
-use Rattle.tickets.specs.Withdrawals.{withdrawRow}
-use Rattle.boardings.specs.declared.Boarding.{Boarding}
-use Rattle.boardings.specs.declared.Boarded.{Boarded}
-use Rattle.boardings.specs.Boardings.{Tape}
-use Rattle.desk.specs.Desk.{tableIn, withTable, BoardsLent}
+use Rattle.desk_tickets.specs.declared.Ticket.{Ticket}
+use Rattle.desk_tickets.specs.declared.Lasts.{Lasts}
+use Rattle.desk_tickets.specs.declared.Filing.{Filing}
+use Rattle.desk_tickets.specs.declared.Filed.{Filed}
+use Rattle.desk_tickets.specs.declared.Withdrawal.{Withdrawal}
+use Rattle.desk_tickets.specs.declared.Withdrawn.{Withdrawn}
+use Rattle.desk_tickets.specs.Filings.{fileRow}
+use Rattle.desk_tickets.specs.Withdrawals.{withdrawRow}
+use Rattle.desk_boardings.specs.declared.Boarding.{Boarding}
+use Rattle.desk_boardings.specs.declared.Boarded.{Boarded}
+use Rattle.desk_boardings.specs.Boardings.{Tape}
+use Rattle.desk_rows.specs.Desk.{tableIn, withTable, BoardsLent}
 use Rattle.promises.specs.Desk.{Kept, Call, filing, withdrawal, boarding, Day}
 
 -- A call on a lent row that fits desk's contract: the row and the last numbers go in, the next ones come back. The call that it is: what was handed in,

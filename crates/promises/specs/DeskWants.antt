@@ -12,12 +12,12 @@ use Rattle.refusals.specs.Refusals.{isRefusal, firstOf}
 use Rattle.runs.specs.Judging.{tableChecks}
 use Rattle.least.specs.Wants.{readsOfFile}
 use Rattle.planner.specs.Plan.{Rows}
-use Rattle.tickets.specs.declared.Ticket.{Ticket}
-use Rattle.tickets.specs.Table.{noTicket, waiting}
-use Rattle.boardings.specs.declared.Boarding.{Boarding}
-use Rattle.boardings.specs.declared.BoardedRow.{BoardedRow}
-use Rattle.boardings.specs.Boarders.{boarders}
-use Rattle.boardings.specs.Boardings.{Tape, boardRun, Boards}
+use Rattle.desk_tickets.specs.declared.Ticket.{Ticket}
+use Rattle.desk_tickets.specs.WaitingTable.{noTicket, waiting}
+use Rattle.desk_boardings.specs.declared.Boarding.{Boarding}
+use Rattle.desk_boardings.specs.declared.BoardedRow.{BoardedRow}
+use Rattle.desk_boardings.specs.Boarders.{boarders}
+use Rattle.desk_boardings.specs.Boardings.{Tape, boardRun, Boards}
 use Rattle.promises.specs.Desk.{Kept, atFirst, IsTable, IsOffice, Call, filing, withdrawal, boarding, Day}
 
 -- The reads of a file that some tickets ask for.

@@ -10,19 +10,19 @@ use Rattle.refusals.specs.declared.Refusal.the-variants.{Accepted}
 use Rattle.refusals.specs.Refusals.{accepted}
 use Rattle.runs.specs.Run.{mostWants}
 use Rattle.runs.specs.Judging.{judgeOf}
-use Rattle.texts.specs.Text.{bytes}
-use Rattle.lines.specs.Lines.{lineAfter, valueText}
-use Rattle.sheets.specs.Lines.{turnKey, ruleKey, sweepText}
-use Rattle.sheets.specs.Sheet.{sheetTurn, saysSweep, sheetFiles, sheetName, sheetRun}
-use Rattle.sheets.specs.Reading.{sheetVerdict, ruleVerdict}
-use Rattle.prints.specs.Printing.{line, numberLine}
-use Rattle.writers.specs.Writing.{sheetText}
-use Rattle.loose.specs.Loose.{looseFiles, looseWants, wantsSaid, priceLeftOut, firstBadLoose, wantedFiles, wantedCounts}
-use Rattle.mends.specs.declared.Mended.{Mended}
-use Rattle.mends.specs.declared.wants.Fate.{Fate}
-use Rattle.mends.specs.declared.wants.Fate.the-variants.{Stays, Moved, Added, Dropped}
-use Rattle.mends.specs.Wants.{readsInAll, readsOfWant, fateOf}
-use Rattle.mends.specs.Mending.{sheetRemaining, mendedText, changeLine, changeIf, changesText, fateLine, fateLines, SheetMended}
+use Rattle.text_bytes.specs.Text.{bytes}
+use Rattle.text_lines.specs.Lines.{lineAfter, valueText}
+use Rattle.sheet_reader.specs.Lines.{turnKey, ruleKey, sweepText}
+use Rattle.sheet_reader.specs.Sheet.{sheetTurn, saysSweep, sheetFiles, sheetName, sheetRun}
+use Rattle.sheet_reader.specs.Reading.{sheetVerdict, ruleVerdict}
+use Rattle.text_pages.specs.Printing.{line, numberLine}
+use Rattle.sheet_writer.specs.Writing.{sheetText}
+use Rattle.sheet_loose.specs.Loose.{looseFiles, looseWants, wantsSaid, priceLeftOut, firstBadLoose, wantedFiles, wantedCounts}
+use Rattle.answer_mend.specs.declared.Mended.{Mended}
+use Rattle.answer_mend.specs.declared.wants.Fate.{Fate}
+use Rattle.answer_mend.specs.declared.wants.Fate.the-variants.{Stays, Moved, Added, Dropped}
+use Rattle.answer_mend.specs.Wants.{readsInAll, readsOfWant, fateOf}
+use Rattle.answer_mend.specs.Mending.{sheetRemaining, mendedText, changeLine, changeIf, changesText, fateLine, fateLines, SheetMended}
 
 -- An accepted mending: the mended sheet and the changes stand in the first bytes of the rows, and the later bytes are as they were.
 pub record InRows (sheet out notes : List ℕ) (answer : Mended) (out′ notes′ : List ℕ) : Type 0 where
@@ -160,7 +160,7 @@ OnceIsEnough =
 
 -- The sheet of an accepted run comes back the same, byte for byte, apart from an empty turn price written out: what stands above the third line and
 -- below it is as it was, and that price is the one change listed.
-pub record ComesBack (sheet : List ℕ) : Type 0 where
+pub record SheetComesBack (sheet : List ℕ) : Type 0 where
   pub above : List ℕ
   pub back : List ℕ
   pub old : sheet ≡ above ++ (line turnKey (valueText turnKey (lineAfter 2 sheet)) ++ back)
@@ -174,7 +174,7 @@ AcceptedComesBack =
     → sheetVerdict sheet ≡ accepted
     → saysSweep sheet ≡ false
     → judgeOf (sheetRun sheet) ≡ accepted
-    → ComesBack sheet
+    → SheetComesBack sheet
 
 -- What comes back is the sheet that the writer writes for that run and that name.
 abbrev pub AcceptedAsWritten : Type 0

@@ -10,16 +10,16 @@ use lib.Dec.{eqb, leb}
 use Rattle.refusals.specs.declared.Refusal.the-variants.{Accepted, BadSheetCount}
 use Rattle.refusals.specs.declared.Verdict.{Verdict}
 use Rattle.refusals.specs.Refusals.{numberOf, isRefusal}
-use Rattle.texts.specs.Text.{lineFeed, isEmpty, has, before, behind, isNumber, valueOf}
-use Rattle.outcomes.specs.declared.Outcome.{Outcome}
-use Rattle.outcomes.specs.Outcomes.{OutcomeOf}
-use Rattle.months.specs.declared.Month.{Month}
-use Rattle.months.specs.declared.Mean.{Mean}
-use Rattle.months.specs.declared.Part.the-variants.{End, Sheet, Bad}
-use Rattle.months.specs.declared.Added.{Added}
-use Rattle.months.specs.Month.{emptyMonth, refusedWith, addedAll}
-use Rattle.months.specs.Parts.{partOf, SheetAdded, inputVerdict}
-use Rattle.months.specs.Page.{meanOf, pageText, PagePut}
+use Rattle.text_bytes.specs.Text.{lineFeed, isEmpty, has, before, behind, isNumber, valueOf}
+use Rattle.answer_outcome.specs.declared.Outcome.{Outcome}
+use Rattle.answer_outcome.specs.Outcomes.{OutcomeOf}
+use Rattle.answer_month.specs.declared.Month.{Month}
+use Rattle.answer_month.specs.declared.Mean.{Mean}
+use Rattle.answer_month.specs.declared.Part.the-variants.{End, Sheet, Bad}
+use Rattle.answer_month.specs.declared.Added.{Added}
+use Rattle.answer_month.specs.Month.{emptyMonth, refusedWith, addedAll}
+use Rattle.answer_month.specs.Parts.{partOf, SheetAdded, inputVerdict}
+use Rattle.answer_month.specs.Page.{meanOf, pageText, PagePut}
 
 -- A condition on every member of a list, and on the members of two lists one by one.
 abbrev pub Every : {A : Type 0} → (A → Type 0) → List A → Type 0
@@ -81,7 +81,7 @@ pub record FirstLongest (runs : List Outcome) (m : Month) : Type 0 where
   pub tape : m .tape ≡ run .tape
 
 -- A month has the figures of a list of runs, exactly: no total has passed 2 to the 64.
-pub record FiguresOf (runs : List Outcome) (m : Month) : Type 0 where
+pub record MonthFigures (runs : List Outcome) (m : Month) : Type 0 where
   pub sheets : m .sheets ≡ length runs
   pub accepted : m .accepted ≡ howManyRuns isAcceptedRun runs
   pub refused : (n : ℕ) → refusedWith m n ≡ howManyRuns (isRefusedBy n) runs
@@ -97,7 +97,7 @@ MonthCounts =
     (sheets : List (List ℕ)) (runs : List Outcome)
     → length sheets ≤ 1000
     → Outcomes sheets runs
-    → FiguresOf runs (addedAll emptyMonth runs)
+    → MonthFigures runs (addedAll emptyMonth runs)
 
 -- With no reads: 0, no name and 0.
 abbrev pub NoReadsNoName : Type 0
@@ -172,7 +172,7 @@ pub record MonthOfInput (input : List ℕ) (m : Month) (good : Bool) : Type 0 wh
   pub runs : List Outcome
   pub outcomes : Outcomes (divided 1000 input .sheets) runs
   pub month : m ≡ addedAll emptyMonth runs
-  pub figures : FiguresOf runs m
+  pub figures : MonthFigures runs m
   pub whole : good ≡ divided 1000 input .good
   pub passes : good ≡ true → inputVerdict m good .refusal ≡ Accepted
   pub place : good ≡ false → inputVerdict m good ≡ record { refusal = BadSheetCount; place = length (divided 1000 input .sheets) + 1 }

@@ -15,7 +15,7 @@ use Rattle.refusals.specs.declared.Verdict.{Verdict}
 use Rattle.refusals.specs.Refusals.{refuseIf, refuseAt, firstOf, firstWhere}
 use Rattle.refusals.specs.Refusals.{isRefusal}
 use Rattle.refusals.proofs.Verdicts.{refuses}
-use Rattle.runs.specs.Run.{Stop, zeros, aloneOf, goesOn, firstMember, lastMember, stopOf, wantStops, joined, stopsOf, plainStop, plainStops, stopAt, rightEnd, mostFiles}
+use Rattle.runs.specs.Run.{Stop, zeros, aloneOf, goesOn, firstMember, lastMember, stopOf, wantStops, joined, stopsOf, loneStop, loneStops, stopAt, rightEnd, mostFiles}
 use Rattle.runs.specs.Judging.{badPlace, badNumber, badFile, tableChecks, placeChecks, wantsChecks, headChecks, judgeOf, judgeAlone}
 use Rattle.runs.proofs.Search.{first-same, true-or-false}
 use Rattle.runs.proofs.Members.{first-stays, last-is}
@@ -55,34 +55,34 @@ module _ (n : ℕ) where
   alone-last i = last-is (zeros n) i i (omega arith) (λ k a b. absurd (omega arith)) (alone-stays (suc i))
 
   -- A want's stop is the file itself.
-  alone-stop : (starts lengths : List ℕ) (f c : ℕ) → stopOf starts lengths (zeros n) f c ≡ plainStop starts lengths f c
+  alone-stop : (starts lengths : List ℕ) (f c : ℕ) → stopOf starts lengths (zeros n) f c ≡ loneStop starts lengths f c
   alone-stop starts lengths zero c = rw (alone-first (0 - 1), alone-last (0 - 1))
   alone-stop starts lengths (suc i) c = rw (alone-first i, alone-first (suc i - 1), alone-last (suc i - 1))
 
-  pub alone-wants : (starts lengths ns cs : List ℕ) → wantStops starts lengths (zeros n) ns cs ≡ plainStops starts lengths ns cs
-  unfolding wantStops plainStops
+  pub alone-wants : (starts lengths ns cs : List ℕ) → wantStops starts lengths (zeros n) ns cs ≡ loneStops starts lengths ns cs
+  unfolding wantStops loneStops
   alone-wants starts lengths [] cs = refl
   alone-wants starts lengths (f ∷ fs) [] = refl
   alone-wants starts lengths (f ∷ fs) (c ∷ cs) = rw (alone-stop starts lengths f c, alone-wants starts lengths fs cs)
 
 -- The stops of files that lie in no aggregate, by their index.
-pub plain-length : (starts lengths ns cs : List ℕ) → length cs ≡ length ns → length (plainStops starts lengths ns cs) ≡ length ns
-unfolding plainStops
+pub plain-length : (starts lengths ns cs : List ℕ) → length cs ≡ length ns → length (loneStops starts lengths ns cs) ≡ length ns
+unfolding loneStops
 plain-length starts lengths [] cs e = refl
 plain-length starts lengths (f ∷ fs) [] e = absurd (omega arith)
 plain-length starts lengths (f ∷ fs) (c ∷ cs) e = ap suc (plain-length starts lengths fs cs (omega arith))
 
 pub plain-at : (starts lengths ns cs : List ℕ) → length cs ≡ length ns → (i : ℕ) → i < length ns
-    → stopAt (plainStops starts lengths ns cs) i ≡ plainStop starts lengths (getD ns i 0) (getD cs i 0)
-unfolding plainStops
+    → stopAt (loneStops starts lengths ns cs) i ≡ loneStop starts lengths (getD ns i 0) (getD cs i 0)
+unfolding loneStops
 plain-at starts lengths [] cs e i l = absurd (omega arith)
 plain-at starts lengths (f ∷ fs) [] e i l = absurd (omega arith)
 plain-at starts lengths (f ∷ fs) (c ∷ cs) e zero l = refl
 plain-at starts lengths (f ∷ fs) (c ∷ cs) e (suc i) l = plain-at starts lengths fs cs (omega arith) i (omega arith)
 
 -- Rising numbers name different stops.
-plain-differ : (starts lengths ns cs : List ℕ) → ((i : ℕ) → suc i < length ns → getD ns i 0 < getD ns (suc i) 0) → Neighbours Differ (plainStops starts lengths ns cs)
-unfolding plainStops
+plain-differ : (starts lengths ns cs : List ℕ) → ((i : ℕ) → suc i < length ns → getD ns i 0 < getD ns (suc i) 0) → Neighbours Differ (loneStops starts lengths ns cs)
+unfolding loneStops
 plain-differ starts lengths [] cs rise = tt
 plain-differ starts lengths (f ∷ fs) [] rise = tt
 plain-differ starts lengths (f ∷ []) (c ∷ cs) rise = (tt, tt)
@@ -92,10 +92,10 @@ plain-differ starts lengths (f ∷ g ∷ gs) (c ∷ d ∷ cs) rise =
 
 -- Where the wants are accepted, the stops are one for each want.
 pub alone-stops : (starts lengths numbers counts : List ℕ) (head turn files : ℕ) → GoodWants files numbers counts
-    → stopsOf (aloneOf starts lengths numbers counts head turn) ≡ plainStops starts lengths numbers counts
+    → stopsOf (aloneOf starts lengths numbers counts head turn) ≡ loneStops starts lengths numbers counts
 alone-stops starts lengths numbers counts head turn files w =
     ap joined (alone-wants (length starts) starts lengths numbers counts)
-    ∙ joined-alone (plainStops starts lengths numbers counts) (plain-differ starts lengths numbers counts (λ i l. w .each (suc i) l .above))
+    ∙ joined-alone (loneStops starts lengths numbers counts) (plain-differ starts lengths numbers counts (λ i l. w .each (suc i) l .above))
 
 -- 1 and 2 are judged by the places.
 alone-rows : (starts lengths : List ℕ)
@@ -127,12 +127,12 @@ alone-judged starts lengths numbers counts head turn =
     ∙ ap (λ v. cond (refuses (firstOf (placeChecks starts lengths))) (firstOf (placeChecks starts lengths)) v) rest
   where
     rest : firstOf (firstOf (wantsChecks (length starts) numbers counts) ∷ firstOf (headChecks turn head (rightEnd (stopsOf (aloneOf starts lengths numbers counts head turn)))) ∷ [])
-        ≡ firstOf (firstOf (wantsChecks (length starts) numbers counts) ∷ firstOf (headChecks turn head (rightEnd (plainStops starts lengths numbers counts))) ∷ [])
+        ≡ firstOf (firstOf (wantsChecks (length starts) numbers counts) ∷ firstOf (headChecks turn head (rightEnd (loneStops starts lengths numbers counts))) ∷ [])
     rest =
         last-same
         (firstOf (wantsChecks (length starts) numbers counts))
         (headChecks turn head (rightEnd (stopsOf (aloneOf starts lengths numbers counts head turn))))
-        (headChecks turn head (rightEnd (plainStops starts lengths numbers counts)))
+        (headChecks turn head (rightEnd (loneStops starts lengths numbers counts)))
         (λ e.
         ap
         (λ ss. firstOf (headChecks turn head (rightEnd ss)))
@@ -140,14 +140,14 @@ alone-judged starts lengths numbers counts head turn =
 
 -- A good table, good wants and a good head are accepted.
 pub alone-accepted : (starts lengths numbers counts : List ℕ) (head turn : ℕ) → length starts ≤ mostFiles → SoundTable starts lengths → GoodWants (length starts) numbers counts
-    → GoodHead turn head (rightEnd (plainStops starts lengths numbers counts)) → refuses (judgeOf (aloneOf starts lengths numbers counts head turn)) ≡ false
+    → GoodHead turn head (rightEnd (loneStops starts lengths numbers counts)) → refuses (judgeOf (aloneOf starts lengths numbers counts head turn)) ≡ false
 unfolding judgeAlone
 alone-accepted starts lengths numbers counts head turn few table wants place =
     ap refuses (alone-judged starts lengths numbers counts head turn)
-    ∙ three-accept (firstOf (placeChecks starts lengths)) (firstOf (wantsChecks (length starts) numbers counts)) (firstOf (headChecks turn head (rightEnd (plainStops starts lengths numbers counts))))
+    ∙ three-accept (firstOf (placeChecks starts lengths)) (firstOf (wantsChecks (length starts) numbers counts)) (firstOf (headChecks turn head (rightEnd (loneStops starts lengths numbers counts))))
     (places-accepted starts lengths few table)
     (wants-accepted (length starts) numbers counts wants)
-    (head-accepted turn head (rightEnd (plainStops starts lengths numbers counts)) place)
+    (head-accepted turn head (rightEnd (loneStops starts lengths numbers counts)) place)
 
 -- The three steps of judging, as the code takes them.
 module _ (starts lengths numbers counts : List ℕ) (head turn : ℕ) (t : Verdict) (f : Bool)
@@ -155,7 +155,7 @@ module _ (starts lengths numbers counts : List ℕ) (head turn : ℕ) (t : Verdi
   pub places-decide : f ≡ true → t ≡ judgeOf (aloneOf starts lengths numbers counts head turn)
   unfolding judgeAlone
   places-decide e =
-      table-decides (firstOf (placeChecks starts lengths)) (firstOf (wantsChecks (length starts) numbers counts)) (headChecks turn head (rightEnd (plainStops starts lengths numbers counts)))
+      table-decides (firstOf (placeChecks starts lengths)) (firstOf (wantsChecks (length starts) numbers counts)) (headChecks turn head (rightEnd (loneStops starts lengths numbers counts)))
       t f t-is f-is e
       ∙ sym (alone-judged starts lengths numbers counts head turn)
 
@@ -166,14 +166,14 @@ module _ (starts lengths numbers counts : List ℕ) (head turn : ℕ) (t : Verdi
     pub alone-wants-decide : f ≡ false → g ≡ true → w ≡ judgeOf (aloneOf starts lengths numbers counts head turn)
     unfolding judgeAlone
     alone-wants-decide e d =
-        wants-decide (firstOf (placeChecks starts lengths)) (firstOf (wantsChecks (length starts) numbers counts)) (headChecks turn head (rightEnd (plainStops starts lengths numbers counts)))
+        wants-decide (firstOf (placeChecks starts lengths)) (firstOf (wantsChecks (length starts) numbers counts)) (headChecks turn head (rightEnd (loneStops starts lengths numbers counts)))
         t f t-is f-is w g w-is g-is e d
         ∙ sym (alone-judged starts lengths numbers counts head turn)
 
     pub alone-head-decides : f ≡ false → g ≡ false
-        → firstOf (headChecks turn head (rightEnd (plainStops starts lengths numbers counts))) ≡ judgeOf (aloneOf starts lengths numbers counts head turn)
+        → firstOf (headChecks turn head (rightEnd (loneStops starts lengths numbers counts))) ≡ judgeOf (aloneOf starts lengths numbers counts head turn)
     unfolding judgeAlone
     alone-head-decides e d =
-        head-decides (firstOf (placeChecks starts lengths)) (firstOf (wantsChecks (length starts) numbers counts)) (headChecks turn head (rightEnd (plainStops starts lengths numbers counts)))
+        head-decides (firstOf (placeChecks starts lengths)) (firstOf (wantsChecks (length starts) numbers counts)) (headChecks turn head (rightEnd (loneStops starts lengths numbers counts)))
         t f t-is f-is w g w-is g-is e d
         ∙ sym (alone-judged starts lengths numbers counts head turn)

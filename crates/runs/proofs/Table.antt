@@ -6,7 +6,7 @@ use mathlib.Core.Logic.{⊎-elim}
 use native.Mathlib.Omega.{arith}
 use native.Mathlib.Nat.{eq-or-lt-of-le}
 use lib.ListN.{length, getD}
-use Rattle.runs.specs.Run.{plainStops, endAt, rightEnd}
+use Rattle.runs.specs.Run.{loneStops, endAt, rightEnd}
 use Rattle.runs.specs.Judging.{badPlace}
 use Rattle.runs.specs.Private.{SoundTable, InTable}
 use Rattle.runs.proofs.Search.{first-zero}
@@ -21,25 +21,25 @@ named-file starts lengths t f n = table-file starts lengths t (f - 1) (omega ari
 
 -- The rightmost stop is the last one wanted.
 pub right-end-last : (starts lengths : List ℕ) (n : ℕ) (ns cs : List ℕ) → length cs ≡ length (n ∷ ns)
-    → rightEnd (plainStops starts lengths (n ∷ ns) cs) ≡ endAt starts lengths (getD (n ∷ ns) (length ns) 0 - 1)
-unfolding rightEnd plainStops
+    → rightEnd (loneStops starts lengths (n ∷ ns) cs) ≡ endAt starts lengths (getD (n ∷ ns) (length ns) 0 - 1)
+unfolding rightEnd loneStops
 right-end-last starts lengths n ns [] e = absurd (omega arith)
 right-end-last starts lengths n [] (c ∷ []) e = refl
 right-end-last starts lengths n [] (c ∷ d ∷ cs) e = absurd (omega arith)
 right-end-last starts lengths n (m ∷ ns) (c ∷ []) e = absurd (omega arith)
 right-end-last starts lengths n (m ∷ ns) (c ∷ d ∷ cs) e = right-end-last starts lengths m ns (d ∷ cs) (omega arith)
 
-pub right-end-none : (starts lengths cs : List ℕ) → rightEnd (plainStops starts lengths [] cs) ≡ 0
-unfolding rightEnd plainStops
+pub right-end-none : (starts lengths cs : List ℕ) → rightEnd (loneStops starts lengths [] cs) ≡ 0
+unfolding rightEnd loneStops
 right-end-none starts lengths cs = refl
 
 -- The same by the length of the row.
-pub right-end-empty : (starts lengths ns cs : List ℕ) → length ns ≡ 0 → 0 ≡ rightEnd (plainStops starts lengths ns cs)
+pub right-end-empty : (starts lengths ns cs : List ℕ) → length ns ≡ 0 → 0 ≡ rightEnd (loneStops starts lengths ns cs)
 right-end-empty starts lengths [] cs e = sym (right-end-none starts lengths cs)
 right-end-empty starts lengths (n ∷ ns) cs e = absurd (omega arith)
 
 pub right-end-row : (starts lengths ns cs : List ℕ) → (length ns ≡ 0 → ⊥) → length cs ≡ length ns
-    → endAt starts lengths (getD ns (length ns - 1) 0 - 1) ≡ rightEnd (plainStops starts lengths ns cs)
+    → endAt starts lengths (getD ns (length ns - 1) 0 - 1) ≡ rightEnd (loneStops starts lengths ns cs)
 right-end-row starts lengths [] cs some e = absurd (some refl)
 right-end-row starts lengths (n ∷ ns) cs some e =
     let k : suc (length ns) - 1 ≡ length ns = omega arith in

@@ -7,7 +7,7 @@ use lib.Dec.{leb, ltb, eqb}
 use Rattle.refusals.specs.declared.Refusal.the-variants.{FileRows, BadFile, WantRows, BadWant, TooManyReads, TurnPrice, HeadPlace}
 use Rattle.refusals.specs.declared.Verdict.{Verdict}
 use Rattle.refusals.specs.Refusals.{refuseIf, refuseAt, firstOf, firstWhere}
-use Rattle.runs.specs.Run.{Run, mostFiles, mostAggregates, mostWants, mostReads, lastPlace, highestTurn, total, endAt, goesOn, plainStops, stopsOf, rightEnd}
+use Rattle.runs.specs.Run.{Run, mostFiles, mostAggregates, mostWants, mostReads, lastPlace, highestTurn, total, endAt, goesOn, loneStops, stopsOf, rightEnd}
 use Rattle.runs.specs.Lists.{anyBelow}
 
 -- The end of the file before the one at an index; the first file has none before it.
@@ -85,5 +85,5 @@ judgeAlone starts lengths numbers counts head turn =
     firstOf
     (firstOf (placeChecks starts lengths)
     ∷ firstOf (wantsChecks (length starts) numbers counts)
-    ∷ firstOf (headChecks turn head (rightEnd (plainStops starts lengths numbers counts)))
+    ∷ firstOf (headChecks turn head (rightEnd (loneStops starts lengths numbers counts)))
     ∷ [])

@@ -6,7 +6,7 @@ use mathlib.Core.List.{List, [], _∷_}
 use lib.ListN.{length, getD}
 use lib.Dec.{leb, ltb, eqb}
 use Rattle.refusals.specs.Refusals.{firstWhere}
-use Rattle.runs.specs.Run.{goesOn, lastMember, Lent, Stop, wantStops, plainStops}
+use Rattle.runs.specs.Run.{goesOn, lastMember, Lent, Stop, wantStops, loneStops}
 use Rattle.runs.specs.Judging.{badPlace}
 use Rattle.runs.specs.Lists.{Detour, badAfter, anyBelow}
 use denote.Ref.{now}
@@ -62,7 +62,7 @@ rowBad aggregates numbers froms tos i = rowAlone aggregates numbers (getD froms 
 
 -- The stops that a function's parameters hold: of files in no aggregate, and of wants as handed in.
 abbrev pub plainStopsAt : {S L N C : Type 0} → Lent S → Lent L → Lent N → Lent C → List Stop
-plainStopsAt starts lengths numbers counts = plainStops (starts .entry .now) (lengths .entry .now) (numbers .entry .now) (counts .entry .now)
+plainStopsAt starts lengths numbers counts = loneStops (starts .entry .now) (lengths .entry .now) (numbers .entry .now) (counts .entry .now)
 
 abbrev pub wantStopsAt : {S L A N C : Type 0} → Lent S → Lent L → Lent A → Lent N → Lent C → List Stop
 wantStopsAt starts lengths aggregates numbers counts =

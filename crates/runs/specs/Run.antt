@@ -144,14 +144,14 @@ abbrev pub stopsOf : Run → List Stop
 stopsOf r = joined (wantStopsOf r)
 
 -- The stops of files that lie in no aggregate: one for each want, with that file's own number, start and end.
-abbrev pub plainStop : List ℕ → List ℕ → ℕ → ℕ → Stop
-plainStop starts lengths f c =
+abbrev pub loneStop : List ℕ → List ℕ → ℕ → ℕ → Stop
+loneStop starts lengths f c =
     record { file = f; start = getD starts (f - 1) 0; end = endAt starts lengths (f - 1); count = c }
 
-unfoldable pub plainStops : List ℕ → List ℕ → List ℕ → List ℕ → List Stop
-plainStops starts lengths [] cs = []
-plainStops starts lengths (f ∷ fs) [] = []
-plainStops starts lengths (f ∷ fs) (c ∷ cs) = plainStop starts lengths f c ∷ plainStops starts lengths fs cs
+unfoldable pub loneStops : List ℕ → List ℕ → List ℕ → List ℕ → List Stop
+loneStops starts lengths [] cs = []
+loneStops starts lengths (f ∷ fs) [] = []
+loneStops starts lengths (f ∷ fs) (c ∷ cs) = loneStop starts lengths f c ∷ loneStops starts lengths fs cs
 
 -- A stop by its index, from 0.
 abbrev pub stopAt : List Stop → ℕ → Stop

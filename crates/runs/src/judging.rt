@@ -6,7 +6,7 @@ ghost use mathlib.Core.List.{List};
 ghost use lib.ListN.{length, getD};
 ghost use lib.Dec.{eqb, ltb, leb};
 ghost use Rattle.refusals.specs.Refusals.{firstWhere, firstOf};
-ghost use Rattle.runs.specs.Run.{runAt, aloneAt, countedReads, lastPlace, mostFiles, rightEnd, joined, wantStops, plainStops};
+ghost use Rattle.runs.specs.Run.{runAt, aloneAt, countedReads, lastPlace, mostFiles, rightEnd, joined, wantStops, loneStops};
 ghost use Rattle.runs.specs.Private.{SoundTable, InTable, earlierOf};
 ghost use Rattle.runs.specs.Judging.{badPlace, badWant, placeChecks, tableChecks, wantsChecks, headChecks, judgeOf};
 use crate::HIGHEST_TURN;
@@ -123,7 +123,7 @@ pub fn count_reads(counts: &[u64]) -> u64
 fn right_end(starts: &[u64], lengths: &[u64], numbers: &[u64]) -> u64
     requires { ⌜ SoundTable (now starts) (now lengths) ⌝ }
     requires { ⌜ ((i : ℕ) → i < length (now numbers) → InTable (now starts) (getD (now numbers) i 0)) ⌝ }
-    ensures { λ r. ⌜ ((cs : List ℕ) → length cs ≡ length (now (numbers .entry)) → r ≡ rightEnd (plainStops (now (starts .entry)) (now (lengths .entry)) (now (numbers .entry)) cs)) ⌝ }
+    ensures { λ r. ⌜ ((cs : List ℕ) → length cs ≡ length (now (numbers .entry)) → r ≡ rightEnd (loneStops (now (starts .entry)) (now (lengths .entry)) (now (numbers .entry)) cs)) ⌝ }
 {
     if numbers.len() == 0 {
         return 0;

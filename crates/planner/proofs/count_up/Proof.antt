@@ -5,12 +5,12 @@ use mathlib.Core.Path.{_∙_}
 use mathlib.Core.List.{append-nil}
 use native.Mathlib.Omega.{arith}
 use lib.ListN.{length, drop-of-length-le}
-use Rattle.joins.proofs.Table.{count-length, count-at}
+use Rattle.engine_stops.proofs.Table.{count-length, count-at}
 use Rattle.planner.proofs.Filling.{Filling, filling-start, filling-more, filling-all}
 use borrow.Author.Needs.{needs}
 use Rattle.planner.proofs.count_up.Statement.{statement}
 use Rattle.planner.proofs.count_up.Tie as tie
-use Rattle.joins.specs.Private.{countUp}
+use Rattle.engine_stops.specs.Private.{countUp}
 
 abbrev Inv-loop : tie.InvT-loop
 Inv-loop row₀ i₀ row i = Filling (countUp 1 (length row₀)) row₀ row i

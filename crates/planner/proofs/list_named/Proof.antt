@@ -7,12 +7,12 @@ use Prim.Native.Nat.{_≤_}
 use lib.ListN.{length, take}
 use lib.Seq.{length-take-le}
 use Rattle.refusals.proofs.Verdicts.{refuses}
-use Rattle.joins.proofs.Table.{count-length}
+use Rattle.engine_stops.proofs.Table.{count-length}
 use Rattle.planner.proofs.Naming.{count-part, stops-fit, named-refused, froms-nameable, tos-nameable, named-listed}
 use borrow.Author.Needs.{needs}
 use Rattle.planner.proofs.list_named.Statement.{statement}
 use Rattle.planner.proofs.list_named.Tie as tie
-use Rattle.joins.specs.Private.{countUp}
+use Rattle.engine_stops.specs.Private.{countUp}
 
 slice-aggregate-count-up : tie.Need-slice-aggregate-count-up
 slice-aggregate-count-up c = search needs

@@ -9,11 +9,11 @@ use lib.Seq.{length-take-le}
 use Rattle.refusals.proofs.Verdicts.{refuses}
 use Rattle.runs.specs.Run.{Run, runOf, stopsOf}
 use Rattle.runs.specs.Judging.{judgeOf}
-use Rattle.joins.specs.Joining.{JoinRows, joinRows}
-use Rattle.tables.specs.Listing.{ListRows, listRows}
+use Rattle.engine_stops.specs.Joining.{JoinRows, joinRows}
+use Rattle.engine_table.specs.Listing.{ListRows, listRows}
 use Rattle.planner.specs.Plan.{Rows, rowsOf}
-use Rattle.planner.specs.Private.{Holds, ListsNamed, IsNamed}
-use Rattle.joins.proofs.Held.{Front}
+use Rattle.planner.specs.Private.{RunInRows, ListsNamed, IsNamed}
+use Rattle.engine_stops.proofs.Held.{Front}
 use Rattle.planner.proofs.Joined.{join-verdict, join-front, join-holds}
 use Rattle.planner.proofs.Refusals.{engineRows, run-refused, run-accepted, times-refused, legs-refused, engine-refused, engine-listed, run-planned}
 use Rattle.planner.proofs.Priced.{in-froms, in-tos, planned-so}
@@ -99,7 +99,7 @@ after j = let l = j .join .last .1 .1 .1 .1 .1 .1 .1 in joinRows (l .0) (l .1 .0
 long : (d : tie.Else3) → Front (joined (first d) .join .result .stops) (after (joined (first d))) (stopsOf (run (joined (first d))))
 long d = let j = joined (first d) in join-front (run j) (j .join .result) (after j) (j .join .ensures .0) (j .join .ensures .1) (passed (first d))
 
-holds : (d : tie.Else3) → let j = joined (first d) in let k = j .join .result .stops in Holds (run j) (take k (after j .firsts)) (take k (after j .lefts)) (take k (after j .spans)) (take k (after j .reads)) (run j .head) (run j .turn)
+holds : (d : tie.Else3) → let j = joined (first d) in let k = j .join .result .stops in RunInRows (run j) (take k (after j .firsts)) (take k (after j .lefts)) (take k (after j .spans)) (take k (after j .reads)) (run j .head) (run j .turn)
 holds d = let j = joined (first d) in join-holds (run j) (j .join .result) (after j) (j .join .ensures .0) (j .join .ensures .1) (passed (first d))
 
 array-share-prefix-firsts : tie.Need-array-share-prefix-firsts

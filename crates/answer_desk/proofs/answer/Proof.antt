@@ -1,0 +1,83 @@
+-- `answer_desk::answer` meets its contract: the event that was read is answered.
+-- Assumes nothing.
+use Rattle.desk_boardings.specs.Boardings.{Tape}
+use Rattle.answer_desk.proofs.Saying.{file-answered, withdraw-answered, board-answered, not-answered}
+use borrow.Author.Needs.{needs}
+use Rattle.answer_desk.proofs.answer.Statement.{statement}
+use Rattle.answer_desk.proofs.answer.Tie as tie
+
+abbrev tape : tie.Start → Tape
+tape s = let a = s .args in record { starts = a .starts .now; lengths = a .lengths .now; aggregates = a .aggregates .now }
+
+read-event-requires : tie.Need-read-event-requires
+read-event-requires c κs = search needs
+
+enum-known-office : tie.Need-enum-known-office
+enum-known-office c = search needs
+
+file-requires : tie.Need-file-requires
+file-requires c κs = search needs
+
+enum-known-office-2 : tie.Need-enum-known-office-2
+enum-known-office-2 c = search needs
+
+withdraw-requires : tie.Need-withdraw-requires
+withdraw-requires c κs = search needs
+
+enum-known-head : tie.Need-enum-known-head
+enum-known-head c = search needs
+
+board-requires : tie.Need-board-requires
+board-requires c κs = search needs
+
+enum-told : tie.Need-enum-told
+enum-told c = search needs
+
+unknown-requires : tie.Need-unknown-requires
+unknown-requires c κs = search needs
+
+same-length : tie.Need-same-length
+same-length c = search needs
+
+returns : tie.Need-returns
+returns c = let s = c .before .before .before .before .before .before .before .before .before .before .before .before .before .before .before .before in file-answered (tape s) (s .args .day) (s .args .room .now) (s .args .out .now) _ _ (c .before .before .before .before .before .before .before .read-event .ensures) _ _ _ _ _ (c .before .before .before .before .before .office .given .1) (c .before .before .file .ensures)
+
+same-length-2 : tie.Need-same-length-2
+same-length-2 c = search needs
+
+returns-2 : tie.Need-returns-2
+returns-2 c = let s = c .before .before .before .before .before .before .before .before .before .before .before .before .before .before .before .before in withdraw-answered (tape s) (s .args .day) (s .args .room .now) (s .args .out .now) _ _ (c .before .before .before .before .before .before .before .read-event .ensures) _ _ _ _ (c .before .before .before .before .before .office2 .given .1) (c .before .before .withdraw .ensures)
+
+same-length-3 : tie.Need-same-length-3
+same-length-3 c = search needs
+
+same-length-4 : tie.Need-same-length-4
+same-length-4 c = search needs
+
+returns-3 : tie.Need-returns-3
+returns-3 c = let s = c .before .before .before .before .before .before .before .before .before .before .before .before .before .before .before .before .before .before .before in board-answered (tape s) (s .args .day) (s .args .room .now) (s .args .out .now) _ _ (c .before .before .before .before .before .before .before .before .before .before .read-event .ensures) _ _ _ _ (c .before .before .before .before .before .before .before .before .head .given .1) _ (c .before .before .before .before .board .ensures)
+
+returns-4 : tie.Need-returns-4
+returns-4 c = let s = c .before .before .before .before .before .before .before .before .before .before .before .before in not-answered (tape s) (s .args .day) (s .args .room .now) (s .args .out .now) _ _ (c .before .before .before .read-event .ensures) (c .before .enum-told .given .1) _ (c .unknown .ensures)
+
+pub answer-spec : {M : Type 1} → statement M
+answer-spec =
+    tie.close
+    (tie.spec
+    read-event-requires
+    enum-known-office
+    file-requires
+    enum-known-office-2
+    withdraw-requires
+    enum-known-head
+    board-requires
+    enum-told
+    unknown-requires
+    same-length
+    returns
+    same-length-2
+    returns-2
+    same-length-3
+    same-length-4
+    returns-3
+    returns-4)

@@ -1,0 +1,59 @@
+-- `answer_desk::pages::say_pair` meets its contract: a refusal's lines, or the pair's line from a page of its own.
+-- Assumes nothing.
+use mathlib.Core.Path.{refl}
+use native.Mathlib.Omega.{arith}
+use Rattle.text_pages.specs.Printing.{pairLine}
+use Rattle.sheet_writer.proofs.Sheets.{part-length, page-handed}
+use Rattle.answer_desk.proofs.Saying.{says-refusal, says-text}
+use borrow.Author.Needs.{needs}
+use Rattle.answer_desk.proofs.pages.say_pair.Statement.{statement}
+use Rattle.answer_desk.proofs.pages.say_pair.Tie as tie
+
+refused-requires : tie.Need-refused-requires
+refused-requires c κs = search needs
+
+write-refusal-requires : tie.Need-write-refusal-requires
+write-refusal-requires c κs = search needs
+
+same-length : tie.Need-same-length
+same-length c = search needs
+
+returns : tie.Need-returns
+returns c = says-refusal _ _ _ _ _ _ (c .before .before .before .before .before .refused .ensures) (c .before .before .before .before .if1 .taken) (c .before .before .write-refusal .ensures)
+
+slice-aggregate-put-pair-line : tie.Need-slice-aggregate-put-pair-line
+slice-aggregate-put-pair-line c = search needs
+
+put-pair-line-requires : tie.Need-put-pair-line-requires
+put-pair-line-requires c κs = search needs
+
+array-share-prefix-page : tie.Need-array-share-prefix-page
+array-share-prefix-page c = let short = c .before .before .before .before .before .before .before .pre in let w = c .before .put-pair-line .ensures .room (omega arith) in omega (arith, w .within)
+
+slice-aggregate-hand-out : tie.Need-slice-aggregate-hand-out
+slice-aggregate-hand-out c = let short = c .before .before .before .before .before .before .before .before .pre in part-length _ _ _ _ _ (c .before .before .put-pair-line .ensures .room (omega arith))
+
+hand-out-requires : tie.Need-hand-out-requires
+hand-out-requires c κs = search needs
+
+same-length-2 : tie.Need-same-length-2
+same-length-2 c = search needs
+
+returns-2 : tie.Need-returns-2
+returns-2 c = let short = c .before .before .before .before .before .before .before .before .before .before .before .before .pre in let a = c .before .before .before .before .before .before .before .before .before .before .before .before .args in says-text (a .verdict) (pairLine (a .key .now) (a .first) (a .second)) _ _ _ _ (c .before .before .before .before .before .before .before .before .before .refused .ensures) (c .before .before .before .before .before .before .before .before .if1 .left) (page-handed _ _ _ _ _ (c .before .before .before .before .before .before .put-pair-line .ensures .room (omega arith)) _ _ refl _ _ (c .before .before .hand-out .ensures))
+
+pub say-pair-spec : {M : Type 1} → statement M
+say-pair-spec =
+    tie.close
+    (tie.spec
+    refused-requires
+    write-refusal-requires
+    same-length
+    returns
+    slice-aggregate-put-pair-line
+    put-pair-line-requires
+    array-share-prefix-page
+    slice-aggregate-hand-out
+    hand-out-requires
+    same-length-2
+    returns-2)

@@ -1,0 +1,76 @@
+// Elements: the next one inside the element that a reader stands in, and past the end of that element.
+// Where a text ends too early, as no balanced one does, every element still open ends there.
+ghost use mathlib.Core.Path.{_≡_};
+ghost use Prim.Native.Nat.{_≤_};
+ghost use lib.ListN.{length};
+ghost use Rattle.text_bytes.specs.Text.{isText};
+ghost use Rattle.tape_markup.specs.Places.{part, PlaceIn};
+ghost use Rattle.answer_ltfs.specs.Private.Parts.{Left, ChildMet};
+use tape_markup::Place;
+use tape_markup::Step;
+use tape_markup::step_from;
+
+// An element with its name and where its inside begins; or none is left, and the reader is past the end.
+pub(crate) enum Child {
+    Element { from: usize, to: usize, next: Place },
+    Done(Place),
+}
+
+// Whether a part of a text is a name.
+pub(crate) fn is_named(text: &[u8], from: usize, to: usize, name: &[u8]) -> bool
+    requires { ⌜ (from ≤ to) × (to ≤ length (now text)) ⌝ }
+    ensures { λ r. ⌜ r ≡ isText (now (name .entry)) (part from to (now (text .entry))) ⌝ }
+{
+    text_bytes::same(&text[from..to], name)
+}
+
+pub(crate) fn next_child(text: &[u8], place: Place) -> Child
+    requires { ⌜ PlaceIn (now text) place ⌝ }
+    ensures { λ r. ⌜ ChildMet (now (text .entry)) place r ⌝ }
+{
+    let mut here = place;
+    loop {
+        let step = step_from(text, here);
+        match step {
+            Step::End => return Child::Done(here),
+            Step::Broken => return Child::Done(here),
+            Step::Byte { byte: _, next } => here = next,
+            Step::Start { from, to, next } => return Child::Element { from, to, next },
+            Step::Finish {
+                from: _,
+                to: _,
+                next,
+            } => return Child::Done(next),
+            Step::Past(next) => here = next,
+        }
+    }
+}
+
+// Past the end of the element that the reader stands in.
+pub(crate) fn leave(text: &[u8], place: Place) -> Place
+    requires { ⌜ PlaceIn (now text) place ⌝ }
+    ensures { λ r. ⌜ Left (now (text .entry)) place r ⌝ }
+{
+    let mut here = place;
+    let mut depth: usize = 0;
+    loop {
+        let child = next_child(text, here);
+        match child {
+            Child::Element {
+                from: _,
+                to: _,
+                next,
+            } => {
+                depth += 1;
+                here = next;
+            }
+            Child::Done(next) => {
+                if depth == 0 {
+                    return next;
+                }
+                depth -= 1;
+                here = next;
+            }
+        }
+    }
+}

@@ -1,0 +1,62 @@
+-- `answer_mend::pages::put_fates` meets its contract: the fates of the lines passed stand on the page.
+-- Assumes nothing.
+use borrow.Author.Needs.{needs}
+use Prim.Native.Nat.{_-_}
+use lib.ListN.{length}
+use native.Mathlib.Omega.{arith}
+use Rattle.answer_mend.proofs.Texts.{FatesPut, fates-none, fate-room, fate-more, fates-all}
+use Rattle.answer_mend.proofs.pages.put_fates.Statement.{statement}
+use Rattle.answer_mend.proofs.pages.put_fates.Tie as tie
+
+abbrev Inv-loop : tie.InvT-loop
+Inv-loop page₀ at above wanted counts next₀ i₀ page next i = FatesPut page₀ at above wanted counts page next i
+
+abbrev μ-loop : tie.MeasureT-loop
+μ-loop page₀ at above wanted counts next₀ i₀ page next i = length wanted - i
+
+loop-holds : tie.Need-loop-holds Inv-loop μ-loop
+loop-holds c = fates-none _ _ _ _ _
+
+fate-of-requires : tie.Need-fate-of-requires Inv-loop μ-loop
+fate-of-requires c κs = search needs
+
+add-put-fate : tie.Need-add-put-fate Inv-loop μ-loop
+add-put-fate c = search needs
+
+add-put-fate-2 : tie.Need-add-put-fate-2 Inv-loop μ-loop
+add-put-fate-2 c = search needs
+
+put-fate-requires : tie.Need-put-fate-requires Inv-loop μ-loop
+put-fate-requires c κs = fate-room _ _ _ _ _ (c .before .before .before .before .before .before .before .pre .1 .1) _ _ _ (c .before .before .before .loop .inv) (c .before .before .loop-test .taken)
+
+add-i : tie.Need-add-i Inv-loop μ-loop
+add-i c = search needs
+
+loop-less : tie.Need-loop-less Inv-loop μ-loop
+loop-less c = search needs
+
+loop-again : tie.Need-loop-again Inv-loop μ-loop
+loop-again c = fate-more _ _ _ _ _ (c .before .before .before .before .before .before .before .before .before .before .pre .1 .1) _ _ _ (c .before .before .before .before .before .before .loop .inv) (c .before .before .before .before .before .loop-test .taken) _ _ (c .before .before .put-fate .kept .0) _ (c .before .before .before .before .fate-of .ensures) (c .before .before .put-fate .ensures)
+
+same-length : tie.Need-same-length Inv-loop μ-loop
+same-length c = c .before .loop .inv .long
+
+returns : tie.Need-returns Inv-loop μ-loop
+returns c = fates-all _ _ _ _ _ (c .before .before .before .before .before .pre .1 .1) _ _ _ (c .before .loop .inv) (c .loop-test .left)
+
+pub put-fates-spec : {M : Type 1} → statement M
+put-fates-spec =
+    tie.close
+    (tie.spec
+    Inv-loop
+    μ-loop
+    loop-holds
+    fate-of-requires
+    add-put-fate
+    add-put-fate-2
+    put-fate-requires
+    add-i
+    loop-less
+    loop-again
+    same-length
+    returns)

@@ -1,0 +1,63 @@
+-- `answer_outcome::run_outcome` meets its contract: a refusal where the planner refuses, else what its list and times come to.
+-- Assumes nothing.
+use mathlib.Core.Path.{refl, sym}
+use mathlib.Core.List.{[]}
+use native.Mathlib.Omega.{arith}
+use lib.Seq.{length-take-le}
+use Rattle.answer_outcome.proofs.Plans.{run-refused, judged, few-times, saves, name-fits, run-planned}
+use borrow.Author.Needs.{needs}
+use Rattle.answer_outcome.proofs.run_outcome.Statement.{statement}
+use Rattle.answer_outcome.proofs.run_outcome.Tie as tie
+
+timed-plan-requires : tie.Need-timed-plan-requires
+timed-plan-requires c κs = search needs
+
+refused-requires : tie.Need-refused-requires
+refused-requires c κs = search needs
+
+refused-outcome-requires : tie.Need-refused-outcome-requires
+refused-outcome-requires c κs = search needs
+
+returns : tie.Need-returns
+returns c = run-refused _ _ (c .before .before .before .before .timed-plan .result) (c .before .before .before .before .timed-plan .ensures) _ (c .before .before .refused .ensures) (c .before .if1 .taken) _ (c .refused-outcome .ensures)
+
+empty-sum-requires : tie.Need-empty-sum-requires
+empty-sum-requires c κs = judged [] _ (c .before .before .before .timed-plan .result) (c .before .before .before .timed-plan .ensures) _ (c .before .refused .ensures) (c .if1 .left)
+
+array-share-prefix-times : tie.Need-array-share-prefix-times
+array-share-prefix-times c = omega (arith, few-times [] _ (c .before .before .before .before .before .timed-plan .result) (c .before .before .before .before .before .timed-plan .ensures) _ (c .before .before .before .refused .ensures) (c .before .before .if1 .left), c .before .before .before .before .before .timed-plan .ensures .long)
+
+slice-aggregate-longest-time : tie.Need-slice-aggregate-longest-time
+slice-aggregate-longest-time c = sym (length-take-le _ _ (array-share-prefix-times (c .before)))
+
+longest-time-requires : tie.Need-longest-time-requires
+longest-time-requires c κs = search needs
+
+count-reads-requires : tie.Need-count-reads-requires
+count-reads-requires c κs = search needs
+
+sub-t22 : tie.Need-sub-t22
+sub-t22 c = omega (arith, saves [] _ (c .before .before .before .before .before .before .before .before .before .timed-plan .result) (c .before .before .before .before .before .before .before .before .before .timed-plan .ensures) _ (c .before .before .before .before .before .before .before .refused .ensures) (c .before .before .before .before .before .before .if1 .left), c .before .before .before .before .before .empty-sum .ensures)
+
+letters-of-requires : tie.Need-letters-of-requires
+letters-of-requires c κs = name-fits _ (c .before .before .before .before .before .before .before .before .before .before .before .before .before .before .before .before .pre)
+
+returns-2 : tie.Need-returns-2
+returns-2 c = run-planned _ _ (c .before .before .before .before .before .before .before .before .before .before .timed-plan .result) (c .before .before .before .before .before .before .before .before .before .before .timed-plan .ensures) _ (c .before .before .before .before .before .before .before .before .refused .ensures) (c .before .before .before .before .before .before .before .if1 .left) _ _ _ _ (c .before .before .count-reads .ensures) (c .before .before .before .before .before .before .empty-sum .ensures) (c .before .before .before .longest-time .ensures) (c .letters-of .ensures)
+
+pub run-outcome-spec : {M : Type 1} → statement M
+run-outcome-spec =
+    tie.close
+    (tie.spec
+    timed-plan-requires
+    refused-requires
+    refused-outcome-requires
+    returns
+    empty-sum-requires
+    array-share-prefix-times
+    slice-aggregate-longest-time
+    longest-time-requires
+    count-reads-requires
+    sub-t22
+    letters-of-requires
+    returns-2)

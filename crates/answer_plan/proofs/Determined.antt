@@ -1,0 +1,35 @@
+-- The contract determines the answer's bytes.
+use Prim.Native.Nat.{ℕ}
+use mathlib.Core.Path.{_≡_, refl, sym, ap, _∙_}
+use mathlib.Core.Bool.{Bool, true, false}
+use mathlib.Core.List.{List, map}
+use Rattle.refusals.specs.declared.Verdict.{Verdict}
+use Rattle.refusals.specs.Refusals.{isRefusal}
+use Rattle.runs.specs.Run.{Run, stopsOf}
+use Rattle.least.proofs.LeastList.{least-unique}
+use Rattle.sheet_writer.specs.PlanSheet.{planText}
+use Rattle.answer_plan.specs.Recall.{PlanOf, AnswersRun, Recalled, SheetRecalled, bytesPut, rowPut}
+
+module _ (v : Verdict) (name : List ℕ) (run : Run) where
+  plan-once : (text text′ : List ℕ) → PlanOf name run text → PlanOf name run text′ → text ≡ text′
+  plan-once text text′ p q =
+      p .says
+      ∙ ap (λ l. planText name run (map (λ d. d .from) l) (map (λ d. d .to) l)) (least-unique (run .turn) (run .head) (stopsOf run) (p .list) (q .list) (p .least) (q .least))
+      ∙ sym (q .says)
+
+  -- One text answers.
+  pub answer-once : (text text′ : List ℕ) → AnswersRun v name run text → AnswersRun v name run text′ → text ≡ text′
+  answer-once text text′ p q = go (isRefusal (v .refusal)) refl
+    where
+      go : (b : Bool) → isRefusal (v .refusal) ≡ b → text ≡ text′
+      go true e = p .refused e ∙ sym (q .refused e)
+      go false e = plan-once text text′ (p .planned e) (q .planned e)
+
+  pub recalled-once : (row : List ℕ) (n n′ : ℕ) (row′ row″ : List ℕ) → Recalled v name run row n row′ → Recalled v name run row n′ row″ → (n ≡ n′) × (row′ ≡ row″)
+  recalled-once row n n′ row′ row″ p q =
+      let e = answer-once (p .text) (q .text) (p .answers) (q .answers) in
+      (p .bytes ∙ ap (λ t. bytesPut t row) e ∙ sym (q .bytes), p .left ∙ ap (λ t. rowPut t row) e ∙ sym (q .left))
+
+-- Two results that fit the contract are equal.
+pub recall-determined : (sheet row : List ℕ) (n n′ : ℕ) (row′ row″ : List ℕ) → SheetRecalled sheet row n row′ → SheetRecalled sheet row n′ row″ → (n ≡ n′) × (row′ ≡ row″)
+recall-determined sheet row n n′ row′ row″ p q = recalled-once _ _ _ row n n′ row′ row″ p q

@@ -1,3 +1,0 @@
--- What a reader of the program's answer must believe, above what is said of sheets, plans and figures and of `recalls`.
-pub mod Bought
-pub mod Private

@@ -1,0 +1,42 @@
+-- What the contract of a boarding says determines the answer and every row, the row of records among them.
+use Prim.Native.Nat.{ℕ}
+use mathlib.Core.Path.{_≡_, refl, sym, ap, _∙_}
+use mathlib.Core.Bool.{Bool, true, false}
+use mathlib.Core.List.{List}
+use lib.ListN.{length}
+use Rattle.refusals.specs.Refusals.{isRefusal}
+use Rattle.walk.specs.declared.Answer.{Answer}
+use Rattle.planner.specs.Plan.{Rows}
+use Rattle.planner.proofs.Determined.{plan-determined}
+use Rattle.desk_tickets.specs.declared.Ticket.{Ticket}
+use Rattle.desk_tickets.specs.WaitingTable.{recordsVerdict}
+use Rattle.desk_boardings.specs.declared.Boarding.{Boarding}
+use Rattle.desk_boardings.specs.declared.Boarded.{Boarded}
+use Rattle.desk_boardings.specs.declared.BoardedRow.{BoardedRow}
+use Rattle.desk_boardings.specs.Boardings.{Tape, Boards, RunPlanned, RowRefused, boardRun, boardedBy}
+use Rattle.desk_rows.specs.Desk.{tableIn, withTable, boardedRow, BoardsLent}
+
+module _ (len : ℕ) (tape : Tape) (table : List Ticket) (b : Boarding) (before : Rows) (r r′ : BoardedRow) (after after′ : Rows) where
+  refused-once : RowRefused len table b before r after → RowRefused len table b before r′ after′ → (r ≡ r′) × (after ≡ after′)
+  refused-once p q = (p .says ∙ sym (q .says), p .kept ∙ sym (q .kept))
+
+  planned-once : RunPlanned tape table b before r after → RunPlanned tape table b before r′ after′ → (r ≡ r′) × (after ≡ after′)
+  planned-once p q =
+      let e = plan-determined (boardRun tape table b) before (r .boarded .answer) (r′ .boarded .answer) after after′ (p .plans) (q .plans) in
+      (p .says ∙ ap (λ (a : Answer). boardedBy table (b .lasts) a) (e .0) ∙ sym (q .says), e .1)
+
+  -- Two results of `desk_boardings::board_in` that fit its contract are equal.
+  pub board-in-determined : Boards len tape table b before r after → Boards len tape table b before r′ after′ → (r ≡ r′) × (after ≡ after′)
+  board-in-determined p q = go (isRefusal (recordsVerdict len table (b .lasts) .refusal)) refl
+    where
+      go : (x : Bool) → isRefusal (recordsVerdict len table (b .lasts) .refusal) ≡ x → (r ≡ r′) × (after ≡ after′)
+      go true e = refused-once (p .refused e) (q .refused e)
+      go false e = planned-once (p .planned e) (q .planned e)
+
+-- Two results of `board` that fit its contract are equal.
+module _ (ts : List Ticket) (tape : Tape) (b : Boarding) (before : Rows) (r r′ : Boarded) (after after′ : Rows) (exit exit′ : List Ticket) where
+  pub board-determined : BoardsLent ts tape b before r after exit → BoardsLent ts tape b before r′ after′ exit′ → (r ≡ r′) × (after ≡ after′) × (exit ≡ exit′)
+  board-determined p q =
+      let t = tableIn ts in
+      let e = board-in-determined (length ts) tape t b before (boardedRow t r) (boardedRow t r′) after after′ (p .boards) (q .boards) in
+      (ap (λ (d : BoardedRow). d .boarded) (e .0), e .1, p .row ∙ ap (λ (d : BoardedRow). withTable (d .row) ts) (e .0) ∙ sym (q .row))

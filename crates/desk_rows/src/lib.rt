@@ -1,0 +1,127 @@
+// desk_rows: the waiting table in a lent row of records, for two offices. Thin: the first 32 records are copied out, the work is done by value, and they
+// are copied back. The walks of the functions over the row are derived by tools/derive.py; after a change of their text they are derived again.
+ghost use mathlib.Core.Path.{_≡_};
+ghost use Prim.Native.Nat.{min};
+ghost use lib.ListN.{length, replicate};
+ghost use Rattle.planner.specs.Plan.{rowsBefore, rowsAfter};
+ghost use Rattle.desk_tickets.specs.WaitingTable.{noTicket};
+ghost use Rattle.desk_tickets.specs.Filings.{fileRow};
+ghost use Rattle.desk_tickets.specs.Withdrawals.{withdrawRow};
+ghost use Rattle.desk_boardings.specs.Boardings.{tapeAt};
+ghost use Rattle.desk_rows.specs.Desk.{tableIn, withTable, BoardsLent};
+use desk_boardings::Boarded;
+use desk_boardings::Boarding;
+use desk_tickets::Filed;
+use desk_tickets::Filing;
+use desk_tickets::Ticket;
+use desk_tickets::Withdrawal;
+use desk_tickets::Withdrawn;
+
+// How many records of a row of this length are the table's.
+fn used(len: usize) -> usize
+    ensures { λ r. ⌜ r ≡ min len 32 ⌝ }
+{
+    if len < 32 {
+        return len;
+    }
+    32
+}
+
+// A table of empty places.
+fn blank() -> [Ticket; 32]
+    ensures { λ r. ⌜ r ≡ replicate 32 noTicket ⌝ }
+{
+    [Ticket {
+        office: 0,
+        file: 0,
+        count: 0,
+        number: 0,
+    }; 32]
+}
+
+// The first 32 records of a row; empty places where it has fewer.
+fn copy_out(ts: &[Ticket]) -> [Ticket; 32]
+    ensures { λ r. ⌜ r ≡ tableIn (now (ts .entry)) ⌝ }
+{
+    let mut row = blank();
+    let n = used(ts.len());
+    let mut i: usize = 0;
+    while i < n {
+        row[i] = ts[i];
+        i += 1;
+    }
+    row
+}
+
+// The records of a table in the first places of a row; later records stay.
+fn copy_in(ts: &mut [Ticket], row: [Ticket; 32])
+    ensures { λ _. ⌜ now (ts .exit) ≡ withTable row (now (ts .entry)) ⌝ }
+{
+    let n = used(ts.len());
+    let mut i: usize = 0;
+    while i < n {
+        ts[i] = row[i];
+        i += 1;
+    }
+}
+
+// A ticket filed in a lent row of records.
+pub fn file(ts: &mut [Ticket], filing: Filing) -> Filed
+    ensures { λ r. ⌜ r ≡ fileRow (length (now (ts .entry))) (tableIn (now (ts .entry))) filing .filed ⌝ }
+    ensures { λ _. ⌜ now (ts .exit) ≡ withTable (fileRow (length (now (ts .entry))) (tableIn (now (ts .entry))) filing .row) (now (ts .entry)) ⌝ }
+{
+    let len = ts.len();
+    let row = copy_out(&ts[..]);
+    let done = desk_tickets::file_in(len, row, filing);
+    let next = done.row;
+    copy_in(&mut ts[..], next);
+    done.filed
+}
+
+// A ticket withdrawn from a lent row of records.
+pub fn withdraw(ts: &mut [Ticket], withdrawal: Withdrawal) -> Withdrawn
+    ensures { λ r. ⌜ r ≡ withdrawRow (length (now (ts .entry))) (tableIn (now (ts .entry))) withdrawal .withdrawn ⌝ }
+    ensures { λ _. ⌜ now (ts .exit) ≡ withTable (withdrawRow (length (now (ts .entry))) (tableIn (now (ts .entry))) withdrawal .row) (now (ts .entry)) ⌝ }
+{
+    let len = ts.len();
+    let row = copy_out(&ts[..]);
+    let done = desk_tickets::withdraw_in(len, row, withdrawal);
+    let next = done.row;
+    copy_in(&mut ts[..], next);
+    done.withdrawn
+}
+
+// Up to eight tickets boarded from a lent row of records: the planner's answer and who left; in the other rows the list, the times and the legs.
+pub fn board(
+    ts: &mut [Ticket],
+    boarding: Boarding,
+    starts: &[u64],
+    lengths: &[u64],
+    aggregates: &[u64],
+    froms: &mut [u64],
+    tos: &mut [u64],
+    times: &mut [u64],
+    legs: &mut [u64],
+    room: &mut [u64],
+) -> Boarded
+    ensures { λ r. ⌜ BoardsLent (now (ts .entry)) (tapeAt starts lengths aggregates) boarding (rowsBefore froms tos times legs room) r (rowsAfter froms tos times legs room) (now (ts .exit)) ⌝ }
+{
+    let len = ts.len();
+    let row = copy_out(&ts[..]);
+    let done = desk_boardings::board_in(
+        len,
+        row,
+        boarding,
+        starts,
+        lengths,
+        aggregates,
+        froms,
+        tos,
+        times,
+        legs,
+        room,
+    );
+    let next = done.row;
+    copy_in(&mut ts[..], next);
+    done.boarded
+}

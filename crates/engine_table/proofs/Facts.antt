@@ -1,0 +1,116 @@
+-- What the judging of a run says of its rows and of its stops: in order on the tape, and small enough for words.
+use Prim.Native.Nat.{ℕ, zero, suc, _+_, _-_, _≤_, _<_}
+use mathlib.Core.Path.{_≡_, sym, ap, _∙_}
+use mathlib.Core.Logic.{by-cases}
+use mathlib.Core.List.{List}
+use native.Mathlib.Omega.{arith}
+use native.Mathlib.Decide.{decLt}
+use native.Mathlib.Numerals.{add-one}
+use lib.ListN.{length, getD}
+use Rattle.runs.specs.Run.{aloneOf, loneStop, loneStops, lastPlace, highestTurn, mostReads, stopAt}
+use Rattle.runs.proofs.Accepted.{GoodFile, GoodWant}
+use Rattle.runs.proofs.Judged.{GoodRun, accepted-run, numbers-rise}
+use Rattle.runs.proofs.Table.{table-file, end-before-start}
+use Rattle.runs.proofs.Alone.{plain-at, plain-length}
+use Rattle.least.proofs.Sums.{W-zero, W-suc}
+use Rattle.least.specs.Recurrence.{fileAt, leftAt, rightAt, countAt}
+use Rattle.engine_table.specs.Private.{Judged, IsStop, TripFits, EarlyFits, RowFits, rowAt, startAt, stopEnd, readsIn, readsFirst}
+use Rattle.engine_table.proofs.Sizes.{row-small, reads-none, reads-more, reads-within}
+
+module _ (starts lengths numbers counts : List ℕ) (turn reads : ℕ) (j : Judged starts lengths numbers counts turn reads) where
+  good : GoodRun (aloneOf starts lengths numbers counts (j .head) turn)
+  good = accepted-run (aloneOf starts lengths numbers counts (j .head) turn) (j .accepts)
+
+  want : (i : ℕ) → i < length numbers → GoodWant (length starts) numbers counts i
+  want i l = good .wants .each i l
+
+  file : (i : ℕ) → i < length numbers → GoodFile starts lengths (getD numbers i 0 - 1)
+  file i l = table-file starts lengths (good .files .table) (getD numbers i 0 - 1) (omega (arith, want i l))
+
+  -- An earlier stop ends at or before the start of a later one.
+  pub stops-apart : (i i′ : ℕ) → i < i′ → i′ < length numbers → stopEnd starts lengths numbers i ≤ startAt starts numbers i′
+  stops-apart i i′ h l =
+      end-before-start starts lengths (good .files .table) (getD numbers i 0 - 1) (getD numbers i′ 0 - 1)
+      (omega (arith, numbers-rise (length starts) numbers counts (good .wants) i i′ h l, want i (omega arith) .named))
+      (omega (arith, want i′ l))
+
+  pub start-order : (i i′ : ℕ) → i ≤ i′ → i′ < length numbers → startAt starts numbers i ≤ startAt starts numbers i′
+  start-order i i′ h l = by-cases (decLt i i′) (λ k. omega (arith, stops-apart i i′ k l)) (λ k. let e : i ≡ i′ = omega arith in rw e (omega arith))
+
+  pub is-stop : (i : ℕ) → i < length numbers → IsStop starts numbers i
+  is-stop i l = record { within = l; named = record { least = want i l .named; most = want i l .inTable } }
+
+  pub ends-near : (i : ℕ) → i < length numbers → stopEnd starts lengths numbers i ≤ lastPlace
+  ends-near i l = file i l .ends
+
+  pub even-counts : length numbers ≡ length counts
+  even-counts = good .wants .equal
+
+  pub few-stops : length numbers ≤ 64
+  few-stops = good .wants .few
+
+  pub few-reads : reads ≤ mostReads
+  few-reads = omega (arith, j .whole, good .wants .reads)
+
+  pub cheap-turn : turn ≤ highestTurn
+  cheap-turn = good .start .cheap
+
+  pub reads-up-to : (n : ℕ) → n ≤ length numbers → readsIn counts n ≤ reads
+  reads-up-to n l = omega (arith, j .whole, reads-within counts n (omega (arith, even-counts)))
+
+  pub count-few : (i : ℕ) → i < length numbers → getD counts i 0 ≤ mostReads
+  count-few i l = omega (arith, reads-up-to (i + 1) (omega arith), reads-more counts i, few-reads)
+
+  pub trip-fits : (c b : ℕ) → c ≤ b → b < length numbers → TripFits starts lengths numbers turn c b
+  trip-fits c b h l =
+      record {
+        from = is-stop c (omega arith);
+        to = is-stop b l;
+        even = good .files .table .equal;
+        onward = omega (arith, start-order c b h l);
+        near = ends-near b l;
+        cheap = cheap-turn;
+      }
+
+  pub early-fits : (a b : ℕ) → a ≤ b → b < length numbers → EarlyFits starts numbers counts a b
+  early-fits a b h l =
+      record {
+        from = is-stop a (omega arith);
+        to = is-stop b l;
+        even = even-counts;
+        onward = start-order a b h l;
+        near = omega (arith, ends-near b l);
+        few = count-few b l;
+      }
+
+  -- The stops' places and counts are those of the rows.
+  pub stop-at : (i : ℕ) → i < length numbers → stopAt (loneStops starts lengths numbers counts) i ≡ loneStop starts lengths (getD numbers i 0) (getD counts i 0)
+  stop-at i l = plain-at starts lengths numbers counts (sym even-counts) i l
+
+  pub stops-length : length (loneStops starts lengths numbers counts) ≡ length numbers
+  stops-length = plain-length starts lengths numbers counts (sym even-counts)
+
+  pub left-at : (i : ℕ) → i < length numbers → leftAt (loneStops starts lengths numbers counts) i ≡ startAt starts numbers i
+  left-at i l = ap (λ s. s .start) (stop-at i l)
+
+  pub right-at : (i : ℕ) → i < length numbers → rightAt (loneStops starts lengths numbers counts) i ≡ stopEnd starts lengths numbers i
+  right-at i l = ap (λ s. s .end) (stop-at i l)
+
+  pub count-at : (i : ℕ) → i < length numbers → countAt (loneStops starts lengths numbers counts) i ≡ getD counts i 0
+  count-at i l = ap (λ s. s .count) (stop-at i l)
+
+  pub file-at : (i : ℕ) → i < length numbers → fileAt (loneStops starts lengths numbers counts) i ≡ getD numbers i 0
+  file-at i l = ap (λ s. s .file) (stop-at i l)
+
+  pub reads-at : (n : ℕ) → n ≤ length numbers → readsFirst (loneStops starts lengths numbers counts) n ≡ readsIn counts n
+  reads-at zero l = W-zero (countAt (loneStops starts lengths numbers counts)) ∙ sym (reads-none counts)
+  reads-at (suc n) l =
+      let more : readsIn counts (suc n) ≡ readsIn counts n + getD counts n 0 = rw (add-one n) at (reads-more counts n) in
+      omega (arith, W-suc (countAt (loneStops starts lengths numbers counts)) n, count-at n l, reads-at n (omega arith), more)
+
+  pub row-fits : (a b : ℕ) → a < length numbers → b < length numbers → RowFits (length numbers) reads a b
+  row-fits a b h l = record { left = h; right = l; few = few-stops; most = few-reads }
+
+  -- A word of a row has a number that fits.
+  pub row-part-small : (a b x y : ℕ) → a < length numbers → b < length numbers → x ≡ rowAt (length numbers) reads a b → y ≤ mostReads → x + y ≤ 5000000
+  row-part-small a b x y h l e m = omega (arith, row-small (length numbers) reads a b (row-fits a b h l))

@@ -1,0 +1,65 @@
+-- `sheet_loose::file_lines` meets its contract: as many lines as come before the first bad one.
+-- Assumes nothing.
+use borrow.Author.Needs.{needs}
+use native.Mathlib.Omega.{arith}
+use Rattle.text_lines.proofs.Passing.{lines-ended, lines-failed}
+use Rattle.sheet_loose.proofs.Passing.{block-full, block-part, block-never}
+use Rattle.sheet_loose.proofs.file_lines.Statement.{statement}
+use Rattle.sheet_loose.proofs.file_lines.Tie as tie
+
+slice-aggregate-triple-lines : tie.Need-slice-aggregate-triple-lines
+slice-aggregate-triple-lines c = search needs
+
+triple-lines-requires : tie.Need-triple-lines-requires
+triple-lines-requires c κs = search needs
+
+enum-known-next : tie.Need-enum-known-next
+enum-known-next c = search needs
+
+enum-known-line : tie.Need-enum-known-line
+enum-known-line c = search needs
+
+slice-aggregate-triple-lines-2 : tie.Need-slice-aggregate-triple-lines-2
+slice-aggregate-triple-lines-2 c = search needs
+
+sub-triple-lines : tie.Need-sub-triple-lines
+sub-triple-lines c = let b = (lines-failed _ _ _ _ _ (c .before .before .before .before .triple-lines .ensures) _ (c .before .before .line .given .1)) in omega (arith, b .some)
+
+triple-lines-requires-2 : tie.Need-triple-lines-requires-2
+triple-lines-requires-2 c κs = search needs
+
+enum-known-next-2 : tie.Need-enum-known-next-2
+enum-known-next-2 c = search needs
+
+sub-t17 : tie.Need-sub-t17
+sub-t17 c = let b = (lines-failed _ _ _ _ _ (c .before .before .before .before .before .before .before .before .triple-lines .ensures) _ (c .before .before .before .before .before .before .line .given .1)) in omega (arith, b .some)
+
+enum-told : tie.Need-enum-told
+enum-told c = search needs
+
+returns : tie.Need-returns
+returns c = block-full _ _ _ _ _ (lines-ended _ _ _ _ _ (c .before .before .before .triple-lines .ensures) _ (c .before .next .given .1))
+
+returns-2 : tie.Need-returns-2
+returns-2 c = block-part _ _ _ _ _ (lines-failed _ _ _ _ _ (c .before .before .before .before .before .before .before .before .triple-lines .ensures) _ (c .before .before .before .before .before .before .line .given .1)) _ (lines-ended _ _ _ _ _ (c .before .before .before .triple-lines2 .ensures) _ (c .before .next2 .given .1))
+
+returns-3 : tie.Need-returns-3
+returns-3 c = absurd (block-never _ _ _ _ _ (lines-failed _ _ _ _ _ (c .before .before .before .before .before .before .before .triple-lines .ensures) _ (c .before .before .before .before .before .line .given .1)) _ (lines-failed _ _ _ _ _ (c .before .before .triple-lines2 .ensures) _ (c .enum-told .given .1)))
+
+pub file-lines-spec : {M : Type 1} → statement M
+file-lines-spec =
+    tie.close
+    (tie.spec
+    slice-aggregate-triple-lines
+    triple-lines-requires
+    enum-known-next
+    enum-known-line
+    slice-aggregate-triple-lines-2
+    sub-triple-lines
+    triple-lines-requires-2
+    enum-known-next-2
+    sub-t17
+    enum-told
+    returns
+    returns-2
+    returns-3)

@@ -1,0 +1,57 @@
+-- `sheet_loose::read_below` meets its contract: the `wants` line, then want lines to the end.
+-- Assumes nothing.
+use borrow.Author.Needs.{needs}
+use native.Mathlib.Omega.{arith}
+use Rattle.sheet_loose.proofs.Passing.{number-unread, number-read}
+use Rattle.sheet_loose.proofs.Order.{wants-bad, text-behind, below-good}
+use Rattle.sheet_loose.proofs.read_below.Statement.{statement}
+use Rattle.sheet_loose.proofs.read_below.Tie as tie
+
+slice-aggregate-number-line : tie.Need-slice-aggregate-number-line
+slice-aggregate-number-line c = search needs
+
+number-line-requires : tie.Need-number-line-requires
+number-line-requires c κs = search needs
+
+enum-known-said : tie.Need-enum-known-said
+enum-known-said c = search needs
+
+enum-told : tie.Need-enum-told
+enum-told c = search needs
+
+add-t11 : tie.Need-add-t11
+add-t11 c = omega (arith, c .before .before .before .before .before .pre .few)
+
+returns : tie.Need-returns
+returns c = wants-bad _ _ _ (c .before .before .before .before .before .pre) (number-unread _ _ _ _ _ (c .before .before .number-line .ensures) (c .enum-told .given .1))
+
+want-lines-requires : tie.Need-want-lines-requires
+want-lines-requires c κs = (number-read _ _ _ _ _ (c .before .before .before .number-line .ensures) _ _ (c .before .said .given .1)) .0 .within
+
+add-t14 : tie.Need-add-t14
+add-t14 c = omega (arith, c .before .before .before .before .before .before .before .before .before .before .pre .few, c .before .before .before .want-lines .ensures .few)
+
+add-t15 : tie.Need-add-t15
+add-t15 c = omega (arith, c .before .before .before .before .before .before .before .before .before .before .pre .few, c .before .before .before .want-lines .ensures .few)
+
+returns-2 : tie.Need-returns-2
+returns-2 c = text-behind _ _ _ (c .before .before .before .before .before .before .before .before .before .before .pre) _ _ (number-read _ _ _ _ _ (c .before .before .before .before .before .before .before .number-line .ensures) _ _ (c .before .before .before .before .before .said .given .1)) _ (c .before .before .before .want-lines .ensures) (c .before .if1 .taken)
+
+returns-3 : tie.Need-returns-3
+returns-3 c = below-good _ _ _ (c .before .before .before .before .before .before .before .before .before .pre) _ _ (number-read _ _ _ _ _ (c .before .before .before .before .before .before .number-line .ensures) _ _ (c .before .before .before .before .said .given .1)) _ (c .before .before .want-lines .ensures) (c .if1 .left)
+
+pub read-below-spec : {M : Type 1} → statement M
+read-below-spec =
+    tie.close
+    (tie.spec
+    slice-aggregate-number-line
+    number-line-requires
+    enum-known-said
+    enum-told
+    add-t11
+    returns
+    want-lines-requires
+    add-t14
+    add-t15
+    returns-2
+    returns-3)

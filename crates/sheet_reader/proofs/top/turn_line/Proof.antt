@@ -1,0 +1,78 @@
+-- `sheet_reader::top::turn_line` meets its contract: behind the key stands nothing, or a number, or neither.
+-- Assumes nothing.
+use native.Mathlib.Omega.{arith}
+use Rattle.sheet_reader.specs.Lines.{turnKey}
+use Rattle.text_lines.proofs.Passing.{unkeyed, value-at}
+use Rattle.sheet_reader.proofs.Passing.{unkeyed-turn, turn-line-empty, turn-line-bad, turn-line-good}
+use borrow.Author.Needs.{needs}
+use Rattle.sheet_reader.proofs.top.turn_line.Statement.{statement}
+use Rattle.sheet_reader.proofs.top.turn_line.Tie as tie
+
+slice-aggregate-find-value : tie.Need-slice-aggregate-find-value
+slice-aggregate-find-value c = search needs
+
+find-value-requires : tie.Need-find-value-requires
+find-value-requires c κs = search needs
+
+enum-known-from : tie.Need-enum-known-from
+enum-known-from c = search needs
+
+enum-told : tie.Need-enum-told
+enum-told c = search needs
+
+returns : tie.Need-returns
+returns c = unkeyed-turn _ (unkeyed turnKey _ _ _ (c .before .before .find-value .ensures) (c .enum-told .given .1))
+
+add-t11 : tie.Need-add-t11
+add-t11 c = let v = value-at turnKey _ _ _ (c .before .before .before .before .find-value .ensures) _ _ (c .before .before .from .given .1) in omega (arith, v .within)
+
+returns-2 : tie.Need-returns-2
+returns-2 c = turn-line-empty _ _ _ (c .before .before .before .before .find-value .ensures) _ _ (c .before .before .from .given .1) (c .if1 .taken)
+
+sub-read-number : tie.Need-sub-read-number
+sub-read-number c = value-at turnKey _ _ _ (c .before .before .before .before .find-value .ensures) _ _ (c .before .before .from .given .1) .ordered
+
+part-read-number-start : tie.Need-part-read-number-start
+part-read-number-start c = value-at turnKey _ _ _ (c .before .before .before .before .find-value .ensures) _ _ (c .before .before .from .given .1) .ordered
+
+part-read-number-end : tie.Need-part-read-number-end
+part-read-number-end c = let v = value-at turnKey _ _ _ (c .before .before .before .before .find-value .ensures) _ _ (c .before .before .from .given .1) in omega (arith, v .within)
+
+read-number-requires : tie.Need-read-number-requires
+read-number-requires c κs = search needs
+
+enum-known-number : tie.Need-enum-known-number
+enum-known-number c = search needs
+
+enum-told-2 : tie.Need-enum-told-2
+enum-told-2 c = search needs
+
+returns-3 : tie.Need-returns-3
+returns-3 c = turn-line-bad _ _ _ (c .before .before .before .before .before .before .before .before .find-value .ensures) _ _ (c .before .before .before .before .before .before .from .given .1) (c .before .before .before .before .if1 .left) _ (c .before .before .read-number .ensures) (c .enum-told2 .given .1)
+
+add-t14 : tie.Need-add-t14
+add-t14 c = let v = value-at turnKey _ _ _ (c .before .before .before .before .before .before .before .before .before .find-value .ensures) _ _ (c .before .before .before .before .before .before .before .from .given .1) in omega (arith, v .within)
+
+returns-4 : tie.Need-returns-4
+returns-4 c = turn-line-good _ _ _ (c .before .before .before .before .before .before .before .before .before .find-value .ensures) _ _ (c .before .before .before .before .before .before .before .from .given .1) (c .before .before .before .before .before .if1 .left) _ (c .before .before .before .read-number .ensures) _ (c .before .number .given .1)
+
+pub turn-line-spec : {M : Type 1} → statement M
+turn-line-spec =
+    tie.close
+    (tie.spec
+    slice-aggregate-find-value
+    find-value-requires
+    enum-known-from
+    enum-told
+    returns
+    add-t11
+    returns-2
+    sub-read-number
+    part-read-number-start
+    part-read-number-end
+    read-number-requires
+    enum-known-number
+    enum-told-2
+    returns-3
+    add-t14
+    returns-4)

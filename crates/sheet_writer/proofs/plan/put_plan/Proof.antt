@@ -1,0 +1,47 @@
+-- `sheet_writer::plan::put_plan` meets its contract: the first six lines, the detours and the times, one behind the other.
+-- Assumes nothing.
+use native.Mathlib.Omega.{arith}
+use Rattle.sheet_writer.specs.PlanSheet.{planLines}
+use Rattle.text_pages.proofs.Pages.{wrote-both, wrote-within}
+use borrow.Author.Needs.{needs}
+use Rattle.sheet_writer.proofs.plan.put_plan.Statement.{statement}
+use Rattle.sheet_writer.proofs.plan.put_plan.Tie as tie
+
+put-plan-top-requires : tie.Need-put-plan-top-requires
+put-plan-top-requires c κs = search needs
+
+slice-aggregate-put-pairs : tie.Need-slice-aggregate-put-pairs
+slice-aggregate-put-pairs c = search needs
+
+put-pairs-requires : tie.Need-put-pairs-requires
+put-pairs-requires c κs = search needs
+
+slice-aggregate-put-triples : tie.Need-slice-aggregate-put-triples
+slice-aggregate-put-triples c = search needs
+
+put-triples-requires : tie.Need-put-triples-requires
+put-triples-requires c κs = search needs
+
+same-length : tie.Need-same-length
+same-length c = search needs
+
+returns : tie.Need-returns
+unfolding planLines
+returns c =
+    let c7 = c .before .before .before .before .before .before .before in
+    let c12 = c7 .before .before .before .before .before in
+    let c21 = c12 .before .before .before .before .before .before .before .before .before in
+    let two = wrote-both (c12 .put-plan-top .ensures) (c7 .put-pairs .ensures) in
+    wrote-within (wrote-both two (c .before .before .put-triples .ensures)) _ (omega (arith, c21 .pre .few, c21 .pre .wants))
+
+pub put-plan-spec : {M : Type 1} → statement M
+put-plan-spec =
+    tie.close
+    (tie.spec
+    put-plan-top-requires
+    slice-aggregate-put-pairs
+    put-pairs-requires
+    slice-aggregate-put-triples
+    put-triples-requires
+    same-length
+    returns)
