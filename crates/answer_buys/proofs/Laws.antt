@@ -9,7 +9,8 @@ use Rattle.refusals.specs.Refusals.{isRefusal, firstOf}
 use Rattle.refusals.proofs.Verdicts.{refuses}
 use Rattle.runs.specs.Run.{Run, runOf}
 use Rattle.walk.specs.declared.Answer.{Answer}
-use Rattle.planner.specs.Plan.{Rows, Plans}
+use Rattle.planner.specs.Plan.{Plans}
+use Rattle.planner.specs.Rows.{Rows}
 use Rattle.text_bytes.specs.Text.{isName}
 use Rattle.sheet_reader.specs.declared.Reading.{Reading}
 use Rattle.sheet_reader.specs.Sheet.{sheetRun, sheetName}

@@ -17,7 +17,8 @@ use Rattle.runs.specs.Lists.{Detour, listOf, listVerdict, firstBadEntry}
 use Rattle.walk.specs.declared.Answer.{Answer}
 use Rattle.walk.specs.Price.{pricedAnswer}
 use Rattle.least.specs.Least.{LeastForRun, listSum}
-use Rattle.planner.specs.Plan.{Rows, Plans}
+use Rattle.planner.specs.Plan.{Plans}
+use Rattle.planner.specs.Rows.{Rows}
 use Rattle.text_bytes.specs.Text.{isText}
 use Rattle.text_pages.specs.Printing.{numberLine}
 use Rattle.sheet_writer.specs.declared.Written.{Written}

@@ -3,7 +3,7 @@ ghost use mathlib.Core.Path.{_≡_};
 ghost use mathlib.Core.Bool.{true};
 ghost use Prim.Native.Nat.{_≤_};
 ghost use lib.ListN.{length};
-ghost use Rattle.runs.specs.Run.{runIn, runAt};
+ghost use Rattle.runs.specs.Rows.{runIn, runAt};
 ghost use Rattle.runs.specs.Lists.{listOf};
 ghost use Rattle.walk.specs.Price.{pricedAnswer};
 ghost use Rattle.text_bytes.specs.Text.{isName};

@@ -1,7 +1,7 @@
 // The plan sheet of a list handed in.
 ghost use mathlib.Core.Path.{_≡_};
 ghost use mathlib.Core.Bool.{true};
-ghost use Rattle.runs.specs.Run.{runAt};
+ghost use Rattle.runs.specs.Rows.{runAt};
 ghost use Rattle.text_bytes.specs.Text.{isName};
 ghost use Rattle.answer_check.specs.Pricing.{SheetPriced};
 ghost use Rattle.answer_check.specs.Private.{RunPriced};

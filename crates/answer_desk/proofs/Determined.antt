@@ -5,7 +5,7 @@ use mathlib.Core.Bool.{Bool, true, false}
 use mathlib.Core.List.{List}
 use Rattle.refusals.specs.Refusals.{isRefusal}
 use Rattle.walk.specs.declared.Answer.{Answer}
-use Rattle.planner.specs.Plan.{Rows}
+use Rattle.planner.specs.Rows.{Rows}
 use Rattle.planner.proofs.Determined.{plan-determined}
 use Rattle.sheet_writer.specs.declared.Written.{Written}
 use Rattle.sheet_writer.proofs.Sheets.{handed-determined}

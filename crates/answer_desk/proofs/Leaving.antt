@@ -11,7 +11,7 @@ use lib.Seq.{take-all}
 use Rattle.refusals.specs.Refusals.{isRefusal}
 use Rattle.refusals.proofs.Verdicts.{refuses}
 use Rattle.runs.proofs.Search.{true-or-false}
-use Rattle.planner.specs.Plan.{Rows}
+use Rattle.planner.specs.Rows.{Rows}
 use Rattle.text_pages.specs.Printing.{pairLines, Wrote}
 use Rattle.text_pages.proofs.Pages.{wrote-both, wrote-within}
 use Rattle.sheet_writer.specs.PlanSheet.{detourKey}

@@ -5,11 +5,11 @@ use mathlib.Core.Bool.{true, false}
 use mathlib.Core.List.{List}
 use lib.ListN.{length, replicate}
 use Rattle.refusals.specs.declared.Refusal.the-variants.{Accepted}
-use Rattle.runs.specs.Run.{zeros}
+use Rattle.runs.specs.Alone.{zeros}
 use Rattle.text_pages.specs.Printing.{pairLine}
 use Rattle.sheet_writer.specs.declared.Written.{Written}
 use Rattle.sheet_writer.specs.Writing.{rowVerdict, Handed}
-use Rattle.planner.specs.Plan.{Rows, rowsOf}
+use Rattle.planner.specs.Rows.{Rows, rowsOf}
 use Rattle.desk_tickets.specs.declared.Ticket.{Ticket}
 use Rattle.desk_tickets.specs.declared.Filing.{Filing}
 use Rattle.desk_tickets.specs.declared.FiledRow.{FiledRow}

@@ -10,7 +10,8 @@ use Rattle.refusals.specs.declared.Refusal.the-variants.{WantRows, OverEightWan
 use Rattle.refusals.specs.declared.Verdict.{Verdict}
 use Rattle.refusals.specs.Refusals.{refuseIf, firstOf}
 use Rattle.refusals.proofs.Verdicts.{refuses, all-accept, none-refuses}
-use Rattle.runs.specs.Run.{Run, stopsOf, rightEnd}
+use Rattle.runs.specs.Run.{Run, stopsOf}
+use Rattle.runs.specs.Judging.{rightEnd}
 use Rattle.runs.specs.Judging.{tableChecks, wantsChecks, headChecks, judgeOf}
 use Rattle.sheet_reader.specs.Sheet.{sheetRun, sheetName}
 use Rattle.sheet_reader.specs.Reading.{sheetVerdict, ruleVerdict}

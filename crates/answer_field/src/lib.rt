@@ -2,7 +2,7 @@
 // It stands on the promises of the reader, of that engine and of the writers; the rows that they are lent are on its own stack.
 ghost use mathlib.Core.Path.{_≡_};
 ghost use mathlib.Core.Bool.{true};
-ghost use Rattle.runs.specs.Run.{runAt};
+ghost use Rattle.runs.specs.Rows.{runAt};
 ghost use Rattle.text_bytes.specs.Text.{isName};
 ghost use Rattle.answer_field.specs.Field.{SheetFielded};
 ghost use Rattle.answer_field.specs.Private.{RunFielded};

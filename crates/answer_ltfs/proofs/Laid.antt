@@ -12,7 +12,8 @@ use Rattle.refusals.specs.declared.Refusal.the-variants.{BadName, BadText, Many
 use Rattle.refusals.specs.declared.Verdict.{Verdict}
 use Rattle.refusals.specs.Refusals.{accepted, refuseIf, firstOf}
 use Rattle.refusals.proofs.Verdicts.{refuses, all-accept, accepts-if}
-use Rattle.runs.specs.Run.{Run, runOf, aloneOf, zeros}
+use Rattle.runs.specs.Run.{Run, runOf}
+use Rattle.runs.specs.Alone.{aloneOf, zeros}
 use Rattle.runs.specs.Judging.{judgeOf}
 use Rattle.runs.proofs.Search.{or-false-both}
 use Rattle.sheet_writer.specs.declared.Written.{Written}

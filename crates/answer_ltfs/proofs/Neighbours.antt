@@ -9,8 +9,11 @@ use lib.Seq.{length-take-le, getD-take}
 use lib.Dec.{eqb, ltb, leb}
 use borrow.Author.Tests.{ltb-false, leb-true, eqb-false, lt-ltb, le-ltb, eq-eqb, not-true}
 use Rattle.refusals.specs.Refusals.{accepted}
-use Rattle.runs.specs.Run.{lastPlace, mostFiles, zeros, loneStops, rightEnd}
-use Rattle.runs.specs.Judging.{badPlace, endBefore, judgeOf, judgeAlone}
+use Rattle.runs.specs.Run.{lastPlace, mostFiles}
+use Rattle.runs.specs.Judging.{rightEnd}
+use Rattle.runs.specs.Alone.{zeros, loneStops}
+use Rattle.runs.specs.Judging.{badPlace, endBefore, judgeOf}
+use Rattle.runs.specs.Alone.{judgeAlone}
 use Rattle.refusals.specs.Refusals.{firstWhere}
 use Rattle.runs.proofs.Search.{or-false-both, first-all}
 use Rattle.runs.proofs.Alone.{all-zero, alone-judged}

@@ -9,7 +9,8 @@ use lib.Dec.{eqb}
 use borrow.Author.Tests.{not-false}
 use Rattle.refusals.specs.declared.Refusal.the-variants.{BadName, BadText, ManyExtents, Overlap, FarFile}
 use Rattle.refusals.specs.Refusals.{refuseIf}
-use Rattle.runs.specs.Run.{Run, zeros}
+use Rattle.runs.specs.Run.{Run}
+use Rattle.runs.specs.Alone.{zeros}
 use Rattle.runs.specs.Judging.{judgeOf}
 use Rattle.refusals.proofs.Verdicts.{all-accept, accepts-if}
 use Rattle.text_bytes.specs.Text.{isName}

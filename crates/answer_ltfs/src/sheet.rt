@@ -5,7 +5,7 @@ ghost use mathlib.Core.List.{[]};
 ghost use Prim.Native.Nat.{_≤_};
 ghost use lib.ListN.{length, take};
 ghost use Rattle.refusals.specs.Refusals.{firstOf};
-ghost use Rattle.runs.specs.Run.{aloneOf};
+ghost use Rattle.runs.specs.Alone.{aloneOf};
 ghost use Rattle.text_bytes.specs.Text.{isName};
 ghost use Rattle.sheet_writer.specs.Writing.{SheetWritten};
 ghost use Rattle.tape_markup.specs.Tree.{treeOf};

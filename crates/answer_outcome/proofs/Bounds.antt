@@ -9,7 +9,8 @@ use native.Mathlib.Nat.{mul-le-mul-left}
 use lib.ListN.{length, length-append, length-replicate}
 use Rattle.refusals.specs.Refusals.{isRefusal}
 use Rattle.refusals.proofs.Verdicts.{refuses, all-accept}
-use Rattle.runs.specs.Run.{Run, Stop, stopAt, stopsOf, total}
+use Rattle.runs.specs.Run.{Run, Stop, stopsOf, total}
+use Rattle.runs.specs.Rows.{stopAt}
 use Rattle.runs.specs.Judging.{judgeOf}
 use Rattle.runs.proofs.Judged.{accepted-run}
 use Rattle.runs.proofs.Joined.{readsOf}

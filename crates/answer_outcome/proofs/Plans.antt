@@ -12,15 +12,18 @@ use Rattle.refusals.specs.declared.Refusal.the-variants.{Accepted}
 use Rattle.refusals.specs.declared.Verdict.{Verdict}
 use Rattle.refusals.specs.Refusals.{isRefusal, firstOf, firstWhere}
 use Rattle.refusals.proofs.Verdicts.{refuses, all-accept, none-refuses}
-use Rattle.runs.specs.Run.{Run, mostReads, total, countedReads, stopsOf, wantStopsOf}
+use Rattle.runs.specs.Run.{Run, mostReads, total, stopsOf, wantStopsOf}
+use Rattle.runs.specs.Rows.{countedReads}
 use Rattle.runs.specs.Judging.{judgeOf}
 use Rattle.runs.specs.Lists.{Detour, listOf, WellFormed, firstBadEntry, listVerdict}
 use Rattle.runs.proofs.Judged.{accepted-run}
 use Rattle.runs.proofs.Stops.{wants-length}
 use Rattle.walk.specs.declared.Answer.{Answer}
 use Rattle.walk.specs.Walk.{timesOf}
-use Rattle.walk.specs.Price.{pricedAnswer, pricedTimes, ReadRows, readRows, priceVerdict, priceAnswer}
-use Rattle.planner.specs.Plan.{Rows, Plans, Planned, planVerdict}
+use Rattle.walk.specs.Price.{pricedAnswer, pricedTimes, priceVerdict, priceAnswer}
+use Rattle.walk.specs.Rows.{ReadRows, readRows}
+use Rattle.planner.specs.Plan.{Plans, Planned, planVerdict}
+use Rattle.planner.specs.Rows.{Rows}
 use Rattle.least.specs.Least.{LeastForRun}
 use Rattle.answer_plan.specs.Recall.{runChecks}
 use Rattle.answer_plan.proofs.Planned.{Lent, run-refusal, planned, accepts}

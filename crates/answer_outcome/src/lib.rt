@@ -6,7 +6,7 @@ ghost use mathlib.Core.List.{[], _++_};
 ghost use Prim.Native.Nat.{_-_, _≤_};
 ghost use lib.ListN.{length, replicate};
 ghost use Rattle.refusals.specs.Refusals.{isRefusal};
-ghost use Rattle.runs.specs.Run.{runIn, runAt};
+ghost use Rattle.runs.specs.Rows.{runIn, runAt};
 ghost use Rattle.runs.specs.Judging.{judgeOf};
 ghost use Rattle.walk.specs.Price.{pricedAnswer};
 ghost use Rattle.text_bytes.specs.Text.{isName};

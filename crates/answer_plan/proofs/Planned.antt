@@ -18,7 +18,8 @@ use Rattle.runs.proofs.Judged.{accepted-run}
 use Rattle.runs.proofs.Stops.{stops-few}
 use Rattle.walk.specs.declared.Answer.{Answer}
 use Rattle.walk.specs.Price.{refusalAnswer, pricedAnswer}
-use Rattle.planner.specs.Plan.{Rows, rowsOf, Plans, Planned, planVerdict}
+use Rattle.planner.specs.Plan.{Plans, Planned, planVerdict}
+use Rattle.planner.specs.Rows.{Rows, rowsOf}
 use Rattle.engine_stops.proofs.Halves.{list-accepted, list-of-halves, halves-even, front, holds-front}
 use Rattle.text_bytes.specs.Text.{isName}
 use Rattle.sheet_writer.specs.declared.Written.{Written}

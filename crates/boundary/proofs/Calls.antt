@@ -15,7 +15,8 @@ use Rattle.refusals.specs.Refusals.{numberOf, refuseIf, firstOf, accepted}
 use Rattle.runs.specs.Run.{Run, stopsOf}
 use Rattle.runs.specs.Judging.{judgeOf}
 use Rattle.runs.specs.Lists.{listOf, listVerdict}
-use Rattle.walk.specs.Price.{refusalAnswer, pricedAnswer, ReadRows, readRows, shortReadRows, priceVerdict, priceAnswer, priceRows}
+use Rattle.walk.specs.Price.{refusalAnswer, pricedAnswer, shortReadRows, priceVerdict, priceAnswer, priceRows}
+use Rattle.walk.specs.Rows.{ReadRows, readRows}
 use Rattle.runs.proofs.Search.{true-or-false}
 use Rattle.refusals.proofs.Verdicts.{refuses}
 use Rattle.walk.proofs.Priced.{price-accepted}

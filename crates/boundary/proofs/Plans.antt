@@ -20,7 +20,8 @@ use Rattle.runs.proofs.Search.{true-or-false}
 use Rattle.refusals.proofs.Verdicts.{refuses, test-says}
 use Rattle.walk.proofs.Places.{placeMost, judge-near, first-near, if-near}
 use Rattle.planner.proofs.Determined.{planned-once}
-use Rattle.planner.specs.Plan.{Rows, Plans, planVerdict, shortRows, roomFor}
+use Rattle.planner.specs.Plan.{Plans, planVerdict, shortRows, roomFor}
+use Rattle.planner.specs.Rows.{Rows}
 use Rattle.boundary.proofs.Calls.{code-accepts}
 use Rattle.boundary.specs.Boundary.{codeOf, sumsWith, leastRule, badRule, planCall, PlanCalled}
 use Rattle.boundary.specs.Private.{codeUnless}

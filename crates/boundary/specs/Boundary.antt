@@ -13,8 +13,10 @@ use Rattle.refusals.specs.Refusals.{numberOf, isRefusal, refuseIf, firstOf}
 use Rattle.runs.specs.Run.{Run, stopsOf}
 use Rattle.runs.specs.Judging.{judgeOf}
 use Rattle.runs.specs.Lists.{listOf}
-use Rattle.walk.specs.Price.{ReadRows, readRowsWith, priceVerdict, pricedAnswer}
-use Rattle.planner.specs.Plan.{Rows, shortRows, roomFor, Planned}
+use Rattle.walk.specs.Price.{readRowsWith, priceVerdict, pricedAnswer}
+use Rattle.walk.specs.Rows.{ReadRows}
+use Rattle.planner.specs.Plan.{shortRows, roomFor, Planned}
+use Rattle.planner.specs.Rows.{Rows}
 
 -- What a verdict gives back.
 abbrev pub codeOf : Verdict → ℕ

@@ -2,7 +2,7 @@
 use Prim.Native.Nat.{ℕ}
 use mathlib.Core.List.{List}
 use lib.ListN.{length}
-use Rattle.runs.specs.Run.{aloneOf}
+use Rattle.runs.specs.Alone.{aloneOf}
 use Rattle.runs.proofs.Judged.{accepted-run}
 use Rattle.runs.proofs.Alone.{alone-wants, alone-stops, alone-judged}
 use Rattle.demands.specs.Alone.{AloneAsBefore}

@@ -15,7 +15,8 @@ use Rattle.refusals.specs.declared.Refusal.{Refusal}
 use Rattle.refusals.specs.declared.Refusal.the-variants.{Accepted, BadEntry, ShortRow}
 use Rattle.refusals.specs.Refusals.{isRefusal, numberOf, accepted, refuseIf, firstWhere}
 use Rattle.refusals.proofs.Verdicts.{refuses, all-accept, none-refuses, accepts-if}
-use Rattle.runs.specs.Run.{Run, Stop, stopsOf, goesOn, firstMember, lastWithin, wantStops, joinTo, joined, rightEnd}
+use Rattle.runs.specs.Run.{Run, Stop, stopsOf, goesOn, firstMember, lastWithin, wantStops, joinTo, joined}
+use Rattle.runs.specs.Judging.{rightEnd}
 use Rattle.runs.specs.Judging.{judgeOf}
 use Rattle.runs.specs.Lists.{Detour, listOf, listVerdict, entryOf, WellFormed, wanted, anyBelow, firstBadEntry}
 use Rattle.runs.proofs.Judged.{accepted-run}

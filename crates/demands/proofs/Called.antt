@@ -13,10 +13,12 @@ use Rattle.refusals.specs.Refusals.{refuseIf}
 use Rattle.runs.specs.Run.{Run, stopsOf}
 use Rattle.runs.specs.Judging.{judgeOf}
 use Rattle.runs.specs.Lists.{Detour, listOf}
-use Rattle.walk.specs.Price.{ReadRows, pricedAnswer, priceVerdict}
+use Rattle.walk.specs.Price.{pricedAnswer, priceVerdict}
+use Rattle.walk.specs.Rows.{ReadRows}
 use Rattle.refusals.proofs.Verdicts.{refuses, all-accept, accepts-if}
 use Rattle.runs.proofs.Search.{or-false-both}
-use Rattle.planner.specs.Plan.{Rows, roomFor, Plans, planVerdict, shortRows}
+use Rattle.planner.specs.Plan.{roomFor, Plans, planVerdict, shortRows}
+use Rattle.planner.specs.Rows.{Rows}
 use Rattle.boundary.specs.Boundary.{shortSums, sumsWith, badRule, priceCall, priceReads, priceSums, planCall, PlanCalled, CallPlanned}
 use Rattle.boundary.proofs.Calls.{code-accepts}
 use Rattle.demands.specs.Calls.{inSums, PlanCallWalks, Demand2PriceCall, Demand2PlanCall, Demand3PlanCall}

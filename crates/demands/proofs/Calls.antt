@@ -14,10 +14,12 @@ use Rattle.refusals.specs.Refusals.{numberOf, accepted, refuseIf, firstOf}
 use Rattle.runs.specs.Run.{Run, stopsOf}
 use Rattle.runs.specs.Judging.{judgeOf}
 use Rattle.runs.specs.Lists.{listVerdict}
-use Rattle.walk.specs.Price.{ReadRows, shortReadRows, priceVerdict}
+use Rattle.walk.specs.Price.{shortReadRows, priceVerdict}
+use Rattle.walk.specs.Rows.{ReadRows}
 use Rattle.refusals.proofs.Verdicts.{none-refuses, refuses, number-small}
 use Rattle.runs.proofs.Judged.{GoodRun, accepted-run}
-use Rattle.planner.specs.Plan.{Rows, roomFor, shortRows}
+use Rattle.planner.specs.Plan.{roomFor, shortRows}
+use Rattle.planner.specs.Rows.{Rows}
 use Rattle.boundary.specs.Boundary.{shortSums, priceCall, priceReads, priceSums, PriceCalled, leastRule, badRule, planCall, PlanCalled}
 use Rattle.demands.specs.RefusalTable.{RunApplies, ListIsBad, runOrder, FirstThatApplies, none, here, later}
 use Rattle.demands.specs.Demand1.{PriceApplies, PlanApplies, priceOrder}

@@ -7,7 +7,8 @@ use mathlib.Core.List.{List, [], _∷_}
 use lib.Dec.{eqb}
 use borrow.Author.Tests.{eqb-true, eq-eqb, not-true}
 use Rattle.refusals.specs.Refusals.{isRefusal, firstWhere}
-use Rattle.runs.specs.Run.{Run, goesOn, firstMember, lastWithin, wantStops, wantStopsOf, joinTo, joined, stopsOf, rightEnd}
+use Rattle.runs.specs.Run.{Run, goesOn, firstMember, lastWithin, wantStops, wantStopsOf, joinTo, joined, stopsOf}
+use Rattle.runs.specs.Judging.{rightEnd}
 use Rattle.runs.specs.Judging.{judgeOf}
 use Rattle.walk.specs.Walk.{headAt, walked, served, timeOf, timesOf, legFrom, legsFor, sumOf}
 use Rattle.runs.specs.Lists.{Detour, firstBadEntry, wanted, anyBelow}

@@ -9,7 +9,8 @@ use native.Mathlib.Decide.{decLt}
 use lib.ListN.{length, getD}
 use lib.Dec.{leb, ltb, eqb}
 use borrow.Author.Tests.{ltb-true, ltb-false}
-use Rattle.runs.specs.Run.{Run, mostFiles, mostAggregates, lastPlace, endAt, goesOn, firstMember, lastMember, stopsOf, rightEnd}
+use Rattle.runs.specs.Run.{Run, mostFiles, mostAggregates, lastPlace, endAt, goesOn, firstMember, lastMember, stopsOf}
+use Rattle.runs.specs.Judging.{rightEnd}
 use Rattle.runs.specs.Lists.{anyBelow}
 use Rattle.runs.specs.Judging.{endBefore, badPlace, returns, badNumber, badFile, badWant}
 use Rattle.runs.proofs.Table.{ends-rise}

@@ -16,11 +16,13 @@ use Rattle.refusals.specs.Refusals.{numberOf, accepted, refuseIf}
 use Rattle.runs.specs.Run.{Run, stopsOf}
 use Rattle.runs.specs.Judging.{judgeOf}
 use Rattle.runs.specs.Lists.{listVerdict}
-use Rattle.walk.specs.Price.{refusalAnswer, pricedAnswer, ReadRows, shortReadRows, priceVerdict, priceAnswer, priceRows}
+use Rattle.walk.specs.Price.{refusalAnswer, pricedAnswer, shortReadRows, priceVerdict, priceAnswer, priceRows}
+use Rattle.walk.specs.Rows.{ReadRows}
 use Rattle.refusals.proofs.Verdicts.{none-refuses, refuses}
 use Rattle.runs.proofs.Judged.{GoodRun, accepted-run}
 use Rattle.walk.proofs.Priced.{price-accepted}
-use Rattle.planner.specs.Plan.{Rows, readsIn, roomFor, Plans, shortRows, planVerdict}
+use Rattle.planner.specs.Plan.{roomFor, Plans, shortRows, planVerdict}
+use Rattle.planner.specs.Rows.{Rows, readsIn}
 use Rattle.demands.specs.RefusalTable.{RunApplies, ListIsBad}
 use Rattle.demands.specs.Demand1.{OnlyPlace, PriceApplies, PlanApplies, priceOrder, planOrder, PriceAnswers, PlanAnswers, Demand1Price, Demand1Plan, Demand1PriceIff, Demand1PlanIff}
 use Rattle.demands.proofs.Tests.{Tells, tells-below, tells-either, tells-regrouped}

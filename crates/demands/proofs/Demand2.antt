@@ -16,7 +16,8 @@ use Rattle.walk.specs.Walk.{headAt, timesOf, legsFor}
 use Rattle.walk.specs.Detours.{legsOf}
 use Rattle.runs.specs.Judging.{judgeOf}
 use Rattle.runs.specs.Lists.{Detour, WellFormed, listOf, firstBadEntry, listVerdict}
-use Rattle.walk.specs.Price.{pricedAnswer, pricedTimes, pricedLegs, ReadRows, readRowsWith, shortReadRows, priceVerdict, priceAnswer, priceRows}
+use Rattle.walk.specs.Price.{pricedAnswer, pricedTimes, pricedLegs, readRowsWith, shortReadRows, priceVerdict, priceAnswer, priceRows}
+use Rattle.walk.specs.Rows.{ReadRows}
 use Rattle.refusals.proofs.Verdicts.{refuses, AllAccept, all-accept, accepts-if, accepts-at}
 use Rattle.runs.proofs.Judged.{accepted-run}
 use Rattle.runs.proofs.Search.{true-or-false}
@@ -24,7 +25,8 @@ use Rattle.walk.proofs.Filling.{one-each}
 use Rattle.walk.proofs.Joins.{run-sum-joined}
 use Rattle.runs.proofs.Stops.{wants-length}
 use Rattle.least.specs.Least.{LeastFor}
-use Rattle.planner.specs.Plan.{Rows, readsIn, rowsWith}
+use Rattle.planner.specs.Plan.{rowsWith}
+use Rattle.planner.specs.Rows.{Rows, readsIn}
 use Rattle.planner.proofs.Determined.{plan-determined}
 use Rattle.demands.specs.Demand2.{listIn, IsWalkOf, IsTheWalk, IsPriceOf, IsLeast, Demand2Price, Demand2Walk, Demand2Least, Demand2One}
 use Rattle.demands.proofs.Planned.{plan-in-rows, run-accepted, list-in-rows}

@@ -9,7 +9,8 @@ use lib.Seq.{getD-take}
 use Rattle.walk.specs.declared.Answer.{Answer}
 use Rattle.walk.specs.declared.Head.{Head}
 use Rattle.walk.specs.declared.Leg.{Leg}
-use Rattle.runs.specs.Run.{Run, Stop, endAt, lastMember, stopsOf, wantStopsOf, stopAt}
+use Rattle.runs.specs.Run.{Run, Stop, endAt, lastMember, stopsOf, wantStopsOf}
+use Rattle.runs.specs.Rows.{stopAt}
 use Rattle.runs.specs.Judging.{judgeOf}
 use Rattle.runs.specs.Lists.{Detour, listOf}
 use Rattle.walk.specs.Walk.{headAt, timeOf, timesOf, sumOf}
@@ -20,8 +21,8 @@ use Rattle.runs.proofs.Joined.{some-joined}
 use Rattle.runs.proofs.Stops.{wants-agree, wants-length, want-at, accepted-sound}
 use Rattle.walk.proofs.Joins.{time-same}
 use Rattle.least.proofs.Sweeps.{times-stay, time-by-end, LastRead, last-read}
-use Rattle.walk.specs.Price.{ReadRows}
-use Rattle.planner.specs.Plan.{readsIn}
+use Rattle.walk.specs.Rows.{ReadRows}
+use Rattle.planner.specs.Rows.{readsIn}
 use Rattle.demands.specs.Demand2.{listIn, IsWalkOf}
 use Rattle.demands.specs.Ends.{EndsWithARead, PriceEndsWithARead, PlanEndsWithARead, TimesStay}
 use Rattle.demands.proofs.Conditions.{named, last-with, within-extent}

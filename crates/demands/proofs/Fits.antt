@@ -9,7 +9,8 @@ use Rattle.walk.specs.Price.{refusalAnswer, pricedAnswer}
 use Rattle.refusals.proofs.Verdicts.{refuses}
 use Rattle.runs.proofs.Stops.{accepted-sound}
 use Rattle.least.proofs.LeastList.{least-list}
-use Rattle.planner.specs.Plan.{Rows, rowsWith, Plans, planVerdict}
+use Rattle.planner.specs.Plan.{rowsWith, Plans, planVerdict}
+use Rattle.planner.specs.Rows.{Rows}
 use Rattle.engine_plain.specs.Plain.{PlainRows, plainRowsWith, PlainPlans, plainVerdict}
 use Rattle.demands.proofs.Planned.{verdict-accepts-run}
 use Rattle.demands.proofs.Plain.{plain-accepts-run}

@@ -10,7 +10,8 @@ use native.Mathlib.Decide.{decLt}
 use lib.ListN.{length}
 use lib.Dec.{leb, ltb, eqb}
 use borrow.Author.Tests.{eqb-true, eq-eqb, ltb-true, ltb-false, leb-false, lt-leb, le-ltb, lt-ltb, not-false}
-use Rattle.runs.specs.Run.{Stop, stopAt}
+use Rattle.runs.specs.Run.{Stop}
+use Rattle.runs.specs.Rows.{stopAt}
 use Rattle.runs.specs.Lists.{Detour, wanted, leftmost, badAlone, badAfter, anyBelow, entryOf, badEntry, firstBadEntry, WellFormed}
 use Rattle.runs.proofs.Search.{or-false-both, first-zero, first-all, any-zero}
 use Rattle.demands.specs.Formed.{IsStop, IsDetour, ObeysTheRules, FormedByTheRules}

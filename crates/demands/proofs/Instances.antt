@@ -13,17 +13,21 @@ use Rattle.refusals.specs.declared.Refusal.the-variants.{Accepted, BadEntry, Ba
 use Rattle.walk.specs.declared.Answer.{Answer}
 use Rattle.walk.specs.declared.Leg.{Leg}
 use Rattle.refusals.specs.Refusals.{isRefusal, firstWhere}
-use Rattle.runs.specs.Run.{Run, runOf, goesOn, firstMember, lastWithin, wantStops, joinTo, joined, stopsOf, stopAt, rightEnd}
+use Rattle.runs.specs.Run.{Run, runOf, goesOn, firstMember, lastWithin, wantStops, joinTo, joined, stopsOf}
+use Rattle.runs.specs.Judging.{rightEnd}
+use Rattle.runs.specs.Rows.{stopAt}
 use Rattle.runs.specs.Judging.{judgeOf}
 use Rattle.walk.specs.Walk.{headAt, Moves, served, ServesAll, timeOf, sumOf}
 use Rattle.runs.specs.Lists.{Detour, wanted, anyBelow, firstBadEntry, listVerdict, listOf}
 use Rattle.walk.specs.Detours.{startOf, endOf, legOf, unreadEnd, sweepEnd, lastSweep, legsOf}
-use Rattle.walk.specs.Price.{refusalAnswer, pricedAnswer, priceVerdict, priceAnswer, priceRows, ReadRows, readRows}
+use Rattle.walk.specs.Price.{refusalAnswer, pricedAnswer, priceVerdict, priceAnswer, priceRows}
+use Rattle.walk.specs.Rows.{ReadRows, readRows}
 use Rattle.refusals.proofs.Verdicts.{refuses}
 use Rattle.walk.proofs.Sweeps.{sweeps-to}
 use Rattle.least.specs.Wants.{readsOfFile}
 use Rattle.least.specs.Recurrence.{planDetours, W, lowest, scan, filledTo, filled, candidate, next, value, choice, built, nextPlan, best, leastList}
-use Rattle.planner.specs.Plan.{Rows, rowsOf, Plans, planVerdict}
+use Rattle.planner.specs.Plan.{Plans, planVerdict}
+use Rattle.planner.specs.Rows.{Rows, rowsOf}
 use Rattle.engine_plain.specs.Plain.{PlainRows, plainRows, plainVerdict}
 use Rattle.boundary.specs.Boundary.{codeOf, sumsWith, priceCall, priceReads, priceSums, planCall, PlanCalled}
 use Rattle.text_bytes.specs.Text.{bytes, allOf, isNumber, isName, valueFrom, startsWith, has, before, behind}

@@ -12,7 +12,8 @@ use Rattle.refusals.specs.declared.Refusal.{Refusal}
 use Rattle.refusals.specs.declared.Refusal.the-variants.{FileRows, BadFile, WantRows, BadWant, TooManyReads, TurnPrice, HeadPlace}
 use Rattle.refusals.specs.declared.Verdict.{Verdict}
 use Rattle.refusals.specs.Refusals.{numberOf, refuseIf, refuseAt, firstOf, firstWhere}
-use Rattle.runs.specs.Run.{Run, mostFiles, mostWants, mostReads, lastPlace, highestTurn, total, stopsOf, rightEnd}
+use Rattle.runs.specs.Run.{Run, mostFiles, mostWants, mostReads, lastPlace, highestTurn, total, stopsOf}
+use Rattle.runs.specs.Judging.{rightEnd}
 use Rattle.runs.specs.Judging.{badFile, badWant, tableChecks, wantsChecks, headChecks, judgeOf}
 use Rattle.refusals.proofs.Verdicts.{refuses}
 use Rattle.runs.proofs.Judged.{GoodTable, GoodWants, accepted-table, accepted-wants}

@@ -10,12 +10,13 @@ use lib.Seq.{getD-take}
 use Rattle.walk.specs.declared.Answer.{Answer}
 use Rattle.walk.specs.declared.Head.{Head}
 use Rattle.walk.specs.declared.Leg.{Leg}
-use Rattle.runs.specs.Run.{Run, Stop, stopsOf, wantStopsOf, stopAt}
+use Rattle.runs.specs.Run.{Run, Stop, stopsOf, wantStopsOf}
+use Rattle.runs.specs.Rows.{stopAt}
 use Rattle.runs.specs.Judging.{judgeOf}
 use Rattle.runs.specs.Lists.{Detour, WellFormed, listOf}
 use Rattle.walk.specs.Walk.{headAt, afterLeg, walked, reads, served, timeOf, legFrom, legFor, legsFor}
 use Rattle.walk.specs.Detours.{legsOf}
-use Rattle.walk.specs.Price.{ReadRows}
+use Rattle.walk.specs.Rows.{ReadRows}
 use Rattle.refusals.proofs.Verdicts.{refuses}
 use Rattle.runs.proofs.Search.{true-or-false}
 use Rattle.runs.proofs.Sound.{Sound}
@@ -23,7 +24,7 @@ use Rattle.runs.proofs.Joined.{some-joined}
 use Rattle.runs.proofs.Stops.{accepted-sound}
 use Rattle.walk.proofs.Joins.{served-same, leg-same}
 use Rattle.least.proofs.Sweeps.{each-served, leftmost-last, legs-count, earlier-leg}
-use Rattle.planner.specs.Plan.{readsIn}
+use Rattle.planner.specs.Rows.{readsIn}
 use Rattle.demands.specs.Demand2.{listIn, IsWalkOf}
 use Rattle.demands.specs.Legs.{legNumbered, ReadsIn, LegsTold, PriceTellsLegs, PlanTellsLegs}
 use Rattle.demands.proofs.Planned.{run-accepted}

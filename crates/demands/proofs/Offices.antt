@@ -13,7 +13,8 @@ use Rattle.least.specs.Least.{listSum, LeastForRun}
 use Rattle.least.proofs.LeastList.{least-unique}
 use Rattle.least.proofs.Offices as Laws
 use Rattle.least.proofs.Scaled.{allScaled, wants-multiplied, stops-multiplied, legs-scaled, times-scaled, told-scaled, list-sum-scaled, least-scaled}
-use Rattle.planner.specs.Plan.{Rows, Planned}
+use Rattle.planner.specs.Plan.{Planned}
+use Rattle.planner.specs.Rows.{Rows}
 use Rattle.demands.specs.Demand2.{listIn, IsTheWalk}
 use Rattle.demands.specs.Offices.{Reports, OneTape, SharingNeverPays, Multiplies, SamePlan, MultipliedTheSame}
 use Rattle.demands.proofs.Planned.{plan-in-rows, run-accepted, list-in-rows}

@@ -21,7 +21,8 @@ use Rattle.walk.specs.declared.Answer.{Answer}
 use Rattle.walk.specs.Price.{refusalAnswer, pricedAnswer, shortReadRows}
 use Rattle.walk.specs.Walk.{headAt, timesOf, legsFor}
 use Rattle.walk.specs.Detours.{legsOf}
-use Rattle.planner.specs.Plan.{Rows, roomFor, planVerdict, Planned, Plans}
+use Rattle.planner.specs.Plan.{roomFor, planVerdict, Planned, Plans}
+use Rattle.planner.specs.Rows.{Rows}
 use Rattle.planner.proofs.Determined.{plan-determined}
 use Rattle.least.proofs.LeastList.{least-unique}
 use Rattle.engine_plain.specs.Plain.{PlainRows, plainReads, mostPlainWants, unevenWants, shortPlainRows, plainVerdict, plainRowsWith, PlainPlanned, PlainPlans}

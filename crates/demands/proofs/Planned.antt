@@ -14,7 +14,8 @@ use Rattle.runs.specs.Lists.{Detour, listOf}
 use Rattle.walk.specs.Price.{pricedAnswer}
 use Rattle.refusals.proofs.Verdicts.{refuses, all-accept}
 use Rattle.least.specs.Least.{listSum}
-use Rattle.planner.specs.Plan.{Rows, roomFor, Plans, Planned, planVerdict, shortRows, rowsWith}
+use Rattle.planner.specs.Plan.{roomFor, Plans, Planned, planVerdict, shortRows, rowsWith}
+use Rattle.planner.specs.Rows.{Rows}
 use Rattle.demands.specs.Demand2.{listIn}
 
 -- The list in two rows that hold its starts and its ends.

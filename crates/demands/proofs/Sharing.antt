@@ -7,7 +7,8 @@ use native.Mathlib.Omega.{arith}
 use lib.ListN.{replicate}
 use Rattle.walk.specs.declared.Answer.{Answer}
 use Rattle.refusals.specs.Refusals.{firstWhere}
-use Rattle.runs.specs.Run.{Run, runOf, goesOn, firstMember, lastWithin, wantStops, joinTo, joined, rightEnd}
+use Rattle.runs.specs.Run.{Run, runOf, goesOn, firstMember, lastWithin, wantStops, joinTo, joined}
+use Rattle.runs.specs.Judging.{rightEnd}
 use Rattle.runs.specs.Lists.{anyBelow}
 use Rattle.runs.specs.Judging.{judgeOf}
 use Rattle.walk.specs.Walk.{served, timeOf, sumOf}
@@ -16,7 +17,8 @@ use Rattle.walk.specs.Price.{pricedAnswer}
 use Rattle.refusals.proofs.Verdicts.{refuses}
 use Rattle.least.specs.Wants.{readsOfFile}
 use Rattle.least.specs.Recurrence.{planDetours, W, lowest, scan, filledTo, filled, candidate, next, value, choice, built, nextPlan, best, leastList}
-use Rattle.planner.specs.Plan.{Rows, rowsOf, planVerdict}
+use Rattle.planner.specs.Plan.{planVerdict}
+use Rattle.planner.specs.Rows.{Rows, rowsOf}
 use Rattle.demands.specs.Offices.{Reports, OneTape, Shares, Multiplies, SamePlan}
 use Rattle.demands.proofs.Offices.{sharing-never-pays, multiplied-the-same}
 use Rattle.demands.proofs.Fits.{planAnswer, planRows, plans-for-every-input}

@@ -4,7 +4,8 @@ use mathlib.Core.Path.{_≡_, refl, sym, _∙_}
 use mathlib.Core.List.{List, [], _∷_}
 use native.Mathlib.Omega.{arith}
 use lib.ListN.{length}
-use Rattle.runs.specs.Run.{Stop, stopAt, merged, joinTo, joined}
+use Rattle.runs.specs.Run.{Stop, merged, joinTo, joined}
+use Rattle.runs.specs.Rows.{stopAt}
 use Rattle.runs.proofs.Joined.{Next, Neighbours, Places, Agree, by-name, join-none, join-same, join-other, agree-joined}
 
 -- The places of a stop among several.

@@ -10,7 +10,8 @@ use borrow.Author.Tests.{le-ltb, ltb-false, not-false}
 use Rattle.refusals.specs.declared.Refusal.the-variants.{Accepted, BadName}
 use Rattle.refusals.specs.declared.Verdict.{Verdict}
 use Rattle.refusals.specs.Refusals.{isRefusal, accepted, refuseIf, firstOf}
-use Rattle.runs.specs.Run.{Run, stopsOf, rightEnd}
+use Rattle.runs.specs.Run.{Run, stopsOf}
+use Rattle.runs.specs.Judging.{rightEnd}
 use Rattle.runs.specs.Judging.{tableChecks, wantsChecks, headChecks, judgeOf}
 use Rattle.refusals.proofs.Verdicts.{none-refuses, refuses, all-accept, accepts-if}
 use Rattle.runs.proofs.Search.{or-false-both}

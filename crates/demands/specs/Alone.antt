@@ -4,8 +4,10 @@ use mathlib.Core.Path.{_≡_}
 use mathlib.Core.Bool.{false}
 use mathlib.Core.List.{List}
 use Rattle.refusals.specs.Refusals.{isRefusal}
-use Rattle.runs.specs.Run.{aloneOf, loneStops, stopsOf, wantStopsOf}
-use Rattle.runs.specs.Judging.{judgeOf, judgeAlone}
+use Rattle.runs.specs.Run.{stopsOf, wantStopsOf}
+use Rattle.runs.specs.Alone.{aloneOf, loneStops}
+use Rattle.runs.specs.Judging.{judgeOf}
+use Rattle.runs.specs.Alone.{judgeAlone}
 
 -- The run with a row of zeros is judged by the table, the wants and the head alone (`judgeAlone`); and where it is accepted, its stops are one for
 -- each want, with that file's own number, start and end (`loneStops`), before and after joining. Every answer is made of these.

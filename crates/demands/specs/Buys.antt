@@ -13,7 +13,8 @@ use Rattle.runs.specs.Run.{Run, runOf, stopsOf}
 use Rattle.runs.specs.Lists.{Detour, WellFormed, listOf}
 use Rattle.least.specs.Least.{listSum}
 use Rattle.figures.specs.Figures.{figuresAnswer, figuresRow}
-use Rattle.planner.specs.Plan.{Rows, Plans}
+use Rattle.planner.specs.Plan.{Plans}
+use Rattle.planner.specs.Rows.{Rows}
 use Rattle.demands.specs.RefusalTable.{RunApplies, ListIsBad, FirstThatApplies, SomeApplies}
 use Rattle.demands.specs.Demand1.{OnlyPlace, priceOrder}
 use Rattle.demands.specs.Cases.{twoFiles, exampleRun}

@@ -15,8 +15,8 @@ use Rattle.runs.specs.Judging.{judgeOf}
 use Rattle.walk.specs.declared.Answer.{Answer}
 use Rattle.walk.specs.declared.Leg.{Leg}
 use Rattle.walk.specs.Walk.{headAt, Moves, ServesAll, sumOf}
-use Rattle.walk.specs.Price.{ReadRows}
-use Rattle.planner.specs.Plan.{Rows}
+use Rattle.walk.specs.Rows.{ReadRows}
+use Rattle.planner.specs.Rows.{Rows}
 use Rattle.boundary.specs.Boundary.{PriceCalled, PlanCalled}
 use Rattle.demands.specs.RefusalTable.{RunApplies, runOrder, FirstThatApplies, SomeApplies}
 use Rattle.demands.specs.Demand1.{PriceApplies, priceOrder, PlanApplies}

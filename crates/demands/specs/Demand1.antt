@@ -8,8 +8,10 @@ use Rattle.refusals.specs.declared.Refusal.{Refusal}
 use Rattle.refusals.specs.declared.Refusal.the-variants.{Accepted, FileRows, BadFile, WantRows, BadWant, TooManyReads, TurnPrice, HeadPlace, ShortRow, ShortRoom, BadEntry}
 use Rattle.walk.specs.declared.Answer.{Answer}
 use Rattle.runs.specs.Run.{Run, total}
-use Rattle.walk.specs.Price.{ReadRows, priceAnswer, priceRows}
-use Rattle.planner.specs.Plan.{Rows, Plans}
+use Rattle.walk.specs.Price.{priceAnswer, priceRows}
+use Rattle.walk.specs.Rows.{ReadRows}
+use Rattle.planner.specs.Plan.{Plans}
+use Rattle.planner.specs.Rows.{Rows}
 use Rattle.demands.specs.RefusalTable.{HasStops, RunApplies, ListIsBad, FirstThatApplies, SomeApplies}
 
 -- A refusal's answer: every number but the place is 0.

@@ -12,9 +12,11 @@ use Rattle.runs.specs.Run.{Run, stopsOf, wantStopsOf}
 use Rattle.walk.specs.Walk.{headAt, walked, timesOf, legsFor, sumOf}
 use Rattle.runs.specs.Lists.{Detour, WellFormed, listOf}
 use Rattle.walk.specs.Detours.{legsOf}
-use Rattle.walk.specs.Price.{ReadRows, priceAnswer, priceRows}
+use Rattle.walk.specs.Price.{priceAnswer, priceRows}
+use Rattle.walk.specs.Rows.{ReadRows}
 use Rattle.least.specs.Least.{ComesFirst, listSum}
-use Rattle.planner.specs.Plan.{Rows, readsIn, Plans}
+use Rattle.planner.specs.Plan.{Plans}
+use Rattle.planner.specs.Rows.{Rows, readsIn}
 
 -- The list that an accepted answer leaves in the rows: as many entries as the answer says.
 abbrev pub listIn : Answer → Rows → List Detour

@@ -12,7 +12,8 @@ use Rattle.runs.specs.Run.{Run, stopsOf}
 use Rattle.runs.specs.Judging.{judgeOf}
 use Rattle.walk.specs.Walk.{headAt, Moves, ServesAll, sumOf}
 use Rattle.least.specs.Wants.{readsOfFile}
-use Rattle.planner.specs.Plan.{Rows, Plans}
+use Rattle.planner.specs.Plan.{Plans}
+use Rattle.planner.specs.Rows.{Rows}
 
 -- The first run asks for no less than the second: the same tape table with the same aggregates, at least as many reads of every file as handed
 -- in, a turn price no lower, a head no further left.

@@ -12,8 +12,10 @@ use Rattle.runs.specs.Judging.{judgeOf}
 use Rattle.runs.specs.Lists.{Detour}
 use Rattle.walk.specs.Walk.{headAt, timesOf, sumOf}
 use Rattle.walk.specs.Detours.{legsOf, fullLegsOf}
-use Rattle.walk.specs.Price.{ReadRows, priceAnswer, priceRows}
-use Rattle.planner.specs.Plan.{Rows, Plans}
+use Rattle.walk.specs.Price.{priceAnswer, priceRows}
+use Rattle.walk.specs.Rows.{ReadRows}
+use Rattle.planner.specs.Plan.{Plans}
+use Rattle.planner.specs.Rows.{Rows}
 use Rattle.demands.specs.RefusalTable.{IsFile, Together, endOfFile}
 
 -- The finish is the time of one of the wants and no want has a later one; the end is the end of the last file that lies together with it.

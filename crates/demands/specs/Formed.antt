@@ -4,7 +4,8 @@ use mathlib.Core.Path.{_≡_}
 use mathlib.Core.Logic.{_⊎_, _↔_}
 use mathlib.Core.List.{List}
 use lib.ListN.{length}
-use Rattle.runs.specs.Run.{Stop, stopAt}
+use Rattle.runs.specs.Run.{Stop}
+use Rattle.runs.specs.Rows.{stopAt}
 use Rattle.runs.specs.Lists.{Detour, entryOf, WellFormed}
 
 -- A file is wanted: it is the file of a stop. The stops are the wanted files, left to right, so the leftmost is that of the first.

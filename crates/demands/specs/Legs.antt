@@ -8,12 +8,15 @@ use Rattle.refusals.specs.declared.Refusal.the-variants.{Accepted}
 use Rattle.walk.specs.declared.Answer.{Answer}
 use Rattle.walk.specs.declared.Head.{Head}
 use Rattle.walk.specs.declared.Leg.{Leg}
-use Rattle.runs.specs.Run.{Run, Stop, stopsOf, wantStopsOf, stopAt}
+use Rattle.runs.specs.Run.{Run, Stop, stopsOf, wantStopsOf}
+use Rattle.runs.specs.Rows.{stopAt}
 use Rattle.runs.specs.Lists.{Detour, listOf}
 use Rattle.walk.specs.Walk.{headAt, setOff, runRight, walked, reads}
 use Rattle.walk.specs.Detours.{legsOf}
-use Rattle.walk.specs.Price.{ReadRows, priceAnswer, priceRows}
-use Rattle.planner.specs.Plan.{Rows, readsIn, Plans}
+use Rattle.walk.specs.Price.{priceAnswer, priceRows}
+use Rattle.walk.specs.Rows.{ReadRows}
+use Rattle.planner.specs.Plan.{Plans}
+use Rattle.planner.specs.Rows.{Rows, readsIn}
 use Rattle.demands.specs.Demand2.{listIn}
 
 -- A leg by its number, counted from 1.

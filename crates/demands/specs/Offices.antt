@@ -8,7 +8,8 @@ use Rattle.refusals.specs.declared.Refusal.the-variants.{Accepted}
 use Rattle.walk.specs.declared.Answer.{Answer}
 use Rattle.runs.specs.Run.{Run}
 use Rattle.least.specs.Wants.{readsOfFile}
-use Rattle.planner.specs.Plan.{Rows, Plans}
+use Rattle.planner.specs.Plan.{Plans}
+use Rattle.planner.specs.Rows.{Rows}
 use Rattle.demands.specs.Demand2.{listIn}
 
 -- What the planner reports of a run that it accepts: its answer, and the rows before and after.

@@ -14,7 +14,8 @@ use Rattle.runs.specs.Judging.{judgeOf}
 use Rattle.walk.specs.declared.Answer.{Answer}
 use Rattle.walk.specs.declared.Leg.{Leg}
 use Rattle.walk.specs.Walk.{headAt, Moves, ServesAll, sumOf}
-use Rattle.planner.specs.Plan.{Rows, rowsOf, roomFor, Plans}
+use Rattle.planner.specs.Plan.{roomFor, Plans}
+use Rattle.planner.specs.Rows.{Rows, rowsOf}
 use Rattle.engine_plain.specs.Plain.{PlainRows, PlainPlans}
 use Rattle.demands.specs.RefusalTable.{HasStops, RunApplies, FirstThatApplies, SomeApplies}
 use Rattle.demands.specs.Demand1.{OnlyPlace}

@@ -9,10 +9,12 @@ use borrow.Author.Tests.{eq-eqb, ne-eqb}
 use Rattle.refusals.specs.declared.Verdict.{Verdict}
 use Rattle.refusals.specs.Refusals.{numberOf, isRefusal}
 use Rattle.refusals.proofs.Verdicts.{refuses}
-use Rattle.runs.specs.Run.{runOf, zeros}
+use Rattle.runs.specs.Run.{runOf}
+use Rattle.runs.specs.Alone.{zeros}
 use Rattle.walk.specs.declared.Answer.{Answer}
 use Rattle.walk.specs.Price.{refusalAnswer}
-use Rattle.planner.specs.Plan.{Rows, Plans}
+use Rattle.planner.specs.Plan.{Plans}
+use Rattle.planner.specs.Rows.{Rows}
 use Rattle.desk_tickets.specs.declared.Ticket.{Ticket}
 use Rattle.desk_tickets.specs.declared.Lasts.{Lasts}
 use Rattle.desk_tickets.specs.WaitingTable.{recordsVerdict}

@@ -6,10 +6,13 @@ use mathlib.Core.Bool.{true, false, cond}
 use mathlib.Core.List.{List, [], _++_}
 use lib.ListN.{length}
 use Rattle.refusals.specs.Refusals.{isRefusal}
-use Rattle.runs.specs.Run.{Run, runOf, zeros, Lent}
+use Rattle.runs.specs.Run.{Run, runOf}
+use Rattle.runs.specs.Alone.{zeros}
+use Rattle.runs.specs.Rows.{Lent}
 use Rattle.walk.specs.declared.Answer.{Answer}
 use Rattle.walk.specs.Price.{refusalAnswer}
-use Rattle.planner.specs.Plan.{Rows, Plans}
+use Rattle.planner.specs.Plan.{Plans}
+use Rattle.planner.specs.Rows.{Rows}
 use Rattle.desk_tickets.specs.declared.Ticket.{Ticket}
 use Rattle.desk_tickets.specs.declared.Lasts.{Lasts}
 use Rattle.desk_tickets.specs.WaitingTable.{recordsVerdict}

@@ -2,7 +2,7 @@
 // made by value; one function lends the planner's rows. All is judged before the first write.
 ghost use mathlib.Core.Path.{_≡_};
 ghost use Prim.Native.Nat.{min};
-ghost use Rattle.planner.specs.Plan.{rowsBefore, rowsAfter};
+ghost use Rattle.planner.specs.Rows.{rowsBefore, rowsAfter};
 ghost use Rattle.desk_boardings.specs.Boarders.{share, wantsOf};
 ghost use Rattle.desk_boardings.specs.Boardings.{Boards, tapeAt, takenOf, wantRows, notBoarded, boardedBy};
 ghost use Rattle.desk_boardings.specs.Private.{SoundRow};

@@ -6,7 +6,7 @@ use mathlib.Core.List.{List}
 use lib.ListN.{length}
 use Rattle.refusals.specs.Refusals.{isRefusal}
 use Rattle.walk.specs.declared.Answer.{Answer}
-use Rattle.planner.specs.Plan.{Rows}
+use Rattle.planner.specs.Rows.{Rows}
 use Rattle.planner.proofs.Determined.{plan-determined}
 use Rattle.desk_tickets.specs.declared.Ticket.{Ticket}
 use Rattle.desk_tickets.specs.WaitingTable.{recordsVerdict}

@@ -9,7 +9,7 @@ use Rattle.refusals.specs.Refusals.{isRefusal}
 use Rattle.runs.proofs.Search.{true-or-false}
 use Rattle.walk.specs.declared.Answer.{Answer}
 use Rattle.walk.specs.Price.{refusalAnswer}
-use Rattle.planner.specs.Plan.{Rows}
+use Rattle.planner.specs.Rows.{Rows}
 use Rattle.desk_tickets.specs.declared.Ticket.{Ticket}
 use Rattle.desk_tickets.specs.declared.Filing.{Filing}
 use Rattle.desk_tickets.specs.declared.FiledRow.{FiledRow}

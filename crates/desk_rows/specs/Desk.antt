@@ -3,7 +3,7 @@ use Prim.Native.Nat.{_-_}
 use mathlib.Core.Path.{_≡_}
 use mathlib.Core.List.{List, _++_}
 use lib.ListN.{length, take, drop, replicate}
-use Rattle.planner.specs.Plan.{Rows}
+use Rattle.planner.specs.Rows.{Rows}
 use Rattle.desk_tickets.specs.declared.Ticket.{Ticket}
 use Rattle.desk_tickets.specs.WaitingTable.{allPlaces, noTicket}
 use Rattle.desk_boardings.specs.declared.Boarding.{Boarding}

@@ -3,7 +3,7 @@
 ghost use mathlib.Core.Path.{_≡_};
 ghost use Prim.Native.Nat.{min};
 ghost use lib.ListN.{length, replicate};
-ghost use Rattle.planner.specs.Plan.{rowsBefore, rowsAfter};
+ghost use Rattle.planner.specs.Rows.{rowsBefore, rowsAfter};
 ghost use Rattle.desk_tickets.specs.WaitingTable.{noTicket};
 ghost use Rattle.desk_tickets.specs.Filings.{fileRow};
 ghost use Rattle.desk_tickets.specs.Withdrawals.{withdrawRow};

@@ -12,7 +12,8 @@ use Rattle.refusals.specs.declared.Refusal.the-variants.{FileRows, BadFile, Wan
 use Rattle.refusals.specs.declared.Verdict.{Verdict}
 use Rattle.refusals.specs.Refusals.{refuseIf, refuseAt, firstOf, firstWhere}
 use Rattle.refusals.proofs.Verdicts.{refuses, first-refuses, first-passes, first-alone, all-accept, accepts-if}
-use Rattle.runs.specs.Run.{Run, mostFiles, mostReads, highestTurn, lastPlace, total, stopsOf, rightEnd}
+use Rattle.runs.specs.Run.{Run, mostFiles, mostReads, highestTurn, lastPlace, total, stopsOf}
+use Rattle.runs.specs.Judging.{rightEnd}
 use Rattle.runs.specs.Judging.{badFile, badWant, tableChecks, wantsChecks, headChecks, judgeOf}
 use Rattle.runs.proofs.Judged.{accepted-run}
 use Rattle.runs.proofs.Stops.{stops-few}

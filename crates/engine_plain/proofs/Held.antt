@@ -10,7 +10,8 @@ use lib.ListN.{length, getD, take, length-map, List·getD-map}
 use Rattle.refusals.specs.declared.Verdict.{Verdict}
 use Rattle.refusals.specs.Refusals.{firstOf}
 use Rattle.refusals.proofs.Verdicts.{refuses}
-use Rattle.runs.specs.Run.{Run, Stop, stopAt, stopsOf, endAt}
+use Rattle.runs.specs.Run.{Run, Stop, stopsOf, endAt}
+use Rattle.runs.specs.Rows.{stopAt}
 use Rattle.runs.specs.Judging.{judgeOf}
 use Rattle.runs.specs.Lists.{Detour}
 use Rattle.runs.proofs.Sound.{Sound}

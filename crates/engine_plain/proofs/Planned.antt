@@ -16,7 +16,8 @@ use Rattle.runs.specs.Lists.{Detour, listOf}
 use Rattle.runs.proofs.Search.{or-false-both}
 use Rattle.runs.proofs.Stops.{accepted-sound}
 use Rattle.walk.specs.declared.Answer.{Answer}
-use Rattle.walk.specs.Price.{refusalAnswer, readRows, priceVerdict, priceAnswer, priceRows}
+use Rattle.walk.specs.Price.{refusalAnswer, priceVerdict, priceAnswer, priceRows}
+use Rattle.walk.specs.Rows.{readRows}
 use Rattle.least.specs.Least.{LeastForRun}
 use Rattle.least.specs.Recurrence.{leastList}
 use Rattle.least.proofs.LeastList.{least-list}

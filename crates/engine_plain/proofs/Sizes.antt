@@ -6,7 +6,8 @@ use native.Mathlib.Numerals.{add-one}
 use mathlib.Core.Path.{_≡_, refl, sym, _∙_}
 use mathlib.Core.List.{List, [], _∷_}
 use lib.ListN.{length, getD, take}
-use Rattle.runs.specs.Run.{lastPlace, highestTurn, mostReads, total, countedReads, endAt}
+use Rattle.runs.specs.Run.{lastPlace, highestTurn, mostReads, total, endAt}
+use Rattle.runs.specs.Rows.{countedReads}
 use Rattle.runs.proofs.Accepted.{counted-exact}
 use Rattle.least.specs.Recurrence.{W}
 use Rattle.least.proofs.Sums.{W-zero, W-suc, W-front, W-rises}

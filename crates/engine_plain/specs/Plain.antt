@@ -10,11 +10,13 @@ use denote.Triple.Both.{Both}
 use Rattle.refusals.specs.declared.Refusal.the-variants.{WantRows, OverEightWants, ShortRow}
 use Rattle.refusals.specs.declared.Verdict.{Verdict}
 use Rattle.refusals.specs.Refusals.{isRefusal, refuseIf, firstOf}
-use Rattle.runs.specs.Run.{Run, Row, mostWants, stopsOf}
+use Rattle.runs.specs.Run.{Run, mostWants, stopsOf}
+use Rattle.runs.specs.Rows.{Row}
 use Rattle.runs.specs.Judging.{tableChecks, judgeOf}
 use Rattle.runs.specs.Lists.{Detour}
 use Rattle.walk.specs.declared.Answer.{Answer}
-use Rattle.walk.specs.Price.{refusalAnswer, pricedAnswer, pricedTimes, pricedLegs, ReadRows, readRows, shortReadRows}
+use Rattle.walk.specs.Price.{refusalAnswer, pricedAnswer, pricedTimes, pricedLegs, shortReadRows}
+use Rattle.walk.specs.Rows.{ReadRows, readRows}
 use Rattle.least.specs.Least.{LeastForRun}
 
 -- The lent rows: for starts, ends, times and legs.

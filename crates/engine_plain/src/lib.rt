@@ -4,7 +4,7 @@ ghost use mathlib.Core.Path.{_≡_};
 ghost use mathlib.Core.Bool.{_||_};
 ghost use Prim.Native.Nat.{_-_};
 ghost use lib.Dec.{ltb};
-ghost use Rattle.runs.specs.Run.{runAt};
+ghost use Rattle.runs.specs.Rows.{runAt};
 ghost use Rattle.engine_plain.specs.Plain.{PlainPlans, plainRowsBefore, plainRowsAfter};
 ghost use Rattle.engine_plain.specs.Private.{comesFirst, with24, shortLengths};
 use crate::writing::write_list;

@@ -11,7 +11,9 @@ use borrow.Author.Tests.{le-ltb}
 use Rattle.refusals.specs.declared.Refusal.the-variants.{ShortRow}
 use Rattle.refusals.specs.Refusals.{accepted, refuseIf, firstOf}
 use Rattle.refusals.proofs.Verdicts.{refuses, first-refuses, first-passes, none-refuses}
-use Rattle.runs.specs.Run.{Run, Stop, zeros, stopsOf, rightEnd}
+use Rattle.runs.specs.Run.{Run, Stop, stopsOf}
+use Rattle.runs.specs.Judging.{rightEnd}
+use Rattle.runs.specs.Alone.{zeros}
 use Rattle.runs.specs.Judging.{judgeOf, tableChecks, wantsChecks, headChecks}
 use Rattle.engine_stops.specs.declared.Joined.{Joined}
 use Rattle.engine_stops.specs.Joining.{JoinRows, joinRows, shortJoinRows, joinVerdict, joinAnswer, joinRowsOf, joinRowsWith, rowWith, lengthOf}

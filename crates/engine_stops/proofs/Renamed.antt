@@ -11,7 +11,8 @@ use lib.ListN.{length, getD, length-map, List·getD-map}
 use lib.Seq.{ext-getD}
 use lib.Dec.{ltb, leb, eqb}
 use borrow.Author.Tests.{eqb-true, eqb-false, eq-eqb, ne-eqb, not-false}
-use Rattle.runs.specs.Run.{Stop, stopAt}
+use Rattle.runs.specs.Run.{Stop}
+use Rattle.runs.specs.Rows.{stopAt}
 use Rattle.runs.specs.Lists.{Detour, wanted, leftmost, badAlone, badAfter, badEntry, anyBelow, entryOf, firstBadEntry, WellFormed}
 use Rattle.runs.proofs.Search.{ltb-same, leb-not-ltb, true-or-false, or-false-both, first-same, first-zero, any-same}
 use Rattle.runs.proofs.Sound.{Sound}

@@ -7,7 +7,10 @@ use native.Mathlib.Omega.{arith}
 use lib.ListN.{length, getD, length-map, List·getD-map}
 use lib.Seq.{ext-getD}
 use Rattle.refusals.proofs.Verdicts.{refuses}
-use Rattle.runs.specs.Run.{Run, Stop, aloneOf, stopsOf, stopAt, loneStop, loneStops, rightEnd, endAt, total, mostReads, mostFiles, mostWants, lastPlace, highestTurn}
+use Rattle.runs.specs.Run.{Run, Stop, stopsOf, endAt, total, mostReads, mostFiles, mostWants, lastPlace, highestTurn}
+use Rattle.runs.specs.Judging.{rightEnd}
+use Rattle.runs.specs.Alone.{aloneOf, loneStop, loneStops}
+use Rattle.runs.specs.Rows.{stopAt}
 use Rattle.runs.specs.Judging.{judgeOf, badPlace, endBefore, numberBefore}
 use Rattle.runs.specs.Private.{SoundTable}
 use Rattle.runs.proofs.Search.{first-all}

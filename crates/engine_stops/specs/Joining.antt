@@ -8,7 +8,8 @@ use denote.Triple.Both.{Both}
 use Rattle.refusals.specs.declared.Refusal.the-variants.{ShortRow}
 use Rattle.refusals.specs.declared.Verdict.{Verdict}
 use Rattle.refusals.specs.Refusals.{isRefusal, refuseIf, firstOf}
-use Rattle.runs.specs.Run.{Run, Stop, Row, stopsOf}
+use Rattle.runs.specs.Run.{Run, Stop, stopsOf}
+use Rattle.runs.specs.Rows.{Row}
 use Rattle.runs.specs.Judging.{judgeOf}
 use Rattle.engine_stops.specs.declared.Joined.{Joined}
 

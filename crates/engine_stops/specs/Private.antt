@@ -6,7 +6,9 @@ use mathlib.Core.List.{List, [], _∷_, map}
 use lib.ListN.{length, getD}
 use lib.Dec.{ltb, eqb}
 use Rattle.refusals.specs.Refusals.{isRefusal}
-use Rattle.runs.specs.Run.{runOf, endAt, firstMember, lastMember, firstFile, wantStops, joined, Run, Stop, aloneOf, stopsOf, stopAt}
+use Rattle.runs.specs.Run.{runOf, endAt, firstMember, lastMember, firstFile, wantStops, joined, Run, Stop, stopsOf}
+use Rattle.runs.specs.Alone.{aloneOf}
+use Rattle.runs.specs.Rows.{stopAt}
 use Rattle.runs.specs.Judging.{badNumber, judgeOf}
 use Rattle.engine_stops.specs.declared.Place.{Place}
 use Rattle.runs.specs.Lists.{Detour}

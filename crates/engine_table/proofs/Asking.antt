@@ -5,7 +5,8 @@ use mathlib.Core.List.{List}
 use native.Mathlib.Omega.{arith}
 use native.Mathlib.Numerals.{add-one}
 use lib.ListN.{length, getD}
-use Rattle.runs.specs.Run.{Stop, loneStops}
+use Rattle.runs.specs.Run.{Stop}
+use Rattle.runs.specs.Alone.{loneStops}
 use Rattle.least.proofs.Value.{choice-first, choice-skip, choice-here, choice-not-here}
 use Rattle.least.specs.Recurrence.{leftAt, rightAt, countAt}
 use Rattle.engine_table.specs.Private.{Asked, RowTask, DetourFrom, rowAt, readsIn, readsFirst, worth, choiceWorth, chosen, startAt, stopEnd, LowerFits, SkipFits}

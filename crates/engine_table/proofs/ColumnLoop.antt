@@ -8,7 +8,8 @@ use native.Mathlib.Decide.{decLe, decLt}
 use native.Mathlib.Numerals.{add-one}
 use native.Mathlib.Nat.{mul-le-mul-right}
 use lib.ListN.{length, getD}
-use Rattle.runs.specs.Run.{Stop, loneStops}
+use Rattle.runs.specs.Run.{Stop}
+use Rattle.runs.specs.Alone.{loneStops}
 use Rattle.least.proofs.Value.{value-none}
 use Rattle.least.specs.Recurrence.{leftAt, rightAt, countAt}
 use Rattle.engine_table.specs.Private.{Judged, Written, RowTask, ColumnTask, DoneUpTo, Filled, CellsHold, Columns, Done, Beyond, rowAt, tableSize, readsIn, readsFirst, worth}

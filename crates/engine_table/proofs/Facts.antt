@@ -7,7 +7,9 @@ use native.Mathlib.Omega.{arith}
 use native.Mathlib.Decide.{decLt}
 use native.Mathlib.Numerals.{add-one}
 use lib.ListN.{length, getD}
-use Rattle.runs.specs.Run.{aloneOf, loneStop, loneStops, lastPlace, highestTurn, mostReads, stopAt}
+use Rattle.runs.specs.Run.{lastPlace, highestTurn, mostReads}
+use Rattle.runs.specs.Alone.{aloneOf, loneStop, loneStops}
+use Rattle.runs.specs.Rows.{stopAt}
 use Rattle.runs.proofs.Accepted.{GoodFile, GoodWant}
 use Rattle.runs.proofs.Judged.{GoodRun, accepted-run, numbers-rise}
 use Rattle.runs.proofs.Table.{table-file, end-before-start}

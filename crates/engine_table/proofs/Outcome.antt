@@ -10,7 +10,8 @@ use lib.ListN.{length, getD, take, drop, replicate, length-append, length-replic
 use lib.Seq.{ext-getD, getD-append-add, getD-drop, length-take-le}
 use Rattle.refusals.specs.declared.Verdict.{Verdict}
 use Rattle.refusals.specs.Refusals.{isRefusal, accepted}
-use Rattle.runs.specs.Run.{Run, Stop, loneStops, stopsOf, total, mostReads}
+use Rattle.runs.specs.Run.{Run, Stop, stopsOf, total, mostReads}
+use Rattle.runs.specs.Alone.{loneStops}
 use Rattle.runs.specs.Judging.{judgeOf}
 use Rattle.runs.specs.Lists.{Detour, listOf}
 use Rattle.runs.proofs.Entries.{length-list}

@@ -6,7 +6,8 @@ use native.Mathlib.Omega.{arith}
 use native.Mathlib.Numerals.{add-one}
 use lib.ListN.{length, getD, set, take, drop, length-append, length-set}
 use lib.Seq.{getD-set-same, drop-set-lt, drop-drop, length-take-le}
-use Rattle.runs.specs.Run.{Stop, loneStops}
+use Rattle.runs.specs.Run.{Stop}
+use Rattle.runs.specs.Alone.{loneStops}
 use Rattle.runs.specs.Lists.{Detour, listOf}
 use Rattle.runs.proofs.Entries.{length-list}
 use Rattle.least.proofs.Value.{choice-first}

@@ -6,7 +6,8 @@ use native.Mathlib.Omega.{arith}
 use native.Mathlib.Numerals.{add-one}
 use native.Mathlib.Nat.{le-refl}
 use lib.ListN.{length, getD}
-use Rattle.runs.specs.Run.{Stop, loneStops, lastPlace, highestTurn, mostReads}
+use Rattle.runs.specs.Run.{Stop, lastPlace, highestTurn, mostReads}
+use Rattle.runs.specs.Alone.{loneStops}
 use Rattle.least.proofs.Scan.{lowest-one-more, lowest-end}
 use Rattle.least.proofs.Value.{value-step}
 use Rattle.least.proofs.Lines.{lower-below-first, supported-lower, supported-same}

@@ -6,7 +6,8 @@ use native.Mathlib.Numerals.{add-one}
 use mathlib.Core.Path.{_≡_, refl, ap, _∙_}
 use mathlib.Core.List.{List, [], _∷_}
 use lib.ListN.{length, getD, take, drop}
-use Rattle.runs.specs.Run.{lastPlace, mostReads, total, countedReads}
+use Rattle.runs.specs.Run.{lastPlace, mostReads, total}
+use Rattle.runs.specs.Rows.{countedReads}
 use Rattle.runs.proofs.Accepted.{total-drop, counted-exact}
 use Rattle.least.proofs.Sums.{W-zero, W-suc, W-rises}
 use Rattle.engine_table.specs.Private.{RowFits, readsIn}

@@ -6,7 +6,8 @@ use native.Mathlib.Omega.{arith}
 use native.Mathlib.Numerals.{add-one}
 use native.Mathlib.Nat.{mul-le-mul, le-refl, add-zero}
 use lib.ListN.{length, getD}
-use Rattle.runs.specs.Run.{Stop, loneStops, lastPlace, highestTurn, mostReads}
+use Rattle.runs.specs.Run.{Stop, lastPlace, highestTurn, mostReads}
+use Rattle.runs.specs.Alone.{loneStops}
 use Rattle.least.specs.Recurrence.{trip, early, W, lower, leftAt, rightAt, countAt}
 use Rattle.least.proofs.Sums.{W-suc, W-rises}
 use Rattle.least.proofs.Bounds.{candidate-bound}

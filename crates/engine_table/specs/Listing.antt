@@ -9,7 +9,8 @@ use denote.Triple.Both.{Both}
 use Rattle.refusals.specs.declared.Refusal.the-variants.{ShortRow, ShortRoom}
 use Rattle.refusals.specs.declared.Verdict.{Verdict}
 use Rattle.refusals.specs.Refusals.{isRefusal, accepted, refuseIf, firstOf}
-use Rattle.runs.specs.Run.{Run, Row, total}
+use Rattle.runs.specs.Run.{Run, total}
+use Rattle.runs.specs.Rows.{Row}
 use Rattle.runs.specs.Judging.{judgeOf}
 use Rattle.runs.specs.Lists.{Detour}
 use Rattle.least.specs.Least.{LeastForRun}

@@ -9,7 +9,8 @@ use lib.Dec.{ltb}
 use Rattle.refusals.specs.declared.Refusal.the-variants.{ShortRow, ShortRoom}
 use Rattle.refusals.specs.declared.Verdict.{Verdict}
 use Rattle.refusals.specs.Refusals.{isRefusal, refuseIf, firstOf}
-use Rattle.runs.specs.Run.{Stop, aloneOf, loneStops, total, endAt, lastPlace, highestTurn, mostReads}
+use Rattle.runs.specs.Run.{Stop, total, endAt, lastPlace, highestTurn, mostReads}
+use Rattle.runs.specs.Alone.{aloneOf, loneStops}
 use Rattle.runs.specs.Judging.{judgeOf}
 use Rattle.runs.specs.Private.{InTable}
 use Rattle.runs.specs.Lists.{Detour, listOf}

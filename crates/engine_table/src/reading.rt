@@ -2,7 +2,7 @@
 ghost use mathlib.Core.Path.{_≡_};
 ghost use Prim.Native.Nat.{suc, _+_, _-_, _≤_, _<_};
 ghost use lib.ListN.{length};
-ghost use Rattle.runs.specs.Run.{loneStops};
+ghost use Rattle.runs.specs.Alone.{loneStops};
 ghost use Rattle.engine_table.specs.Private.{Asked, DetourFrom, Filled, ListWritten, worth, choiceWorth, chosen, listAt};
 ghost use Rattle.runs.specs.Private.{plainStopsAt};
 use crate::stops::early_of;

@@ -20,7 +20,8 @@ use Rattle.runs.proofs.Search.{true-or-false}
 use Rattle.runs.proofs.Entries.{length-list}
 use Rattle.runs.proofs.Judged.{GoodRun, accepted-run}
 use Rattle.walk.specs.declared.Answer.{Answer}
-use Rattle.walk.specs.Price.{ReadRows, refusalAnswer, pricedAnswer, priceVerdict, priceAnswer}
+use Rattle.walk.specs.Price.{refusalAnswer, pricedAnswer, priceVerdict, priceAnswer}
+use Rattle.walk.specs.Rows.{ReadRows}
 use Rattle.walk.proofs.Walks.{GoodList, accepted-list, list-fits}
 use Rattle.walk.proofs.Laws.{sum-below}
 use Rattle.figures.specs.Figures.{without, figureOf, figuresFrom, figuresOf, figuresVerdict, figuresAnswer, figuresRow}

@@ -4,7 +4,7 @@ ghost use mathlib.Core.Path.{_≡_};
 ghost use mathlib.Core.List.{_++_};
 ghost use Prim.Native.Nat.{_+_, _-_, _≤_, _<_};
 ghost use lib.ListN.{length, getD, drop};
-ghost use Rattle.runs.specs.Run.{runIn, runAt};
+ghost use Rattle.runs.specs.Rows.{runIn, runAt};
 ghost use Rattle.runs.specs.Lists.{listOf};
 ghost use Rattle.walk.specs.Price.{pricedAnswer};
 ghost use Rattle.figures.specs.Figures.{without, figuresOf, figuresAnswer, figuresRow};

@@ -11,7 +11,8 @@ use lib.Dec.{T, eqb}
 use borrow.Author.Tests.{eq-eqb, ne-eqb}
 use Rattle.walk.specs.declared.Head.{Head}
 use Rattle.walk.specs.declared.Leg.{Leg}
-use Rattle.runs.specs.Run.{Run, Stop, stopOf, wantStops, wantStopsOf, stopsOf, stopAt}
+use Rattle.runs.specs.Run.{Run, Stop, stopOf, wantStops, wantStopsOf, stopsOf}
+use Rattle.runs.specs.Rows.{stopAt}
 use Rattle.runs.specs.Lists.{Detour, WellFormed, badEntry, firstBadEntry}
 use Rattle.walk.specs.Walk.{headAt, Moves, served, ServesAll, timeOf, sumOf}
 use Rattle.walk.specs.Detours.{legsOf}

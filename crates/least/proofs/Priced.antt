@@ -9,7 +9,8 @@ use Rattle.refusals.proofs.Verdicts.{refuses}
 use Rattle.runs.specs.Run.{Run, stopsOf}
 use Rattle.runs.specs.Judging.{judgeOf}
 use Rattle.runs.specs.Lists.{listOf, listVerdict, WellFormed}
-use Rattle.walk.specs.Price.{ReadRows, priceVerdict}
+use Rattle.walk.specs.Price.{priceVerdict}
+use Rattle.walk.specs.Rows.{ReadRows}
 
 pub price-accepted : (r : Run) (froms tos : List ℕ) (rows : ReadRows) → refuses (judgeOf r) ≡ false → length froms ≡ length tos → WellFormed (stopsOf r) (listOf froms tos)
     → length (r .numbers) ≤ length (rows .times) → length (r .numbers) ≤ length (rows .legs) → refuses (priceVerdict r froms tos rows) ≡ false

@@ -11,7 +11,9 @@ use lib.ListN.{length, length-append, length-map}
 use borrow.Author.Tests.{le-leb, lt-leb, leb-false, eqb-true, not-false}
 use Rattle.walk.specs.declared.Head.{Head}
 use Rattle.walk.specs.declared.Leg.{Leg}
-use Rattle.runs.specs.Run.{Stop, rightEnd, stopAt}
+use Rattle.runs.specs.Run.{Stop}
+use Rattle.runs.specs.Judging.{rightEnd}
+use Rattle.runs.specs.Rows.{stopAt}
 use Rattle.runs.specs.Lists.{Detour, wanted, badAlone, badEntry, entryOf, WellFormed, firstBadEntry}
 use Rattle.walk.specs.Walk.{headAt, setOff, afterLeg, runRight, walked, reads, served, ServesAll, timeOf, legFrom, legFor}
 use Rattle.walk.specs.Detours.{startOf, legOf, unreadEnd, sweepEnd, lastSweep, legsOf, fullSweep, fullLegsOf}

@@ -10,7 +10,8 @@ use native.Mathlib.Decide.{ℕ-discrete}
 use lib.Dec.{eqb}
 use lib.ListN.{length}
 use borrow.Author.Tests.{eq-eqb, ne-eqb}
-use Rattle.runs.specs.Run.{Stop, stopOf, merged, joinTo, joined, wantStops, stopAt}
+use Rattle.runs.specs.Run.{Stop, stopOf, merged, joinTo, joined, wantStops}
+use Rattle.runs.specs.Rows.{stopAt}
 use Rattle.walk.specs.declared.Leg.{Leg}
 use Rattle.walk.specs.Walk.{headAt, Moves, ServesAll, timeOf, sumOf}
 use Rattle.runs.specs.Lists.{Detour, WellFormed}

@@ -12,7 +12,9 @@ use lib.Dec.{T, eqb}
 use lib.ListN.{length}
 use borrow.Author.Tests.{le-leb, lt-leb, eq-eqb, ne-eqb}
 use Rattle.walk.specs.declared.Head.{Head}
-use Rattle.runs.specs.Run.{Stop, rightEnd, stopAt}
+use Rattle.runs.specs.Run.{Stop}
+use Rattle.runs.specs.Judging.{rightEnd}
+use Rattle.runs.specs.Rows.{stopAt}
 use Rattle.walk.specs.declared.Leg.{Leg}
 use Rattle.walk.specs.Walk.{headAt, afterLeg, Moves, reads, served, ServesAll, timeOf, sumOf}
 use Rattle.runs.specs.Lists.{Detour}

@@ -6,7 +6,8 @@ use mathlib.Core.Bool.{cond}
 use mathlib.Core.List.{List, [], _∷_, _++_}
 use lib.ListN.{length}
 use lib.Dec.{leb, ltb}
-use Rattle.runs.specs.Run.{Stop, stopAt}
+use Rattle.runs.specs.Run.{Stop}
+use Rattle.runs.specs.Rows.{stopAt}
 use Rattle.runs.specs.Lists.{Detour}
 
 -- The sum of f over the numbers below n.

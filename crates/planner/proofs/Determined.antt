@@ -6,7 +6,8 @@ use Rattle.refusals.specs.Refusals.{isRefusal}
 use Rattle.runs.specs.Run.{Run, stopsOf}
 use Rattle.walk.specs.Price.{pricedAnswer}
 use Rattle.least.proofs.LeastList.{least-unique}
-use Rattle.planner.specs.Plan.{Rows, Plans, Planned, Refused, planVerdict, rowsWith}
+use Rattle.planner.specs.Plan.{Plans, Planned, Refused, planVerdict, rowsWith}
+use Rattle.planner.specs.Rows.{Rows}
 
 module _ (r : Run) (before : Rows) (a a′ : Answer) (after after′ : Rows) where
   pub planned-once : Planned r before a after → Planned r before a′ after′ → (a ≡ a′) × (after ≡ after′)

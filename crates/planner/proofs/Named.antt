@@ -6,7 +6,8 @@ use mathlib.Core.Bool.{false}
 use native.Mathlib.Omega.{arith}
 use lib.ListN.{length}
 use Rattle.refusals.proofs.Verdicts.{refuses}
-use Rattle.runs.specs.Run.{Run, Stop, stopsOf, stopAt}
+use Rattle.runs.specs.Run.{Run, Stop, stopsOf}
+use Rattle.runs.specs.Rows.{stopAt}
 use Rattle.runs.specs.Judging.{judgeOf}
 use Rattle.runs.specs.Lists.{Detour}
 use Rattle.runs.proofs.Sound.{Sound}

@@ -10,7 +10,8 @@ use Rattle.refusals.specs.declared.Refusal.the-variants.{ShortRow, ShortRoom}
 use Rattle.refusals.specs.declared.Verdict.{Verdict}
 use Rattle.refusals.specs.Refusals.{accepted, refuseIf, firstOf}
 use Rattle.refusals.proofs.Verdicts.{refuses, first-passes}
-use Rattle.runs.specs.Run.{Run, Stop, aloneOf, stopsOf, total}
+use Rattle.runs.specs.Run.{Run, Stop, stopsOf, total}
+use Rattle.runs.specs.Alone.{aloneOf}
 use Rattle.runs.specs.Judging.{judgeOf}
 use Rattle.runs.specs.Lists.{Detour, entryOf}
 use Rattle.runs.proofs.Sound.{Sound}

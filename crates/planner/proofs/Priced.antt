@@ -10,10 +10,12 @@ use Rattle.runs.specs.Run.{Run, stopsOf}
 use Rattle.runs.specs.Judging.{judgeOf}
 use Rattle.runs.specs.Lists.{listOf}
 use Rattle.walk.specs.declared.Answer.{Answer}
-use Rattle.walk.specs.Price.{readRows, priceVerdict, priceAnswer, priceRows}
+use Rattle.walk.specs.Price.{priceVerdict, priceAnswer, priceRows}
+use Rattle.walk.specs.Rows.{readRows}
 use Rattle.engine_table.specs.declared.Listed.{Listed}
 use Rattle.engine_table.specs.Listing.{listRows}
-use Rattle.planner.specs.Plan.{Rows, rowsOf, readsIn, Planned}
+use Rattle.planner.specs.Plan.{Planned}
+use Rattle.planner.specs.Rows.{Rows, rowsOf, readsIn}
 use Rattle.planner.specs.Private.{IsNamed}
 use Rattle.engine_stops.proofs.Halves.{list-of-halves, halves-even, front, holds-front}
 use Rattle.least.proofs.Priced.{price-accepted}

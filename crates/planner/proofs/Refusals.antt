@@ -16,7 +16,8 @@ use Rattle.walk.specs.declared.Answer.{Answer}
 use Rattle.walk.specs.Price.{refusalAnswer, shortReadRows}
 use Rattle.engine_table.specs.declared.Listed.{Listed}
 use Rattle.engine_table.specs.Listing.{ListRows, listRows}
-use Rattle.planner.specs.Plan.{Rows, rowsOf, readsIn, Plans, Planned, planVerdict, shortRows, roomFor}
+use Rattle.planner.specs.Plan.{Plans, Planned, planVerdict, shortRows, roomFor}
+use Rattle.planner.specs.Rows.{Rows, rowsOf, readsIn}
 use Rattle.planner.specs.Private.{stopsVerdict, ListsNamed, IsNamed}
 use Rattle.planner.proofs.Naming.{told}
 

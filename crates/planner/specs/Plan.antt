@@ -5,38 +5,17 @@ use mathlib.Core.Bool.{Bool, true, false, _||_}
 use mathlib.Core.List.{List, [], _∷_, _++_, map}
 use lib.ListN.{length, drop, replicate}
 use lib.Dec.{ltb}
-use denote.Triple.Both.{Both}
 use Rattle.refusals.specs.declared.Refusal.the-variants.{ShortRow, ShortRoom}
 use Rattle.refusals.specs.declared.Verdict.{Verdict}
 use Rattle.walk.specs.declared.Answer.{Answer}
 use Rattle.refusals.specs.Refusals.{isRefusal, refuseIf, firstOf}
-use Rattle.runs.specs.Run.{Run, Row, total, stopsOf}
+use Rattle.runs.specs.Run.{Run, total, stopsOf}
 use Rattle.runs.specs.Judging.{judgeOf}
 use Rattle.runs.specs.Lists.{Detour}
-use Rattle.walk.specs.Price.{refusalAnswer, pricedAnswer, pricedTimes, pricedLegs, ReadRows, readRows, shortReadRows}
+use Rattle.walk.specs.Price.{refusalAnswer, pricedAnswer, pricedTimes, pricedLegs, shortReadRows}
+use Rattle.walk.specs.Rows.{ReadRows, readRows}
 use Rattle.least.specs.Least.{LeastForRun}
-
--- The lent rows: for starts, ends, times and legs, and the working room.
-pub record Rows : Type 0 where
-  pub froms : List ℕ
-  pub tos : List ℕ
-  pub times : List ℕ
-  pub legs : List ℕ
-  pub room : List ℕ
-
-abbrev pub rowsOf : List ℕ → List ℕ → List ℕ → List ℕ → List ℕ → Rows
-rowsOf froms tos times legs room = record { froms = froms; tos = tos; times = times; legs = legs; room = room }
-
--- The rows that five parameters of a function hold, when it is called and when it returns.
-abbrev pub rowsBefore : Both Row Row → Both Row Row → Both Row Row → Both Row Row → Both Row Row → Rows
-rowsBefore froms tos times legs room = rowsOf (froms .entry .now) (tos .entry .now) (times .entry .now) (legs .entry .now) (room .entry .now)
-
-abbrev pub rowsAfter : Both Row Row → Both Row Row → Both Row Row → Both Row Row → Both Row Row → Rows
-rowsAfter froms tos times legs room = rowsOf (froms .exit .now) (tos .exit .now) (times .exit .now) (legs .exit .now) (room .exit .now)
-
--- The two of them that the pricer is lent.
-abbrev pub readsIn : Rows → ReadRows
-readsIn rows = readRows (rows .times) (rows .legs)
+use Rattle.planner.specs.Rows.{Rows, readsIn}
 
 -- The words of working room that a run with k stops and R reads asks for, k·k·(R + 1).
 abbrev pub roomFor : Run → ℕ

@@ -12,12 +12,14 @@ use borrow.Author.Tests.{lt-ltb, le-ltb, eq-eqb, ne-eqb, lt-leb, leb-true, not-t
 use Rattle.refusals.specs.declared.Refusal.the-variants.{TurnPrice, HeadPlace, ShortRow, ShortRoom}
 use Rattle.refusals.specs.Refusals.{accepted, refuseIf, firstOf}
 use Rattle.refusals.proofs.Verdicts.{refuses, none-refuses}
-use Rattle.runs.specs.Run.{Run, total, mostFiles, highestTurn, lastPlace, mostWants, mostReads, rightEnd, stopsOf}
+use Rattle.runs.specs.Run.{Run, total, mostFiles, highestTurn, lastPlace, mostWants, mostReads, stopsOf}
+use Rattle.runs.specs.Judging.{rightEnd}
 use Rattle.runs.specs.Judging.{numberBefore, badWant, tableChecks, wantsChecks, judgeOf}
 use Rattle.runs.proofs.Search.{true-or-false, first-all}
 use Rattle.walk.specs.Price.{pricedAnswer}
 use Rattle.least.specs.Wants.{readsOfFile}
-use Rattle.planner.specs.Plan.{Rows, planVerdict, shortRows, roomFor}
+use Rattle.planner.specs.Plan.{planVerdict, shortRows, roomFor}
+use Rattle.planner.specs.Rows.{Rows}
 use Rattle.desk_tickets.specs.declared.Ticket.{Ticket}
 use Rattle.desk_tickets.specs.declared.Lasts.{Lasts}
 use Rattle.desk_tickets.specs.WaitingTable.{mostCount, noTicket, isTicket, upTo, waiting, allPlaces, recordsVerdict}

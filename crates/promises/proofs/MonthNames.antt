@@ -11,7 +11,8 @@ use lib.Dec.{ltb, leb}
 use borrow.Author.Tests.{leb-true, ltb-true, ltb-false}
 use Rattle.refusals.specs.Refusals.{isRefusal}
 use Rattle.refusals.proofs.Verdicts.{refuses, all-accept}
-use Rattle.runs.specs.Run.{Run, Stop, stopAt, stopsOf, wantStopsOf, total}
+use Rattle.runs.specs.Run.{Run, Stop, stopsOf, wantStopsOf, total}
+use Rattle.runs.specs.Rows.{stopAt}
 use Rattle.runs.specs.Lists.{Detour}
 use Rattle.runs.specs.Judging.{judgeOf}
 use Rattle.runs.proofs.Judged.{accepted-run}

@@ -16,7 +16,7 @@ use Rattle.desk_tickets.specs.declared.WithdrawnRow.{WithdrawnRow}
 use Rattle.desk_tickets.specs.WaitingTable.{noTicket, lastOf, officeAt, waiting}
 use Rattle.desk_tickets.specs.Filings.{fileRow}
 use Rattle.desk_tickets.specs.Withdrawals.{withdrawRow}
-use Rattle.planner.specs.Plan.{Rows}
+use Rattle.planner.specs.Rows.{Rows}
 use Rattle.desk_boardings.specs.declared.Boarding.{Boarding}
 use Rattle.desk_boardings.specs.declared.BoardedRow.{BoardedRow}
 use Rattle.desk_boardings.specs.Boardings.{Tape, boardRun, Boards}

@@ -11,7 +11,7 @@ use Rattle.refusals.specs.declared.Refusal.the-variants.{Accepted, TurnPrice, H
 use Rattle.refusals.specs.Refusals.{isRefusal, firstOf}
 use Rattle.runs.specs.Judging.{tableChecks}
 use Rattle.least.specs.Wants.{readsOfFile}
-use Rattle.planner.specs.Plan.{Rows}
+use Rattle.planner.specs.Rows.{Rows}
 use Rattle.desk_tickets.specs.declared.Ticket.{Ticket}
 use Rattle.desk_tickets.specs.WaitingTable.{noTicket, waiting}
 use Rattle.desk_boardings.specs.declared.Boarding.{Boarding}

@@ -10,7 +10,8 @@ use lib.Seq.{drop-cons}
 use lib.Dec.{ltb, leb, eqb}
 use borrow.Author.Tests.{eqb-false, ltb-false, leb-false, lt-ltb, le-ltb, lt-leb, ne-eqb}
 use Rattle.refusals.specs.Refusals.{firstWhere}
-use Rattle.runs.specs.Run.{endAt, lastPlace, mostReads, total, countedReads}
+use Rattle.runs.specs.Run.{endAt, lastPlace, mostReads, total}
+use Rattle.runs.specs.Rows.{countedReads}
 use Rattle.runs.specs.Judging.{badPlace, badWant, endBefore, numberBefore}
 use Rattle.runs.proofs.Search.{first-more, first-here, or-false-both}
 

@@ -15,8 +15,12 @@ use Rattle.refusals.specs.declared.Verdict.{Verdict}
 use Rattle.refusals.specs.Refusals.{refuseIf, refuseAt, firstOf, firstWhere}
 use Rattle.refusals.specs.Refusals.{isRefusal}
 use Rattle.refusals.proofs.Verdicts.{refuses}
-use Rattle.runs.specs.Run.{Stop, zeros, aloneOf, goesOn, firstMember, lastMember, stopOf, wantStops, joined, stopsOf, loneStop, loneStops, stopAt, rightEnd, mostFiles}
-use Rattle.runs.specs.Judging.{badPlace, badNumber, badFile, tableChecks, placeChecks, wantsChecks, headChecks, judgeOf, judgeAlone}
+use Rattle.runs.specs.Run.{Stop, goesOn, firstMember, lastMember, stopOf, wantStops, joined, stopsOf, mostFiles}
+use Rattle.runs.specs.Judging.{rightEnd}
+use Rattle.runs.specs.Alone.{zeros, aloneOf, loneStop, loneStops}
+use Rattle.runs.specs.Rows.{stopAt}
+use Rattle.runs.specs.Judging.{badPlace, badNumber, badFile, tableChecks, wantsChecks, headChecks, judgeOf}
+use Rattle.runs.specs.Alone.{placeChecks, judgeAlone}
 use Rattle.runs.proofs.Search.{first-same, true-or-false}
 use Rattle.runs.proofs.Members.{first-stays, last-is}
 use Rattle.runs.proofs.Joined.{Next, Neighbours, Differ, joined-alone}

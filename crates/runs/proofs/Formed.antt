@@ -11,7 +11,9 @@ use native.Mathlib.Decide.{decLt}
 use lib.ListN.{length, getD}
 use lib.Dec.{ltb, leb, eqb}
 use borrow.Author.Tests.{eq-eqb, ne-eqb, ltb-false, leb-false, not-false}
-use Rattle.runs.specs.Run.{Stop, stopAt, rightEnd}
+use Rattle.runs.specs.Run.{Stop}
+use Rattle.runs.specs.Judging.{rightEnd}
+use Rattle.runs.specs.Rows.{stopAt}
 use Rattle.runs.specs.Lists.{Detour, wanted, leftmost, badAlone, badAfter, badEntry, anyBelow, entryOf, firstBadEntry, WellFormed}
 use Rattle.runs.proofs.Search.{first-zero, any-zero, or-false-both}
 use Rattle.runs.proofs.Sound.{Sound}

@@ -9,7 +9,9 @@ use native.Mathlib.Omega.{arith}
 use lib.ListN.{length, getD, drop}
 use lib.Dec.{eqb}
 use borrow.Author.Tests.{eqb-true, eqb-false, eq-eqb, ne-eqb}
-use Rattle.runs.specs.Run.{Stop, merged, joinTo, joined, rightEnd, stopAt}
+use Rattle.runs.specs.Run.{Stop, merged, joinTo, joined}
+use Rattle.runs.specs.Judging.{rightEnd}
+use Rattle.runs.specs.Rows.{stopAt}
 use Rattle.runs.specs.Lists.{wanted, leftmost}
 use Rattle.runs.proofs.Search.{true-or-false}
 use Rattle.runs.proofs.Sound.{Sound}

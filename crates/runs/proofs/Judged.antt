@@ -13,8 +13,10 @@ use Rattle.refusals.specs.declared.Refusal.the-variants.{FileRows, BadFile, Wan
 use Rattle.refusals.specs.declared.Refusal.{Refusal}
 use Rattle.refusals.specs.declared.Verdict.{Verdict}
 use Rattle.refusals.specs.Refusals.{isRefusal, refuseIf, refuseAt, firstOf, firstWhere}
-use Rattle.runs.specs.Run.{Run, stopsOf, rightEnd, total, mostFiles, mostWants, mostReads, lastPlace, highestTurn}
-use Rattle.runs.specs.Judging.{badPlace, badNumber, badFile, badWant, placeChecks, tableChecks, wantsChecks, headChecks, judgeOf}
+use Rattle.runs.specs.Run.{Run, stopsOf, total, mostFiles, mostWants, mostReads, lastPlace, highestTurn}
+use Rattle.runs.specs.Judging.{rightEnd}
+use Rattle.runs.specs.Judging.{badPlace, badNumber, badFile, badWant, tableChecks, wantsChecks, headChecks, judgeOf}
+use Rattle.runs.specs.Alone.{placeChecks}
 use Rattle.runs.specs.Private.{SoundTable, InTable, earlierOf}
 use Rattle.runs.proofs.Search.{first-zero, first-all, first-either, or-false-both, below-or-here}
 use Rattle.refusals.proofs.Verdicts.{refuses, first-refuses, first-passes, first-alone, AllAccept, all-accept, accepts-if, accepts-at}

@@ -2,7 +2,8 @@
 use Prim.Native.Nat.{ℕ, suc, _≤_, _<_}
 use mathlib.Core.List.{List}
 use lib.ListN.{length, getD}
-use Rattle.runs.specs.Run.{Stop, stopAt}
+use Rattle.runs.specs.Run.{Stop}
+use Rattle.runs.specs.Rows.{stopAt}
 
 pub record Sound (stops : List Stop) (m : ℕ) : Type 0 where
   pub named : (i : ℕ) → i < length stops → 0 < stopAt stops i .file

@@ -11,7 +11,9 @@ use lib.Seq.{drop-cons}
 use lib.Dec.{eqb}
 use borrow.Author.Tests.{eqb-true}
 use Rattle.refusals.proofs.Verdicts.{refuses}
-use Rattle.runs.specs.Run.{Run, Stop, endAt, total, firstMember, lastMember, firstFile, stopOf, wantStops, wantStopsOf, joined, stopsOf, stopAt, rightEnd}
+use Rattle.runs.specs.Run.{Run, Stop, endAt, total, firstMember, lastMember, firstFile, stopOf, wantStops, wantStopsOf, joined, stopsOf}
+use Rattle.runs.specs.Judging.{rightEnd}
+use Rattle.runs.specs.Rows.{stopAt}
 use Rattle.runs.specs.Lists.{wanted}
 use Rattle.runs.specs.Judging.{judgeOf}
 use Rattle.runs.specs.Private.{SoundTable, InTable}

@@ -6,7 +6,9 @@ use mathlib.Core.Logic.{⊎-elim}
 use native.Mathlib.Omega.{arith}
 use native.Mathlib.Nat.{eq-or-lt-of-le}
 use lib.ListN.{length, getD}
-use Rattle.runs.specs.Run.{loneStops, endAt, rightEnd}
+use Rattle.runs.specs.Run.{endAt}
+use Rattle.runs.specs.Judging.{rightEnd}
+use Rattle.runs.specs.Alone.{loneStops}
 use Rattle.runs.specs.Judging.{badPlace}
 use Rattle.runs.specs.Private.{SoundTable, InTable}
 use Rattle.runs.proofs.Search.{first-zero}

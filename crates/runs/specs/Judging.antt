@@ -7,8 +7,14 @@ use lib.Dec.{leb, ltb, eqb}
 use Rattle.refusals.specs.declared.Refusal.the-variants.{FileRows, BadFile, WantRows, BadWant, TooManyReads, TurnPrice, HeadPlace}
 use Rattle.refusals.specs.declared.Verdict.{Verdict}
 use Rattle.refusals.specs.Refusals.{refuseIf, refuseAt, firstOf, firstWhere}
-use Rattle.runs.specs.Run.{Run, mostFiles, mostAggregates, mostWants, mostReads, lastPlace, highestTurn, total, endAt, goesOn, loneStops, stopsOf, rightEnd}
+use Rattle.runs.specs.Run.{Run, Stop, mostFiles, mostAggregates, mostWants, mostReads, lastPlace, highestTurn, total, endAt, goesOn, stopsOf}
 use Rattle.runs.specs.Lists.{anyBelow}
+
+-- The end of the rightmost stop; 0 where there is none.
+unfoldable pub rightEnd : List Stop → ℕ
+rightEnd [] = 0
+rightEnd (s ∷ []) = s .end
+rightEnd (s ∷ t ∷ ts) = rightEnd (t ∷ ts)
 
 -- The end of the file before the one at an index; the first file has none before it.
 abbrev pub endBefore : List ℕ → List ℕ → ℕ → ℕ
@@ -71,19 +77,4 @@ judgeOf r =
     (firstOf (tableChecks (r .starts) (r .lengths) (r .aggregates))
     ∷ firstOf (wantsChecks (length (r .starts)) (r .numbers) (r .counts))
     ∷ firstOf (headChecks (r .turn) (r .head) (rightEnd (stopsOf r)))
-    ∷ [])
-
--- The same for files that lie in no aggregate, by their own places: document 01's rule, as it was before there were aggregates.
-abbrev pub placeChecks : List ℕ → List ℕ → List Verdict
-placeChecks starts lengths =
-    refuseIf (ltb mostFiles (length starts) || not (eqb (length starts) (length lengths))) FileRows
-    ∷ refuseAt (firstWhere (badPlace starts lengths) (length starts)) BadFile
-    ∷ []
-
-unfoldable pub judgeAlone : List ℕ → List ℕ → List ℕ → List ℕ → ℕ → ℕ → Verdict
-judgeAlone starts lengths numbers counts head turn =
-    firstOf
-    (firstOf (placeChecks starts lengths)
-    ∷ firstOf (wantsChecks (length starts) numbers counts)
-    ∷ firstOf (headChecks turn head (rightEnd (loneStops starts lengths numbers counts)))
     ∷ [])

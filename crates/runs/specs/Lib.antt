@@ -2,4 +2,6 @@
 pub mod Run
 pub mod Lists
 pub mod Judging
+pub mod Rows
+pub mod Alone
 pub mod Private

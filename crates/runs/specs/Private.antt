@@ -6,7 +6,9 @@ use mathlib.Core.List.{List, [], _∷_}
 use lib.ListN.{length, getD}
 use lib.Dec.{leb, ltb, eqb}
 use Rattle.refusals.specs.Refusals.{firstWhere}
-use Rattle.runs.specs.Run.{goesOn, lastMember, Lent, Stop, wantStops, loneStops}
+use Rattle.runs.specs.Run.{goesOn, lastMember, Stop, wantStops}
+use Rattle.runs.specs.Alone.{loneStops}
+use Rattle.runs.specs.Rows.{Lent}
 use Rattle.runs.specs.Judging.{badPlace}
 use Rattle.runs.specs.Lists.{Detour, badAfter, anyBelow}
 use denote.Ref.{now}

@@ -2,10 +2,8 @@
 use Prim.Native.Nat.{ℕ, zero, suc, _+_, _-_}
 use mathlib.Core.List.{List, [], _∷_}
 use mathlib.Core.Bool.{Bool, false, not, cond, _&&_}
-use lib.ListN.{length, getD, replicate}
-use lib.Dec.{ltb, eqb}
-use denote.Ref.{RefT, now}
-use denote.Triple.Both.{Both}
+use lib.ListN.{length, getD}
+use lib.Dec.{eqb}
 
 -- What is handed in. File f (from 1) starts at entry f - 1 of `starts`, is that long in `lengths` and lies in the aggregate of that number in
 -- `aggregates`, 0 for none; want i names a file and how often.
@@ -21,30 +19,6 @@ pub record Run : Type 0 where
 abbrev pub runOf : List ℕ → List ℕ → List ℕ → List ℕ → List ℕ → ℕ → ℕ → Run
 runOf starts lengths aggregates numbers counts head turn =
     record { starts = starts; lengths = lengths; aggregates = aggregates; numbers = numbers; counts = counts; head = head; turn = turn }
-
--- The run of files that lie in no aggregate: a row of zeros.
-abbrev pub zeros : ℕ → List ℕ
-zeros n = replicate n 0
-
-abbrev pub aloneOf : List ℕ → List ℕ → List ℕ → List ℕ → ℕ → ℕ → Run
-aloneOf starts lengths numbers counts head turn = runOf starts lengths (zeros (length starts)) numbers counts head turn
-
--- The run that a function's parameters hold: in a `requires`, and in an `ensures`, which speaks of them as they were handed in.
-abbrev pub Row : Type 0
-Row = RefT (List ℕ)
-
-abbrev pub runIn : Row → Row → Row → Row → Row → ℕ → ℕ → Run
-runIn starts lengths aggregates numbers counts head turn = runOf (now starts) (now lengths) (now aggregates) (now numbers) (now counts) head turn
-
-abbrev pub Lent : Type 0 → Type 0
-Lent X = Both Row X
-
-abbrev pub runAt : {S L A N C : Type 0} → Lent S → Lent L → Lent A → Lent N → Lent C → ℕ → ℕ → Run
-runAt starts lengths aggregates numbers counts head turn =
-    runIn (starts .entry) (lengths .entry) (aggregates .entry) (numbers .entry) (counts .entry) head turn
-
-abbrev pub aloneAt : {S L N C : Type 0} → Lent S → Lent L → Lent N → Lent C → ℕ → ℕ → Run
-aloneAt starts lengths numbers counts head turn = aloneOf (starts .entry .now) (lengths .entry .now) (numbers .entry .now) (counts .entry .now) head turn
 
 -- The limits of 01, "The tape and the run", and of aggregate numbers. All of them are inclusive.
 abbrev pub mostFiles : ℕ
@@ -69,10 +43,6 @@ highestTurn = 4294967296
 abbrev pub total : List ℕ → ℕ
 total [] = 0
 total (c ∷ cs) = c + total cs
-
--- The reads of a row of counts as code counts them: one more than the limit where they pass it.
-abbrev pub countedReads : List ℕ → ℕ
-countedReads counts = cond (ltb mostReads (total counts)) (mostReads + 1) (total counts)
 
 -- The end of the file at an index of the table, r = l + s, as a whole number.
 abbrev pub endAt : List ℕ → List ℕ → ℕ → ℕ
@@ -142,23 +112,3 @@ wantStopsOf r = wantStops (r .starts) (r .lengths) (r .aggregates) (r .numbers) 
 
 abbrev pub stopsOf : Run → List Stop
 stopsOf r = joined (wantStopsOf r)
-
--- The stops of files that lie in no aggregate: one for each want, with that file's own number, start and end.
-abbrev pub loneStop : List ℕ → List ℕ → ℕ → ℕ → Stop
-loneStop starts lengths f c =
-    record { file = f; start = getD starts (f - 1) 0; end = endAt starts lengths (f - 1); count = c }
-
-unfoldable pub loneStops : List ℕ → List ℕ → List ℕ → List ℕ → List Stop
-loneStops starts lengths [] cs = []
-loneStops starts lengths (f ∷ fs) [] = []
-loneStops starts lengths (f ∷ fs) (c ∷ cs) = loneStop starts lengths f c ∷ loneStops starts lengths fs cs
-
--- A stop by its index, from 0.
-abbrev pub stopAt : List Stop → ℕ → Stop
-stopAt stops i = getD stops i (record { file = 0; start = 0; end = 0; count = 0 })
-
--- The end of the rightmost stop; 0 where there is none.
-unfoldable pub rightEnd : List Stop → ℕ
-rightEnd [] = 0
-rightEnd (s ∷ []) = s .end
-rightEnd (s ∷ t ∷ ts) = rightEnd (t ∷ ts)

@@ -4,7 +4,7 @@ ghost use mathlib.Core.Path.{_≡_};
 ghost use Prim.Native.Nat.{_+_, _*_, _≤_};
 ghost use lib.ListN.{length};
 ghost use lib.IntN.{natAbs};
-ghost use Rattle.runs.specs.Run.{runAt};
+ghost use Rattle.runs.specs.Rows.{runAt};
 ghost use Rattle.text_pages.specs.Printing.{Wrote};
 ghost use Rattle.sheet_figures.specs.FigureSheet.{figureLine, figureLines, figurePage, FigureWritten};
 ghost use Rattle.sheet_figures.specs.Private.{figureMost, FigureFits};

@@ -17,7 +17,8 @@ use Rattle.runs.specs.Run.{Run, Stop, stopsOf, wantStopsOf, total, mostWants}
 use Rattle.runs.specs.Judging.{judgeOf}
 use Rattle.runs.specs.Lists.{listOf, listVerdict}
 use Rattle.walk.specs.Walk.{timesOf, legsFor}
-use Rattle.walk.specs.Price.{refusalAnswer, pricedAnswer, pricedTimes, pricedLegs, readRows, priceVerdict, priceAnswer, priceRows}
+use Rattle.walk.specs.Price.{refusalAnswer, pricedAnswer, pricedTimes, pricedLegs, priceVerdict, priceAnswer, priceRows}
+use Rattle.walk.specs.Rows.{readRows}
 use Rattle.runs.proofs.Search.{true-or-false}
 use Rattle.runs.proofs.Judged.{GoodRun}
 use Rattle.walk.proofs.Walks.{GoodList, accepted-list, list-fits}

@@ -3,7 +3,8 @@
 use Prim.Native.Nat.{ℕ}
 use mathlib.Core.Path.{_≡_, refl}
 use mathlib.Core.List.{List, [], _∷_}
-use Rattle.runs.specs.Run.{Run, runOf, goesOn, firstMember, lastWithin, wantStops, joinTo, joined, rightEnd}
+use Rattle.runs.specs.Run.{Run, runOf, goesOn, firstMember, lastWithin, wantStops, joinTo, joined}
+use Rattle.runs.specs.Judging.{rightEnd}
 use Rattle.refusals.specs.Refusals.{firstWhere}
 use Rattle.walk.specs.Walk.{walked, served, timeOf, timesOf, legFrom, legsFor, sumOf}
 use Rattle.runs.specs.Lists.{listOf}

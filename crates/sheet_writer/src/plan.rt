@@ -1,7 +1,7 @@
 // The plan sheet writer: it prices the list that it is given, and writes what the pricer answers.
 ghost use Prim.Native.Nat.{_≤_};
 ghost use lib.ListN.{length};
-ghost use Rattle.runs.specs.Run.{runAt};
+ghost use Rattle.runs.specs.Rows.{runAt};
 ghost use Rattle.text_pages.specs.Printing.{Wrote};
 ghost use Rattle.sheet_writer.specs.PlanSheet.{planTop, planLines, PlanWritten};
 ghost use Rattle.sheet_writer.specs.Private.{planMost, PlanFits};

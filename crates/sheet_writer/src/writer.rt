@@ -1,7 +1,7 @@
 // The run sheet writer.
 ghost use Prim.Native.Nat.{_≤_};
 ghost use lib.ListN.{length};
-ghost use Rattle.runs.specs.Run.{runAt};
+ghost use Rattle.runs.specs.Rows.{runAt};
 ghost use Rattle.text_pages.specs.Printing.{Wrote};
 ghost use Rattle.sheet_writer.specs.Writing.{topText, sheetText, SheetWritten};
 ghost use Rattle.sheet_writer.specs.Private.{sheetMost, SheetFits};

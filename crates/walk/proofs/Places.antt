@@ -13,10 +13,12 @@ use Rattle.refusals.specs.declared.Refusal.{Refusal}
 use Rattle.refusals.specs.declared.Refusal.the-variants.{FileRows, BadFile, WantRows, BadWant, TooManyReads, TurnPrice, HeadPlace, ShortRow, BadEntry}
 use Rattle.refusals.specs.declared.Verdict.{Verdict}
 use Rattle.refusals.specs.Refusals.{refuseIf, refuseAt, firstOf, firstWhere}
-use Rattle.runs.specs.Run.{Run, stopsOf, rightEnd, total, mostFiles, mostWants, mostReads, lastPlace, highestTurn}
+use Rattle.runs.specs.Run.{Run, stopsOf, total, mostFiles, mostWants, mostReads, lastPlace, highestTurn}
+use Rattle.runs.specs.Judging.{rightEnd}
 use Rattle.runs.specs.Judging.{badFile, badWant, tableChecks, wantsChecks, headChecks, judgeOf}
 use Rattle.runs.specs.Lists.{listOf, badEntry, firstBadEntry, listVerdict}
-use Rattle.walk.specs.Price.{ReadRows, shortReadRows, priceVerdict}
+use Rattle.walk.specs.Price.{shortReadRows, priceVerdict}
+use Rattle.walk.specs.Rows.{ReadRows}
 use Rattle.runs.proofs.Search.{true-or-false, or-false-both, first-within, first-before}
 use Rattle.refusals.proofs.Verdicts.{refuses, accepts-if}
 use Rattle.runs.proofs.Judged.{GoodRun, accepted-run, table-rows-fit}

@@ -14,7 +14,8 @@ use Rattle.runs.specs.Run.{Run, wantStopsOf, stopsOf}
 use Rattle.runs.specs.Judging.{judgeOf}
 use Rattle.walk.specs.Walk.{headAt, walked, timesOf, legsFor, sumOf}
 use Rattle.runs.specs.Lists.{listVerdict}
-use Rattle.walk.specs.Price.{refusalAnswer, pricedAnswer, pricedTimes, pricedLegs, ReadRows, readRows, shortReadRows, priceVerdict, priceAnswer, priceRows}
+use Rattle.walk.specs.Price.{refusalAnswer, pricedAnswer, pricedTimes, pricedLegs, shortReadRows, priceVerdict, priceAnswer, priceRows}
+use Rattle.walk.specs.Rows.{ReadRows, readRows}
 use Rattle.walk.specs.Detours.{sweepEnd}
 use Rattle.walk.specs.Private.{detourLegs, rowLegs}
 use Rattle.refusals.proofs.Verdicts.{refuses, first-refuses, first-passes, none-refuses, test-says, last-if, accepts-if}

@@ -8,7 +8,8 @@ use native.Mathlib.Omega.{arith}
 use native.Mathlib.Nat.{eq-or-lt-of-le}
 use lib.ListN.{length, getD}
 use Rattle.walk.specs.declared.Leg.{Leg}
-use Rattle.runs.specs.Run.{Stop, stopOf, wantStops, stopAt}
+use Rattle.runs.specs.Run.{Stop, stopOf, wantStops}
+use Rattle.runs.specs.Rows.{stopAt}
 use Rattle.walk.specs.Walk.{served}
 use Rattle.walk.specs.Detours.{unreadEnd, sweepEnd}
 use Rattle.walk.specs.Private.{rightOf}

@@ -13,7 +13,8 @@ use borrow.Author.Tests.{eqb-true, ltb-false, leb-false, not-true, not-false}
 use Rattle.walk.specs.declared.Leg.{Leg}
 use Rattle.refusals.specs.declared.Refusal.the-variants.{BadEntry}
 use Rattle.refusals.specs.Refusals.{refuseIf, refuseAt}
-use Rattle.runs.specs.Run.{Run, Stop, goesOn, joined, wantStops, wantStopsOf, stopsOf, stopAt, lastPlace, highestTurn, mostWants}
+use Rattle.runs.specs.Run.{Run, Stop, goesOn, joined, wantStops, wantStopsOf, stopsOf, lastPlace, highestTurn, mostWants}
+use Rattle.runs.specs.Rows.{stopAt}
 use Rattle.walk.specs.Walk.{Moves}
 use Rattle.runs.specs.Lists.{Detour, listOf, wanted, leftmost, badAfter, badEntry, entryOf, firstBadEntry, listVerdict}
 use Rattle.walk.specs.Detours.{startOf, endOf, legOf, sweepEnd, lastSweep, legsOf}

@@ -4,7 +4,8 @@ use mathlib.Core.Bool.{cond}
 use mathlib.Core.List.{List, [], _∷_, _++_, map}
 use lib.Dec.{eqb}
 use Rattle.walk.specs.declared.Leg.{Leg}
-use Rattle.runs.specs.Run.{Stop, rightEnd}
+use Rattle.runs.specs.Run.{Stop}
+use Rattle.runs.specs.Judging.{rightEnd}
 use Rattle.runs.specs.Lists.{Detour}
 use Rattle.walk.specs.Walk.{served}
 

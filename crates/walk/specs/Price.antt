@@ -8,12 +8,12 @@ use Rattle.refusals.specs.declared.Refusal.the-variants.{Accepted, ShortRow}
 use Rattle.refusals.specs.declared.Verdict.{Verdict}
 use Rattle.walk.specs.declared.Answer.{Answer}
 use Rattle.refusals.specs.Refusals.{isRefusal, refuseIf, firstOf}
-use denote.Triple.Both.{Both}
-use Rattle.runs.specs.Run.{Run, Row, wantStopsOf, stopsOf}
+use Rattle.runs.specs.Run.{Run, wantStopsOf, stopsOf}
 use Rattle.runs.specs.Judging.{judgeOf}
 use Rattle.walk.specs.Walk.{headAt, walked, timesOf, legsFor, sumOf}
 use Rattle.runs.specs.Lists.{Detour, listOf, listVerdict}
 use Rattle.walk.specs.Detours.{legsOf}
+use Rattle.walk.specs.Rows.{ReadRows}
 
 -- A refusal's answer: kind and place, and every other number 0.
 abbrev pub refusalAnswer : Verdict → Answer
@@ -37,20 +37,6 @@ pricedTimes r list = timesOf (r .turn) (headAt (r .head)) (legsOf (stopsOf r) li
 
 unfoldable pub pricedLegs : Run → List Detour → List ℕ
 pricedLegs r list = legsFor (legsOf (stopsOf r) list) (wantStopsOf r)
-
--- The lent rows, for times and for legs; as two parameters of a function hold them when it is called and when it returns.
-pub record ReadRows : Type 0 where
-  pub times : List ℕ
-  pub legs : List ℕ
-
-abbrev pub readRows : List ℕ → List ℕ → ReadRows
-readRows times legs = record { times = times; legs = legs }
-
-abbrev pub readRowsBefore : Both Row Row → Both Row Row → ReadRows
-readRowsBefore times legs = readRows (times .entry .now) (legs .entry .now)
-
-abbrev pub readRowsAfter : Both Row Row → Both Row Row → ReadRows
-readRowsAfter times legs = readRows (times .exit .now) (legs .exit .now)
 
 -- 8: a row for times or for legs shorter than k, the wants handed in.
 abbrev pub shortReadRows : ℕ → ReadRows → Bool

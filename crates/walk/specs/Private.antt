@@ -6,7 +6,8 @@ use mathlib.Core.List.{List, [], _∷_, _++_}
 use lib.ListN.{length, getD}
 use lib.Dec.{leb}
 use Rattle.walk.specs.declared.Leg.{Leg}
-use Rattle.runs.specs.Run.{Row, Lent, endAt, goesOn, firstMember, lastMember, mostWants, lastPlace, highestTurn, Stop}
+use Rattle.runs.specs.Run.{endAt, goesOn, firstMember, lastMember, mostWants, lastPlace, highestTurn, Stop}
+use Rattle.runs.specs.Rows.{Row, Lent}
 use Rattle.walk.specs.Walk.{Moves, timeOf, legFor}
 use Rattle.runs.specs.Private.{SoundTable, InTable}
 use Rattle.walk.specs.declared.Head.{Head}

@@ -2,7 +2,7 @@
 -- Assumes nothing.
 use native.Mathlib.Omega.{arith}
 use Rattle.runs.specs.Run.{Run, runOf}
-use Rattle.planner.specs.Plan.{Rows, rowsOf}
+use Rattle.planner.specs.Rows.{Rows, rowsOf}
 use Rattle.boundary.proofs.Plans.{rule-refused, sums-refused, plan-placed, plan-refused, plan-filled}
 use borrow.Author.Needs.{needs}
 use Rattle.boundary.proofs.violstream_plan.Statement.{statement}

@@ -2,7 +2,8 @@
 -- Assumes nothing.
 use mathlib.Core.Path.{sym, ap, _∙_}
 use Rattle.runs.specs.Run.{Run, runOf}
-use Rattle.walk.specs.Price.{ReadRows, readRows, priceVerdict}
+use Rattle.walk.specs.Price.{priceVerdict}
+use Rattle.walk.specs.Rows.{ReadRows, readRows}
 use Rattle.boundary.specs.Boundary.{codeOf}
 use Rattle.walk.proofs.Priced.{price-accepted}
 use Rattle.boundary.proofs.Calls.{price-code, price-placed, code-refuses, code-accepts, call-is-price, call-reads, call-sums-kept, call-sums-filled, short-reads, short-sums}

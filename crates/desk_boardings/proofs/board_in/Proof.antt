@@ -5,7 +5,7 @@ use mathlib.Core.Path.{_≡_, sym}
 use lib.ListN.{length}
 use lib.Seq.{length-take-le}
 use Rattle.refusals.proofs.Verdicts.{test-says}
-use Rattle.planner.specs.Plan.{Rows, rowsOf}
+use Rattle.planner.specs.Rows.{Rows, rowsOf}
 use Rattle.desk_boardings.specs.Boarders.{wantsOf}
 use Rattle.desk_boardings.specs.Boardings.{Tape, wantRows}
 use Rattle.desk_boardings.specs.Private.{SoundRow}

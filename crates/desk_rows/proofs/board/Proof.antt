@@ -2,7 +2,7 @@
 -- Assumes nothing. The walk of the code, in Lts and Tie, is derived by tools/derive.py.
 mod Lts
 mod Tie
-use Rattle.planner.specs.Plan.{rowsOf}
+use Rattle.planner.specs.Rows.{rowsOf}
 use Rattle.desk_rows.proofs.Thin.{boarded-so}
 use borrow.Author.Needs.{needs}
 use Rattle.desk_rows.proofs.board.Statement.{statement}

@@ -8,7 +8,8 @@ use Rattle.refusals.specs.Refusals.{isRefusal}
 use Rattle.runs.specs.Run.{Run, runOf}
 use Rattle.runs.specs.Lists.{listOf}
 use Rattle.walk.specs.declared.Answer.{Answer}
-use Rattle.walk.specs.Price.{ReadRows, readRows, priceAnswer, pricedAnswer}
+use Rattle.walk.specs.Price.{priceAnswer, pricedAnswer}
+use Rattle.walk.specs.Rows.{ReadRows, readRows}
 use Rattle.figures.specs.Private.{Priceable}
 use Rattle.figures.proofs.Answers.{Long, priced, refused-so, passed-so, short-so, figured-so}
 use borrow.Author.Needs.{needs}

@@ -11,7 +11,7 @@ use Rattle.runs.specs.Run.{Run, runOf, stopsOf}
 use Rattle.runs.specs.Judging.{judgeOf}
 use Rattle.engine_stops.specs.Joining.{JoinRows, joinRows}
 use Rattle.engine_table.specs.Listing.{ListRows, listRows}
-use Rattle.planner.specs.Plan.{Rows, rowsOf}
+use Rattle.planner.specs.Rows.{Rows, rowsOf}
 use Rattle.planner.specs.Private.{RunInRows, ListsNamed, IsNamed}
 use Rattle.engine_stops.proofs.Held.{Front}
 use Rattle.planner.proofs.Joined.{join-verdict, join-front, join-holds}

@@ -5,7 +5,7 @@ use Prim.Native.Nat.{_+_, _-_, _*_}
 use native.Mathlib.Omega.{arith}
 use lib.ListN.{getD, take}
 use lib.Seq.{length-take-le}
-use Rattle.runs.specs.Run.{countedReads}
+use Rattle.runs.specs.Rows.{countedReads}
 use Rattle.engine_plain.specs.Private.{readsIn}
 use Rattle.engine_plain.proofs.Sizes.{reads-counted, waiting-few, wait-small}
 use borrow.Author.Needs.{needs}

@@ -6,7 +6,8 @@ use mathlib.Core.Path.{_≡_, sym, ap, _∙_}
 use mathlib.Core.Bool.{false}
 use lib.ListN.{length}
 use Rattle.refusals.specs.Refusals.{isRefusal}
-use Rattle.runs.specs.Run.{Run, aloneOf, loneStops, stopsOf, total}
+use Rattle.runs.specs.Run.{Run, stopsOf, total}
+use Rattle.runs.specs.Alone.{aloneOf, loneStops}
 use Rattle.runs.specs.Judging.{judgeOf}
 use Rattle.least.specs.Recurrence.{leastList}
 use Rattle.runs.proofs.Judged.{accepted-run}

@@ -8,7 +8,8 @@ use Rattle.refusals.specs.Refusals.{refuseIf}
 use Rattle.runs.specs.Run.{Run, runOf, wantStopsOf, stopsOf}
 use Rattle.runs.specs.Lists.{listVerdict}
 use Rattle.runs.proofs.Judged.{GoodRun}
-use Rattle.walk.specs.Price.{ReadRows, readRows, shortReadRows}
+use Rattle.walk.specs.Price.{shortReadRows}
+use Rattle.walk.specs.Rows.{ReadRows, readRows}
 use Rattle.walk.specs.Detours.{sweepEnd}
 use Rattle.walk.specs.Private.{detourLegs, WalkFits}
 use Rattle.walk.proofs.Walks.{GoodList, rows-fit, rows-walkable, list-fits}
