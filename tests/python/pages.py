@@ -4,8 +4,8 @@
 usage: tests/python/pages.py [TREE]    TREE: the repository to read, by default this one
 
 Functions and paths in AUDIT, ENGINEER and README must be there. In AUDIT's tables each name behind a path must be a definition or a law of that file;
-`FILE`: goes on with another file of the folder, and a path in a column's head stands before each of its cells. These tables name every rule of RULES
-and every public function. No page but the landing notes uses the name of a retired crate. A mistake of each kind is then planted and must be found.
+`FILE`: goes on with another file of the folder, and a path in a column's head stands before each of its cells. They name every rule of RULES, whose words
+behind "D:" are in DECISIONS, and every public function. No page but the landing notes names a retired crate. A mistake of each kind is planted.
 """
 import glob
 import os
@@ -15,15 +15,14 @@ import sys
 import programs
 
 MOST_WORDS, MOST_LINES_OF_README = 60, 90
-AUDIT, ENGINEER, README, RULES = "docs/AUDIT.md", "docs/ENGINEER.md", "README.md", "docs/RULES.md"
+AUDIT, DECISIONS, ENGINEER, README, RULES = "docs/AUDIT.md", "docs/DECISIONS.md", "docs/ENGINEER.md", "README.md", "docs/RULES.md"
 RETIRED = re.compile(r"`((?:crates/)?(?:texts|lines|prints|inputs|sheets|writers|figure_sheets|loose|lists|recalls|fields|checks|outcomes|months|turns"
                      r"|mends|ranges|markup|tickets|boardings|days|joins|tables)(?:::|/specs|/proofs)[^`\n]*)`")
 PATH = re.compile(r"(?:crates/)?([a-z_]+)/(specs|proofs)(?:/([\w+/-]*?))?(?:\.antt|/)?$")
 # Mistakes to plant behind the first line of a page, with words of the complaint that each must bring.
 TABLE = "\n| A |\n|---|\n| {} |\n"
 PLANTED = (
-    (AUDIT, "`walk::no_such_function`", "no function walk"),
-    (ENGINEER, "`no_such_crate::list`", "no function no_such"),
+    (ENGINEER, "`walk::no_such_function`", "no function"),
     (README, "`walk/specs/NoSuchFile`", "no file"),
     (AUDIT, TABLE.format("`walk/specs/Walk`: `noSuchDefinition`"), "no definition"),
     (AUDIT, TABLE.replace("A", "`walk/specs`").format("`Walk`: `legsOf`"), "no definition"),
@@ -31,9 +30,10 @@ PLANTED = (
     (AUDIT, TABLE.format("R1 to R9999"), "no such rule"),
     (RULES, "- **R9999.** A rule.", "not in the tables"),
     (RULES, "- **R1.** A rule.", "count up"),
+    (RULES, "(D: no such words).", "has no words"),
     (AUDIT, "## Every public function\n\n| `walk::refuse` |\n\n## More", "no row for walk::price"),
     (README, "\n" * MOST_LINES_OF_README, "over 90 lines"),
-    ("docs/DECISIONS.md", "`recalls::recall`", "`recalls::recall` is of a retired"),
+    (DECISIONS, "`recalls::recall`", "`recalls::recall` is of a retired"),
     ("docs/OPERATOR.md", "`crates/tables/specs/Listing`", "Listing` is of a retired"),
 )
 
@@ -54,8 +54,7 @@ def rows(page):
 
 def files(crate, folder, name):
     """The texts that a path names: one, or all below a folder."""
-    top = f"crates/{crate}/{folder}" + (f"/{name}" if name else "")
-    return read(top + ".antt") + read(top + "/**/*.antt")
+    return [text for end in (".antt", "/**/*.antt") for text in read(f"crates/{crate}/{folder}/{name or '.'}{end}")]
 
 
 def undefined(cell, head):
@@ -90,11 +89,12 @@ def judged(pages, public):
         said += [f"over {MOST_WORDS} words"] if sum(len(cell.split()) for cell, _ in row) > MOST_WORDS else []
         found += [f"{AUDIT}: {what}: {row[0][0][:60]}" for what in said]
     rules = [int(n) for n in re.findall(r"\*\*R(\d+)\.\*\*", pages[RULES])]
-    spans = [span for row in rows(pages[AUDIT]) for cell, _ in row for span in re.findall(r"\bR(\d+)(?: to R(\d+))?", cell)]
-    named = {n for first, last in spans for n in range(int(first), int(last or first) + 1)}
+    named = {n for row in re.findall(r"^\|.*", pages[AUDIT], re.M) for a, b in re.findall(r"\bR(\d+)(?: to R(\d+))?", row) for n in range(int(a), int(b or a) + 1)}
     found += [f"{AUDIT}: R{n}: no such rule" for n in sorted(named - set(rules))]
     found += [f"{RULES}: R{n} is not in the tables of {AUDIT}" for n in rules if n not in named]
     found += [f"{RULES}: the numbers do not count up from 1"] if not rules or rules != list(range(1, len(rules) + 1)) else []
+    said, decided = re.findall(r"\(D: (.*?)\)(?=[.\s])", pages[RULES]), re.sub(r"[*\s]+", " ", pages[DECISIONS]).lower()
+    found += [f"{RULES}: {DECISIONS} has no words: {words}" for words in "; ".join(said).split("; ") if words.lower() not in decided]
     functions = {name for row in rows(pages[AUDIT].split("## Every public function")[1].split("\n## ")[0]) for name in re.findall(r"`([\w:]+)`", row[0][0])}
     found += [f"{AUDIT}: no row for {name}" for name in sorted(public - functions)]
     found += [f"{README}: over {MOST_LINES_OF_README} lines"] if pages[README].count("\n") > MOST_LINES_OF_README else []
@@ -108,8 +108,8 @@ def main():
               for external, name in re.findall(r'^pub (extern "C" )?fn (\w+)', "\n".join(read(crate + "src/*.rt")), re.M)}
     found = judged(pages, public)
     for page, mistake, words in PLANTED:
-        told = judged({**pages, page: pages[page].replace("\n", f"\n{mistake}\n", 1)}, public)
-        found += [] if any(words in said for said in told) else [f"planted in {page} and not found: {mistake}"]
+        told = "\n".join(judged({**pages, page: pages[page].replace("\n", f"\n{mistake}\n", 1)}, public))
+        found += [] if words in told else [f"planted in {page} and not found: {mistake}"]
     if found:
         sys.exit("\n".join(found))
     print(f"pages: {len(pages)} name what is there, AUDIT every rule and {len(public)} functions; {len(PLANTED)} mistakes planted and found")
