@@ -4,8 +4,8 @@
  * Two calls. violstream_price says what a list of detours costs; violstream_plan finds the best list. Both work on
  * 64-bit numbers and on rows that the caller lends. They allocate nothing and keep nothing between calls, so several
  * threads can call at once, each with rows of its own. Whatever the run, violstream_price takes at most 1,024 bytes of
- * stack beside its arguments and violstream_plan at most 6 KB; a plan at the limits takes a few milliseconds, at most some tens. C99
- * or later, or C++. Link with libviolstream.a (x86-64, beside the C library alone):
+ * stack beside its arguments and violstream_plan at most 6,144; a plan at the limits takes a few milliseconds, at most some
+ * tens. C99 or later, or C++. Link with libviolstream.a (x86-64), which needs the C library and nothing else:
  *
  *   cc example.c $(pkg-config --cflags --libs violstream)
  *
@@ -150,7 +150,7 @@
 extern "C" {
 #endif
 
-/* What to plan by: the one value of `rule`. What a plain sweep costs, violstream_price says of the empty list. */
+/* What to plan by: the one value of `rule`. What a sweep without detours costs, violstream_price says of the empty list. */
 enum violstream_rule {
     VIOLSTREAM_LEAST = 1 /* the well-formed list of smallest sum, the first of those with that sum */
 };
