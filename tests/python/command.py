@@ -170,7 +170,7 @@ def explained(at):
 
 
 def rewriting(at):
-    """An old sheet comes back with turn=0 where nothing stood; any other as it is. Files, statuses and words as for plan."""
+    """An old sheet comes back with turn=0 for an empty turn=; any other as it is. Files, statuses and words as for plan."""
     old, new = changed(3, b"turn="), changed(3, b"turn=0")
     at.write("old.run", old)
     at.must("./violstream rewrite old.run", 0, new, silent=True)
