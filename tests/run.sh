@@ -198,7 +198,7 @@ installed() {
 
 bench() {
     step "bench" env CC="$cc" "$here/bench/run.sh" --quick "$archive" > "$out/bench.log"
-    printf 'bench: planner, plain.c and paper.c give the same sums\n'
+    printf 'bench: planner, table.c and paper.c give the same sums\n'
 }
 
 # Every shell script, those that others read among them.

@@ -1,6 +1,6 @@
 -- Demand 2: times, legs and sum are the walk's, of the list in the rows and of a list handed in; no well-formed list has a smaller sum than the one that the planner
 -- leaves in the rows, ties by the fixed rule; and two answers that fit are equal.
--- A run's turn price is a number. Of a run that was read from a sheet it is the one that the reader gives, 12,000 where nothing stands after `turn=` (Turns).
+-- A run's turn price is a number. Of a run that was read from a sheet it is the one that the reader gives, 12,000 for an empty `turn=` (Turns).
 use Prim.Native.Nat.{ℕ, _≤_}
 use mathlib.Core.Path.{_≡_}
 use mathlib.Core.Logic.{_⊎_}

@@ -1,5 +1,5 @@
--- Demand 3: no head movement whatever, with more wants, a higher turn price or a head further right, beats the sum that we report.
--- Turn prices are numbers here too: of a run that was read from a sheet, the one that the reader gives, 12,000 where nothing stands after `turn=` (Turns).
+-- Demand 3: no movement that serves at least these reads, at no lower turn price, from no further left, has a smaller sum than we report.
+-- Turn prices are numbers here too: of a run that was read from a sheet, the one that the reader gives, 12,000 for an empty `turn=` (Turns).
 use Prim.Native.Nat.{ℕ, _≤_}
 use mathlib.Core.Path.{_≡_}
 use mathlib.Core.Bool.{false}

@@ -1,6 +1,6 @@
--- The request on empty turn prices (L3): nothing after `turn=` means the drives' own price; an old sheet is rewritten byte for byte with a 0 there,
--- and then means, whatever nothing means to its reader, what the old one meant when that was 0. Demands 2 and 3 speak of a run's price: for a run
--- that was read from a sheet it is the number that the reader gives by this rule.
+-- The request on empty turn prices (L3): an empty `turn=` means the drives' own price. An old sheet is rewritten with a 0 there, byte for byte the same
+-- elsewhere. Whatever an empty `turn=` means to a reader, it reads the new sheet as the old one was read when that was 0. Demands 2 and 3 speak of a
+-- run's price: for a run that was read from a sheet it is the number that the reader gives by this rule.
 use Prim.Native.Nat.{ℕ, _≤_, _<_}
 use Prim.Native.Char.{code}
 use mathlib.Core.Path.{_≡_}
@@ -20,7 +20,7 @@ use Rattle.answer_rewrite.specs.Rewriting.{rewritten, SheetRewritten}
 use Rattle.demands.specs.RefusalTable.{FirstBad, FirstThatApplies}
 use Rattle.demands.specs.Lines.{Stands, Number, LineIsBad, linesDue}
 
--- Behind two lines stands `turn=` with nothing after it, or with a number.
+-- Behind two lines stands an empty `turn=`, or one with a number.
 abbrev pub EmptyPrice : List ℕ → Type 0
 EmptyPrice sheet = Stands turnKey (λ text. text ≡ []) sheet 2
 
@@ -62,7 +62,7 @@ RewrittenBytes =
     → answer .refusal ≡ Accepted
     → Rewrites sheet row answer out
 
--- Whatever nothing means to the reader of the new sheet: it answers, and leaves in rows of any lengths, what the old reader, to whom nothing meant 0,
+-- Whatever an empty `turn=` means to the reader of the new sheet: it answers, and leaves in rows of any lengths, what the old reader, to whom that was 0,
 -- answered and left for the old sheet: head, price, files and wants, or the refusal, 19 among them. The name is the same.
 pub record ReadsAsBefore (old new : Reading) (oldRows newRows : RunRows) (oldName newName : List ℕ) : Type 0 where
   pub answers : new ≡ old

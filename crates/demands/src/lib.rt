@@ -1,2 +1,4 @@
-// demands: what the user asked for, as three theorems over the definitions of the crates below, and the worked cases as one table.
+// demands: what the user asked for, as theorems over the definitions of the crates below: the three demands, the worked cases as one table, and the
+// promises of the requests on tapes, the sweep's end, turn prices, figures, the plain engine, legs, aggregates, the rule and shared runs (L1 to L5, L9, L10,
+// L12, L14).
 // Statements in specs/, one short file each; their proofs in proofs/. No code.
