@@ -2,6 +2,6 @@
 pub mod Differing
 pub mod Pages
 pub mod Formed
-pub mod Sheets
+pub mod Prices
 pub mod Checked
 pub mod Determined
