@@ -1,69 +1,57 @@
-// answer_buys: from the bytes of a run sheet to the bytes of its figure sheet. For the program, which reads, calls this and writes.
-// It stands on the promises of the reader, of the planner and of the writers; the rows that they are lent are on its own stack.
-ghost use mathlib.Core.Path.{_≡_};
-ghost use mathlib.Core.Bool.{true};
-ghost use Rattle.runs.specs.Rows.{runAt};
-ghost use Rattle.text_bytes.specs.Text.{isName};
+// answer_buys: from the bytes of a run sheet to the bytes of the figure sheet of its plan. For the program, which reads, calls this and writes.
+// The way is that of answer_plan with another text.
+ghost use Rattle.sheet_runs.specs.SheetRuns.{runHeld};
+ghost use Rattle.sheet_figures.specs.FigureSheet.{FigureWritten};
+ghost use Rattle.answer_plan.specs.PlannedLists.{WrittenBy};
 ghost use Rattle.answer_buys.specs.Buys.{SheetBought};
-ghost use Rattle.answer_buys.specs.Private.{RunBought};
-use refusals::Verdict;
+use answer_plan::PlannedList;
 use refusals::refused;
+use sheet_runs::SheetRun;
+use sheet_runs::entries;
+use sheet_writer::Written;
 
-// The answer to a run: its plan, with rows for as many wants as a run can have and 5,120 words of working room, and what each detour of it buys.
-fn buys_run(
-    name: &[u8],
-    starts: &[u64],
-    lengths: &[u64],
-    aggregates: &[u64],
-    numbers: &[u64],
-    counts: &[u64],
-    head: u64,
-    turn: u64,
-    out: &mut [u8],
-) -> u64
-    requires { ⌜ isName (now name) ≡ true ⌝ }
-    ensures { λ r. ⌜ RunBought (now (name .entry)) (runAt starts lengths aggregates numbers counts head turn) (now (out .entry)) r (now (out .exit)) ⌝ }
+// The figure sheet of a sheet's run and a list.
+fn write_text(name: &[u8], run: SheetRun, froms: &[u64], tos: &[u64], out: &mut [u8]) -> Written
+    ensures { λ r. ⌜ FigureWritten (now (name .entry)) (runHeld run) (now (froms .entry)) (now (tos .entry)) (now (out .entry)) r (now (out .exit)) ⌝ }
 {
-    let mut froms = [0u64; 63];
-    let mut tos = [0u64; 63];
-    let mut times = [0u64; 64];
-    let mut legs = [0u64; 64];
-    let mut room = [0u64; 5120];
-    let plan = planner::plan(
-        starts,
-        lengths,
-        aggregates,
-        numbers,
-        counts,
+    let starts = run.starts;
+    let lengths = run.lengths;
+    let aggregates = run.aggregates;
+    let numbers = run.numbers;
+    let counts = run.counts;
+    let head = run.head;
+    let turn = run.turn;
+    sheet_figures::write_figures(
+        name,
+        entries(&starts, run.files),
+        entries(&lengths, run.files),
+        entries(&aggregates, run.files),
+        entries(&numbers, run.wants),
+        entries(&counts, run.wants),
         head,
         turn,
-        &mut froms,
-        &mut tos,
-        &mut times,
-        &mut legs,
-        &mut room,
-    );
-    let refusal = plan.refusal;
-    let verdict = Verdict {
-        refusal,
-        place: plan.place,
-    };
+        froms,
+        tos,
+        out,
+    )
+}
+
+// The figure sheet of a list, or the two lines of its refusal, in the first bytes of a row: how many they are.
+fn write_list(sheet: &[u8], run: SheetRun, list: PlannedList, out: &mut [u8]) -> u64
+    ensures { λ r. ⌜ WrittenBy FigureWritten (now (sheet .entry)) run list (now (out .entry)) r (now (out .exit)) ⌝ }
+{
+    let verdict = list.verdict;
     if refused(verdict) {
         let lines = sheet_writer::write_refusal(verdict, out);
         return lines.bytes;
     }
-    let n = plan.detours as usize;
-    let text = sheet_figures::write_figures(
-        name,
-        starts,
-        lengths,
-        aggregates,
-        numbers,
-        counts,
-        head,
-        turn,
-        &froms[..n],
-        &tos[..n],
+    let froms = list.froms;
+    let tos = list.tos;
+    let text = write_text(
+        sheet_reader::tape_name(sheet),
+        run,
+        entries(&froms, list.detours),
+        entries(&tos, list.detours),
         out,
     );
     text.bytes
@@ -73,41 +61,7 @@ fn buys_run(
 pub fn buys(sheet: &[u8], out: &mut [u8]) -> u64
     ensures { λ r. ⌜ SheetBought (now (sheet .entry)) (now (out .entry)) r (now (out .exit)) ⌝ }
 {
-    let mut starts = [0u64; 256];
-    let mut lengths = [0u64; 256];
-    let mut aggregates = [0u64; 256];
-    let mut numbers = [0u64; 64];
-    let mut counts = [0u64; 64];
-    let read = sheet_reader::read_sheet(
-        sheet,
-        &mut starts,
-        &mut lengths,
-        &mut aggregates,
-        &mut numbers,
-        &mut counts,
-    );
-    let refusal = read.refusal;
-    let verdict = Verdict {
-        refusal,
-        place: read.place,
-    };
-    if refused(verdict) {
-        let lines = sheet_writer::write_refusal(verdict, out);
-        return lines.bytes;
-    }
-    let files = read.files as usize;
-    let wants = read.wants as usize;
-    let head = read.head;
-    let turn = read.turn;
-    buys_run(
-        sheet_reader::tape_name(sheet),
-        &starts[..files],
-        &lengths[..files],
-        &aggregates[..files],
-        &numbers[..wants],
-        &counts[..wants],
-        head,
-        turn,
-        out,
-    )
+    let run = sheet_runs::read_run(sheet);
+    let list = answer_plan::list_run(run);
+    write_list(sheet, run, list, out)
 }

@@ -1,17 +1,17 @@
 // answer_field: from the bytes of a run sheet to the bytes of the answer, by the plain engine: for the field unit, which has no room to lend.
-// It stands on the promises of the reader, of that engine and of the writers; the rows that they are lent are on its own stack.
-ghost use mathlib.Core.Path.{_≡_};
-ghost use mathlib.Core.Bool.{true};
+// The way is that of answer_plan with another engine; the rows that it is lent are on its own stack.
 ghost use Rattle.runs.specs.Rows.{runAt};
-ghost use Rattle.text_bytes.specs.Text.{isName};
-ghost use Rattle.answer_field.specs.Field.{SheetFielded};
-ghost use Rattle.answer_field.specs.Private.{RunFielded};
+ghost use Rattle.answer_plan.specs.PlannedLists.{RunListed};
+ghost use Rattle.answer_field.specs.Field.{fieldChecks, SheetFielded};
+ghost use Rattle.answer_field.specs.Private.{RowsFielded};
+use answer_plan::PlannedList;
 use refusals::Verdict;
 use refusals::refused;
+use sheet_runs::SheetRun;
+use sheet_runs::entries;
 
-// The answer to a run: its plan, with rows for eight wants, and the plan's text.
-fn field_run(
-    name: &[u8],
+// The plan of a run, with times and legs for eight wants.
+fn plan_rows(
     starts: &[u64],
     lengths: &[u64],
     aggregates: &[u64],
@@ -19,13 +19,11 @@ fn field_run(
     counts: &[u64],
     head: u64,
     turn: u64,
-    out: &mut [u8],
-) -> u64
-    requires { ⌜ isName (now name) ≡ true ⌝ }
-    ensures { λ r. ⌜ RunFielded (now (name .entry)) (runAt starts lengths aggregates numbers counts head turn) (now (out .entry)) r (now (out .exit)) ⌝ }
+) -> PlannedList
+    ensures { λ r. ⌜ RowsFielded (runAt starts lengths aggregates numbers counts head turn) r ⌝ }
 {
-    let mut froms = [0u64; 7];
-    let mut tos = [0u64; 7];
+    let mut froms = [0u64; 63];
+    let mut tos = [0u64; 63];
     let mut times = [0u64; 8];
     let mut legs = [0u64; 8];
     let plan = engine_plain::plan(
@@ -46,66 +44,50 @@ fn field_run(
         refusal,
         place: plan.place,
     };
-    if refused(verdict) {
-        let lines = sheet_writer::write_refusal(verdict, out);
-        return lines.bytes;
+    PlannedList {
+        verdict,
+        detours: plan.detours,
+        froms,
+        tos,
     }
-    let n = plan.detours as usize;
-    let text = sheet_writer::write_plan(
-        name,
-        starts,
-        lengths,
-        aggregates,
-        numbers,
-        counts,
-        head,
-        turn,
-        &froms[..n],
-        &tos[..n],
-        out,
-    );
-    text.bytes
+}
+
+// The least list of a sheet's run.
+fn list_run(run: SheetRun) -> PlannedList
+    ensures { λ r. ⌜ RunListed fieldChecks run r ⌝ }
+{
+    let verdict = run.verdict;
+    if refused(verdict) {
+        return PlannedList {
+            verdict,
+            detours: 0,
+            froms: [0u64; 63],
+            tos: [0u64; 63],
+        };
+    }
+    let files = run.files;
+    let wants = run.wants;
+    let starts = run.starts;
+    let lengths = run.lengths;
+    let aggregates = run.aggregates;
+    let numbers = run.numbers;
+    let counts = run.counts;
+    plan_rows(
+        entries(&starts, files),
+        entries(&lengths, files),
+        entries(&aggregates, files),
+        entries(&numbers, wants),
+        entries(&counts, wants),
+        run.head,
+        run.turn,
+    )
 }
 
 // The answer to a sheet, in the first bytes of a row: how many they are. A row shorter than the answer takes none of it, and the number is 0.
 pub fn field(sheet: &[u8], out: &mut [u8]) -> u64
     ensures { λ r. ⌜ SheetFielded (now (sheet .entry)) (now (out .entry)) r (now (out .exit)) ⌝ }
 {
-    let mut starts = [0u64; 256];
-    let mut lengths = [0u64; 256];
-    let mut aggregates = [0u64; 256];
-    let mut numbers = [0u64; 64];
-    let mut counts = [0u64; 64];
-    let read = sheet_reader::read_sheet(
-        sheet,
-        &mut starts,
-        &mut lengths,
-        &mut aggregates,
-        &mut numbers,
-        &mut counts,
-    );
-    let refusal = read.refusal;
-    let verdict = Verdict {
-        refusal,
-        place: read.place,
-    };
-    if refused(verdict) {
-        let lines = sheet_writer::write_refusal(verdict, out);
-        return lines.bytes;
-    }
-    let files = read.files as usize;
-    let wants = read.wants as usize;
-    let head = read.head;
-    let turn = read.turn;
-    field_run(
-        sheet_reader::tape_name(sheet),
-        &starts[..files],
-        &lengths[..files],
-        &aggregates[..files],
-        &numbers[..wants],
-        &counts[..wants],
-        head,
-        turn,
-        out,
-    )
+    let run = sheet_runs::read_run(sheet);
+    let list = list_run(run);
+    answer_plan::write_list(sheet, run, list, out)
 }

@@ -1,34 +1,36 @@
--- From the planner's answer to the answer's text: the two lines where it refuses, else the plan sheet of the list that it left in the rows.
+-- What the planner leaves in the program's rows: nothing where it refuses, else the least list; and a text that is handed out.
 use Prim.Native.Nat.{ℕ, _≤_, _-_}
 use mathlib.Core.Path.{_≡_, refl, sym, ap, _∙_, subst}
-use mathlib.Core.Bool.{Bool, true, false, not, true≢false}
+use mathlib.Core.Bool.{Bool, true, false, true≢false}
 use mathlib.Core.List.{List, [], _∷_, _++_, map}
 use native.Mathlib.Omega.{arith}
 use lib.ListN.{length, take, drop}
 use lib.Dec.{ltb}
 use borrow.Author.Tests.{le-ltb}
-use Rattle.refusals.specs.declared.Refusal.the-variants.{ShortRow, ShortRoom, BadName}
+use Rattle.refusals.specs.declared.Refusal.the-variants.{ShortRow, ShortRoom}
 use Rattle.refusals.specs.declared.Verdict.{Verdict}
-use Rattle.refusals.specs.Refusals.{isRefusal, accepted, refuseIf, firstOf}
-use Rattle.refusals.proofs.Verdicts.{refuses, AllAccept, all-accept, none-refuses}
+use Rattle.refusals.specs.Refusals.{isRefusal, refuseIf, firstOf}
+use Rattle.refusals.proofs.Verdicts.{refuses, first-refuses, first-passes, all-accept}
 use Rattle.runs.specs.Run.{Run, stopsOf}
+use Rattle.runs.specs.Alone.{zeros}
 use Rattle.runs.specs.Judging.{judgeOf}
-use Rattle.runs.specs.Lists.{Detour, listOf, listVerdict}
+use Rattle.runs.specs.Lists.{Detour}
 use Rattle.runs.proofs.Judged.{accepted-run}
 use Rattle.runs.proofs.Stops.{stops-few}
 use Rattle.walk.specs.declared.Answer.{Answer}
 use Rattle.walk.specs.Price.{refusalAnswer, pricedAnswer}
 use Rattle.planner.specs.Plan.{Plans, Planned, planVerdict}
 use Rattle.planner.specs.Rows.{Rows, rowsOf}
-use Rattle.engine_stops.proofs.Halves.{list-accepted, list-of-halves, halves-even, front, holds-front}
-use Rattle.text_bytes.specs.Text.{isName}
+use Rattle.engine_stops.proofs.Halves.{half-long, front, holds-front}
+use Rattle.sheet_runs.specs.declared.SheetRun.{SheetRun}
+use Rattle.sheet_runs.specs.SheetRuns.{filledTo, runHeld}
+use Rattle.sheet_runs.proofs.Filling.{filled-rest}
 use Rattle.sheet_writer.specs.declared.Written.{Written}
 use Rattle.sheet_writer.specs.Writing.{Handed, rowVerdict, writtenAnswer, writtenRow}
-use Rattle.sheet_writer.specs.PlanSheet.{planText, planSheetVerdict}
-use Rattle.sheet_writer.specs.RefusalLines.{refusalText}
-use Rattle.sheet_writer.proofs.Sheets.{last-verdict}
-use Rattle.answer_plan.specs.Recall.{roomWords, runChecks, AnswersRun, Recalled, bytesPut, rowPut}
-use Rattle.answer_plan.specs.Private.{RunRecalled}
+use Rattle.answer_plan.specs.declared.PlannedList.{PlannedList}
+use Rattle.answer_plan.specs.Recall.{roomWords, runChecks, bytesPut, rowPut}
+use Rattle.answer_plan.specs.PlannedLists.{inList, ListedUnder, RunListed}
+use Rattle.answer_plan.specs.Private.{RowsPlanned}
 
 -- A text that is handed out is in the row, where it has the room.
 module _ (text row : List ℕ) (w : Written) (row′ : List ℕ) (h : Handed (rowVerdict text row) text row w row′) where
@@ -47,16 +49,6 @@ module _ (text row : List ℕ) (w : Written) (row′ : List ℕ) (h : Handed (ro
       go : (b : Bool) → ltb (length row) (length text) ≡ b → writtenRow (rowVerdict text row) text row ≡ rowPut text row
       go true e = rw e
       go false e = rw e
-
-  pub handed-out : (v : Verdict) (name : List ℕ) (run : Run) → AnswersRun v name run text → Recalled v name run row (w .bytes) row′
-  handed-out v name run a = record { text = text; answers = a; bytes = handed-bytes; left = handed-row }
-
--- The lines of a verdict that refuses.
-pub refused-out : (v w : Verdict) → w ≡ v → refuses w ≡ true → (name : List ℕ) (run : Run) (row : List ℕ) (out : Written) (row′ : List ℕ)
-    → Handed (rowVerdict (refusalText w) row) (refusalText w) row out row′ → Recalled v name run row (out .bytes) row′
-refused-out v w e r name run row out row′ h =
-    handed-out (refusalText w) row out row′ h v name run
-    (record { refused = λ q. ap refusalText e; planned = λ q. absurd (true≢false (sym r ∙ ap refuses e ∙ q)) })
 
 -- The program's rows.
 pub record Lent (rows : Rows) : Type 0 where
@@ -94,12 +86,6 @@ module _ (run : Run) (rows : Rows) (lent : Lent rows) where
         let says = plans .refused (verdict-says ∙ e) .says in
         (w-is ∙ ap (λ x. record { refusal = x .refusal; place = x .place }) says ∙ run-verdict, ap refuses w-is ∙ sym f-is ∙ e)
 
-    pub run-refused : f ≡ true → (name row : List ℕ) (w : Verdict) → w ≡ record { refusal = a .refusal; place = a .place } → (out : Written) (row′ : List ℕ)
-        → Handed (rowVerdict (refusalText w) row) (refusalText w) row out row′ → RunRecalled name run row (out .bytes) row′
-    run-refused e name row w w-is out row′ h =
-        let is = run-refusal e w w-is in
-        refused-out (firstOf (runChecks run)) w (is .0) (is .1) name run row out row′ h
-
     module _ (passed : f ≡ false) where
       pub planned : Planned run rows a after
       planned = plans .planned (verdict-says ∙ passed)
@@ -130,26 +116,50 @@ module _ (run : Run) (rows : Rows) (lent : Lent rows) where
       pub listed-tos : take (a .detours) (after .tos) ≡ map (λ d. d .to) (planned .list)
       listed-tos = front (λ d. d .to) (planned .list) (a .detours) (rows .tos) (after .tos) n-is tos-are
 
-      pub list-passes : refuses (listVerdict (stopsOf run) (map (λ d. d .from) (planned .list)) (map (λ d. d .to) (planned .list))) ≡ false
-      list-passes =
-          list-accepted (stopsOf run) (map (λ d. d .from) (planned .list)) (map (λ d. d .to) (planned .list)) (halves-even (λ d. d .from) (λ d. d .to) (planned .list))
-          (rw (list-of-halves (planned .list)) (planned .least .formed))
+-- A list in a row that was zeros.
+pub listed-in : (f : Detour → ℕ) (list : List Detour) (row row′ : List ℕ) → row ≡ zeros 63 → row′ ≡ map f list ++ drop (length list) row → row′ ≡ filledTo 63 (map f list)
+listed-in f list row row′ z is =
+    is ∙ ap (λ x. map f list ++ drop (length list) x) z ∙ ap (λ n. map f list ++ drop n (zeros 63)) (sym (half-long f list)) ∙ filled-rest (map f list) 63
 
-      pub run-passes : refuses (judgeOf run) ≡ false
-      run-passes = all-accept (runChecks run) accepts .0
+-- A list by value, field by field.
+abbrev pub by-value : Answer → List ℕ → List ℕ → PlannedList
+by-value a froms tos = record { verdict = record { refusal = a .refusal; place = a .place }; detours = a .detours; froms = froms; tos = tos }
 
-      -- Of the writer's checks only that of the row is left.
-      row-decides : (name row : List ℕ) → isName name ≡ true
-          → planSheetVerdict name run (map (λ d. d .from) (planned .list)) (map (λ d. d .to) (planned .list)) row ≡ rowVerdict (planText name run (map (λ d. d .from) (planned .list)) (map (λ d. d .to) (planned .list))) row
-      unfolding planSheetVerdict
-      row-decides name row named =
-          rw (run-passes, named, list-passes) (last-verdict (planText name run (map (λ d. d .from) (planned .list)) (map (λ d. d .to) (planned .list))) row)
+pub same-value : {a b : Answer} {froms froms′ tos tos′ : List ℕ} → a ≡ b → froms ≡ froms′ → tos ≡ tos′ → by-value a froms tos ≡ by-value b froms′ tos′
+same-value e f g = rw (e, f, g)
 
-      pub run-recalled : (name row : List ℕ) → isName name ≡ true → (out : Written) (row′ : List ℕ)
-          → Handed (planSheetVerdict name run (take (a .detours) (after .froms)) (take (a .detours) (after .tos)) row) (planText name run (take (a .detours) (after .froms)) (take (a .detours) (after .tos))) row out row′
-          → RunRecalled name run row (out .bytes) row′
-      run-recalled name row named out row′ h =
-          handed-out (planText name run (map (λ d. d .from) (planned .list)) (map (λ d. d .to) (planned .list))) row out row′
-          (rw (listed-froms, listed-tos, row-decides name row named) at h)
-          (firstOf (runChecks run)) name run
-          (record { refused = λ q. absurd (true≢false (sym q ∙ accepts)); planned = λ q. record { list = planned .list; least = planned .least; says = refl } })
+-- The planner's answer and its list by value, where it was lent rows of zeros for that.
+pub rows-planned : (run : Run) (rows : Rows) → Lent rows → rows .froms ≡ zeros 63 → rows .tos ≡ zeros 63 → (a : Answer) (after : Rows) → Plans run rows a after → RowsPlanned run (by-value a (after .froms) (after .tos))
+unfolding pricedAnswer
+rows-planned run rows lent zf zt a after plans =
+    let v-is = run-verdict run rows lent in
+    record {
+      refused = λ e.
+          let p = plans .refused (ap refuses v-is ∙ e) in
+          same-value (p .says ∙ ap refusalAnswer v-is) (ap (λ x. x .froms) (p .kept) ∙ zf) (ap (λ x. x .tos) (p .kept) ∙ zt);
+      planned = λ e.
+          let p = plans .planned (ap refuses v-is ∙ e) in
+          record {
+            list = p .list;
+            least = p .least;
+            says =
+                same-value (p .says) (listed-in (λ d. d .from) (p .list) (rows .froms) (after .froms) zf (ap (λ x. x .froms) (p .rows)))
+                (listed-in (λ d. d .to) (p .list) (rows .tos) (after .tos) zt (ap (λ x. x .tos) (p .rows)));
+          };
+    }
+
+-- The list of a sheet's run by value: none on its own refusal, else that of the run that it holds.
+module _ (checks : Run → List Verdict) (r : SheetRun) (f : Bool) (f-is : f ≡ isRefusal (r .verdict .refusal)) where
+  pub unlisted : f ≡ true → (l : PlannedList) → l ≡ inList (r .verdict) [] → RunListed checks r l
+  unlisted e l is =
+      let refuses-so : refuses (r .verdict) ≡ true = sym f-is ∙ e in
+      let v-is = first-refuses (r .verdict) (checks (runHeld r)) refuses-so in
+      record { refused = λ q. is ∙ ap (λ v. inList v []) v-is; planned = λ q. absurd (true≢false (sym refuses-so ∙ ap refuses v-is ∙ q)) }
+
+  pub run-listed : f ≡ false → (run : Run) → run ≡ runHeld r → (l : PlannedList) → ListedUnder (firstOf (checks run)) run l → RunListed checks r l
+  run-listed e run is l listed =
+      subst (λ v. ListedUnder v (runHeld r) l) (sym (first-passes (r .verdict) (checks (runHeld r)) (sym f-is ∙ e))) (subst (λ x. ListedUnder (firstOf (checks x)) x l) is listed)
+
+-- What passes the planner's checks has passed the judging.
+pub run-judged : (run : Run) → refuses (firstOf (runChecks run)) ≡ false → refuses (judgeOf run) ≡ false
+run-judged run e = all-accept (runChecks run) e .0

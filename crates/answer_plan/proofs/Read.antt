@@ -23,9 +23,7 @@ use Rattle.sheet_reader.proofs.Answers.{in-turn}
 use Rattle.sheet_writer.specs.declared.Written.{Written}
 use Rattle.sheet_writer.specs.Writing.{Handed, rowVerdict}
 use Rattle.sheet_writer.specs.RefusalLines.{refusalText}
-use Rattle.answer_plan.specs.Recall.{verdictBy, Recalled, SheetRecalledBy}
-use Rattle.answer_plan.proofs.Planned.{refused-out}
-use Rattle.answer_plan.specs.Private.{RunRecalledBy}
+use Rattle.answer_plan.specs.Recall.{verdictBy}
 
 -- The program's rows.
 pub record Wide (rows : RunRows) : Type 0 where
@@ -81,12 +79,6 @@ module _ (checks : Run → List Verdict) (sheet : List ℕ) (rows : RunRows) (wi
         let read-so : r ≡ refusedReading early = rw refuses-so at answer-is in
         let is : w ≡ early = w-is ∙ ap (λ x. record { refusal = x .refusal; place = x .place }) read-so in
         (is ∙ first-refuses early (checks (sheetRun sheet)) refuses-so ∙ in-turn (sheetVerdict sheet) (ruleVerdict sheet) (checks (sheetRun sheet)), ap refuses is ∙ refuses-so)
-
-    pub sheet-refused : f ≡ true → (row : List ℕ) (w : Verdict) → w ≡ record { refusal = r .refusal; place = r .place } → (out : Written) (row′ : List ℕ)
-        → Handed (rowVerdict (refusalText w) row) (refusalText w) row out row′ → SheetRecalledBy checks sheet row (out .bytes) row′
-    sheet-refused e row w w-is out row′ h =
-        let is = sheet-refusal e w w-is in
-        refused-out (verdictBy checks sheet) w (is .0) (is .1) (sheetName sheet) (sheetRun sheet) row out row′ h
 
     module _ (passed : f ≡ false) where
       pub good-early : refuses early ≡ false
@@ -173,12 +165,3 @@ module _ (checks : Run → List Verdict) (sheet : List ℕ) (rows : RunRows) (wi
       pub run-decides : firstOf (checks (sheetRun sheet)) ≡ verdictBy checks sheet
       unfolding verdictBy
       run-decides = sym (first-passes early (checks (sheetRun sheet)) good-early) ∙ in-turn (sheetVerdict sheet) (ruleVerdict sheet) (checks (sheetRun sheet))
-
-      -- The answer to the run that was read is the answer to the sheet.
-      pub sheet-recalled : (name : List ℕ) → name ≡ readName sheet → (row : List ℕ) (n : ℕ) (row′ : List ℕ)
-          → RunRecalledBy checks name (runOf (take (r .files) (rows′ .starts)) (take (r .files) (rows′ .lengths)) (take (r .files) (rows′ .aggregates)) (take (r .wants) (rows′ .numbers)) (take (r .wants) (rows′ .counts)) (r .head) (r .turn)) row n row′
-          → SheetRecalledBy checks sheet row n row′
-      sheet-recalled name e row n row′ h =
-          let by-run : RunRecalledBy checks name (sheetRun sheet) row n row′ = subst (λ x. RunRecalledBy checks name x row n row′) run-is h in
-          let by-name : RunRecalledBy checks (sheetName sheet) (sheetRun sheet) row n row′ = subst (λ x. RunRecalledBy checks x (sheetRun sheet) row n row′) (e ∙ name-is) by-run in
-          subst (λ x. Recalled x (sheetName sheet) (sheetRun sheet) row n row′) run-decides by-name

@@ -1,17 +1,28 @@
 // answer_plan: from the bytes of a run sheet to the bytes of the answer. For the program, which reads, calls this and writes.
-// It stands on the promises of the reader, of the planner and of the writers; the rows that they are lent are on its own stack.
-ghost use mathlib.Core.Path.{_≡_};
-ghost use mathlib.Core.Bool.{true};
+// The way to an answer is a sheet's run, its list and a text; another engine or another text takes the place of one of these. It stands on the
+// promises of the reader, of the planner and of the writers; the rows that they are lent are on its own stack.
 ghost use Rattle.runs.specs.Rows.{runAt};
-ghost use Rattle.text_bytes.specs.Text.{isName};
-ghost use Rattle.answer_plan.specs.Recall.{SheetRecalled};
-ghost use Rattle.answer_plan.specs.Private.{RunRecalled};
+ghost use Rattle.sheet_runs.specs.SheetRuns.{runHeld};
+ghost use Rattle.sheet_writer.specs.PlanSheet.{PlanWritten};
+ghost use Rattle.answer_plan.specs.Recall.{runChecks, SheetRecalled};
+ghost use Rattle.answer_plan.specs.PlannedLists.{RunListed, ListWritten};
+ghost use Rattle.answer_plan.specs.Private.{RowsPlanned};
 use refusals::Verdict;
 use refusals::refused;
+use sheet_runs::SheetRun;
+use sheet_runs::entries;
+use sheet_writer::Written;
 
-// The answer to a run: its plan, with rows for as many wants as a run can have and 5,120 words of working room, and the plan's text.
-fn recall_run(
-    name: &[u8],
+// A verdict, and a list where it accepts: so many entries of each row, and zeros behind them.
+pub struct PlannedList {
+    pub verdict: Verdict,
+    pub detours: u64,
+    pub froms: [u64; 63],
+    pub tos: [u64; 63],
+}
+
+// The plan of a run, with rows for as many wants as a run can have and 5,120 words of working room.
+fn plan_rows(
     starts: &[u64],
     lengths: &[u64],
     aggregates: &[u64],
@@ -19,10 +30,8 @@ fn recall_run(
     counts: &[u64],
     head: u64,
     turn: u64,
-    out: &mut [u8],
-) -> u64
-    requires { ⌜ isName (now name) ≡ true ⌝ }
-    ensures { λ r. ⌜ RunRecalled (now (name .entry)) (runAt starts lengths aggregates numbers counts head turn) (now (out .entry)) r (now (out .exit)) ⌝ }
+) -> PlannedList
+    ensures { λ r. ⌜ RowsPlanned (runAt starts lengths aggregates numbers counts head turn) r ⌝ }
 {
     let mut froms = [0u64; 63];
     let mut tos = [0u64; 63];
@@ -48,22 +57,87 @@ fn recall_run(
         refusal,
         place: plan.place,
     };
+    PlannedList {
+        verdict,
+        detours: plan.detours,
+        froms,
+        tos,
+    }
+}
+
+// The least list of a sheet's run.
+pub fn list_run(run: SheetRun) -> PlannedList
+    ensures { λ r. ⌜ RunListed runChecks run r ⌝ }
+{
+    let verdict = run.verdict;
+    if refused(verdict) {
+        return PlannedList {
+            verdict,
+            detours: 0,
+            froms: [0u64; 63],
+            tos: [0u64; 63],
+        };
+    }
+    let files = run.files;
+    let wants = run.wants;
+    let starts = run.starts;
+    let lengths = run.lengths;
+    let aggregates = run.aggregates;
+    let numbers = run.numbers;
+    let counts = run.counts;
+    plan_rows(
+        entries(&starts, files),
+        entries(&lengths, files),
+        entries(&aggregates, files),
+        entries(&numbers, wants),
+        entries(&counts, wants),
+        run.head,
+        run.turn,
+    )
+}
+
+// The plan sheet of a sheet's run and a list.
+fn write_text(name: &[u8], run: SheetRun, froms: &[u64], tos: &[u64], out: &mut [u8]) -> Written
+    ensures { λ r. ⌜ PlanWritten (now (name .entry)) (runHeld run) (now (froms .entry)) (now (tos .entry)) (now (out .entry)) r (now (out .exit)) ⌝ }
+{
+    let starts = run.starts;
+    let lengths = run.lengths;
+    let aggregates = run.aggregates;
+    let numbers = run.numbers;
+    let counts = run.counts;
+    let head = run.head;
+    let turn = run.turn;
+    sheet_writer::write_plan(
+        name,
+        entries(&starts, run.files),
+        entries(&lengths, run.files),
+        entries(&aggregates, run.files),
+        entries(&numbers, run.wants),
+        entries(&counts, run.wants),
+        head,
+        turn,
+        froms,
+        tos,
+        out,
+    )
+}
+
+// The plan sheet of a list, or the two lines of its refusal, in the first bytes of a row: how many they are.
+pub fn write_list(sheet: &[u8], run: SheetRun, list: PlannedList, out: &mut [u8]) -> u64
+    ensures { λ r. ⌜ ListWritten (now (sheet .entry)) run list (now (out .entry)) r (now (out .exit)) ⌝ }
+{
+    let verdict = list.verdict;
     if refused(verdict) {
         let lines = sheet_writer::write_refusal(verdict, out);
         return lines.bytes;
     }
-    let n = plan.detours as usize;
-    let text = sheet_writer::write_plan(
-        name,
-        starts,
-        lengths,
-        aggregates,
-        numbers,
-        counts,
-        head,
-        turn,
-        &froms[..n],
-        &tos[..n],
+    let froms = list.froms;
+    let tos = list.tos;
+    let text = write_text(
+        sheet_reader::tape_name(sheet),
+        run,
+        entries(&froms, list.detours),
+        entries(&tos, list.detours),
         out,
     );
     text.bytes
@@ -73,41 +147,7 @@ fn recall_run(
 pub fn recall(sheet: &[u8], out: &mut [u8]) -> u64
     ensures { λ r. ⌜ SheetRecalled (now (sheet .entry)) (now (out .entry)) r (now (out .exit)) ⌝ }
 {
-    let mut starts = [0u64; 256];
-    let mut lengths = [0u64; 256];
-    let mut aggregates = [0u64; 256];
-    let mut numbers = [0u64; 64];
-    let mut counts = [0u64; 64];
-    let read = sheet_reader::read_sheet(
-        sheet,
-        &mut starts,
-        &mut lengths,
-        &mut aggregates,
-        &mut numbers,
-        &mut counts,
-    );
-    let refusal = read.refusal;
-    let verdict = Verdict {
-        refusal,
-        place: read.place,
-    };
-    if refused(verdict) {
-        let lines = sheet_writer::write_refusal(verdict, out);
-        return lines.bytes;
-    }
-    let files = read.files as usize;
-    let wants = read.wants as usize;
-    let head = read.head;
-    let turn = read.turn;
-    recall_run(
-        sheet_reader::tape_name(sheet),
-        &starts[..files],
-        &lengths[..files],
-        &aggregates[..files],
-        &numbers[..wants],
-        &counts[..wants],
-        head,
-        turn,
-        out,
-    )
+    let run = sheet_runs::read_run(sheet);
+    let list = list_run(run);
+    write_list(sheet, run, list, out)
 }

@@ -4,6 +4,8 @@ ghost use Prim.Native.Nat.{_<_};
 use libc::STDOUT_FILENO;
 use refusals::Verdict;
 use refusals::refused;
+use sheet_runs::entries;
+use text_inputs::front;
 
 // The next number in a row of numbers below 2^31 - 1.
 fn next(number: u64) -> u64 {
@@ -25,25 +27,6 @@ fn mixed(text: &[u8], before: u64) -> u64 {
         i += 1;
     }
     sum
-}
-
-// The first n bytes of a row, or the row where it has fewer.
-fn front(row: &[u8], n: u64) -> &[u8] {
-    let start: usize = 0;
-    let end = n as usize;
-    if end <= row.len() {
-        return &row[start..end];
-    }
-    row
-}
-
-// The first n entries of a list's row.
-fn entries(row: &[u64], n: usize) -> &[u64] {
-    let start: usize = 0;
-    if n <= row.len() {
-        return &row[start..n];
-    }
-    row
 }
 
 // Six wanted files, in every fourth run two of them in one aggregate, and up to three detours: drawn by three numbers.
@@ -72,7 +55,7 @@ fn show(a: u64, b: u64, c: u64, before: u64) -> u64 {
     let second = 3 + c / 2 % 2;
     let froms = [first, second, 2];
     let tos = [first + c / 4 % 2, second + c / 8 % 4, 2 + c / 32 % 5];
-    let n = (c / 256 % 4) as usize;
+    let n = c / 256 % 4;
     let mut out = [0u8; 4492];
     let sheet = sheet_figures::write_figures(
         b"D",

@@ -2,16 +2,7 @@
 // The answer is proved in `answer_plan`; what is read and written here is tested and not proved.
 use libc::STDIN_FILENO;
 use libc::STDOUT_FILENO;
-
-// The first n bytes of a row, or the row where it has fewer.
-fn front(row: &[u8], n: u64) -> &[u8] {
-    let start: usize = 0;
-    let end = n as usize;
-    if end <= row.len() {
-        return &row[start..end];
-    }
-    row
-}
+use text_inputs::front;
 
 // A byte more than a sheet may have is read. No answer is longer than 7,644 bytes.
 fn main() {

@@ -4,23 +4,7 @@ use libc::STDIN_FILENO;
 use libc::STDOUT_FILENO;
 use refusals::Verdict;
 use refusals::refused;
-
-// The first n bytes of a row, or the row where it has fewer.
-fn front(row: &[u8], n: u64) -> &[u8] {
-    let start: usize = 0;
-    let end = n as usize;
-    if end <= row.len() {
-        return &row[start..end];
-    }
-    row
-}
-
-// The two lines of a refusal, which are at most 38 bytes.
-fn print_refusal(verdict: Verdict) {
-    let mut lines = [0u8; 38];
-    let said = sheet_writer::write_refusal(verdict, &mut lines);
-    io::write_all(STDOUT_FILENO, front(&lines, said.bytes));
-}
+use text_inputs::front;
 
 // A byte more than a sheet may have is read. No result is longer than a sheet may be.
 fn main() {
@@ -34,7 +18,8 @@ fn main() {
         place: written.place,
     };
     if refused(verdict) {
-        print_refusal(verdict);
+        let lines = sheet_writer::write_refusal(verdict, &mut out);
+        io::write_all(STDOUT_FILENO, front(&out, lines.bytes));
         return;
     }
     io::write_all(STDOUT_FILENO, front(&out, written.bytes));

@@ -24,6 +24,11 @@ use Rattle.sheet_runs.specs.SheetRuns.{earlyVerdict, filledTo, inRows, r
 pub run-determined : (sheet : List ℕ) (r s : SheetRun) → r ≡ runRead sheet → s ≡ runRead sheet → r ≡ s
 run-determined sheet r s p q = p ∙ sym q
 
+-- The run of the entries that are taken from the rows.
+pub held-by : (r : SheetRun) {starts lengths aggregates numbers counts : List ℕ} → starts ≡ take (r .files) (r .starts) → lengths ≡ take (r .files) (r .lengths) → aggregates ≡ take (r .files) (r .aggregates)
+    → numbers ≡ take (r .wants) (r .numbers) → counts ≡ take (r .wants) (r .counts) → runOf starts lengths aggregates numbers counts (r .head) (r .turn) ≡ runHeld r
+held-by r s l a n c = rw (s, l, a, n, c)
+
 -- What an accepted sheet's run by value holds: the sheet's run, under its name, and what is left to check decides.
 pub record SheetHolds (sheet : List ℕ) (r : SheetRun) : Type 0 where
   pub good : refuses (sheetVerdict sheet) ≡ false

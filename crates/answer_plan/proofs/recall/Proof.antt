@@ -1,134 +1,36 @@
--- `answer_plan::recall` meets its contract: the two lines where the reader refuses, else the answer to the run that it read.
+-- `answer_plan::recall` meets its contract: what is written of the list of the sheet's run is the answer to the sheet.
 -- Assumes nothing.
-use mathlib.Core.Path.{refl, sym}
-use lib.Seq.{length-take-le}
-use Rattle.answer_plan.proofs.Read.{Wide, sheet-refused, in-starts, in-lengths, in-aggregates, in-numbers, in-counts, named, sheet-recalled}
+use Rattle.answer_plan.proofs.Answered.{recalled}
 use Rattle.answer_plan.specs.Recall.{runChecks}
+use Rattle.answer_plan.proofs.Planned.{run-judged}
 use borrow.Author.Needs.{needs}
 use Rattle.answer_plan.proofs.recall.Statement.{statement}
 use Rattle.answer_plan.proofs.recall.Tie as tie
 
-slice-aggregate-read-sheet : tie.Need-slice-aggregate-read-sheet
-slice-aggregate-read-sheet c = search needs
+read-run-requires : tie.Need-read-run-requires
+read-run-requires c κs = search needs
 
-slice-aggregate-read-sheet-2 : tie.Need-slice-aggregate-read-sheet-2
-slice-aggregate-read-sheet-2 c = search needs
+list-run-requires : tie.Need-list-run-requires
+list-run-requires c κs = search needs
 
-slice-aggregate-read-sheet-3 : tie.Need-slice-aggregate-read-sheet-3
-slice-aggregate-read-sheet-3 c = search needs
-
-slice-aggregate-read-sheet-4 : tie.Need-slice-aggregate-read-sheet-4
-slice-aggregate-read-sheet-4 c = search needs
-
-slice-aggregate-read-sheet-5 : tie.Need-slice-aggregate-read-sheet-5
-slice-aggregate-read-sheet-5 c = search needs
-
-read-sheet-requires : tie.Need-read-sheet-requires
-read-sheet-requires c κs = search needs
-
-refused-requires : tie.Need-refused-requires
-refused-requires c κs = search needs
-
-write-refusal-requires : tie.Need-write-refusal-requires
-write-refusal-requires c κs = search needs
+write-list-requires : tie.Need-write-list-requires
+write-list-requires c κs = search needs
 
 same-length : tie.Need-same-length
 same-length c = search needs
 
 returns : tie.Need-returns
 returns c =
-    let c5 = c .before .before .before .before .before in
-    let c10 = c5 .before .before .before .before .before .before in
-    sheet-refused runChecks _ _ (record { starts = search needs; lengths = search needs; aggregates = search needs; numbers = search needs; counts = search needs }) (c10 .read-sheet .result) _ (c10 .read-sheet .ensures) _ (c5 .refused .ensures) (c .before .before .before .before .if1 .taken) _ _ refl _ _ (c .before .before .write-refusal .ensures)
-
-tape-name-requires : tie.Need-tape-name-requires
-tape-name-requires c κs = search needs
-
-array-share-prefix-starts : tie.Need-array-share-prefix-starts
-array-share-prefix-starts c =
-    let c1 = c .before in
-    let d = c1 .before .before .before .before .before .before .before in
-    in-starts runChecks _ _ (record { starts = search needs; lengths = search needs; aggregates = search needs; numbers = search needs; counts = search needs }) (d .read-sheet .result) _ (d .read-sheet .ensures) _ (c1 .before .refused .ensures) (c1 .if1 .left)
-
-slice-aggregate-recall-run : tie.Need-slice-aggregate-recall-run
-slice-aggregate-recall-run c = sym (length-take-le _ _ (array-share-prefix-starts (c .before)))
-
-array-share-prefix-lengths : tie.Need-array-share-prefix-lengths
-array-share-prefix-lengths c =
-    let c2 = c .before .before in
-    let d = c2 .before .before .before .before .before .before .before in
-    in-lengths runChecks _ _ (record { starts = search needs; lengths = search needs; aggregates = search needs; numbers = search needs; counts = search needs }) (d .read-sheet .result) _ (d .read-sheet .ensures) _ (c2 .before .refused .ensures) (c2 .if1 .left)
-
-slice-aggregate-recall-run-2 : tie.Need-slice-aggregate-recall-run-2
-slice-aggregate-recall-run-2 c = sym (length-take-le _ _ (array-share-prefix-lengths (c .before)))
-
-array-share-prefix-aggregates : tie.Need-array-share-prefix-aggregates
-array-share-prefix-aggregates c =
-    let c3 = c .before .before .before in
-    let d = c3 .before .before .before .before .before .before .before in
-    in-aggregates runChecks _ _ (record { starts = search needs; lengths = search needs; aggregates = search needs; numbers = search needs; counts = search needs }) (d .read-sheet .result) _ (d .read-sheet .ensures) _ (c3 .before .refused .ensures) (c3 .if1 .left)
-
-slice-aggregate-recall-run-3 : tie.Need-slice-aggregate-recall-run-3
-slice-aggregate-recall-run-3 c = sym (length-take-le _ _ (array-share-prefix-aggregates (c .before)))
-
-array-share-prefix-numbers : tie.Need-array-share-prefix-numbers
-array-share-prefix-numbers c =
-    let c4 = c .before .before .before .before in
-    let d = c4 .before .before .before .before .before .before .before in
-    in-numbers runChecks _ _ (record { starts = search needs; lengths = search needs; aggregates = search needs; numbers = search needs; counts = search needs }) (d .read-sheet .result) _ (d .read-sheet .ensures) _ (c4 .before .refused .ensures) (c4 .if1 .left)
-
-slice-aggregate-recall-run-4 : tie.Need-slice-aggregate-recall-run-4
-slice-aggregate-recall-run-4 c = sym (length-take-le _ _ (array-share-prefix-numbers (c .before)))
-
-array-share-prefix-counts : tie.Need-array-share-prefix-counts
-array-share-prefix-counts c =
-    let c5 = c .before .before .before .before .before in
-    let d = c5 .before .before .before .before .before .before .before in
-    in-counts runChecks _ _ (record { starts = search needs; lengths = search needs; aggregates = search needs; numbers = search needs; counts = search needs }) (d .read-sheet .result) _ (d .read-sheet .ensures) _ (c5 .before .refused .ensures) (c5 .if1 .left)
-
-slice-aggregate-recall-run-5 : tie.Need-slice-aggregate-recall-run-5
-slice-aggregate-recall-run-5 c = sym (length-take-le _ _ (array-share-prefix-counts (c .before)))
-
-recall-run-requires : tie.Need-recall-run-requires
-recall-run-requires c κs =
-    let c7 = c .before .before .before .before .before .before .before in
-    let d = c7 .before .before .before .before .before .before .before in
-    named runChecks _ _ (record { starts = search needs; lengths = search needs; aggregates = search needs; numbers = search needs; counts = search needs }) (d .read-sheet .result) _ (d .read-sheet .ensures) _ (c7 .before .refused .ensures) (c7 .if1 .left) _ (c .before .before .before .before .before .before .tape-name .ensures .0)
-
-same-length-2 : tie.Need-same-length-2
-same-length-2 c = search needs
-
-returns-2 : tie.Need-returns-2
-returns-2 c =
-    let c10 = c .before .before .before .before .before .before .before .before .before .before in
-    let d = c10 .before .before .before .before .before .before .before in
-    sheet-recalled runChecks _ _ (record { starts = search needs; lengths = search needs; aggregates = search needs; numbers = search needs; counts = search needs }) (d .read-sheet .result) _ (d .read-sheet .ensures) _ (c10 .before .refused .ensures) (c10 .if1 .left) _ (c .before .before .before .before .before .before .before .before .before .tape-name .ensures .0) _ _ _ (c .before .before .recall-run .ensures)
+    let w = c .before .before in
+    let l = w .before .before in
+    recalled runChecks run-judged _ _ (l .before .read-run .ensures) (l .list-run .result) (l .list-run .ensures) _ _ _ (w .write-list .ensures)
 
 pub recall-spec : {M : Type 1} → statement M
 recall-spec =
     tie.close
     (tie.spec
-    slice-aggregate-read-sheet
-    slice-aggregate-read-sheet-2
-    slice-aggregate-read-sheet-3
-    slice-aggregate-read-sheet-4
-    slice-aggregate-read-sheet-5
-    read-sheet-requires
-    refused-requires
-    write-refusal-requires
+    read-run-requires
+    list-run-requires
+    write-list-requires
     same-length
-    returns
-    tape-name-requires
-    array-share-prefix-starts
-    slice-aggregate-recall-run
-    array-share-prefix-lengths
-    slice-aggregate-recall-run-2
-    array-share-prefix-aggregates
-    slice-aggregate-recall-run-3
-    array-share-prefix-numbers
-    slice-aggregate-recall-run-4
-    array-share-prefix-counts
-    slice-aggregate-recall-run-5
-    recall-run-requires
-    same-length-2
-    returns-2)
+    returns)

@@ -1,0 +1,48 @@
+-- A list by value: that of a sheet's run under an engine's checks, and what is written of it.
+use Prim.Native.Nat.{ℕ}
+use mathlib.Core.Path.{_≡_}
+use mathlib.Core.Bool.{true, false}
+use mathlib.Core.List.{List, [], _∷_, map}
+use lib.ListN.{length, take}
+use Rattle.refusals.specs.declared.Verdict.{Verdict}
+use Rattle.refusals.specs.Refusals.{isRefusal, accepted, firstOf}
+use Rattle.runs.specs.Run.{Run}
+use Rattle.runs.specs.Lists.{Detour}
+use Rattle.least.specs.Least.{LeastForRun}
+use Rattle.sheet_reader.specs.Reading.{readName}
+use Rattle.sheet_runs.specs.declared.SheetRun.{SheetRun}
+use Rattle.sheet_runs.specs.SheetRuns.{filledTo, runHeld}
+use Rattle.sheet_writer.specs.declared.Written.{Written}
+use Rattle.sheet_writer.specs.PlanSheet.{PlanWritten}
+use Rattle.sheet_writer.specs.RefusalLines.{RefusalWritten}
+use Rattle.answer_plan.specs.declared.PlannedList.{PlannedList}
+
+-- A verdict, and a list in two rows of 63.
+abbrev pub inList : Verdict → List Detour → PlannedList
+inList v list =
+    record { verdict = v; detours = length list; froms = filledTo 63 (map (λ d. d .from) list); tos = filledTo 63 (map (λ d. d .to) list) }
+
+-- The least list of a run. There is one such list.
+pub record LeastIn (run : Run) (l : PlannedList) : Type 0 where
+  pub list : List Detour
+  pub least : LeastForRun run list
+  pub says : l ≡ inList accepted list
+
+-- Under a verdict: no list, or the least one.
+pub record ListedUnder (v : Verdict) (run : Run) (l : PlannedList) : Type 0 where
+  pub refused : isRefusal (v .refusal) ≡ true → l ≡ inList v []
+  pub planned : isRefusal (v .refusal) ≡ false → LeastIn run l
+
+-- The list of a sheet's run by value: the run's own refusal, then what an engine checks.
+abbrev pub RunListed : (Run → List Verdict) → SheetRun → PlannedList → Type 0
+RunListed checks r l = ListedUnder (firstOf (r .verdict ∷ checks (runHeld r))) (runHeld r) l
+
+-- What is written of a list by a writer of sheets: the two lines of a refusal, or the writer's text, which has checks of its own.
+pub record WrittenBy (Writes : List ℕ → Run → List ℕ → List ℕ → List ℕ → Written → List ℕ → Type 0) (sheet : List ℕ) (r : SheetRun) (l : PlannedList) (row : List ℕ) (n : ℕ) (row′ : List ℕ) : Type 0 where
+  pub text : Written
+  pub bytes : n ≡ text .bytes
+  pub refused : isRefusal (l .verdict .refusal) ≡ true → RefusalWritten (l .verdict) row text row′
+  pub planned : isRefusal (l .verdict .refusal) ≡ false → Writes (readName sheet) (runHeld r) (take (l .detours) (l .froms)) (take (l .detours) (l .tos)) row text row′
+
+abbrev pub ListWritten : List ℕ → SheetRun → PlannedList → List ℕ → ℕ → List ℕ → Type 0
+ListWritten sheet r l row n row′ = WrittenBy PlanWritten sheet r l row n row′
