@@ -27,7 +27,7 @@ use Rattle.sheet_runs.specs.declared.SheetRun.{SheetRun}
 use Rattle.sheet_runs.specs.SheetRuns.{filledTo, runRead, runHeld}
 use Rattle.sheet_writer.specs.declared.Written.{Written}
 use Rattle.sheet_writer.specs.Writing.{rowVerdict, writtenAnswer, writtenRow, Handed}
-use Rattle.sheet_writer.specs.PlanSheet.{planText}
+use Rattle.sheet_writer.specs.PlanSheet.{planText, PlanWritten}
 use Rattle.sheet_writer.specs.RefusalLines.{refusalText}
 use Rattle.sheet_lists.specs.Form.{planFroms, planTos}
 use Rattle.sheet_lists.specs.Reading.{planForm}
@@ -151,11 +151,14 @@ module _ (name : List ℕ) (run : Run) (plan : List ℕ) (l least : PlannedList)
         short = plan-short run froms tos (ok .judged) list-good name (ok .named)
 
         handed : Handed (rowVerdict text (zeros 7644)) text (zeros 7644) (written .text) (page .text)
-        handed = rw (run-is, name-is, row-decides name run froms tos (zeros 7644) (ok .named) (ok .judged) list-good) at (written .planned (ok .form))
+        handed =
+            let by-run = subst (λ x. PlanWritten (readName sheet) x froms tos (zeros 7644) (written .text) (page .text)) run-is (written .planned (ok .form)) in
+            let by-name = subst (λ x. PlanWritten x run froms tos (zeros 7644) (written .text) (page .text)) name-is by-run in
+            subst (λ v. Handed v text (zeros 7644) (written .text) (page .text)) (row-decides name run froms tos (zeros 7644) (ok .named) (ok .judged) list-good) by-name
 
         fits : rowVerdict text (zeros 7644) ≡ accepted
         unfolding rowVerdict
-        fits = rw (length-replicate {A = ℕ} 7644 0, le-ltb 7644 (length text) short) refl
+        fits = rw (le-ltb (length (zeros 7644)) (length text) (omega (arith, short, length-replicate {A = ℕ} 7644 0))) refl
 
         bytes-are : page .bytes ≡ length text
         unfolding writtenAnswer
@@ -244,7 +247,10 @@ module _ (sheet plan : List ℕ) (r : SheetRun) (is : r ≡ runRead sheet) (l : 
     check-handed p page row w row′ h =
         let sheet-is = sheet-ok sheet r is (early .0) in
         let t : refuses (checkVerdict sheet plan) ≡ false = test-says verdict-is f-is passed in
-        let says : VerdictOf (sheetName sheet) (sheetRun sheet) plan (planFroms plan) (planTos plan) (take (p .bytes) (p .text)) = rw (sheet-is .name, sheet-is .run, handed .starts form, handed .ends form) at (page .says) in
+        let by-run = subst (λ x. VerdictOf (readName sheet) x plan (take (l .detours) (l .froms)) (take (l .detours) (l .tos)) (take (p .bytes) (p .text))) (sheet-is .run) (page .says) in
+        let by-name = subst (λ x. VerdictOf x (sheetRun sheet) plan (take (l .detours) (l .froms)) (take (l .detours) (l .tos)) (take (p .bytes) (p .text))) (sheet-is .name) by-run in
+        let by-starts = subst (λ x. VerdictOf (sheetName sheet) (sheetRun sheet) plan x (take (l .detours) (l .tos)) (take (p .bytes) (p .text))) (handed .starts form) by-name in
+        let says = subst (λ x. VerdictOf (sheetName sheet) (sheetRun sheet) plan (planFroms plan) x (take (p .bytes) (p .text))) (handed .ends form) by-starts in
         record {
           text = take (p .bytes) (p .text);
           answers = record { refused = λ q. absurd (true≢false (sym q ∙ t)); checked = λ q. says };

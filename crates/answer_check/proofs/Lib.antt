@@ -3,5 +3,6 @@ pub mod Differing
 pub mod Pages
 pub mod Formed
 pub mod Prices
+pub mod Framing
 pub mod Checked
 pub mod Determined

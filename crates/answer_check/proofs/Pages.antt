@@ -1,7 +1,7 @@
 -- The lines of a verdict on a page.
 use Prim.Native.Nat.{ℕ, _+_, _-_, _≤_}
 use mathlib.Core.Path.{_≡_, refl, sym, ap, _∙_, subst}
-use mathlib.Core.Bool.{Bool, true, false, true≢false, _&&_}
+use mathlib.Core.Bool.{Bool, true, false, not, true≢false, _&&_}
 use mathlib.Core.List.{List, [], _∷_, _++_, append-assoc}
 use native.Mathlib.Omega.{arith}
 use lib.ListN.{length, take, drop, length-take, length-drop}
@@ -108,3 +108,19 @@ room-put page at text few most page′ next more l r p = room-left page at text 
 -- A text that was put on a page, by value.
 pub page-put : (page text : List ℕ) (most : ℕ) (page′ : List ℕ) (n : ℕ) → most ≤ length page → Wrote page 0 text most page′ n → PageIs text (record { bytes = n; text = page′ })
 page-put page text most page′ n l w = record { within = omega (arith, w .within, wrote-long w (omega arith)); says = w .bytes }
+
+-- Whether two rows are two others, one after the other.
+not-so : (b : Bool) → not b ≡ true → b ≡ false
+not-so true e = sym e
+not-so false e = refl
+
+so : (b : Bool) → not b ≡ false → b ≡ true
+so true e = refl
+so false e = sym e
+
+pub rows-differ : (b : Bool) (row wanted row′ wanted′ : List ℕ) (other : Bool) → b ≡ isText wanted row → wanted ≡ wanted′ → row ≡ row′ → not b ≡ true → false ≡ (isText wanted′ row′ && other)
+rows-differ b row wanted row′ wanted′ other is w r e = rw (← w, ← r, ← is, not-so b e)
+
+pub rows-same : (b d : Bool) (row wanted row′ wanted′ more least more′ least′ : List ℕ) → b ≡ isText wanted row → wanted ≡ wanted′ → row ≡ row′ → not b ≡ false
+    → d ≡ isText least more → least ≡ least′ → more ≡ more′ → d ≡ (isText wanted′ row′ && isText least′ more′)
+rows-same b d row wanted row′ wanted′ more least more′ least′ is w r e d-is l m = rw (← w, ← r, ← is, so b e, ← l, ← m) d-is

@@ -4,7 +4,7 @@ use mathlib.Core.Path.{_≡_, refl, sym, ap, _∙_, subst}
 use mathlib.Core.Bool.{Bool, true, false, true≢false}
 use mathlib.Core.List.{List, [], _∷_, _++_}
 use native.Mathlib.Omega.{arith}
-use lib.ListN.{length, take}
+use lib.ListN.{length, take, length-take}
 use borrow.Author.Tests.{le-ltb}
 use Rattle.refusals.specs.declared.Verdict.{Verdict}
 use Rattle.refusals.specs.Refusals.{isRefusal, firstOf, accepted}
@@ -23,7 +23,7 @@ use Rattle.sheet_runs.specs.SheetRuns.{runRead, runHeld}
 use Rattle.sheet_runs.proofs.Runs.{SheetHolds, refused-first, sheet-holds}
 use Rattle.sheet_writer.specs.declared.Written.{Written}
 use Rattle.sheet_writer.specs.Writing.{rowVerdict, Handed}
-use Rattle.sheet_writer.specs.PlanSheet.{planText, planSheetVerdict}
+use Rattle.sheet_writer.specs.PlanSheet.{planText, planSheetVerdict, PlanWritten}
 use Rattle.sheet_writer.specs.RefusalLines.{refusalText}
 use Rattle.sheet_writer.proofs.Sheets.{last-verdict}
 use Rattle.answer_plan.specs.declared.PlannedList.{PlannedList}
@@ -58,6 +58,14 @@ module _ (run : Run) (froms tos : List ℕ) (rows : ReadRows) (few : length (run
             sum = λ q. ap (λ x. x .sum) said;
           }
 
+-- The run and the list by value.
+pub priced-held : (r : SheetRun) (l : PlannedList) (run : Run) → run ≡ runHeld r → (froms tos : List ℕ) → froms ≡ take (l .detours) (l .froms) → tos ≡ take (l .detours) (l .tos) → length (r .numbers) ≡ 64
+    → (rows : ReadRows) → length (rows .times) ≡ 64 → length (rows .legs) ≡ 64 → (a : Answer) → a ≡ priceAnswer run froms tos rows
+    → PricedList (runHeld r) (take (l .detours) (l .froms)) (take (l .detours) (l .tos)) (record { verdict = record { refusal = a .refusal; place = a .place }; sum = a .sum })
+priced-held r l run e froms tos f t long rows times legs a is =
+    let few : length (take (r .wants) (r .numbers)) ≤ 64 = rw length-take (omega (arith, long)) in
+    list-priced (runHeld r) (take (l .detours) (l .froms)) (take (l .detours) (l .tos)) rows few times legs a (is ∙ rw (e, f, t) refl)
+
 -- A text handed out is held.
 pub handed-holds : (text row : List ℕ) (w : Written) (row′ : List ℕ) → Handed (rowVerdict text row) text row w row′ → RowHolds text row (w .bytes) row′
 handed-holds text row w row′ h = record { bytes = handed-bytes text row w row′ h; left = handed-row text row w row′ h }
@@ -87,6 +95,13 @@ first-says v w e = go (refuses v) refl
     go true h = absurd (true≢false (sym h ∙ (rw h at e)))
     go false h = (h, rw h at e)
 
+pub both-first : (v w a b c : Verdict) → v ≡ firstRefusal a w → w ≡ firstRefusal b c → v ≡ firstRefusal a (firstRefusal b c)
+both-first v w a b c e f = e ∙ ap (firstRefusal a) f
+
+pub judged-by : (r : SheetRun) (l : PlannedList) (p : Priced) → PricedList (runHeld r) (take (l .detours) (l .froms)) (take (l .detours) (l .tos)) p → (w : Verdict) → w ≡ firstRefusal (l .verdict) (p .verdict)
+    → (v : Verdict) → v ≡ firstRefusal (r .verdict) w → record { verdict = v; detours = l .detours; froms = l .froms; tos = l .tos } ≡ judgedList r l
+judged-by r l p priced w e v f = rw (f, e, priced .verdict)
+
 -- The verdict on a run sheet and another text, from those on the sheet's run, on the text's form and on both together.
 module _ (sheet : List ℕ) (r : SheetRun) (is : r ≡ runRead sheet) where
   pub sheet-ok : refuses (r .verdict) ≡ false → SheetHolds sheet r
@@ -106,11 +121,18 @@ module _ (sheet : List ℕ) (r : SheetRun) (is : r ≡ runRead sheet) where
     abbrev verdict : Verdict
     verdict = judgedList r l .verdict
 
+    same-rules : refuses (r .verdict) ≡ false → refuses (listForm list) ≡ false
+        → firstOf (listChecks (runHeld r) (take (l .detours) (l .froms)) (take (l .detours) (l .tos))) ≡ firstOf (listChecks (sheetRun sheet) (listFroms list) (listTos list))
+    same-rules e f =
+        ap (λ x. firstOf (listChecks x (take (l .detours) (l .froms)) (take (l .detours) (l .tos)))) (sheet-ok e .run)
+        ∙ ap (λ x. firstOf (listChecks (sheetRun sheet) x (take (l .detours) (l .tos)))) (handed .starts f)
+        ∙ ap (λ x. firstOf (listChecks (sheetRun sheet) (listFroms list) x)) (handed .ends f)
+
     verdict-is : verdict ≡ pricingVerdict sheet list
     unfolding verdictBy
     verdict-is =
         ap (λ f. firstRefusal (r .verdict) (firstRefusal f (firstOf (listChecks (runHeld r) (take (l .detours) (l .froms)) (take (l .detours) (l .tos)))))) (handed .verdict)
-        ∙ in-order (listForm list) _ (listChecks (sheetRun sheet) (listFroms list) (listTos list)) (λ e f. rw (sheet-ok e .run, handed .starts f, handed .ends f) refl)
+        ∙ in-order (listForm list) (firstOf (listChecks (runHeld r) (take (l .detours) (l .froms)) (take (l .detours) (l .tos)))) (listChecks (sheetRun sheet) (listFroms list) (listTos list)) same-rules
 
     pub sheet-priced : (j : PlannedList) → j ≡ judgedList r l → (n : ℕ) (row′ : List ℕ) → ListWritten sheet r j row n row′ → SheetPriced sheet list row n row′
     unfolding priceText
@@ -127,9 +149,12 @@ module _ (sheet : List ℕ) (r : SheetRun) (is : r ≡ runRead sheet) where
             let rest = first-says (l .verdict) _ (both .1) in
             let h = sheet-ok (both .0) in
             let form : refuses (listForm list) ≡ false = ap refuses (sym (handed .verdict)) ∙ rest .0 in
-            let rules : refuses (firstOf (listChecks (sheetRun sheet) (listFroms list) (listTos list))) ≡ false = rw (h .run, handed .starts form, handed .ends form) at (rest .1) in
+            let rules : refuses (firstOf (listChecks (sheetRun sheet) (listFroms list) (listTos list))) ≡ false = ap refuses (sym (same-rules (both .0) form)) ∙ rest .1 in
             let all = all-accept (listChecks (sheetRun sheet) (listFroms list) (listTos list)) rules in
             let named : isName (sheetName sheet) ≡ true = subst (λ x. isName x ≡ true) (h .name) (h .named) in
-            let text : Handed (rowVerdict (planText (sheetName sheet) (sheetRun sheet) (listFroms list) (listTos list)) row) (planText (sheetName sheet) (sheetRun sheet) (listFroms list) (listTos list)) row (written .text) row′ =
-            rw (h .run, h .name, handed .starts form, handed .ends form, row-decides (sheetName sheet) (sheetRun sheet) (listFroms list) (listTos list) row named (all .0) (all .1 .0)) at (written .planned e) in
+            let by-run = subst (λ x. PlanWritten (readName sheet) x (take (l .detours) (l .froms)) (take (l .detours) (l .tos)) row (written .text) row′) (h .run) (written .planned e) in
+            let by-name = subst (λ x. PlanWritten x (sheetRun sheet) (take (l .detours) (l .froms)) (take (l .detours) (l .tos)) row (written .text) row′) (h .name) by-run in
+            let by-starts = subst (λ x. PlanWritten (sheetName sheet) (sheetRun sheet) x (take (l .detours) (l .tos)) row (written .text) row′) (handed .starts form) by-name in
+            let by-ends = subst (λ x. PlanWritten (sheetName sheet) (sheetRun sheet) (listFroms list) x row (written .text) row′) (handed .ends form) by-starts in
+            let text = subst (λ v. Handed v (planText (sheetName sheet) (sheetRun sheet) (listFroms list) (listTos list)) row (written .text) row′) (row-decides (sheetName sheet) (sheetRun sheet) (listFroms list) (listTos list) row named (all .0) (all .1 .0)) by-ends in
             rw (← verdict-is, e, written .bytes) (handed-holds (planText (sheetName sheet) (sheetRun sheet) (listFroms list) (listTos list)) row (written .text) row′ text)

@@ -1,7 +1,7 @@
 -- What the functions that judge a list and put a verdict on a page ask and leave. No public contract cites this file.
 use Prim.Native.Nat.{ℕ, _+_, _≤_}
 use mathlib.Core.Path.{_≡_}
-use mathlib.Core.Bool.{Bool, false, cond}
+use mathlib.Core.Bool.{Bool, true, false, cond}
 use mathlib.Core.List.{List, [], _∷_, _++_}
 use lib.ListN.{length, take}
 use Rattle.refusals.specs.declared.Verdict.{Verdict}

@@ -1,4 +1,6 @@
--- `answer_check::inputs::price_input` meets its contract. Assumes nothing.
+-- `answer_check::inputs::price_input` meets its contract: the two texts are answered, or 25. Assumes nothing.
+use Rattle.answer_check.specs.Pricing.{SheetPriced}
+use Rattle.answer_check.proofs.Framing.{framed-bad, framed-texts}
 use borrow.Author.Needs.{needs}
 use Rattle.answer_check.proofs.inputs.price_input.Statement.{statement}
 use Rattle.answer_check.proofs.inputs.price_input.Tie as tie
@@ -19,7 +21,9 @@ same-length : tie.Need-same-length
 same-length c = search needs
 
 returns : tie.Need-returns
-returns c = ?
+returns c =
+    let t = c .before .before .before .before in
+    framed-bad SheetPriced _ _ (t .before .before .frame-input .ensures) (t .enum-told .given .1) _ _ _ (c .before .before .refuse-input .ensures)
 
 part-requires : tie.Need-part-requires
 part-requires c κs = search needs
@@ -34,7 +38,10 @@ same-length-2 : tie.Need-same-length-2
 same-length-2 c = search needs
 
 returns-2 : tie.Need-returns-2
-returns-2 c = ?
+returns-2 c =
+    let p = c .before .before in
+    let k = p .before .before .before .before .before in
+    framed-texts SheetPriced _ _ (k .before .before .frame-input .ensures) _ _ (k .from .given .1) _ _ (p .before .before .before .part .ensures .0) (p .before .before .part2 .ensures .0) _ _ _ (p .price .ensures)
 
 pub price-input-spec : {M : Type 1} → statement M
 price-input-spec =

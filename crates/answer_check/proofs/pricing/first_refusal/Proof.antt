@@ -8,10 +8,10 @@ refused-requires : tie.Need-refused-requires
 refused-requires c κs = search needs
 
 returns : tie.Need-returns
-returns c = first-stays _ _ _ (c .before .refused .ensures) (c .if1 .taken)
+returns c = first-stays (c .before .before .args .first) (c .before .before .args .second) _ (c .before .refused .ensures) (c .if1 .taken)
 
 returns-2 : tie.Need-returns-2
-returns-2 c = first-passes-on _ _ _ (c .before .refused .ensures) (c .if1 .left)
+returns-2 c = first-passes-on (c .before .before .args .first) (c .before .before .args .second) _ (c .before .refused .ensures) (c .if1 .left)
 
 pub first-refusal-spec : {M : Type 1} → statement M
 first-refusal-spec = tie.close (tie.spec refused-requires returns returns-2)

@@ -1,4 +1,6 @@
 -- `answer_check::verdict::unformed_page` meets its contract. Assumes nothing.
+use native.Mathlib.Omega.{arith}
+use Rattle.answer_check.proofs.Pages.{page-put}
 use borrow.Author.Needs.{needs}
 use Rattle.answer_check.proofs.verdict.unformed_page.Statement.{statement}
 use Rattle.answer_check.proofs.verdict.unformed_page.Tie as tie
@@ -13,7 +15,9 @@ put-number-line-requires : tie.Need-put-number-line-requires
 put-number-line-requires c κs = search needs
 
 returns : tie.Need-returns
-returns c = ?
+returns c =
+    let m = c .before in
+    page-put _ _ 31 _ _ (omega (arith, slice-aggregate-put-number-line (m .before .before))) (m .put-number-line .ensures .room (omega (arith, slice-aggregate-put-number-line (m .before .before))))
 
 pub unformed-page-spec : {M : Type 1} → statement M
 unformed-page-spec =
