@@ -1,29 +1,31 @@
--- A list or a plan sheet whose form is accepted: what a reader of it leaves in rows of 63 entries.
+-- A list or a plan sheet: what a reader of it leaves in rows of 63 entries, by value.
 use Prim.Native.Nat.{ℕ, zero, suc, _≤_}
 use mathlib.Core.Path.{_≡_, refl, sym, ap, _∙_}
 use mathlib.Core.Bool.{Bool, true, false, cond, true≢false, _&&_}
 use mathlib.Core.List.{List, [], _∷_, _++_}
 use native.Mathlib.Omega.{arith}
 use lib.ListN.{length, take, drop}
+use lib.Seq.{take-at}
 use lib.Dec.{leb, ltb}
 use borrow.Author.Tests.{leb-true, ltb-false, le-ltb}
 use Rattle.refusals.specs.declared.Refusal.the-variants.{BadLine, LongSheet, ShortRow}
 use Rattle.refusals.specs.declared.Verdict.{Verdict}
 use Rattle.refusals.specs.Refusals.{isRefusal, refuseIf, refuseAt, firstOf, accepted}
-use Rattle.refusals.proofs.Verdicts.{refuses, all-accept, accepts-if, accepts-at}
+use Rattle.refusals.proofs.Verdicts.{refuses, all-accept, none-refuses, accepts-if, accepts-at}
 use Rattle.text_bytes.specs.Text.{lineFeed, behind}
 use Rattle.text_bytes.proofs.Bytes.{and-true-both}
-use Rattle.text_lines.specs.Lines.{lineOf, lineAfter, afterLines, isNumberLine, numberBehind, firstIn, secondIn}
+use Rattle.text_lines.specs.Lines.{lineOf, lineAfter, afterLines, isNumberLine, numberBehind, firstIn, secondIn, eachOf}
 use Rattle.sheet_reader.specs.Lines.{isTapeLine, isCountLine}
 use Rattle.sheet_reader.specs.Sheet.{longestSheet, firstSome}
 use Rattle.sheet_reader.specs.Reading.{readRow, shortPairRows}
 use Rattle.sheet_reader.proofs.Rows.{length-each}
-use Rattle.answer_plan.proofs.Read.{filled-long, filled-front}
 use Rattle.sheet_writer.specs.PlanSheet.{sumKey, readsKey, finishKey, endKey, detoursKey, detourKey}
 use Rattle.sheet_lists.specs.declared.ListReading.{ListReading}
-use Rattle.sheet_lists.specs.Form.{mostDetours, firstFailing, detoursTold, planBadTop, planBadBelow, planBadLine, isPlan, listDetours, listBadLine, linesUpTo, startsOn, endsOn}
-use Rattle.sheet_lists.specs.Reading.{planForm, listForm, formChecks, pairsVerdict, ReadBy}
+use Rattle.sheet_lists.specs.Form.{mostDetours, firstFailing, detoursTold, planBadTop, planBadBelow, planBadLine, isPlan, detourText, planFroms, planTos, listDetours, listText, listFroms, listTos, listBadLine, linesUpTo, startsOn, endsOn}
+use Rattle.sheet_lists.specs.Reading.{planForm, listForm, formChecks, pairsVerdict, ReadBy, ListRead, PlanRead}
 use Rattle.sheet_lists.proofs.Counting.{up-to-few}
+use Rattle.answer_plan.specs.declared.PlannedList.{PlannedList}
+use Rattle.answer_check.specs.Private.{HandedIn}
 
 -- Where no line fails, the first passes and none behind it fails.
 none-fails : (n : ℕ) (test : List ℕ → Bool) (tests : List (List ℕ → Bool)) (text : List ℕ) → firstFailing n (test ∷ tests) text ≡ 0
@@ -71,53 +73,43 @@ list-few list e = go (isPlan list) refl
     go true h = rw h (top-few list (rw h at (form-good (listBadLine list) list e .1)))
     go false h = rw h (up-to-few mostDetours list)
 
--- What a reader answers with rows of 63 entries.
-module _ (form : Verdict) (many : ℕ) (text : List ℕ) (few : refuses form ≡ false → many ≤ 63) (row₁ row₂ : List ℕ) (long₁ : length row₁ ≡ 63) (long₂ : length row₂ ≡ 63)
-    (r : ListReading) (row₁′ row₂′ : List ℕ) (read : ReadBy (pairsVerdict form many row₁ row₂) many text row₁ row₂ r row₁′ row₂′) (v : Verdict) (v-is : v ≡ r .verdict) (f : Bool) (f-is : f ≡ isRefusal (v .refusal)) where
-  so-refused : refuses form ≡ true → pairsVerdict form many row₁ row₂ ≡ form
-  so-refused e = rw e
-
-  so-accepted : refuses form ≡ false → pairsVerdict form many row₁ row₂ ≡ accepted
-  so-accepted e = let l = few e in rw (e, le-ltb (length row₁) many (omega (arith, long₁)), le-ltb (length row₂) many (omega (arith, long₂)))
-
-  says : f ≡ refuses form
-  says = f-is ∙ ap refuses (v-is ∙ read .verdict) ∙ go (refuses form) refl
+-- What a reader answers with rows of 63 entries, by value.
+module _ (form : Verdict) (many : ℕ) (text : List ℕ) (plain : refuses form ≡ false → form ≡ accepted) (few : refuses form ≡ false → many ≤ 63) (row₁ row₂ : List ℕ) (long₁ : length row₁ ≡ 63) (long₂ : length row₂ ≡ 63)
+    (r : ListReading) (row₁′ row₂′ : List ℕ) (read : ReadBy (pairsVerdict form many row₁ row₂) many text row₁ row₂ r row₁′ row₂′) where
+  verdict-is : pairsVerdict form many row₁ row₂ ≡ form
+  verdict-is = go (refuses form) refl
     where
-      go : (b : Bool) → refuses form ≡ b → refuses (pairsVerdict form many row₁ row₂) ≡ refuses form
-      go true e = ap refuses (so-refused e)
-      go false e = ap refuses (so-accepted e) ∙ sym e
+      go : (b : Bool) → refuses form ≡ b → pairsVerdict form many row₁ row₂ ≡ form
+      go true e = rw e
+      go false e = let l = few e in rw (e, le-ltb (length row₁) many (omega (arith, long₁)), le-ltb (length row₂) many (omega (arith, long₂))) (sym (plain e))
 
-  pub form-refuses : f ≡ true → (v ≡ form) × (refuses form ≡ true)
-  form-refuses e = let t : refuses form ≡ true = sym says ∙ e in (v-is ∙ read .verdict ∙ so-refused t, t)
-
-  module _ (passed : f ≡ false) where
-    pub form-passes : refuses form ≡ false
-    form-passes = sym says ∙ passed
-
-    row-is : (values row row′ : List ℕ) → row′ ≡ readRow (pairsVerdict form many row₁ row₂) values row → row′ ≡ values ++ drop (length values) row
-    unfolding readRow
-    row-is values row row′ e = e ∙ rw (so-accepted form-passes)
-
+  module _ (good : refuses form ≡ false) where
     count-is : r .detours ≡ many
-    count-is = read .detours ∙ rw (so-accepted form-passes)
+    count-is = read .detours ∙ rw (verdict-is, good)
 
-    starts-long : r .detours ≡ length (startsOn many text)
-    starts-long = count-is ∙ sym (length-each (λ i. firstIn detourKey (lineAfter i text)) many)
+    taken : (value : ℕ → ℕ) (row row′ : List ℕ) → row′ ≡ readRow (pairsVerdict form many row₁ row₂) (eachOf value many) row → take (r .detours) row′ ≡ eachOf value many
+    unfolding readRow
+    taken value row row′ e =
+        let is : row′ ≡ eachOf value many ++ drop (length (eachOf value many)) row = rw (verdict-is, good) at e in
+        rw (is, count-is) (take-at (eachOf value many) (drop (length (eachOf value many)) row) many (length-each value many))
 
-    ends-long : r .detours ≡ length (endsOn many text)
-    ends-long = count-is ∙ sym (length-each (λ i. secondIn detourKey (lineAfter i text)) many)
+  handed-in : HandedIn form (startsOn many text) (endsOn many text) (record { verdict = r .verdict; detours = r .detours; froms = row₁′; tos = row₂′ })
+  handed-in =
+      record {
+        verdict = read .verdict ∙ verdict-is;
+        starts = λ good. taken good (λ i. firstIn detourKey (lineAfter i text)) row₁ row₁′ (read .froms);
+        ends = λ good. taken good (λ i. secondIn detourKey (lineAfter i text)) row₂ row₂′ (read .tos);
+      }
 
-    pub in-first : r .detours ≤ length row₁′
-    in-first = filled-long (startsOn many text) row₁ row₁′ (r .detours) starts-long (row-is (startsOn many text) row₁ row₁′ (read .froms))
+module _ (text row₁ row₂ : List ℕ) (long₁ : length row₁ ≡ 63) (long₂ : length row₂ ≡ 63) (r : ListReading) (row₁′ row₂′ : List ℕ) where
+  pub list-handed : ListRead text row₁ row₂ r row₁′ row₂′ → HandedIn (listForm text) (listFroms text) (listTos text) (record { verdict = r .verdict; detours = r .detours; froms = row₁′; tos = row₂′ })
+  unfolding listFroms listTos listForm
+  list-handed read = handed-in (listForm text) (listDetours text) (listText text) (none-refuses (formChecks (listBadLine text) text)) (list-few text) row₁ row₂ long₁ long₂ r row₁′ row₂′ read
 
-    pub in-second : r .detours ≤ length row₂′
-    in-second = filled-long (endsOn many text) row₂ row₂′ (r .detours) ends-long (row-is (endsOn many text) row₂ row₂′ (read .tos))
+  pub plan-handed : PlanRead text row₁ row₂ r row₁′ row₂′ → HandedIn (planForm text) (planFroms text) (planTos text) (record { verdict = r .verdict; detours = r .detours; froms = row₁′; tos = row₂′ })
+  unfolding planFroms planTos planForm
+  plan-handed read = handed-in (planForm text) (detoursTold text) (detourText text) (none-refuses (formChecks (planBadLine text) text)) (plan-few text) row₁ row₂ long₁ long₂ r row₁′ row₂′ read
 
-    pub first-taken : take (r .detours) row₁′ ≡ startsOn many text
-    first-taken = filled-front (startsOn many text) row₁ row₁′ (r .detours) starts-long (row-is (startsOn many text) row₁ row₁′ (read .froms))
-
-    pub second-taken : take (r .detours) row₂′ ≡ endsOn many text
-    second-taken = filled-front (endsOn many text) row₂ row₂′ (r .detours) ends-long (row-is (endsOn many text) row₂ row₂′ (read .tos))
-
-    pub even-taken : length (take (r .detours) row₁′) ≡ length (take (r .detours) row₂′)
-    even-taken = ap length first-taken ∙ sym starts-long ∙ ends-long ∙ sym (ap length second-taken)
+pub plan-even : (plan : List ℕ) → length (planFroms plan) ≡ length (planTos plan)
+unfolding planFroms planTos
+plan-even plan = length-each _ (detoursTold plan) ∙ sym (length-each _ (detoursTold plan))

@@ -2,6 +2,7 @@
 pub mod Differing
 pub mod Pages
 pub mod Formed
-pub mod Sheets
+pub mod Prices
+pub mod Framing
 pub mod Checked
 pub mod Determined

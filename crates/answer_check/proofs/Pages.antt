@@ -1,7 +1,7 @@
 -- The lines of a verdict on a page.
 use Prim.Native.Nat.{ℕ, _+_, _-_, _≤_}
 use mathlib.Core.Path.{_≡_, refl, sym, ap, _∙_, subst}
-use mathlib.Core.Bool.{Bool, true, false, true≢false, _&&_}
+use mathlib.Core.Bool.{Bool, true, false, not, true≢false, _&&_}
 use mathlib.Core.List.{List, [], _∷_, _++_, append-assoc}
 use native.Mathlib.Omega.{arith}
 use lib.ListN.{length, take, drop, length-take, length-drop}
@@ -13,14 +13,10 @@ use Rattle.text_lines.specs.Found.{ValueAt, ValueFound}
 use Rattle.text_lines.proofs.Passing.{unkeyed, value-at}
 use Rattle.text_pages.specs.Printing.{line, numberLine, Wrote, Put}
 use Rattle.text_pages.proofs.Pages.{wrote-within, wrote-both, wrote-long}
-use Rattle.sheet_writer.specs.declared.Written.{Written}
-use Rattle.sheet_writer.specs.Writing.{rowVerdict, Handed}
-use Rattle.sheet_writer.proofs.Sheets.{page-handed}
-use Rattle.answer_plan.proofs.Planned.{handed-bytes, handed-row}
 use Rattle.answer_check.specs.declared.Difference.{Difference}
-use Rattle.answer_check.specs.Pricing.{RowHolds}
+use Rattle.answer_check.specs.declared.VerdictPage.{VerdictPage}
 use Rattle.answer_check.specs.Checking.{formedYes, walkYes, walkNo, leastYes, leastNo, foundKey, expectedKey, firstDifference, walkLine, differenceLines}
-use Rattle.answer_check.specs.Private.{leastLineBy, verdictBy, differenceMost}
+use Rattle.answer_check.specs.Private.{leastLineBy, verdictBy, differenceMost, PageIs}
 
 -- A line of a text, found behind no key.
 module _ (text : List ℕ) (start : ℕ) (r : Keyed) (found : ValueFound [] text start r) where
@@ -109,12 +105,22 @@ room-left page at text most page′ next more r w = omega (arith, w .within, wro
 pub room-put : (page : List ℕ) (at : ℕ) (text : List ℕ) (few most : ℕ) (page′ : List ℕ) (next : ℕ) (more : ℕ) → few ≤ most → at + (most + more) ≤ length page → Put page at text few page′ next → next + more ≤ length page′
 room-put page at text few most page′ next more l r p = room-left page at text most page′ next more r (wrote-within (p .room (omega arith)) most l)
 
--- The page's text handed out.
-pub page-holds : (page text : List ℕ) (most : ℕ) (page′ : List ℕ) (n : ℕ) → Wrote page 0 text most page′ n → (row : List ℕ) (r : Written) (row′ : List ℕ)
-    → Handed (rowVerdict (take n page′) row) (take n page′) row r row′ → RowHolds text row (r .bytes) row′
-page-holds page text most page′ n w row r row′ h =
-    let whole = page-handed page text most page′ n w (rowVerdict text row) row refl r row′ h in
-    record { bytes = handed-bytes text row r row′ whole; left = handed-row text row r row′ whole }
+-- A text that was put on a page, by value.
+pub page-put : (page text : List ℕ) (most : ℕ) (page′ : List ℕ) (n : ℕ) → most ≤ length page → Wrote page 0 text most page′ n → PageIs text (record { bytes = n; text = page′ })
+page-put page text most page′ n l w = record { within = omega (arith, w .within, wrote-long w (omega arith)); says = w .bytes }
 
-pub page-within : (page text : List ℕ) (most : ℕ) (page′ : List ℕ) (n : ℕ) → most ≤ length page → Wrote page 0 text most page′ n → n ≤ length page′
-page-within page text most page′ n l w = omega (arith, w .within, wrote-long w (omega arith))
+-- Whether two rows are two others, one after the other.
+not-so : (b : Bool) → not b ≡ true → b ≡ false
+not-so true e = sym e
+not-so false e = refl
+
+so : (b : Bool) → not b ≡ false → b ≡ true
+so true e = refl
+so false e = sym e
+
+pub rows-differ : (b : Bool) (row wanted row′ wanted′ : List ℕ) (other : Bool) → b ≡ isText wanted row → wanted ≡ wanted′ → row ≡ row′ → not b ≡ true → false ≡ (isText wanted′ row′ && other)
+rows-differ b row wanted row′ wanted′ other is w r e = rw (← w, ← r, ← is, not-so b e)
+
+pub rows-same : (b d : Bool) (row wanted row′ wanted′ more least more′ least′ : List ℕ) → b ≡ isText wanted row → wanted ≡ wanted′ → row ≡ row′ → not b ≡ false
+    → d ≡ isText least more → least ≡ least′ → more ≡ more′ → d ≡ (isText wanted′ row′ && isText least′ more′)
+rows-same b d row wanted row′ wanted′ more least more′ least′ is w r e d-is l m = rw (← w, ← r, ← is, so b e, ← l, ← m) d-is

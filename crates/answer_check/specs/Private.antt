@@ -1,31 +1,61 @@
 -- What the functions that judge a list and put a verdict on a page ask and leave. No public contract cites this file.
-use Prim.Native.Nat.{ℕ, _+_}
+use Prim.Native.Nat.{ℕ, _+_, _≤_}
 use mathlib.Core.Path.{_≡_}
 use mathlib.Core.Bool.{Bool, true, false, cond}
-use mathlib.Core.List.{List, _++_}
-use lib.ListN.{length}
+use mathlib.Core.List.{List, [], _∷_, _++_}
+use lib.ListN.{length, take}
+use Rattle.refusals.specs.declared.Verdict.{Verdict}
 use Rattle.refusals.specs.Refusals.{isRefusal, firstOf}
-use Rattle.runs.specs.Run.{Run}
-use Rattle.runs.specs.Lists.{Detour}
+use Rattle.runs.specs.Run.{Run, stopsOf}
+use Rattle.runs.specs.Judging.{judgeOf}
+use Rattle.runs.specs.Lists.{listOf, listVerdict}
 use Rattle.walk.specs.Price.{pricedAnswer}
-use Rattle.least.specs.Least.{LeastForRun}
+use Rattle.text_bytes.specs.Text.{isName}
 use Rattle.text_pages.specs.Printing.{numberLine}
-use Rattle.answer_plan.specs.Recall.{runChecks}
-use Rattle.answer_check.specs.declared.checking.LeastBeside.{LeastBeside}
-use Rattle.answer_check.specs.Checking.{formedYes, leastYes, leastNo, walkLine, differenceLines, sameList, Checked, checkChecks}
-use Rattle.sheet_lists.specs.Form.{planFroms, planTos}
-use Rattle.answer_check.specs.Pricing.{priceChecks, priceText, RowHolds}
+use Rattle.sheet_runs.specs.declared.SheetRun.{SheetRun}
+use Rattle.sheet_runs.specs.SheetRuns.{runHeld}
+use Rattle.answer_plan.specs.declared.PlannedList.{PlannedList}
+use Rattle.answer_plan.specs.PlannedLists.{LeastIn}
+use Rattle.answer_check.specs.declared.Priced.{Priced}
+use Rattle.answer_check.specs.declared.VerdictPage.{VerdictPage}
+use Rattle.answer_check.specs.Checking.{formedYes, leastYes, leastNo, walkLine, differenceLines}
 
--- The least list of an accepted run, beside another.
-pub record LeastIs (run : Run) (froms tos : List ℕ) (r : LeastBeside) : Type 0 where
-  pub list : List Detour
-  pub least : LeastForRun run list
-  pub same : r .same ≡ sameList froms tos list
-  pub sum : r .sum ≡ pricedAnswer run list .sum
+-- A list handed in, by value: the verdict on its form and, where that accepts, its starts and ends.
+pub record HandedIn (form : Verdict) (froms tos : List ℕ) (l : PlannedList) : Type 0 where
+  pub verdict : l .verdict ≡ form
+  pub starts : isRefusal (form .refusal) ≡ false → take (l .detours) (l .froms) ≡ froms
+  pub ends : isRefusal (form .refusal) ≡ false → take (l .detours) (l .tos) ≡ tos
 
-pub record LeastFound (run : Run) (froms tos : List ℕ) (r : LeastBeside) : Type 0 where
-  pub verdict : r .verdict ≡ firstOf (runChecks run)
-  pub found : isRefusal (firstOf (runChecks run) .refusal) ≡ false → LeastIs run froms tos r
+-- 1 to 7, then 10.
+abbrev pub listChecks : Run → List ℕ → List ℕ → List Verdict
+listChecks run froms tos = judgeOf run ∷ listVerdict (stopsOf run) froms tos ∷ []
+
+-- What the pricer says of a run and a list, and the sum.
+pub record PricedList (run : Run) (froms tos : List ℕ) (r : Priced) : Type 0 where
+  pub verdict : r .verdict ≡ firstOf (listChecks run froms tos)
+  pub sum : isRefusal (firstOf (listChecks run froms tos) .refusal) ≡ false → r .sum ≡ pricedAnswer run (listOf froms tos) .sum
+
+abbrev pub firstRefusal : Verdict → Verdict → Verdict
+firstRefusal v w = cond (isRefusal (v .refusal)) v w
+
+-- A list under the first refusal of the run sheet, of its form and of the pricer.
+abbrev pub judgedList : SheetRun → PlannedList → PlannedList
+judgedList r l =
+    record {
+      verdict = firstRefusal (r .verdict) (firstRefusal (l .verdict) (firstOf (listChecks (runHeld r) (take (l .detours) (l .froms)) (take (l .detours) (l .tos)))));
+      detours = l .detours;
+      froms = l .froms;
+      tos = l .tos;
+    }
+
+-- A run, a plan sheet's list and the least one, where nothing is refused but the list.
+pub record Checkable (name : List ℕ) (run : Run) (plan : List ℕ) (l least : PlannedList) : Type 0 where
+  pub named : isName name ≡ true
+  pub judged : isRefusal (judgeOf run .refusal) ≡ false
+  pub short : length plan ≤ 16384
+  pub form : isRefusal (l .verdict .refusal) ≡ false
+  pub even : length (take (l .detours) (l .froms)) ≡ length (take (l .detours) (l .tos))
+  pub planned : LeastIn run least
 
 -- The lines of a verdict, by whether the list is the least one and by how much its sum is larger.
 abbrev pub leastLineBy : Bool → ℕ → List ℕ
@@ -38,14 +68,10 @@ verdictBy plan expected least by = formedYes ++ walkLine plan expected ++ leastL
 abbrev pub differenceMost : List ℕ → List ℕ → ℕ
 differenceMost plan expected = (6 + length plan + 1) + (9 + length expected + 1)
 
--- The answer to a run and a list, once the plan sheet has been read.
-abbrev pub ListChecked : List ℕ → Run → List ℕ → List ℕ → List ℕ → List ℕ → ℕ → List ℕ → Type 0
-ListChecked name run plan froms tos row n row′ = Checked (firstOf (runChecks run)) name run plan froms tos row n row′
+-- A text in the first bytes of a page, and one of which something is said.
+pub record PageOf (Says : List ℕ → Type 0) (p : VerdictPage) : Type 0 where
+  pub within : p .bytes ≤ length (p .text)
+  pub says : Says (take (p .bytes) (p .text))
 
--- The answer to a run, a tape name and a plan sheet: on the list that the plan sheet holds.
-abbrev pub RunChecked : List ℕ → Run → List ℕ → List ℕ → ℕ → List ℕ → Type 0
-RunChecked name run plan row n row′ = Checked (firstOf (checkChecks plan run)) name run plan (planFroms plan) (planTos plan) row n row′
-
--- The answer to a run, a tape name and a list.
-abbrev pub RunPriced : List ℕ → Run → List ℕ → List ℕ → ℕ → List ℕ → Type 0
-RunPriced name run list row n row′ = RowHolds (priceText (firstOf (priceChecks list run)) name run list) row n row′
+abbrev pub PageIs : List ℕ → VerdictPage → Type 0
+PageIs text p = PageOf (λ t. t ≡ text) p

@@ -1,64 +1,98 @@
 // The plan sheet of a list handed in.
 ghost use mathlib.Core.Path.{_≡_};
-ghost use mathlib.Core.Bool.{true};
-ghost use Rattle.runs.specs.Rows.{runAt};
-ghost use Rattle.text_bytes.specs.Text.{isName};
+ghost use lib.ListN.{take};
+ghost use Rattle.sheet_runs.specs.SheetRuns.{runHeld};
+ghost use Rattle.sheet_lists.specs.Form.{listFroms, listTos};
+ghost use Rattle.sheet_lists.specs.Reading.{listForm};
 ghost use Rattle.answer_check.specs.Pricing.{SheetPriced};
-ghost use Rattle.answer_check.specs.Private.{RunPriced};
+ghost use Rattle.answer_check.specs.Private.{HandedIn, PricedList, firstRefusal, judgedList};
+use crate::Priced;
+use answer_plan::PlannedList;
 use refusals::Verdict;
 use refusals::refused;
+use sheet_runs::SheetRun;
+use sheet_runs::entries;
 
-// The answer to a run and the bytes of a list.
-fn price_list(
-    name: &[u8],
-    starts: &[u64],
-    lengths: &[u64],
-    aggregates: &[u64],
-    numbers: &[u64],
-    counts: &[u64],
-    head: u64,
-    turn: u64,
-    list: &[u8],
-    out: &mut [u8],
-) -> u64
-    requires { ⌜ isName (now name) ≡ true ⌝ }
-    ensures { λ r. ⌜ RunPriced (now (name .entry)) (runAt starts lengths aggregates numbers counts head turn) (now (list .entry)) (now (out .entry)) r (now (out .exit)) ⌝ }
+// A list handed in, by value.
+fn read_list(list: &[u8]) -> PlannedList
+    ensures { λ r. ⌜ HandedIn (listForm (now (list .entry))) (listFroms (now (list .entry))) (listTos (now (list .entry))) r ⌝ }
 {
     let mut froms = [0u64; 63];
     let mut tos = [0u64; 63];
     let read = sheet_lists::read_list(list, &mut froms, &mut tos);
-    let form = read.verdict;
-    if refused(form) {
-        let lines = sheet_writer::write_refusal(form, out);
-        return lines.bytes;
+    let verdict = read.verdict;
+    PlannedList {
+        verdict,
+        detours: read.detours,
+        froms,
+        tos,
     }
-    let n = read.detours as usize;
-    let mut page = [0u8; 7644];
-    let text = sheet_writer::write_plan(
-        name,
-        starts,
-        lengths,
-        aggregates,
-        numbers,
-        counts,
-        head,
-        turn,
-        &froms[..n],
-        &tos[..n],
-        &mut page,
+}
+
+// A run and a list, priced with rows for as many wants as a run can have.
+pub(crate) fn priced(run: SheetRun, list: PlannedList) -> Priced
+    ensures { λ r. ⌜ PricedList (runHeld run) (take (list .detours) (list .froms)) (take (list .detours) (list .tos)) r ⌝ }
+{
+    let starts = run.starts;
+    let lengths = run.lengths;
+    let aggregates = run.aggregates;
+    let numbers = run.numbers;
+    let counts = run.counts;
+    let froms = list.froms;
+    let tos = list.tos;
+    let mut times = [0u64; 64];
+    let mut legs = [0u64; 64];
+    let answer = walk::price(
+        entries(&starts, run.files),
+        entries(&lengths, run.files),
+        entries(&aggregates, run.files),
+        entries(&numbers, run.wants),
+        entries(&counts, run.wants),
+        run.head,
+        run.turn,
+        entries(&froms, list.detours),
+        entries(&tos, list.detours),
+        &mut times,
+        &mut legs,
     );
-    let refusal = text.refusal;
+    let refusal = answer.refusal;
     let verdict = Verdict {
         refusal,
-        place: text.place,
+        place: answer.place,
     };
-    if refused(verdict) {
-        let lines = sheet_writer::write_refusal(verdict, out);
-        return lines.bytes;
+    Priced {
+        verdict,
+        sum: answer.sum,
     }
-    let bytes = text.bytes as usize;
-    let sheet = sheet_writer::hand_out(&page[..bytes], out);
-    sheet.bytes
+}
+
+// A verdict where it refuses, else another.
+pub(crate) fn first_refusal(first: Verdict, second: Verdict) -> Verdict
+    ensures { λ r. ⌜ r ≡ firstRefusal first second ⌝ }
+{
+    if refused(first) {
+        return first;
+    }
+    second
+}
+
+// A list handed in, under the first refusal of the run sheet, of its own form and of the pricer.
+fn judged_list(run: SheetRun, list: PlannedList) -> PlannedList
+    ensures { λ r. ⌜ r ≡ judgedList run list ⌝ }
+{
+    let walked = priced(run, list);
+    let early = run.verdict;
+    let form = list.verdict;
+    let rules = walked.verdict;
+    let verdict = first_refusal(early, first_refusal(form, rules));
+    let froms = list.froms;
+    let tos = list.tos;
+    PlannedList {
+        verdict,
+        detours: list.detours,
+        froms,
+        tos,
+    }
 }
 
 // The plan sheet of a run sheet and a list, in the first bytes of a row: how many they are. A row shorter than the answer takes none of it, and the
@@ -66,42 +100,8 @@ fn price_list(
 pub fn price(sheet: &[u8], list: &[u8], out: &mut [u8]) -> u64
     ensures { λ r. ⌜ SheetPriced (now (sheet .entry)) (now (list .entry)) (now (out .entry)) r (now (out .exit)) ⌝ }
 {
-    let mut starts = [0u64; 256];
-    let mut lengths = [0u64; 256];
-    let mut aggregates = [0u64; 256];
-    let mut numbers = [0u64; 64];
-    let mut counts = [0u64; 64];
-    let read = sheet_reader::read_sheet(
-        sheet,
-        &mut starts,
-        &mut lengths,
-        &mut aggregates,
-        &mut numbers,
-        &mut counts,
-    );
-    let refusal = read.refusal;
-    let verdict = Verdict {
-        refusal,
-        place: read.place,
-    };
-    if refused(verdict) {
-        let lines = sheet_writer::write_refusal(verdict, out);
-        return lines.bytes;
-    }
-    let files = read.files as usize;
-    let wants = read.wants as usize;
-    let head = read.head;
-    let turn = read.turn;
-    price_list(
-        sheet_reader::tape_name(sheet),
-        &starts[..files],
-        &lengths[..files],
-        &aggregates[..files],
-        &numbers[..wants],
-        &counts[..wants],
-        head,
-        turn,
-        list,
-        out,
-    )
+    let run = sheet_runs::read_run(sheet);
+    let handed = read_list(list);
+    let judged = judged_list(run, handed);
+    answer_plan::write_list(sheet, run, judged, out)
 }

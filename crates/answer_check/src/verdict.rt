@@ -6,9 +6,9 @@ ghost use Rattle.text_bytes.specs.Text.{isText};
 ghost use Rattle.text_lines.specs.Lines.{lineOf};
 ghost use Rattle.text_pages.specs.Printing.{Wrote, line, numberLine};
 ghost use Rattle.answer_check.specs.Checking.{formedNo, firstDifference, walkLine, differenceLines};
-ghost use Rattle.answer_check.specs.Pricing.{RowHolds};
-ghost use Rattle.answer_check.specs.Private.{leastLineBy, differenceMost, verdictBy};
+ghost use Rattle.answer_check.specs.Private.{leastLineBy, differenceMost, verdictBy, PageIs};
 use crate::Difference;
+use crate::VerdictPage;
 use text_bytes::same;
 use text_lines::Keyed;
 use text_lines::find_value;
@@ -121,30 +121,28 @@ fn put_verdict(page: &mut [u8], plan: &[u8], expected: &[u8], least: bool, by: u
     put_difference(page, next, plan, expected)
 }
 
-// The verdict on a well-formed list, in the first bytes of a row. No answer is longer than 24,115 bytes.
-pub(crate) fn hand_verdict(
-    plan: &[u8],
-    expected: &[u8],
-    least: bool,
-    by: u64,
-    out: &mut [u8],
-) -> u64
-    requires { ⌜ length (now plan) ≤ 16384 ⌝ }
-    requires { ⌜ length (now expected) ≤ 7644 ⌝ }
-    ensures { λ r. ⌜ RowHolds (verdictBy (now (plan .entry)) (now (expected .entry)) least by) (now (out .entry)) r (now (out .exit)) ⌝ }
+// The verdict on a list of which an entry breaks a rule.
+pub(crate) fn unformed_page(entry: u64) -> VerdictPage
+    ensures { λ r. ⌜ PageIs (numberLine formedNo entry) r ⌝ }
 {
-    let mut page = [0u8; 24115];
-    let bytes = put_verdict(&mut page, plan, expected, least, by);
-    let text = sheet_writer::hand_out(&page[..bytes], out);
-    text.bytes
+    let mut text = [0u8; 24115];
+    let bytes = put_number_line(&mut text, 0, b"formed=no,", entry);
+    VerdictPage {
+        bytes: bytes as u64,
+        text,
+    }
 }
 
-// The verdict on a list of which an entry breaks a rule.
-pub(crate) fn hand_unformed(entry: u64, out: &mut [u8]) -> u64
-    ensures { λ r. ⌜ RowHolds (numberLine formedNo entry) (now (out .entry)) r (now (out .exit)) ⌝ }
+// The verdict on a well-formed list.
+pub(crate) fn verdict_page(plan: &[u8], expected: &[u8], least: bool, by: u64) -> VerdictPage
+    requires { ⌜ length (now plan) ≤ 16384 ⌝ }
+    requires { ⌜ length (now expected) ≤ 7644 ⌝ }
+    ensures { λ r. ⌜ PageIs (verdictBy (now (plan .entry)) (now (expected .entry)) least by) r ⌝ }
 {
-    let mut page = [0u8; 31];
-    let bytes = put_number_line(&mut page, 0, b"formed=no,", entry);
-    let text = sheet_writer::hand_out(&page[..bytes], out);
-    text.bytes
+    let mut text = [0u8; 24115];
+    let bytes = put_verdict(&mut text, plan, expected, least, by);
+    VerdictPage {
+        bytes: bytes as u64,
+        text,
+    }
 }

@@ -15,6 +15,7 @@ use Rattle.text_bytes.proofs.Bytes.{not-empty}
 use Rattle.answer_month.specs.declared.Part.{Part}
 use Rattle.answer_month.specs.declared.Part.the-variants.{End, Sheet, Bad}
 use Rattle.answer_month.specs.Parts.{mostSheets, isCount, countOf, partOf}
+use Rattle.answer_month.specs.Private.{lineBehind}
 
 pub no-line : (line : List ℕ) (r : Found) → FoundIn lineFeed line r → r ≡ Found.Nowhere → Bad ≡ countOf line
 unfolding countOf isCount
@@ -57,10 +58,12 @@ module _ (sheets : ℕ) (line : List ℕ) (some : length line ≡ 0 → ⊥) whe
   begins : isEmpty line ≡ false
   begins = not-empty line (omega (arith, some))
 
-  pub part-past : mostSheets ≤ sheets → Bad ≡ partOf sheets line
+  pub part-line : (p : Part) → p ≡ lineBehind sheets line → p ≡ partOf sheets line
   unfolding partOf
-  part-past h = rw (begins, le-leb mostSheets sheets h) refl
+  part-line p e = rw begins e
 
-  pub part-line : sheets < mostSheets → (p : Part) → p ≡ countOf line → p ≡ partOf sheets line
-  unfolding partOf
-  part-line h p e = rw (begins, lt-leb mostSheets sheets h) e
+pub behind-past : (sheets : ℕ) (line : List ℕ) → mostSheets ≤ sheets → Bad ≡ lineBehind sheets line
+behind-past sheets line h = rw (le-leb mostSheets sheets h) refl
+
+pub behind-line : (sheets : ℕ) (line : List ℕ) → sheets < mostSheets → (p : Part) → p ≡ countOf line → p ≡ lineBehind sheets line
+behind-line sheets line h p e = rw (lt-leb mostSheets sheets h) e

@@ -4,6 +4,7 @@ ghost use mathlib.Core.Path.{_≡_};
 ghost use mathlib.Core.Bool.{_||_};
 ghost use Prim.Native.Nat.{_<_};
 ghost use Rattle.answer_month.specs.Month.{tooLarge, grown, emptyMonth, withRefused, overTotals, withTotals, withLongest, added};
+ghost use Rattle.answer_month.specs.Private.{zeroMonth};
 
 mod page;
 mod parts;
@@ -49,9 +50,9 @@ pub struct Added {
     pub whole: bool,
 }
 
-// No sheets.
-pub fn empty_month() -> Month
-    ensures { λ r. ⌜ r ≡ emptyMonth ⌝ }
+// Every number 0.
+fn zero_month(over: bool) -> Month
+    ensures { λ r. ⌜ r ≡ zeroMonth over ⌝ }
 {
     Month {
         sheets: 0,
@@ -64,8 +65,15 @@ pub fn empty_month() -> Month
         file: 0,
         letters: 0,
         tape: [0u8; 16],
-        over: false,
+        over,
     }
+}
+
+// No sheets.
+pub fn empty_month() -> Month
+    ensures { λ r. ⌜ r ≡ emptyMonth ⌝ }
+{
+    zero_month(false)
 }
 
 // Whether a total would pass what a word holds.

@@ -1,6 +1,8 @@
 // The parts of the input: a line with a byte count, and a sheet of so many bytes.
 ghost use mathlib.Core.Path.{_≡_};
+ghost use Rattle.answer_month.specs.Month.{grown};
 ghost use Rattle.answer_month.specs.Parts.{countOf, partOf, SheetAdded, inputVerdict};
+ghost use Rattle.answer_month.specs.Private.{lineBehind, Counted};
 use crate::Added;
 use crate::Month;
 use crate::Part;
@@ -27,17 +29,35 @@ fn count_line(line: &[u8]) -> Part
     Part::Sheet(bytes)
 }
 
-// A line is what there is up to its LF; it is empty where the input has ended. After 1,000 sheets nothing may follow.
+// A line behind so many sheets. After 1,000 nothing may follow.
+fn line_behind(sheets: u64, line: &[u8]) -> Part
+    ensures { λ r. ⌜ r ≡ lineBehind sheets (now (line .entry)) ⌝ }
+{
+    if MOST_SHEETS <= sheets {
+        return Part::Bad;
+    }
+    count_line(line)
+}
+
+// A line is what there is up to its LF; it is empty where the input has ended.
 pub fn next_part(month: Month, line: &[u8]) -> Part
     ensures { λ r. ⌜ r ≡ partOf (month .sheets) (now (line .entry)) ⌝ }
 {
     if line.len() == 0 {
         return Part::End;
     }
-    if MOST_SHEETS <= month.sheets {
-        return Part::Bad;
+    line_behind(month.sheets, line)
+}
+
+// A sheet that is all there: its outcome is added.
+fn add_whole(month: Month, sheet: &[u8]) -> Added
+    ensures { λ r. ⌜ Counted month (now (sheet .entry)) r ⌝ }
+{
+    let next = add(month, answer_outcome::sheet_outcome(sheet));
+    Added {
+        month: next,
+        whole: true,
     }
-    count_line(line)
 }
 
 // A sheet of so many bytes, of which so many are there. Of a sheet that is too long its first 16,385 bytes stand for it.
@@ -50,11 +70,14 @@ pub fn add_sheet(month: Month, bytes: u64, there: u64, sheet: &[u8]) -> Added
             whole: false,
         };
     }
-    let next = add(month, answer_outcome::sheet_outcome(sheet));
-    Added {
-        month: next,
-        whole: true,
-    }
+    add_whole(month, sheet)
+}
+
+// The number of the sheet behind so many.
+fn next_sheet(sheets: u64) -> u64
+    ensures { λ r. ⌜ r ≡ grown sheets 1 ⌝ }
+{
+    grow(sheets, 1)
 }
 
 // 25, with the number of the sheet behind those of the month, unless all of the input was good.
@@ -69,6 +92,6 @@ pub fn judge_input(month: Month, good: bool) -> Verdict
     }
     Verdict {
         refusal: Refusal::BadSheetCount,
-        place: grow(month.sheets, 1),
+        place: next_sheet(month.sheets),
     }
 }

@@ -3,39 +3,44 @@ use Prim.Native.Nat.{ℕ}
 use mathlib.Core.Path.{_≡_, refl, sym, ap, _∙_, subst}
 use mathlib.Core.Bool.{Bool, true, false, true≢false}
 use mathlib.Core.List.{List}
-use lib.ListN.{take}
 use Rattle.refusals.specs.declared.Verdict.{Verdict}
 use Rattle.refusals.specs.Refusals.{isRefusal}
-use Rattle.runs.specs.Run.{Run, runOf, stopsOf}
+use Rattle.runs.specs.Run.{Run, stopsOf}
 use Rattle.least.proofs.LeastList.{least-unique}
-use Rattle.sheet_reader.specs.declared.Reading.{Reading}
+use Rattle.text_bytes.specs.Text.{isName}
 use Rattle.sheet_reader.specs.Sheet.{sheetRun, sheetName}
-use Rattle.sheet_reader.specs.Reading.{RunRows, SheetRead, readName}
-use Rattle.answer_plan.specs.Recall.{runChecks, recallVerdict}
-use Rattle.answer_plan.proofs.Read.{Wide, sheet-refusal, run-is, name-is, run-decides}
+use Rattle.sheet_reader.specs.Reading.{readName}
+use Rattle.sheet_runs.specs.declared.SheetRun.{SheetRun}
+use Rattle.sheet_runs.specs.SheetRuns.{runRead, runHeld}
+use Rattle.sheet_runs.proofs.Runs.{refused-first, sheet-holds}
+use Rattle.answer_plan.specs.Recall.{runChecks, verdictBy, recallVerdict}
 use Rattle.answer_outcome.specs.declared.Outcome.{Outcome}
 use Rattle.answer_outcome.specs.Outcomes.{refusedOutcome, plannedOutcome, PlannedAs, Ends, OutcomeOf}
 use Rattle.answer_outcome.specs.Private.{RunOutcome}
 
--- The reader's answer to a sheet.
-module _ (sheet : List ℕ) (rows : RunRows) (wide : Wide rows) (r : Reading) (rows′ : RunRows) (read : SheetRead sheet rows r rows′) (f : Bool) (f-is : f ≡ isRefusal (r .refusal)) where
-  pub sheet-refused : f ≡ true → (o : Outcome) → o ≡ refusedOutcome (r .refusal) → OutcomeOf sheet o
+-- A sheet's run by value.
+module _ (sheet : List ℕ) (r : SheetRun) (is : r ≡ runRead sheet) (f : Bool) (f-is : f ≡ isRefusal (r .verdict .refusal)) where
+  pub sheet-refused : f ≡ true → (o : Outcome) → o ≡ refusedOutcome (r .verdict .refusal) → OutcomeOf sheet o
+  unfolding verdictBy
   sheet-refused e o says =
-      let is = sheet-refusal runChecks sheet rows wide r rows′ read f f-is e (record { refusal = r .refusal; place = r .place }) refl in
-      let same : r .refusal ≡ recallVerdict sheet .refusal = ap (λ v. v .refusal) (is .0) in
+      let same : r .verdict ≡ recallVerdict sheet = refused-first sheet r is f f-is e (runChecks (sheetRun sheet)) in
       record {
-        refused = λ q. says ∙ ap refusedOutcome same;
-        planned = λ q. absurd (true≢false (sym e ∙ f-is ∙ ap isRefusal same ∙ q));
+        refused = λ q. says ∙ ap (λ v. refusedOutcome (v .refusal)) same;
+        planned = λ q. absurd (true≢false (sym e ∙ f-is ∙ ap (λ v. isRefusal (v .refusal)) same ∙ q));
       }
 
-  -- The outcome of the run that was read is the sheet's.
-  pub sheet-ended : f ≡ false → (name : List ℕ) → name ≡ readName sheet → (o : Outcome)
-      → RunOutcome name (runOf (take (r .files) (rows′ .starts)) (take (r .files) (rows′ .lengths)) (take (r .files) (rows′ .aggregates)) (take (r .wants) (rows′ .numbers)) (take (r .wants) (rows′ .counts)) (r .head) (r .turn)) o
-      → OutcomeOf sheet o
-  sheet-ended passed name e o h =
-      let by-run : RunOutcome name (sheetRun sheet) o = subst (λ x. RunOutcome name x o) (run-is runChecks sheet rows wide r rows′ read f f-is passed) h in
-      let by-name : RunOutcome (sheetName sheet) (sheetRun sheet) o = subst (λ x. RunOutcome x (sheetRun sheet) o) (e ∙ name-is runChecks sheet rows wide r rows′ read f f-is passed) by-run in
-      subst (λ x. Ends x (sheetName sheet) (sheetRun sheet) o) (run-decides runChecks sheet rows wide r rows′ read f f-is passed) by-name
+  -- The outcome of the run that it holds is the sheet's.
+  module _ (passed : f ≡ false) (name : List ℕ) (e : name ≡ readName sheet) where
+    pub sheet-named : isName name ≡ true
+    sheet-named = rw e (sheet-holds sheet r is f f-is passed .named)
+
+    pub sheet-ended : (run : Run) → run ≡ runHeld r → (o : Outcome) → RunOutcome name run o → OutcomeOf sheet o
+    unfolding verdictBy
+    sheet-ended run run-is o h =
+        let holds = sheet-holds sheet r is f f-is passed in
+        let by-run : RunOutcome name (sheetRun sheet) o = subst (λ x. RunOutcome name x o) (run-is ∙ holds .run) h in
+        let by-name : RunOutcome (sheetName sheet) (sheetRun sheet) o = subst (λ x. RunOutcome x (sheetRun sheet) o) (e ∙ holds .name) by-run in
+        subst (λ x. Ends x (sheetName sheet) (sheetRun sheet) o) (holds .decides (runChecks (sheetRun sheet))) by-name
 
 planned-once : (name : List ℕ) (run : Run) (o o′ : Outcome) → PlannedAs name run o → PlannedAs name run o′ → o ≡ o′
 planned-once name run o o′ p q =

@@ -15,6 +15,7 @@ ghost use Rattle.answer_outcome.specs.Private.{TimedPlan, RunOutcome};
 use refusals::Refusal;
 use refusals::Verdict;
 use refusals::refused;
+use sheet_runs::entries;
 use walk::Answer;
 
 // A run refused, or accepted with its reads, its sum, what its plan saves against the empty list, and its longest time, with the
@@ -208,39 +209,25 @@ fn run_outcome(
 pub fn sheet_outcome(sheet: &[u8]) -> Outcome
     ensures { λ r. ⌜ OutcomeOf (now (sheet .entry)) r ⌝ }
 {
-    let mut starts = [0u64; 256];
-    let mut lengths = [0u64; 256];
-    let mut aggregates = [0u64; 256];
-    let mut numbers = [0u64; 64];
-    let mut counts = [0u64; 64];
-    let read = sheet_reader::read_sheet(
-        sheet,
-        &mut starts,
-        &mut lengths,
-        &mut aggregates,
-        &mut numbers,
-        &mut counts,
-    );
-    let refusal = read.refusal;
-    let verdict = Verdict {
-        refusal,
-        place: read.place,
-    };
+    let run = sheet_runs::read_run(sheet);
+    let verdict = run.verdict;
     if refused(verdict) {
-        return refused_outcome(refusal);
+        let kind = verdict.refusal;
+        return refused_outcome(kind);
     }
-    let files = read.files as usize;
-    let wants = read.wants as usize;
-    let head = read.head;
-    let turn = read.turn;
+    let starts = run.starts;
+    let lengths = run.lengths;
+    let aggregates = run.aggregates;
+    let numbers = run.numbers;
+    let counts = run.counts;
     run_outcome(
         sheet_reader::tape_name(sheet),
-        &starts[..files],
-        &lengths[..files],
-        &aggregates[..files],
-        &numbers[..wants],
-        &counts[..wants],
-        head,
-        turn,
+        entries(&starts, run.files),
+        entries(&lengths, run.files),
+        entries(&aggregates, run.files),
+        entries(&numbers, run.wants),
+        entries(&counts, run.wants),
+        run.head,
+        run.turn,
     )
 }

@@ -27,7 +27,12 @@ board-in-requires : tie.Need-board-in-requires
 board-in-requires c κs = search needs
 
 say-boarding-requires : tie.Need-say-boarding-requires
-say-boarding-requires c κs = leaves _ _ (long (c .before .before .before .before .before .before .before .before .before .before .before .before .before .before .before .before .before .before .before .before .before)) _ _ _ _ (c .before .before .before .before .before .before .before .before .before .before .board-in .ensures)
+say-boarding-requires c κs =
+    let back = c .before .before .before .before .before .before in
+    let at-board-in = back .before .before .before .before in
+    let back-2 = at-board-in .before .before .before .before .before .before in
+    let at-long = back-2 .before .before .before .before .before in
+    leaves _ _ (long at-long) _ _ _ _ (at-board-in .board-in .ensures)
 
 same-length : tie.Need-same-length
 same-length c = search needs

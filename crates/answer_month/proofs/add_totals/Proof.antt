@@ -25,7 +25,9 @@ over-totals-requires c κs = search needs
 
 returns : tie.Need-returns
 unfolding withTotals
-returns c = cc
+returns c =
+    let g = c .before in
+    rw (c .over-totals .ensures, g .grow5 .ensures, g .before .grow4 .ensures, g .before .before .grow3 .ensures, g .before .before .before .grow2 .ensures, g .before .before .before .before .grow .ensures) refl
 
 pub add-totals-spec : {M : Type 1} → statement M
 add-totals-spec =

@@ -36,7 +36,16 @@ either-requires-5 : tie.Need-either-requires-5
 either-requires-5 c κs = search needs
 
 returns : tie.Need-returns
-returns c = any-of-five (c .before .before .before .before .before .before .before .before .before .before .args .month .over) _ _ _ _ _ _ _ _ _ _ _ _ _ _ _ (c .before .before .before .before .before .before .before .before .before .too-large .ensures) (c .before .before .before .before .before .before .before .before .too-large2 .ensures) (c .before .before .before .before .before .before .before .either .ensures) (c .before .before .before .before .before .before .too-large3 .ensures) (c .before .before .before .before .before .too-large4 .ensures) (c .before .before .before .before .either2 .ensures) (c .before .before .before .either3 .ensures) (c .before .before .too-large5 .ensures) (c .before .either4 .ensures) (c .either5 .ensures)
+returns c =
+    let at-either3 = c .before .before .before in
+    let at-either2 = at-either3 .before in
+    let at-too-large4 = at-either2 .before in
+    let at-too-large3 = at-too-large4 .before in
+    let at-either = at-too-large3 .before in
+    let at-too-large2 = at-either .before in
+    let at-too-large = at-too-large2 .before in
+    let start = at-too-large .before in
+    any-of-five (start .args .month .over) _ _ _ _ _ _ _ _ _ _ _ _ _ _ _ (at-too-large .too-large .ensures) (at-too-large2 .too-large2 .ensures) (at-either .either .ensures) (at-too-large3 .too-large3 .ensures) (at-too-large4 .too-large4 .ensures) (at-either2 .either2 .ensures) (at-either3 .either3 .ensures) (c .before .before .too-large5 .ensures) (c .before .either4 .ensures) (c .either5 .ensures)
 
 pub over-totals-spec : {M : Type 1} → statement M
 over-totals-spec =

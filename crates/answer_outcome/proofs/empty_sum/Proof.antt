@@ -31,7 +31,10 @@ price-requires c κs = search needs
 
 -- src/lib.rt:86:1
 returns : tie.Need-returns
-returns c = ap (λ a. a .sum) (c .before .before .price .ensures .0) ∙ empty-price _ _ (search needs) (search needs) (c .before .before .before .before .before .before .before .before .before .before .before .before .pre)
+returns c =
+    let back = c .before .before .before .before .before .before in
+    let start = back .before .before .before .before .before .before in
+    ap (λ a. a .sum) (c .before .before .price .ensures .0) ∙ empty-price _ _ (search needs) (search needs) (start .pre)
 
 pub empty-sum-spec : {M : Type 1} → statement M
 empty-sum-spec =

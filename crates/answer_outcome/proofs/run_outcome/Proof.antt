@@ -37,13 +37,28 @@ count-reads-requires : tie.Need-count-reads-requires
 count-reads-requires c κs = search needs
 
 sub-t22 : tie.Need-sub-t22
-sub-t22 c = omega (arith, saves [] _ (c .before .before .before .before .before .before .before .before .before .timed-plan .result) (c .before .before .before .before .before .before .before .before .before .timed-plan .ensures) _ (c .before .before .before .before .before .before .before .refused .ensures) (c .before .before .before .before .before .before .if1 .left), c .before .before .before .before .before .empty-sum .ensures)
+sub-t22 c =
+    let at-empty-sum = c .before .before .before .before .before in
+    let at-if1 = at-empty-sum .before in
+    let at-refused = at-if1 .before in
+    let at-timed-plan = at-refused .before .before in
+    omega (arith, saves [] _ (at-timed-plan .timed-plan .result) (at-timed-plan .timed-plan .ensures) _ (at-refused .refused .ensures) (at-if1 .if1 .left), at-empty-sum .empty-sum .ensures)
 
 letters-of-requires : tie.Need-letters-of-requires
-letters-of-requires c κs = name-fits _ (c .before .before .before .before .before .before .before .before .before .before .before .before .before .before .before .before .pre)
+letters-of-requires c κs =
+    let back = c .before .before .before .before .before .before in
+    let back-2 = back .before .before .before .before .before .before in
+    let start = back-2 .before .before .before .before in
+    name-fits _ (start .pre)
 
 returns-2 : tie.Need-returns-2
-returns-2 c = run-planned _ _ (c .before .before .before .before .before .before .before .before .before .before .timed-plan .result) (c .before .before .before .before .before .before .before .before .before .before .timed-plan .ensures) _ (c .before .before .before .before .before .before .before .before .refused .ensures) (c .before .before .before .before .before .before .before .if1 .left) _ _ _ _ (c .before .before .count-reads .ensures) (c .before .before .before .before .before .before .empty-sum .ensures) (c .before .before .before .longest-time .ensures) (c .letters-of .ensures)
+returns-2 c =
+    let at-longest-time = c .before .before .before in
+    let at-empty-sum = at-longest-time .before .before .before in
+    let at-if1 = at-empty-sum .before in
+    let at-refused = at-if1 .before in
+    let at-timed-plan = at-refused .before .before in
+    run-planned _ _ (at-timed-plan .timed-plan .result) (at-timed-plan .timed-plan .ensures) _ (at-refused .refused .ensures) (at-if1 .if1 .left) _ _ _ _ (c .before .before .count-reads .ensures) (at-empty-sum .empty-sum .ensures) (at-longest-time .longest-time .ensures) (c .letters-of .ensures)
 
 pub run-outcome-spec : {M : Type 1} → statement M
 run-outcome-spec =

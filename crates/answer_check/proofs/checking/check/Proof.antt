@@ -1,31 +1,27 @@
--- `answer_check::checking::check` meets its contract: the two lines where the reader refuses, else the answer to the run that it read.
--- Assumes nothing.
-use mathlib.Core.Path.{refl, sym}
+-- `answer_check::checking::check` meets its contract: the first refusal, or the page of the list handed out. Assumes nothing.
+use mathlib.Core.Path.{_≡_, sym}
 use lib.Seq.{length-take-le}
-use Rattle.answer_plan.specs.Recall.{runChecks}
-use Rattle.answer_plan.proofs.Read.{in-starts, in-lengths, in-aggregates, in-numbers, in-counts, named}
-use Rattle.answer_check.proofs.Sheets.{sheet-refused-check, sheet-check}
+use Rattle.answer_check.specs.Private.{firstRefusal}
+use Rattle.answer_check.proofs.Prices.{both-first}
+use Rattle.answer_check.proofs.Checked.{check-refused, checkable, check-handed}
 use borrow.Author.Needs.{needs}
 use Rattle.answer_check.proofs.checking.check.Statement.{statement}
 use Rattle.answer_check.proofs.checking.check.Tie as tie
 
-slice-aggregate-read-sheet : tie.Need-slice-aggregate-read-sheet
-slice-aggregate-read-sheet c = search needs
+read-run-requires : tie.Need-read-run-requires
+read-run-requires c κs = search needs
 
-slice-aggregate-read-sheet-2 : tie.Need-slice-aggregate-read-sheet-2
-slice-aggregate-read-sheet-2 c = search needs
+read-plan-requires : tie.Need-read-plan-requires
+read-plan-requires c κs = search needs
 
-slice-aggregate-read-sheet-3 : tie.Need-slice-aggregate-read-sheet-3
-slice-aggregate-read-sheet-3 c = search needs
+list-run-requires : tie.Need-list-run-requires
+list-run-requires c κs = search needs
 
-slice-aggregate-read-sheet-4 : tie.Need-slice-aggregate-read-sheet-4
-slice-aggregate-read-sheet-4 c = search needs
+first-refusal-requires : tie.Need-first-refusal-requires
+first-refusal-requires c κs = search needs
 
-slice-aggregate-read-sheet-5 : tie.Need-slice-aggregate-read-sheet-5
-slice-aggregate-read-sheet-5 c = search needs
-
-read-sheet-requires : tie.Need-read-sheet-requires
-read-sheet-requires c κs = search needs
+first-refusal-requires-2 : tie.Need-first-refusal-requires-2
+first-refusal-requires-2 c κs = search needs
 
 refused-requires : tie.Need-refused-requires
 refused-requires c κs = search needs
@@ -36,76 +32,70 @@ write-refusal-requires c κs = search needs
 same-length : tie.Need-same-length
 same-length c = search needs
 
+-- From the test of the verdict back to the least list, and to the start.
+abbrev listed : tie.After-refused → tie.After-list-run
+listed f = f .before .before .before .before .before .before
+
+abbrev start : tie.After-list-run → tie.Start
+start l = l .before .before .before .before .before .before
+
+verdict-is : (f : tie.After-refused) → let l = listed f in f .before .first-refusal2 .result ≡ firstRefusal (l .before .before .read-run .result .verdict) (firstRefusal (l .before .read-plan .result .verdict) (l .list-run .result .verdict))
+verdict-is f =
+    let l = listed f in
+    both-first (f .before .first-refusal2 .result) (f .before .before .first-refusal .result) (l .before .before .read-run .result .verdict) (l .before .read-plan .result .verdict) (l .list-run .result .verdict) (f .before .first-refusal2 .ensures) (f .before .before .first-refusal .ensures)
+
 returns : tie.Need-returns
-returns c = sheet-refused-check _ _ (record { starts = search needs; lengths = search needs; aggregates = search needs; numbers = search needs; counts = search needs }) (c .before .before .before .before .before .before .before .before .before .before .before .read-sheet .result) _ (c .before .before .before .before .before .before .before .before .before .before .before .read-sheet .ensures) _ (c .before .before .before .before .before .refused .ensures) (c .before .before .before .before .before .before .before .before .before .before .before .before .before .before .before .before .before .before .before .before .args .plan .now) _ (c .before .before .before .before .if1 .taken) _ refl _ _ (c .before .before .write-refusal .ensures)
+returns c =
+    let w = c .before .before in
+    let f = w .before .before .before in
+    let l = listed f in
+    check-refused _ (start l .args .plan .now) (l .before .before .read-run .result) (l .before .before .read-run .ensures) _ (l .before .read-plan .ensures) (l .list-run .result) (l .list-run .ensures)
+    _ (verdict-is f) _ (f .refused .ensures) (w .before .before .if1 .taken) _ _ _ (w .write-refusal .ensures)
 
-tape-name-requires : tie.Need-tape-name-requires
-tape-name-requires c κs = search needs
+list-page-requires : tie.Need-list-page-requires
+list-page-requires c κs =
+    let f = c .before in
+    let l = listed f in
+    checkable _ (start l .args .plan .now) (l .before .before .read-run .result) (l .before .before .read-run .ensures) _ (l .before .read-plan .ensures) (l .list-run .result) (l .list-run .ensures)
+    _ (verdict-is f) _ (f .refused .ensures) (c .if1 .left)
 
-array-share-prefix-starts : tie.Need-array-share-prefix-starts
-array-share-prefix-starts c = in-starts runChecks _ _ (record { starts = search needs; lengths = search needs; aggregates = search needs; numbers = search needs; counts = search needs }) (c .before .before .before .before .before .before .before .before .read-sheet .result) _ (c .before .before .before .before .before .before .before .before .read-sheet .ensures) _ (c .before .before .refused .ensures) (c .before .if1 .left)
+array-share-prefix-text : tie.Need-array-share-prefix-text
+array-share-prefix-text c = c .before .list-page .ensures .within
 
-slice-aggregate-check-plan : tie.Need-slice-aggregate-check-plan
-slice-aggregate-check-plan c = sym (length-take-le _ _ (array-share-prefix-starts (c .before)))
+slice-aggregate-hand-out : tie.Need-slice-aggregate-hand-out
+slice-aggregate-hand-out c = sym (length-take-le _ _ (array-share-prefix-text (c .before)))
 
-array-share-prefix-lengths : tie.Need-array-share-prefix-lengths
-array-share-prefix-lengths c = in-lengths runChecks _ _ (record { starts = search needs; lengths = search needs; aggregates = search needs; numbers = search needs; counts = search needs }) (c .before .before .before .before .before .before .before .before .before .read-sheet .result) _ (c .before .before .before .before .before .before .before .before .before .read-sheet .ensures) _ (c .before .before .before .refused .ensures) (c .before .before .if1 .left)
-
-slice-aggregate-check-plan-2 : tie.Need-slice-aggregate-check-plan-2
-slice-aggregate-check-plan-2 c = sym (length-take-le _ _ (array-share-prefix-lengths (c .before)))
-
-array-share-prefix-aggregates : tie.Need-array-share-prefix-aggregates
-array-share-prefix-aggregates c = in-aggregates runChecks _ _ (record { starts = search needs; lengths = search needs; aggregates = search needs; numbers = search needs; counts = search needs }) (c .before .before .before .before .before .before .before .before .before .before .read-sheet .result) _ (c .before .before .before .before .before .before .before .before .before .before .read-sheet .ensures) _ (c .before .before .before .before .refused .ensures) (c .before .before .before .if1 .left)
-
-slice-aggregate-check-plan-3 : tie.Need-slice-aggregate-check-plan-3
-slice-aggregate-check-plan-3 c = sym (length-take-le _ _ (array-share-prefix-aggregates (c .before)))
-
-array-share-prefix-numbers : tie.Need-array-share-prefix-numbers
-array-share-prefix-numbers c = in-numbers runChecks _ _ (record { starts = search needs; lengths = search needs; aggregates = search needs; numbers = search needs; counts = search needs }) (c .before .before .before .before .before .before .before .before .before .before .before .read-sheet .result) _ (c .before .before .before .before .before .before .before .before .before .before .before .read-sheet .ensures) _ (c .before .before .before .before .before .refused .ensures) (c .before .before .before .before .if1 .left)
-
-slice-aggregate-check-plan-4 : tie.Need-slice-aggregate-check-plan-4
-slice-aggregate-check-plan-4 c = sym (length-take-le _ _ (array-share-prefix-numbers (c .before)))
-
-array-share-prefix-counts : tie.Need-array-share-prefix-counts
-array-share-prefix-counts c = in-counts runChecks _ _ (record { starts = search needs; lengths = search needs; aggregates = search needs; numbers = search needs; counts = search needs }) (c .before .before .before .before .before .before .before .before .before .before .before .before .read-sheet .result) _ (c .before .before .before .before .before .before .before .before .before .before .before .before .read-sheet .ensures) _ (c .before .before .before .before .before .before .refused .ensures) (c .before .before .before .before .before .if1 .left)
-
-slice-aggregate-check-plan-5 : tie.Need-slice-aggregate-check-plan-5
-slice-aggregate-check-plan-5 c = sym (length-take-le _ _ (array-share-prefix-counts (c .before)))
-
-check-plan-requires : tie.Need-check-plan-requires
-check-plan-requires c κs = named runChecks _ _ (record { starts = search needs; lengths = search needs; aggregates = search needs; numbers = search needs; counts = search needs }) (c .before .before .before .before .before .before .before .before .before .before .before .before .before .before .read-sheet .result) _ (c .before .before .before .before .before .before .before .before .before .before .before .before .before .before .read-sheet .ensures) _ (c .before .before .before .before .before .before .before .before .refused .ensures) (c .before .before .before .before .before .before .before .if1 .left) _ (c .before .before .before .before .before .before .tape-name .ensures .0)
+hand-out-requires : tie.Need-hand-out-requires
+hand-out-requires c κs = search needs
 
 same-length-2 : tie.Need-same-length-2
 same-length-2 c = search needs
 
 returns-2 : tie.Need-returns-2
-returns-2 c = sheet-check _ _ (record { starts = search needs; lengths = search needs; aggregates = search needs; numbers = search needs; counts = search needs }) (c .before .before .before .before .before .before .before .before .before .before .before .before .before .before .before .before .before .read-sheet .result) _ (c .before .before .before .before .before .before .before .before .before .before .before .before .before .before .before .before .before .read-sheet .ensures) _ (c .before .before .before .before .before .before .before .before .before .before .before .refused .ensures) (c .before .before .before .before .before .before .before .before .before .before .before .before .before .before .before .before .before .before .before .before .before .before .before .before .before .before .args .plan .now) _ (c .before .before .before .before .before .before .before .before .before .before .if1 .left) _ (c .before .before .before .before .before .before .before .before .before .tape-name .ensures .0) _ _ (c .before .before .check-plan .ensures)
+returns-2 c =
+    let h = c .before .before in
+    let g = h .before .before .before .before in
+    let f = g .before .before in
+    let l = listed f in
+    check-handed _ (start l .args .plan .now) (l .before .before .read-run .result) (l .before .before .read-run .ensures) _ (l .before .read-plan .ensures) (l .list-run .result) (l .list-run .ensures)
+    _ (verdict-is f) _ (f .refused .ensures) (g .before .if1 .left) (g .list-page .result) (g .list-page .ensures) _ _ _ (h .hand-out .ensures)
 
 pub check-spec : {M : Type 1} → statement M
 check-spec =
     tie.close
     (tie.spec
-    slice-aggregate-read-sheet
-    slice-aggregate-read-sheet-2
-    slice-aggregate-read-sheet-3
-    slice-aggregate-read-sheet-4
-    slice-aggregate-read-sheet-5
-    read-sheet-requires
+    read-run-requires
+    read-plan-requires
+    list-run-requires
+    first-refusal-requires
+    first-refusal-requires-2
     refused-requires
     write-refusal-requires
     same-length
     returns
-    tape-name-requires
-    array-share-prefix-starts
-    slice-aggregate-check-plan
-    array-share-prefix-lengths
-    slice-aggregate-check-plan-2
-    array-share-prefix-aggregates
-    slice-aggregate-check-plan-3
-    array-share-prefix-numbers
-    slice-aggregate-check-plan-4
-    array-share-prefix-counts
-    slice-aggregate-check-plan-5
-    check-plan-requires
+    list-page-requires
+    array-share-prefix-text
+    slice-aggregate-hand-out
+    hand-out-requires
     same-length-2
     returns-2)

@@ -18,7 +18,11 @@ same-length : tie.Need-same-length
 same-length c = search needs
 
 returns : tie.Need-returns
-returns c = kind-put _ _ _ _ _ _ _ _ (no-difference _ _ _ (c .before .before .before .before .before .before .is-walk .ensures) (c .before .before .before .before .before .if1 .taken)) (omega arith) (c .before .before .before .before .before .before .before .before .before .before .pre) (c .before .before .put .ensures)
+returns c =
+    let at-if1 = c .before .before .before .before .before in
+    let at-is-walk = at-if1 .before in
+    let start = at-is-walk .before .before .before .before in
+    kind-put _ _ _ _ _ _ _ _ (no-difference _ _ _ (at-is-walk .is-walk .ensures) (at-if1 .if1 .taken)) (omega arith) (start .pre) (c .before .before .put .ensures)
 
 difference-requires : tie.Need-difference-requires
 difference-requires c κs = search needs
@@ -27,19 +31,31 @@ slice-aggregate-put-line-at : tie.Need-slice-aggregate-put-line-at
 slice-aggregate-put-line-at c = search needs
 
 put-line-at-requires : tie.Need-put-line-at-requires
-put-line-at-requires c κs = omega (arith, c .before .before .before .before .before .before .before .before .pre)
+put-line-at-requires c κs =
+    let back = c .before .before .before .before .before .before in
+    let start = back .before .before in
+    omega (arith, start .pre)
 
 slice-aggregate-put-line-at-2 : tie.Need-slice-aggregate-put-line-at-2
 slice-aggregate-put-line-at-2 c = search needs
 
 put-line-at-requires-2 : tie.Need-put-line-at-requires-2
-put-line-at-requires-2 c κs = room-left _ _ _ _ _ _ _ (c .before .before .before .before .before .before .before .before .before .before .before .before .before .pre) (c .before .before .before .before .put-line-at .ensures)
+put-line-at-requires-2 c κs =
+    let at-put-line-at = c .before .before .before .before in
+    let back = at-put-line-at .before .before .before .before .before .before in
+    let start = back .before .before .before in
+    room-left _ _ _ _ _ _ _ (start .pre) (at-put-line-at .put-line-at .ensures)
 
 same-length-2 : tie.Need-same-length-2
 same-length-2 c = search needs
 
 returns-2 : tie.Need-returns-2
-returns-2 c = both-put _ _ _ _ _ _ _ _ _ _ _ (difference-is _ _ _ (c .before .before .before .before .before .before .before .before .before .before .before .before .is-walk .ensures) (c .before .before .before .before .before .before .before .before .before .before .before .if1 .left) _ (c .before .before .before .before .before .before .before .before .before .before .difference .ensures)) (c .before .before .before .before .before .before .before .put-line-at .ensures) (c .before .before .put-line-at2 .ensures)
+returns-2 c =
+    let at-put-line-at = c .before .before .before .before .before .before .before in
+    let at-difference = at-put-line-at .before .before .before in
+    let at-if1 = at-difference .before in
+    let at-is-walk = at-if1 .before in
+    both-put _ _ _ _ _ _ _ _ _ _ _ (difference-is _ _ _ (at-is-walk .is-walk .ensures) (at-if1 .if1 .left) _ (at-difference .difference .ensures)) (at-put-line-at .put-line-at .ensures) (c .before .before .put-line-at2 .ensures)
 
 pub put-difference-spec : {M : Type 1} → statement M
 put-difference-spec =

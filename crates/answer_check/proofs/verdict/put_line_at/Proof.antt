@@ -27,16 +27,29 @@ same-length : tie.Need-same-length
 same-length c = search needs
 
 returns : tie.Need-returns
-returns c = line-put _ _ (c .before .before .before .before .before .before .before .before .before .before .before .before .args .key .now) (c .before .before .before .before .before .before .before .before .before .before .before .before .args .text .now) _ _ _ _ (line-none (c .before .before .before .before .before .before .before .before .before .before .before .before .args .text .now) (c .before .before .before .before .before .before .before .before .before .before .before .before .args .start) _ (c .before .before .before .before .before .before .before .find-value .ensures) (c .before .before .before .before .before .enum-told .given .1)) (omega arith) (c .before .before .before .before .before .before .before .before .before .before .before .before .pre) (c .before .before .put-line .ensures)
+returns c =
+    let at-enum-told = c .before .before .before .before .before in
+    let at-find-value = at-enum-told .before .before in
+    let start = at-find-value .before .before .before .before .before in
+    line-put _ _ (start .args .key .now) (start .args .text .now) _ _ _ _ (line-none (start .args .text .now) (start .args .start) _ (at-find-value .find-value .ensures) (at-enum-told .enum-told .given .1)) (omega arith) (start .pre) (c .before .before .put-line .ensures)
 
 sub-put-line : tie.Need-sub-put-line
-sub-put-line c = omega (arith, line-ordered (c .before .before .before .before .before .before .before .before .before .args .text .now) (c .before .before .before .before .before .before .before .before .before .args .start) _ (c .before .before .before .before .find-value .ensures) _ _ (c .before .before .from .given .1))
+sub-put-line c =
+    let at-find-value = c .before .before .before .before in
+    let start = at-find-value .before .before .before .before .before in
+    omega (arith, line-ordered (start .args .text .now) (start .args .start) _ (at-find-value .find-value .ensures) _ _ (c .before .before .from .given .1))
 
 part-put-line-start : tie.Need-part-put-line-start
-part-put-line-start c = omega (arith, line-ordered (c .before .before .before .before .before .before .before .before .before .args .text .now) (c .before .before .before .before .before .before .before .before .before .args .start) _ (c .before .before .before .before .find-value .ensures) _ _ (c .before .before .from .given .1), line-inside (c .before .before .before .before .before .before .before .before .before .args .text .now) (c .before .before .before .before .before .before .before .before .before .args .start) _ (c .before .before .before .before .find-value .ensures) _ _ (c .before .before .from .given .1))
+part-put-line-start c =
+    let at-find-value = c .before .before .before .before in
+    let start = at-find-value .before .before .before .before .before in
+    omega (arith, line-ordered (start .args .text .now) (start .args .start) _ (at-find-value .find-value .ensures) _ _ (c .before .before .from .given .1), line-inside (start .args .text .now) (start .args .start) _ (at-find-value .find-value .ensures) _ _ (c .before .before .from .given .1))
 
 part-put-line-end : tie.Need-part-put-line-end
-part-put-line-end c = omega (arith, line-ordered (c .before .before .before .before .before .before .before .before .before .args .text .now) (c .before .before .before .before .before .before .before .before .before .args .start) _ (c .before .before .before .before .find-value .ensures) _ _ (c .before .before .from .given .1), line-inside (c .before .before .before .before .before .before .before .before .before .args .text .now) (c .before .before .before .before .before .before .before .before .before .args .start) _ (c .before .before .before .before .find-value .ensures) _ _ (c .before .before .from .given .1))
+part-put-line-end c =
+    let at-find-value = c .before .before .before .before in
+    let start = at-find-value .before .before .before .before .before in
+    omega (arith, line-ordered (start .args .text .now) (start .args .start) _ (at-find-value .find-value .ensures) _ _ (c .before .before .from .given .1), line-inside (start .args .text .now) (start .args .start) _ (at-find-value .find-value .ensures) _ _ (c .before .before .from .given .1))
 
 put-line-requires-2 : tie.Need-put-line-requires-2
 put-line-requires-2 c κs = search needs
@@ -45,7 +58,11 @@ same-length-2 : tie.Need-same-length-2
 same-length-2 c = search needs
 
 returns-2 : tie.Need-returns-2
-returns-2 c = line-put _ _ (c .before .before .before .before .before .before .before .before .before .before .before .before .before .args .key .now) (c .before .before .before .before .before .before .before .before .before .before .before .before .before .args .text .now) _ _ _ _ (line-some (c .before .before .before .before .before .before .before .before .before .before .before .before .before .args .text .now) (c .before .before .before .before .before .before .before .before .before .before .before .before .before .args .start) _ (c .before .before .before .before .before .before .before .before .find-value .ensures) _ _ (c .before .before .before .before .before .before .from .given .1)) (line-short (c .before .before .before .before .before .before .before .before .before .before .before .before .before .args .text .now) (c .before .before .before .before .before .before .before .before .before .before .before .before .before .args .start) _ (c .before .before .before .before .before .before .before .before .find-value .ensures) _ _ (c .before .before .before .before .before .before .from .given .1)) (c .before .before .before .before .before .before .before .before .before .before .before .before .before .pre) (c .before .before .put-line2 .ensures)
+returns-2 c =
+    let at-from = c .before .before .before .before .before .before in
+    let at-find-value = at-from .before .before in
+    let start = at-find-value .before .before .before .before .before in
+    line-put _ _ (start .args .key .now) (start .args .text .now) _ _ _ _ (line-some (start .args .text .now) (start .args .start) _ (at-find-value .find-value .ensures) _ _ (at-from .from .given .1)) (line-short (start .args .text .now) (start .args .start) _ (at-find-value .find-value .ensures) _ _ (at-from .from .given .1)) (start .pre) (c .before .before .put-line2 .ensures)
 
 pub put-line-at-spec : {M : Type 1} → statement M
 put-line-at-spec =

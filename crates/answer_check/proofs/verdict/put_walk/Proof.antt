@@ -18,7 +18,11 @@ same-length : tie.Need-same-length
 same-length c = search needs
 
 returns : tie.Need-returns
-returns c = kind-put _ _ _ _ _ _ _ _ (walk-is _ _ _ (c .before .before .before .before .before .before .is-walk .ensures) (c .before .before .before .before .before .if1 .taken)) (omega arith) (c .before .before .before .before .before .before .before .before .before .before .pre) (c .before .before .put .ensures)
+returns c =
+    let at-if1 = c .before .before .before .before .before in
+    let at-is-walk = at-if1 .before in
+    let start = at-is-walk .before .before .before .before in
+    kind-put _ _ _ _ _ _ _ _ (walk-is _ _ _ (at-is-walk .is-walk .ensures) (at-if1 .if1 .taken)) (omega arith) (start .pre) (c .before .before .put .ensures)
 
 difference-requires : tie.Need-difference-requires
 difference-requires c κs = search needs
@@ -33,7 +37,12 @@ same-length-2 : tie.Need-same-length-2
 same-length-2 c = search needs
 
 returns-2 : tie.Need-returns-2
-returns-2 c = kind-put _ _ _ _ _ _ _ _ (walk-not _ _ _ (c .before .before .before .before .before .before .before .is-walk .ensures) (c .before .before .before .before .before .before .if1 .left) _ (c .before .before .before .before .before .difference .ensures)) (omega arith) (c .before .before .before .before .before .before .before .before .before .before .before .pre) (c .before .before .put-number-line .ensures)
+returns-2 c =
+    let at-difference = c .before .before .before .before .before in
+    let at-if1 = at-difference .before in
+    let at-is-walk = at-if1 .before in
+    let start = at-is-walk .before .before .before .before in
+    kind-put _ _ _ _ _ _ _ _ (walk-not _ _ _ (at-is-walk .is-walk .ensures) (at-if1 .if1 .left) _ (at-difference .difference .ensures)) (omega arith) (start .pre) (c .before .before .put-number-line .ensures)
 
 pub put-walk-spec : {M : Type 1} → statement M
 put-walk-spec =

@@ -18,7 +18,10 @@ same-length : tie.Need-same-length
 same-length c = search needs
 
 returns : tie.Need-returns
-returns c = put-saved _ _ _ (c .before .refused .ensures) _ _ _ _ (c .before .before .before .before .before .before .before .before .pre) (c .before .before .before .before .put-number-line .ensures) (c .if1 .taken)
+returns c =
+    let at-put-number-line = c .before .before .before .before in
+    let start = at-put-number-line .before .before .before .before in
+    put-saved _ _ _ (c .before .refused .ensures) _ _ _ _ (start .pre) (at-put-number-line .put-number-line .ensures) (c .if1 .taken)
 
 slice-aggregate-put-number-line-2 : tie.Need-slice-aggregate-put-number-line-2
 slice-aggregate-put-number-line-2 c = search needs
@@ -39,7 +42,14 @@ same-length-2 : tie.Need-same-length-2
 same-length-2 c = search needs
 
 returns-2 : tie.Need-returns-2
-returns-2 c = put-refused _ _ _ (c .before .before .before .before .before .before .before .before .before .before .before .before .refused .ensures) _ _ _ _ (c .before .before .before .before .before .before .before .before .before .before .before .before .before .before .before .before .before .before .before .pre) (c .before .before .before .before .before .before .before .before .before .before .before .before .before .before .before .put-number-line .ensures) (c .before .before .before .before .before .before .before .before .before .before .before .if1 .left) _ (c .before .before .before .before .before .before .before .before .number .ensures) _ _ _ _ (c .before .before .before .before .before .before .before .put-number-line2 .ensures) (c .before .before .put-number-line3 .ensures)
+returns-2 c =
+    let at-put-number-line2 = c .before .before .before .before .before .before .before in
+    let at-number = at-put-number-line2 .before in
+    let at-if1 = at-number .before .before .before in
+    let at-refused = at-if1 .before in
+    let at-put-number-line = at-refused .before .before .before in
+    let start = at-put-number-line .before .before .before .before in
+    put-refused _ _ _ (at-refused .refused .ensures) _ _ _ _ (start .pre) (at-put-number-line .put-number-line .ensures) (at-if1 .if1 .left) _ (at-number .number .ensures) _ _ _ _ (at-put-number-line2 .put-number-line2 .ensures) (c .before .before .put-number-line3 .ensures)
 
 pub put-end-spec : {M : Type 1} → statement M
 put-end-spec =

@@ -33,7 +33,13 @@ same-length : tie.Need-same-length
 same-length c = search needs
 
 returns : tie.Need-returns
-returns c = put-longest _ _ _ (c .before .before .before .before .before .before .before .before .before .before .before .before .before .before .before .before .before .before .before .before .before .before .before .before .before .pre .1) _ _ _ _ _ _ _ _ _ _ _ _ (c .before .before .before .before .before .before .before .before .before .before .before .before .before .before .before .before .before .before .before .before .before .before .before .before .before .pre .0) (c .before .before .before .before .before .before .before .before .before .before .before .before .before .before .before .before .before .before .before .before .put .ensures) (c .before .before .before .before .before .before .before .before .before .before .before .before .before .before .before .before .put-number .ensures) (c .before .before .before .before .before .before .before .before .before .before .before .put2 .ensures) (c .before .before .before .before .before .before .before .put3 .ensures) (c .before .before .put-number-line .ensures)
+returns c =
+    let at-put3 = c .before .before .before .before .before .before .before in
+    let at-put2 = at-put3 .before .before .before .before in
+    let at-put-number = at-put2 .before .before .before .before .before in
+    let at-put = at-put-number .before .before .before .before in
+    let start = at-put .before .before .before .before .before in
+    put-longest _ _ _ (start .pre .1) _ _ _ _ _ _ _ _ _ _ _ _ (start .pre .0) (at-put .put .ensures) (at-put-number .put-number .ensures) (at-put2 .put2 .ensures) (at-put3 .put3 .ensures) (c .before .before .put-number-line .ensures)
 
 pub put-longest-spec : {M : Type 1} → statement M
 put-longest-spec =

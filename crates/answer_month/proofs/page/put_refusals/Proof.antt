@@ -35,7 +35,11 @@ loop-less : tie.Need-loop-less Inv-loop μ-loop
 loop-less c = search needs
 
 loop-again : tie.Need-loop-again Inv-loop μ-loop
-loop-again c = line-wrote _ _ _ _ _ (c .before .before .before .before .before .before .before .before .before .pre) _ _ _ _ (c .before .before .before .before .before .before .loop .inv) (c .before .before .before .before .before .loop-test .taken) _ _ (lines-left _ _ (c .before .before .before .before .before .loop-test .taken)) _ (omega arith) _ _ (c .before .before .put-refusal .ensures)
+loop-again c =
+    let at-loop-test = c .before .before .before .before .before in
+    let at-loop = at-loop-test .before in
+    let start = at-loop .before .before .before in
+    line-wrote _ _ _ _ _ (start .pre) _ _ _ _ (at-loop .loop .inv) (at-loop-test .loop-test .taken) _ _ (lines-left _ _ (at-loop-test .loop-test .taken)) _ (omega arith) _ _ (c .before .before .put-refusal .ensures)
 
 same-length : tie.Need-same-length Inv-loop μ-loop
 same-length c = c .before .loop .inv .long

@@ -30,7 +30,12 @@ same-length : tie.Need-same-length
 same-length c = search needs
 
 returns : tie.Need-returns
-returns c = put-sums _ _ _ (c .before .before .before .before .before .before .before .before .before .before .before .before .before .before .before .mean-of .ensures) _ _ _ _ _ _ _ _ (c .before .before .before .before .before .before .before .before .before .before .before .before .before .before .before .before .before .pre) (c .before .before .before .before .before .before .before .before .before .before .before .before .put-number-line .ensures) (c .before .before .before .before .before .before .before .put-number-line2 .ensures) (c .before .before .put-pair-line .ensures)
+returns c =
+    let at-put-number-line2 = c .before .before .before .before .before .before .before in
+    let at-put-number-line = at-put-number-line2 .before .before .before .before .before in
+    let at-mean-of = at-put-number-line .before .before .before in
+    let start = at-mean-of .before .before in
+    put-sums _ _ _ (at-mean-of .mean-of .ensures) _ _ _ _ _ _ _ _ (start .pre) (at-put-number-line .put-number-line .ensures) (at-put-number-line2 .put-number-line2 .ensures) (c .before .before .put-pair-line .ensures)
 
 pub put-sums-spec : {M : Type 1} → statement M
 put-sums-spec =

@@ -21,13 +21,22 @@ put-number-line-requires-2 : tie.Need-put-number-line-requires-2
 put-number-line-requires-2 c κs = search needs
 
 put-refusals-requires : tie.Need-put-refusals-requires
-put-refusals-requires c κs = top-room _ _ (c .before .before .before .before .before .before .before .before .before .before .before .before .before .before .args .runs .now) _ _ _ _ _ (c .before .before .before .before .before .before .before .before .before .before .before .before .before .before .pre) (c .before .before .before .before .before .before .before .before .put-number-line .ensures) (c .before .before .before .put-number-line2 .ensures)
+put-refusals-requires c κs =
+    let at-put-number-line2 = c .before .before .before in
+    let at-put-number-line = at-put-number-line2 .before .before .before .before .before in
+    let start = at-put-number-line .before .before .before .before .before .before in
+    top-room _ _ (start .args .runs .now) _ _ _ _ _ (start .pre) (at-put-number-line .put-number-line .ensures) (at-put-number-line2 .put-number-line2 .ensures)
 
 same-length : tie.Need-same-length
 same-length c = search needs
 
 returns : tie.Need-returns
-returns c = put-top _ _ (c .before .before .before .before .before .before .before .before .before .before .before .before .before .before .before .before .before .args .runs .now) (c .before .before .before .before .before .before .before .before .before .before .before .before .before .before .count-kinds .ensures) _ _ _ _ _ _ _ (c .before .before .before .before .before .before .before .before .before .before .before .before .before .before .before .before .before .pre) (c .before .before .before .before .before .before .before .before .before .before .before .put-number-line .ensures) (c .before .before .before .before .before .before .put-number-line2 .ensures) (c .before .before .put-refusals .ensures)
+returns c =
+    let at-put-number-line2 = c .before .before .before .before .before .before in
+    let at-put-number-line = at-put-number-line2 .before .before .before .before .before in
+    let at-count-kinds = at-put-number-line .before .before .before in
+    let start = at-count-kinds .before .before .before in
+    put-top _ _ (start .args .runs .now) (at-count-kinds .count-kinds .ensures) _ _ _ _ _ _ _ (start .pre) (at-put-number-line .put-number-line .ensures) (at-put-number-line2 .put-number-line2 .ensures) (c .before .before .put-refusals .ensures)
 
 pub put-top-spec : {M : Type 1} → statement M
 put-top-spec =

@@ -27,22 +27,48 @@ slice-aggregate-put-sums : tie.Need-slice-aggregate-put-sums
 slice-aggregate-put-sums c = search needs
 
 put-sums-requires : tie.Need-put-sums-requires
-put-sums-requires c κs = room-two (c .before .before .before .before .before .before .before .before .before .before .args .month) (c .before .before .before .before .before .before .before .before .before .before .args .verdict) (sym (slice-aggregate-put-top-2 (c .before .before .before))) _ (sym (slice-aggregate-put-top (c .before .before .before .before))) _ _ (c .before .before .put-top .ensures)
+put-sums-requires c κs =
+    let runs-lent = c .before .before .before in
+    let page-lent = runs-lent .before in
+    let start = page-lent .before .before .before .before .before .before in
+    room-two (start .args .month) (start .args .verdict) (sym (slice-aggregate-put-top-2 runs-lent)) _ (sym (slice-aggregate-put-top page-lent)) _ _ (c .before .before .put-top .ensures)
 
 slice-aggregate-put-longest : tie.Need-slice-aggregate-put-longest
 slice-aggregate-put-longest c = search needs
 
 put-longest-requires : tie.Need-put-longest-requires
-put-longest-requires c κs = (room-three (c .before .before .before .before .before .before .before .before .before .before .before .before .before .args .month) (c .before .before .before .before .before .before .before .before .before .before .before .before .before .args .verdict) (sym (slice-aggregate-put-top-2 (c .before .before .before .before .before .before))) _ (sym (slice-aggregate-put-top (c .before .before .before .before .before .before .before))) _ _ (c .before .before .before .before .before .put-top .ensures) _ _ (c .before .before .put-sums .ensures), short-tape (c .before .before .before .before .before .before .before .before .before .before .before .before .before .args .month .tape) _ (c .before .before .before .before .before .before .before .before .before .before .before .before .before .args .month .letters) (c .before .before .before .before .before .before .before .before .tape-of .ensures) (slice-aggregate-tape-of (c .before .before .before .before .before .before .before .before .before)))
+put-longest-requires c κs =
+    let at-put-top = c .before .before .before .before .before in
+    let runs-lent = at-put-top .before in
+    let page-lent = runs-lent .before in
+    let at-tape-of = page-lent .before in
+    let tape-lent = at-tape-of .before in
+    let start = tape-lent .before .before .before .before in
+    (room-three (start .args .month) (start .args .verdict) (sym (slice-aggregate-put-top-2 runs-lent)) _ (sym (slice-aggregate-put-top page-lent)) _ _ (at-put-top .put-top .ensures) _ _ (c .before .before .put-sums .ensures), short-tape (start .args .month .tape) _ (start .args .month .letters) (at-tape-of .tape-of .ensures) (slice-aggregate-tape-of tape-lent))
 
 slice-aggregate-put-end : tie.Need-slice-aggregate-put-end
 slice-aggregate-put-end c = search needs
 
 put-end-requires : tie.Need-put-end-requires
-put-end-requires c κs = room-four (c .before .before .before .before .before .before .before .before .before .before .before .before .before .before .before .before .args .month) (c .before .before .before .before .before .before .before .before .before .before .before .before .before .before .before .before .args .verdict) (sym (slice-aggregate-put-top-2 (c .before .before .before .before .before .before .before .before .before))) _ (sym (slice-aggregate-put-top (c .before .before .before .before .before .before .before .before .before .before))) _ _ (c .before .before .before .before .before .before .before .before .put-top .ensures) _ _ (c .before .before .before .before .before .put-sums .ensures) _ (c .before .before .before .before .before .before .before .before .before .before .before .tape-of .ensures) _ _ (c .before .before .put-longest .ensures)
+put-end-requires c κs =
+    let at-put-sums = c .before .before .before .before .before in
+    let at-put-top = at-put-sums .before .before .before in
+    let runs-lent = at-put-top .before in
+    let page-lent = runs-lent .before in
+    let at-tape-of = page-lent .before in
+    let start = at-tape-of .before .before .before .before .before in
+    room-four (start .args .month) (start .args .verdict) (sym (slice-aggregate-put-top-2 runs-lent)) _ (sym (slice-aggregate-put-top page-lent)) _ _ (at-put-top .put-top .ensures) _ _ (at-put-sums .put-sums .ensures) _ (at-tape-of .tape-of .ensures) _ _ (c .before .before .put-longest .ensures)
 
 array-share-prefix-page : tie.Need-array-share-prefix-page
-array-share-prefix-page c = omega (arith, page-within (c .before .before .before .before .before .before .before .before .before .before .before .before .before .before .before .before .before .before .before .args .month) (c .before .before .before .before .before .before .before .before .before .before .before .before .before .before .before .before .before .before .before .args .verdict) (sym (slice-aggregate-put-top-2 (c .before .before .before .before .before .before .before .before .before .before .before .before))) _ (sym (slice-aggregate-put-top (c .before .before .before .before .before .before .before .before .before .before .before .before .before))) _ _ (c .before .before .before .before .before .before .before .before .before .before .before .put-top .ensures) _ _ (c .before .before .before .before .before .before .before .before .put-sums .ensures) _ (c .before .before .before .before .before .before .before .before .before .before .before .before .before .before .tape-of .ensures) _ _ (c .before .before .before .before .before .put-longest .ensures) _ _ (c .before .before .put-end .ensures), page-kept (c .before .before .before .before .before .before .before .before .before .before .before .before .before .before .before .before .before .before .before .args .month) (c .before .before .before .before .before .before .before .before .before .before .before .before .before .before .before .before .before .before .before .args .verdict) (sym (slice-aggregate-put-top-2 (c .before .before .before .before .before .before .before .before .before .before .before .before))) _ (sym (slice-aggregate-put-top (c .before .before .before .before .before .before .before .before .before .before .before .before .before))) _ _ (c .before .before .before .before .before .before .before .before .before .before .before .put-top .ensures) _ _ (c .before .before .before .before .before .before .before .before .put-sums .ensures) _ (c .before .before .before .before .before .before .before .before .before .before .before .before .before .before .tape-of .ensures) _ _ (c .before .before .before .before .before .put-longest .ensures) _ _ (c .before .before .put-end .ensures))
+array-share-prefix-page c =
+    let at-put-longest = c .before .before .before .before .before in
+    let at-put-sums = at-put-longest .before .before .before in
+    let at-put-top = at-put-sums .before .before .before in
+    let runs-lent = at-put-top .before in
+    let page-lent = runs-lent .before in
+    let at-tape-of = page-lent .before in
+    let start = at-tape-of .before .before .before .before .before in
+    omega (arith, page-within (start .args .month) (start .args .verdict) (sym (slice-aggregate-put-top-2 runs-lent)) _ (sym (slice-aggregate-put-top page-lent)) _ _ (at-put-top .put-top .ensures) _ _ (at-put-sums .put-sums .ensures) _ (at-tape-of .tape-of .ensures) _ _ (at-put-longest .put-longest .ensures) _ _ (c .before .before .put-end .ensures), page-kept (start .args .month) (start .args .verdict) (sym (slice-aggregate-put-top-2 runs-lent)) _ (sym (slice-aggregate-put-top page-lent)) _ _ (at-put-top .put-top .ensures) _ _ (at-put-sums .put-sums .ensures) _ (at-tape-of .tape-of .ensures) _ _ (at-put-longest .put-longest .ensures) _ _ (c .before .before .put-end .ensures))
 
 slice-aggregate-put : tie.Need-slice-aggregate-put
 slice-aggregate-put c = sym (length-take-le _ _ (array-share-prefix-page (c .before)))
@@ -54,7 +80,16 @@ same-length : tie.Need-same-length
 same-length c = search needs
 
 returns : tie.Need-returns
-returns c = page-put (c .before .before .before .before .before .before .before .before .before .before .before .before .before .before .before .before .before .before .before .before .before .before .before .args .month) (c .before .before .before .before .before .before .before .before .before .before .before .before .before .before .before .before .before .before .before .before .before .before .before .args .verdict) (sym (slice-aggregate-put-top-2 (c .before .before .before .before .before .before .before .before .before .before .before .before .before .before .before .before))) _ (sym (slice-aggregate-put-top (c .before .before .before .before .before .before .before .before .before .before .before .before .before .before .before .before .before))) _ _ (c .before .before .before .before .before .before .before .before .before .before .before .before .before .before .before .put-top .ensures) _ _ (c .before .before .before .before .before .before .before .before .before .before .before .before .put-sums .ensures) _ (c .before .before .before .before .before .before .before .before .before .before .before .before .before .before .before .before .before .before .tape-of .ensures) _ _ (c .before .before .before .before .before .before .before .before .before .put-longest .ensures) _ _ (c .before .before .before .before .before .before .put-end .ensures) _ _ _ (c .before .before .put .ensures)
+returns c =
+    let at-put-end = c .before .before .before .before .before .before in
+    let at-put-longest = at-put-end .before .before .before in
+    let at-put-sums = at-put-longest .before .before .before in
+    let at-put-top = at-put-sums .before .before .before in
+    let runs-lent = at-put-top .before in
+    let page-lent = runs-lent .before in
+    let at-tape-of = page-lent .before in
+    let start = at-tape-of .before .before .before .before .before in
+    page-put (start .args .month) (start .args .verdict) (sym (slice-aggregate-put-top-2 runs-lent)) _ (sym (slice-aggregate-put-top page-lent)) _ _ (at-put-top .put-top .ensures) _ _ (at-put-sums .put-sums .ensures) _ (at-tape-of .tape-of .ensures) _ _ (at-put-longest .put-longest .ensures) _ _ (at-put-end .put-end .ensures) _ _ _ (c .before .before .put .ensures)
 
 pub write-month-spec : {M : Type 1} → statement M
 write-month-spec =

@@ -39,10 +39,19 @@ enum-told-2 : tie.Need-enum-told-2
 enum-told-2 c = search needs
 
 returns-3 : tie.Need-returns-3
-returns-3 c = not-number _ _ (c .before .before .before .before .before .before .before .before .find .ensures) _ (c .before .before .before .before .before .before .end .given .1) (c .before .before .before .before .if1 .left) _ (c .before .before .read-number .ensures) (c .enum-told2 .given .1)
+returns-3 c =
+    let at-if1 = c .before .before .before .before in
+    let at-end = at-if1 .before .before in
+    let at-find = at-end .before .before in
+    not-number _ _ (at-find .find .ensures) _ (at-end .end .given .1) (at-if1 .if1 .left) _ (c .before .before .read-number .ensures) (c .enum-told2 .given .1)
 
 returns-4 : tie.Need-returns-4
-returns-4 c = counts _ _ (c .before .before .before .before .before .before .before .before .before .find .ensures) _ (c .before .before .before .before .before .before .before .end .given .1) (c .before .before .before .before .before .if1 .left) _ (c .before .before .before .read-number .ensures) _ (c .before .bytes .given .1)
+returns-4 c =
+    let at-read-number = c .before .before .before in
+    let at-if1 = at-read-number .before .before in
+    let at-end = at-if1 .before .before in
+    let at-find = at-end .before .before in
+    counts _ _ (at-find .find .ensures) _ (at-end .end .given .1) (at-if1 .if1 .left) _ (at-read-number .read-number .ensures) _ (c .before .bytes .given .1)
 
 pub count-line-spec : {M : Type 1} → statement M
 count-line-spec =

@@ -12,12 +12,12 @@ returns : tie.Need-returns
 unfolding inputVerdict
 returns c = rw (c .if1 .taken) refl
 
-grow-requires : tie.Need-grow-requires
-grow-requires c κs = search needs
+next-sheet-requires : tie.Need-next-sheet-requires
+next-sheet-requires c κs = search needs
 
 returns-2 : tie.Need-returns-2
 unfolding inputVerdict
-returns-2 c = rw (c .before .if1 .left) (ap (λ n. record { refusal = BadSheetCount; place = n }) (c .grow .ensures))
+returns-2 c = rw (c .before .if1 .left) (ap (λ n. record { refusal = BadSheetCount; place = n }) (c .next-sheet .ensures))
 
 pub judge-input-spec : {M : Type 1} → statement M
-judge-input-spec = tie.close (tie.spec returns grow-requires returns-2)
+judge-input-spec = tie.close (tie.spec returns next-sheet-requires returns-2)
