@@ -25,10 +25,11 @@ use Rattle.walk.specs.Rows.{ReadRows}
 use Rattle.planner.specs.Rows.{readsIn}
 use Rattle.demands.specs.Demand2.{listIn, IsWalkOf}
 use Rattle.demands.specs.Ends.{EndsWithARead, PriceEndsWithARead, PlanEndsWithARead, TimesStay}
+use Rattle.demands.proofs.Judged.{nothing-judged}
 use Rattle.demands.proofs.Conditions.{named, last-with, within-extent}
 use Rattle.demands.proofs.Stops.{PlacedIn, joined-placed, wants-placed}
 use Rattle.demands.proofs.Planned.{run-accepted}
-use Rattle.demands.proofs.Demand2.{demand2-price, demand2-walk, price-run-accepted}
+use Rattle.demands.proofs.Demand2.{formed-list, demand2-price, demand2-walk, price-run-accepted}
 
 -- A number for each stop, by index; and times that agree one by one have one row and one sum.
 pub entry-at : (f : Stop → ℕ) (ss : List Stop) (i : ℕ) → i < length ss → getD (map f ss) i 0 ≡ f (stopAt ss i)
@@ -62,7 +63,8 @@ module _ (r : Run) (ok : refuses (judgeOf r) ≡ false) where
   want-of-stop j l = joined-placed (wantStopsOf r) j l
 
 pub times-stay-put : TimesStay
-times-stay-put r ok list =
+times-stay-put r nothing list =
+    let ok = nothing-judged r nothing in
     let U = r .turn in
     let h = headAt (r .head) in
     let short = legsOf (stopsOf r) list in
@@ -94,7 +96,7 @@ module _ (r : Run) (ok : refuses (judgeOf r) ≡ false) (list : List Detour) (ro
       let h = headAt (r .head) in
       let gs = legsOf (stopsOf r) list in
       let good = accepted-run r ok in
-      let last = last-read (stopsOf r) (r .head) (accepted-sound r ok) (some-joined (wantStopsOf r) (omega (arith, size r ok))) list (walk .formed) U in
+      let last = last-read (stopsOf r) (r .head) (accepted-sound r ok) (some-joined (wantStopsOf r) (omega (arith, size r ok))) list (formed-list r good list (walk .formed)) U in
       let w = want-of-stop r ok (last .index) (last .within) in
       let l : w .index < length (r .numbers) = omega (arith, w .within, size r ok) in
       let file = named r (good .files) (good .wants) (w .index) l in

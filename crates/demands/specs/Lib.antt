@@ -10,9 +10,9 @@ pub mod Offices
 pub mod Calls
 pub mod Cases
 pub mod Alone
-pub mod Buys
 pub mod Lines
 pub mod Sheets
+pub mod Buys
 pub mod Tapes
 pub mod Turns
 pub mod Plain

@@ -22,7 +22,7 @@ abbrev pub startOfFile : Run → ℕ → ℕ
 startOfFile r f = getD (r .starts) (f - 1) 0
 
 abbrev pub endOfFile : Run → ℕ → ℕ
-endOfFile r f = getD (r .starts) (f - 1) 0 + getD (r .lengths) (f - 1) 0
+endOfFile r f = startOfFile r f + getD (r .lengths) (f - 1) 0
 
 -- A number of a file that is in the table.
 pub record IsFile (r : Run) (f : ℕ) : Type 0 where
@@ -70,21 +70,16 @@ pub record NamesStop (r : Run) (f : ℕ) : Type 0 where
   pub first : (g : ℕ) → IsFile r g → g < f → Together r g f → ⊥
   pub wanted : WantedWith r f
 
--- How many stops the wants from index i on make: none behind the last want; a want adds one unless a later want lies together with it.
+-- A later want lies together with the want at index i.
+abbrev pub JoinsLater : Run → ℕ → Type 0
+JoinsLater r i = (j : ℕ) × (i < j) × (j < length (r .numbers)) × Together r (getD (r .numbers) i 0) (getD (r .numbers) j 0)
+
+-- How many stops the wants from index i on make: a want adds one unless it joins a later one. All wants of a run make its stops.
 pub data StopsFrom (r : Run) : ℕ → ℕ → Type 0 where
   behind : StopsFrom r (length (r .numbers)) 0
-  one-more : {i n : ℕ}
-      → ((j : ℕ) → i < j → j < length (r .numbers) → Together r (getD (r .numbers) i 0) (getD (r .numbers) j 0) → ⊥)
-      → StopsFrom r (suc i) n
-      → StopsFrom r i (suc n)
-  as-many : {i n : ℕ} (j : ℕ)
-      → i < j
-      → j < length (r .numbers)
-      → Together r (getD (r .numbers) i 0) (getD (r .numbers) j 0)
-      → StopsFrom r (suc i) n
-      → StopsFrom r i n
+  one-more : {i n : ℕ} → (JoinsLater r i → ⊥) → StopsFrom r (suc i) n → StopsFrom r i (suc n)
+  as-many : {i n : ℕ} → JoinsLater r i → StopsFrom r (suc i) n → StopsFrom r i n
 
--- A run's stops are so many.
 abbrev pub HasStops : Run → ℕ → Type 0
 HasStops r n = StopsFrom r 0 n
 
@@ -125,9 +120,9 @@ pub data RunApplies (r : Run) : Refusal → ℕ → Type 0 where
   turn-price : highestTurn < r .turn → RunApplies r TurnPrice 0
   head-place : (lastPlace < r .head) ⊎ WantedBeyond r → RunApplies r HeadPlace 0
 
--- Their order.
-abbrev pub runOrder : List Refusal
-runOrder = FileRows ∷ BadFile ∷ WantRows ∷ BadWant ∷ TooManyReads ∷ TurnPrice ∷ HeadPlace ∷ []
+-- None of them applies, at no place: the run is accepted.
+abbrev pub NothingApplies : Run → Type 0
+NothingApplies r = (kind : Refusal) (place : ℕ) → RunApplies r kind place → ⊥
 
 -- The first of an order of checks that applies, with its place; `Accepted` and place 0 where none does.
 pub data FirstThatApplies (applies : Refusal → ℕ → Type 0) : List Refusal → Refusal → ℕ → Type 0 where
