@@ -35,8 +35,8 @@ use Rattle.figures.proofs.Answers.{list-accepted, list-formed, figures-length, 
 use Rattle.engine_stops.proofs.Halves.{list-of-halves}
 use Rattle.sheet_figures.specs.FigureSheet.{figureText, figureSheetVerdict}
 use Rattle.demands.specs.RefusalTable.{RunApplies, ListIsBad}
-use Rattle.demands.specs.Demand1.{priceOrder}
-use Rattle.demands.specs.Buys.{BuysApplies, BuysAnswers, FiguresAnswer, FiguresAnswerIff, Demand1FigureSheet, IsLess, leftOut, IsBought, FiguresTold, FiguresTell, FiguresOne, PlanPays, PlansPay, BoughtHold}
+use Rattle.demands.specs.Demand1.{ByTheTable, priceOrder}
+use Rattle.demands.specs.Buys.{BuysApplies, FiguresAnswer, FiguresAnswerIff, Demand1FigureSheet, IsLess, leftOut, IsBought, FiguresTold, FiguresTell, FiguresOne, PlanPays, PlansPay, BoughtHold}
 use Rattle.demands.proofs.Tests.{tells-below}
 use Rattle.demands.proofs.Checks.{refused-iff, decides-if, decides-reworded, Finds, finds-none, finds-first}
 use Rattle.demands.proofs.Judged.{run-finds, run-small}
@@ -77,7 +77,7 @@ module _ (r : Run) (froms tos : List ℕ) (row : List ℤ) where
       (rw (entries b) (decides-if (ltb (length row) (length froms)) ShortRow (tells-below (length row) (length froms)))))
       (λ c. finds-none (BuysApplies r froms tos row))))
 
-  buys-says : (b : Bool) → refuses (figuresVerdict r froms tos row) ≡ b → BuysAnswers r froms tos row (figuresAnswer r froms tos row) (figuresRow r froms tos row)
+  buys-says : (b : Bool) → refuses (figuresVerdict r froms tos row) ≡ b → ByTheTable (BuysApplies r froms tos row) priceOrder row (figuresAnswer r froms tos row) (figuresRow r froms tos row)
   unfolding figuresAnswer figuresRow pricedAnswer figuresVerdict
   buys-says true e = rw e (record { first = buys-finds; kept = λ n. (refusal-only-place (figuresVerdict r froms tos row), refl) })
   buys-says false e = rw e (record { first = rw (none-refuses (judgeOf r ∷ listVerdict (stopsOf r) froms tos ∷ refuseIf (ltb (length row) (length (listOf froms tos))) ShortRow ∷ []) e) at buys-finds; kept = λ n. absurd (n refl) })

@@ -62,13 +62,13 @@ module _ (r : Run) (good : GoodRun r) (list : List Detour) where
 
 -- The pricer's numbers, times and legs for a well-formed list, in rows that have them in front.
 priced-walk : (r : Run) (list : List Detour) (rows before : ReadRows) (answer : Answer) → answer ≡ pricedAnswer r list → rows ≡ readRowsWith r list before
-    → WellFormed (stopsOf r) list → GoodRun r → IsWalkOf r list rows answer
+    → IsFormed r list → length (r .counts) ≡ length (r .numbers) → IsWalkOf r list rows answer
 unfolding pricedAnswer pricedTimes pricedLegs timesOf legsFor
-priced-walk r list rows before answer says fills formed good =
-    let size : (f : Stop → ℕ) → length (map f (wantStopsOf r)) ≡ length (r .numbers) = λ f. one-each f (wantStopsOf r) ∙ wants-length (r .starts) (r .lengths) (r .aggregates) (r .numbers) (r .counts) (sym (good .wants .equal)) in
+priced-walk r list rows before answer says fills formed same =
+    let size : (f : Stop → ℕ) → length (map f (wantStopsOf r)) ≡ length (r .numbers) = λ f. one-each f (wantStopsOf r) ∙ wants-length (r .starts) (r .lengths) (r .aggregates) (r .numbers) (r .counts) same in
     record {
       number = rw says;
-      formed = is-formed r good list formed;
+      formed = formed;
       times = rw fills (take-at (pricedTimes r list) (drop (length (r .numbers)) (before .times)) (length (r .numbers)) (size _));
       legs = rw fills (take-at (pricedLegs r list) (drop (length (r .numbers)) (before .legs)) (length (r .numbers)) (size _));
       sum = rw says;
@@ -81,16 +81,16 @@ module _ (r : Run) (list : List Detour) (before : Rows) (answer : Answer) (after
   in-rows : listIn answer after ≡ list
   in-rows = list-in-rows r list before answer after says rows
 
-  walk-of-list : WellFormed (stopsOf r) list → GoodRun r → IsTheWalk r answer after
-  walk-of-list formed good =
-      rw in-rows (priced-walk r list (readsIn after) (readsIn before) answer says (ap readsIn rows) formed good)
+  walk-of-list : IsFormed r list → length (r .counts) ≡ length (r .numbers) → IsTheWalk r answer after
+  walk-of-list formed same =
+      rw in-rows (priced-walk r list (readsIn after) (readsIn before) answer says (ap readsIn rows) formed same)
 
-  least-of-list : LeastFor (r .turn) (r .head) (stopsOf r) list → GoodRun r → IsLeast r answer after
+  least-of-list : LeastFor (r .turn) (r .head) (stopsOf r) list → ((other : List Detour) → IsFormed r other → WellFormed (stopsOf r) other) → IsLeast r answer after
   unfolding pricedAnswer
-  least-of-list least good =
+  least-of-list least formed =
       record {
-        smallest = λ other v. rw says (least .smallest other (formed-list r good other v));
-        first = λ other v e. rw in-rows (least .first other (formed-list r good other v) (rw says at e));
+        smallest = λ other v. rw says (least .smallest other (formed other v));
+        first = λ other v e. rw in-rows (least .first other (formed other v) (rw says at e));
       }
 
 -- What an accepted verdict of the pricer says of the run and the list.
@@ -103,9 +103,13 @@ module _ (r : Run) (froms tos : List ℕ) (rows : ReadRows) (e : refuses (priceV
   pub price-of-list : (answer : Answer) (out : ReadRows) → answer ≡ pricedAnswer r (listOf froms tos)
       → out ≡ readRowsWith r (listOf froms tos) rows → IsPriceOf r froms tos out answer
   price-of-list answer out says fills =
+      let good = accepted-run r (checks-pass .0) in
       record {
         even = accepted-list (stopsOf r) froms tos (checks-pass .1 .0) .even;
-        walk = priced-walk r (listOf froms tos) out rows answer says fills (list-formed (stopsOf r) froms tos (checks-pass .1 .0)) (accepted-run r (checks-pass .0));
+        walk =
+            priced-walk r (listOf froms tos) out rows answer says fills
+            (is-formed r good (listOf froms tos) (list-formed (stopsOf r) froms tos (checks-pass .1 .0)))
+            (sym (good .wants .equal));
       }
 
 -- An answer that is no refusal comes of a verdict that is none.
@@ -131,14 +135,14 @@ demand2-price r froms tos rows answer out says fills accepts =
 pub demand2-walk : Demand2Walk
 demand2-walk r before answer after plans accepts =
     let plan = plan-in-rows r before answer after plans accepts in
-    walk-of-list r (plan .list) before answer after (plan .says) (plan .rows)
-    (plan .least .formed)
-    (accepted-run r (run-accepted r before answer after plans accepts))
+    let good = accepted-run r (run-accepted r before answer after plans accepts) in
+    walk-of-list r (plan .list) before answer after (plan .says) (plan .rows) (is-formed r good (plan .list) (plan .least .formed)) (sym (good .wants .equal))
 
 pub demand2-least : Demand2Least
 demand2-least r before answer after plans accepts =
     let plan = plan-in-rows r before answer after plans accepts in
-    least-of-list r (plan .list) before answer after (plan .says) (plan .rows) (plan .least) (accepted-run r (run-accepted r before answer after plans accepts))
+    least-of-list r (plan .list) before answer after (plan .says) (plan .rows) (plan .least)
+    (formed-list r (accepted-run r (run-accepted r before answer after plans accepts)))
 
 pub demand2-one : Demand2One
 demand2-one r before answer answer′ after after′ plans plans′ = plan-determined r before answer answer′ after after′ plans plans′

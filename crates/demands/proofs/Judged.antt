@@ -17,10 +17,10 @@ use Rattle.runs.specs.Judging.{rightEnd}
 use Rattle.runs.specs.Judging.{badFile, badWant, tableChecks, wantsChecks, headChecks, judgeOf}
 use Rattle.refusals.proofs.Verdicts.{refuses, first-refuses, first-passes, none-refuses}
 use Rattle.runs.proofs.Judged.{GoodTable, GoodWants, accepted-table, accepted-wants}
-use Rattle.demands.specs.RefusalTable.{FirstBad, FileIsBad, WantIsBad, WantedBeyond, RunApplies, NothingApplies, SomeApplies}
+use Rattle.demands.specs.RefusalTable.{FirstBad, FileIsBad, WantIsBad, RunApplies, NothingApplies, SomeApplies}
 use Rattle.demands.proofs.Tests.{tells-below, tells-either}
 use Rattle.demands.proofs.Checks.{Decides, decides-if, decides-at, decides-reworded, Finds, finds-none, finds-first, first-of-joined, both-pass, AllRefuse, refused-iff}
-use Rattle.demands.proofs.Conditions.{rows-unfit, table-rows-unfit, file-is-bad, want-is-bad, head-left-of-end}
+use Rattle.demands.proofs.Conditions.{WantedBeyond, rows-unfit, table-rows-unfit, file-is-bad, want-is-bad, head-left-of-end}
 
 -- What each row of the table says, taken back from the condition.
 module _ (r : Run) where
@@ -43,7 +43,11 @@ module _ (r : Run) where
   turn-price-only p (RunApplies.turn-price h) = (refl, h)
 
   head-place-only : (p : ℕ) → RunApplies r HeadPlace p → (p ≡ 0) × ((lastPlace < r .head) ⊎ WantedBeyond r)
-  head-place-only p (RunApplies.head-place h) = (refl, h)
+  head-place-only p (RunApplies.head-far h) = (refl, inl h)
+  head-place-only p (RunApplies.head-near {f} a w h) = (refl, inr (record { which = f; file = a; wanted = w; beyond = h }))
+
+  only-head-place : (p : ℕ) → (p ≡ 0) × ((lastPlace < r .head) ⊎ WantedBeyond r) → RunApplies r HeadPlace p
+  only-head-place p h = rw (h .0) (⊎-elim RunApplies.head-far (λ b. RunApplies.head-near (b .file) (b .wanted) (b .beyond)) (h .1))
 
   -- They are the numbers 1 to 7.
   pub run-small : {k : Refusal} {p : ℕ} → RunApplies r k p → numberOf k ≤ 7
@@ -53,7 +57,8 @@ module _ (r : Run) where
   run-small (RunApplies.bad-want h) = omega arith
   run-small (RunApplies.many-reads h) = omega arith
   run-small (RunApplies.turn-price h) = omega arith
-  run-small (RunApplies.head-place h) = omega arith
+  run-small (RunApplies.head-far h) = omega arith
+  run-small (RunApplies.head-near a w h) = omega arith
 
 -- The checks of a run at the front of a row find the first of 1 to 7 that applies, and then what the others find.
 module _ (r : Run) (applies : Refusal → ℕ → Type 0) (there : (k : Refusal) (p : ℕ) → RunApplies r k p → applies k p)
@@ -97,7 +102,7 @@ module _ (r : Run) (applies : Refusal → ℕ → Type 0) (there : (k : Refusal)
       (first-of-joined (headChecks (r .turn) (r .head) (rightEnd (stopsOf r))) vs)
       (finds-first applies (second ∷ vs) refl (of-run TurnPrice (omega arith) (λ p h. rw (h .0) (RunApplies.turn-price (h .1))) (turn-price-only r) (decides-if _ TurnPrice (tells-below highestTurn (r .turn))))
       (λ a. finds-first applies vs refl
-      (of-run HeadPlace (omega arith) (λ p h. rw (h .0) (RunApplies.head-place (h .1))) (head-place-only r) (decides-if _ HeadPlace
+      (of-run HeadPlace (omega arith) (only-head-place r) (head-place-only r) (decides-if _ HeadPlace
       (tells-either (ltb lastPlace (r .head)) (ltb (r .head) (rightEnd (stopsOf r))) (tells-below lastPlace (r .head)) (head-left-of-end r files wants))))
       (λ b. others (both-pass first (second ∷ []) a (both-pass second [] b refl)))))
 
@@ -142,7 +147,8 @@ module _ (r : Run) where
   some-of-run k p (RunApplies.bad-want h) = inr (inr (inr (inl (p, RunApplies.bad-want h))))
   some-of-run k p (RunApplies.many-reads h) = inr (inr (inr (inr (inl (0, RunApplies.many-reads h)))))
   some-of-run k p (RunApplies.turn-price h) = inr (inr (inr (inr (inr (inl (0, RunApplies.turn-price h))))))
-  some-of-run k p (RunApplies.head-place h) = inr (inr (inr (inr (inr (inr (inl (0, RunApplies.head-place h)))))))
+  some-of-run k p (RunApplies.head-far h) = inr (inr (inr (inr (inr (inr (inl (0, RunApplies.head-far h)))))))
+  some-of-run k p (RunApplies.head-near a w h) = inr (inr (inr (inr (inr (inr (inl (0, RunApplies.head-near a w h)))))))
 
   judged-finds : Finds (RunApplies r) runOrder (firstOf (judgeOf r ∷ []))
   judged-finds = run-finds r (RunApplies r) (λ k p h. h) (λ k p l h. h) [] [] (λ a. finds-none (RunApplies r))

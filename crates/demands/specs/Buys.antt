@@ -18,8 +18,8 @@ use Rattle.sheet_writer.specs.Writing.{writtenAnswer, writtenRow}
 use Rattle.sheet_figures.specs.FigureSheet.{figureText, figureSheetVerdict}
 use Rattle.planner.specs.Plan.{Plans}
 use Rattle.planner.specs.Rows.{Rows}
-use Rattle.demands.specs.RefusalTable.{RunApplies, ListIsBad, FirstThatApplies, SomeApplies}
-use Rattle.demands.specs.Demand1.{OnlyPlace, priceOrder}
+use Rattle.demands.specs.RefusalTable.{RunApplies, ListIsBad, SomeApplies}
+use Rattle.demands.specs.Demand1.{ByTheTable, priceOrder}
 use Rattle.demands.specs.Cases.{twoFiles, exampleRun}
 use Rattle.demands.specs.Sheets.{ListSheetApplies, listSheetOrder, WriteAnswers}
 
@@ -29,17 +29,13 @@ pub data BuysApplies (r : Run) (froms tos : List ℕ) (row : List ℤ) : Refusal
   bad-list : {place : ℕ} → ListIsBad r froms tos place → BuysApplies r froms tos row BadEntry place
   short-row : length row < length froms → BuysApplies r froms tos row ShortRow 0
 
--- Whatever is handed in, and whatever answer and row fit the contract: the first that applies, and a refusal changes nothing.
-pub record BuysAnswers (r : Run) (froms tos : List ℕ) (row : List ℤ) (answer : Answer) (out : List ℤ) : Type 0 where
-  pub first : FirstThatApplies (BuysApplies r froms tos row) priceOrder (answer .refusal) (answer .place)
-  pub kept : (answer .refusal ≡ Accepted → ⊥) → OnlyPlace answer × (out ≡ row)
-
+-- Whatever is handed in, and whatever answer and row fit the contract, goes by the table.
 abbrev pub FiguresAnswer : Type 0
 FiguresAnswer =
     (r : Run) (froms tos : List ℕ) (row : List ℤ) (answer : Answer) (out : List ℤ)
     → answer ≡ figuresAnswer r froms tos row
     → out ≡ figuresRow r froms tos row
-    → BuysAnswers r froms tos row answer out
+    → ByTheTable (BuysApplies r froms tos row) priceOrder row answer out
 
 abbrev pub FiguresAnswerIff : Type 0
 FiguresAnswerIff =

@@ -19,7 +19,7 @@ use Rattle.planner.specs.Plan.{Plans}
 use Rattle.planner.specs.Rows.{Rows, readsIn}
 use Rattle.demands.specs.RefusalTable.{ListIsBad}
 
--- A list is well formed where 10 does not apply to it, at no place.
+-- A list is well formed where 10 does not apply to it.
 abbrev pub IsFormed : Run → List Detour → Type 0
 IsFormed r list = (place : ℕ) → ListIsBad r (map (λ d. d .from) list) (map (λ d. d .to) list) place → ⊥
 

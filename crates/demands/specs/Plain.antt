@@ -14,8 +14,8 @@ use Rattle.walk.specs.Walk.{headAt, Moves, ServesAll, sumOf}
 use Rattle.planner.specs.Plan.{roomFor, Plans}
 use Rattle.planner.specs.Rows.{Rows, rowsOf}
 use Rattle.engine_plain.specs.Plain.{PlainRows, PlainPlans}
-use Rattle.demands.specs.RefusalTable.{HasStops, RunApplies, NothingApplies, FirstThatApplies, SomeApplies}
-use Rattle.demands.specs.Demand1.{OnlyPlace}
+use Rattle.demands.specs.RefusalTable.{HasStops, RunApplies, NothingApplies, SomeApplies}
+use Rattle.demands.specs.Demand1.{ByTheTable}
 use Rattle.demands.specs.Demand2.{listIn, IsTheWalk, IsLeast}
 use Rattle.demands.specs.Demand3.{AsksNoLess}
 
@@ -36,13 +36,11 @@ pub data PlainApplies (r : Run) (rows : PlainRows) : Refusal → ℕ → Type 0 
   short-starts : {stops : ℕ} → HasStops r stops → length (rows .froms) < stops - 1 → PlainApplies r rows ShortRow 0
   short-ends : {stops : ℕ} → HasStops r stops → length (rows .tos) < stops - 1 → PlainApplies r rows ShortRow 0
 
-pub record PlainAnswers (r : Run) (before : PlainRows) (answer : Answer) (after : PlainRows) : Type 0 where
-  pub first : FirstThatApplies (PlainApplies r before) plainOrder (answer .refusal) (answer .place)
-  pub kept : (answer .refusal ≡ Accepted → ⊥) → OnlyPlace answer × (after ≡ before)
-
 abbrev pub Demand1Plain : Type 0
 Demand1Plain =
-    (r : Run) (before : PlainRows) (answer : Answer) (after : PlainRows) → PlainPlans r before answer after → PlainAnswers r before answer after
+    (r : Run) (before : PlainRows) (answer : Answer) (after : PlainRows)
+    → PlainPlans r before answer after
+    → ByTheTable (PlainApplies r before) plainOrder before answer after
 
 abbrev pub Demand1PlainIff : Type 0
 Demand1PlainIff =
