@@ -33,7 +33,7 @@ use Rattle.demands.proofs.Listed.{decides-list}
 
 -- A refusal's answer.
 pub refusal-only-place : (v : Verdict) → OnlyPlace (refusalAnswer v)
-refusal-only-place v = record { sum = refl; finish = refl; end = refl; detours = refl }
+refusal-only-place v = refl
 
 -- A row for times or legs that is short.
 pub tells-reads : (k : ℕ) (rows : ReadRows) → Tells (shortReadRows k rows) ((length (rows .times) < k) ⊎ (length (rows .legs) < k))

@@ -15,11 +15,8 @@ use Rattle.planner.specs.Rows.{Rows}
 use Rattle.demands.specs.RefusalTable.{HasStops, RunApplies, ListIsBad, FirstThatApplies, SomeApplies}
 
 -- A refusal's answer: every number but the place is 0.
-pub record OnlyPlace (answer : Answer) : Type 0 where
-  pub sum : answer .sum ≡ 0
-  pub finish : answer .finish ≡ 0
-  pub end : answer .end ≡ 0
-  pub detours : answer .detours ≡ 0
+abbrev pub OnlyPlace : Answer → Type 0
+OnlyPlace answer = answer ≡ record { refusal = answer .refusal; place = answer .place; sum = 0; finish = 0; end = 0; detours = 0 }
 
 -- An answer goes by the table: it is the first of an order that applies; and where that is a refusal, what was lent holds what it held.
 pub record ByTheTable (applies : Refusal → ℕ → Type 0) (order : List Refusal) {Lent : Type 0} (before : Lent) (answer : Answer) (after : Lent) : Type 0 where
