@@ -55,7 +55,7 @@ OneRule =
     → reading .refusal ≡ Accepted
     → Ruled leastText sheet
 
--- The run sheet writer: 1 to 7, then 13, then 8. The writers of a list's sheets, plan sheet and figure sheet: 1 to 7, then 13, then 10, then 8.
+-- The run sheet writer: 1 to 7, then 13, then 8. The writers of plan sheets and of figure sheets (Buys): 1 to 7, then 13, then 10, then 8.
 abbrev pub writeOrder : List Refusal
 writeOrder = FileRows ∷ BadFile ∷ WantRows ∷ BadWant ∷ TooManyReads ∷ TurnPrice ∷ HeadPlace ∷ BadName ∷ ShortRow ∷ []
 

@@ -133,7 +133,7 @@ pub record ListedWhen (Changes : Type 0) (part : List ℕ) (n : ℕ) (word : Lis
   pub something : Changes → part ≡ changeLine n word
   pub nothing : (Changes → ⊥) → part ≡ []
 
--- The price changes when nothing stands after `turn=`, the rule when its line is `rule=sweep`, a count when it is not the number of lines written below it.
+-- The price changes when `turn=` is empty, the rule when its line is `rule=sweep`, a count when it is not the number of lines written below it.
 pub record SaidAbove (sheet : List ℕ) : Type 0 where
   pub turn : List ℕ
   pub rule : List ℕ
