@@ -270,6 +270,7 @@ run python/figures
 run python/desk
 run python/desk_rows
 run python/pricer_rows
+run python/reading
 run python/edits
 run python/pages
 run python/command

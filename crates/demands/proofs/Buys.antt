@@ -32,16 +32,19 @@ use Rattle.figures.specs.Figures.{without, figureOf, figuresFrom, figuresOf, fi
 use Rattle.figures.specs.Private.{Priceable}
 use Rattle.figures.proofs.Without.{without-length, without-formed}
 use Rattle.figures.proofs.Answers.{list-accepted, list-formed, figures-length, figure-at, figured-so}
+use Rattle.engine_stops.proofs.Halves.{list-of-halves}
+use Rattle.sheet_figures.specs.FigureSheet.{figureText, figureSheetVerdict}
 use Rattle.demands.specs.RefusalTable.{RunApplies, ListIsBad}
-use Rattle.demands.specs.Demand1.{priceOrder}
-use Rattle.demands.specs.Buys.{BuysApplies, BuysAnswers, FiguresAnswer, FiguresAnswerIff, IsLess, leftOut, IsBought, FiguresTold, FiguresTell, FiguresOne, PlanPays, PlansPay, BoughtHold}
+use Rattle.demands.specs.Demand1.{ByTheTable, priceOrder}
+use Rattle.demands.specs.Buys.{BuysApplies, FiguresAnswer, FiguresAnswerIff, Demand1FigureSheet, IsLess, leftOut, IsBought, FiguresTold, FiguresTell, FiguresOne, PlanPays, PlansPay, BoughtHold}
 use Rattle.demands.proofs.Tests.{tells-below}
 use Rattle.demands.proofs.Checks.{refused-iff, decides-if, decides-reworded, Finds, finds-none, finds-first}
 use Rattle.demands.proofs.Judged.{run-finds, run-small}
 use Rattle.demands.proofs.Listed.{decides-list}
 use Rattle.demands.proofs.Formed.{formed-by-the-rules, falls}
 use Rattle.demands.proofs.Demand1.{refusal-only-place}
-use Rattle.demands.proofs.Planned.{plan-in-rows, run-accepted, starts-in-rows, ends-in-rows, list-of-rows}
+use Rattle.demands.proofs.Sheets.{sheet-says}
+use Rattle.demands.proofs.Planned.{plan-in-rows, run-accepted, starts-in-rows, ends-in-rows}
 
 -- The refusals.
 module _ (r : Run) (froms tos : List ℕ) (row : List ℤ) where
@@ -74,7 +77,7 @@ module _ (r : Run) (froms tos : List ℕ) (row : List ℤ) where
       (rw (entries b) (decides-if (ltb (length row) (length froms)) ShortRow (tells-below (length row) (length froms)))))
       (λ c. finds-none (BuysApplies r froms tos row))))
 
-  buys-says : (b : Bool) → refuses (figuresVerdict r froms tos row) ≡ b → BuysAnswers r froms tos row (figuresAnswer r froms tos row) (figuresRow r froms tos row)
+  buys-says : (b : Bool) → refuses (figuresVerdict r froms tos row) ≡ b → ByTheTable (BuysApplies r froms tos row) priceOrder row (figuresAnswer r froms tos row) (figuresRow r froms tos row)
   unfolding figuresAnswer figuresRow pricedAnswer figuresVerdict
   buys-says true e = rw e (record { first = buys-finds; kept = λ n. (refusal-only-place (figuresVerdict r froms tos row), refl) })
   buys-says false e = rw e (record { first = rw (none-refuses (judgeOf r ∷ listVerdict (stopsOf r) froms tos ∷ refuseIf (ltb (length row) (length (listOf froms tos))) ShortRow ∷ []) e) at buys-finds; kept = λ n. absurd (n refl) })
@@ -85,6 +88,11 @@ figures-answer r froms tos row answer out says fills = rw (says, fills) (buys-sa
 pub figures-refused-iff : FiguresAnswerIff
 figures-refused-iff r froms tos row answer says =
     refused-iff (BuysApplies r froms tos row) (figures-answer r froms tos row answer (figuresRow r froms tos row) says refl .first) (refl, (refl, (refl, (refl, (refl, (refl, (refl, (refl, (refl, tt)))))))))
+
+-- The figure sheet.
+pub demand1-figure-sheet : Demand1FigureSheet
+unfolding figureSheetVerdict
+demand1-figure-sheet name r froms tos row answer out says fills = rw (says, fills) (sheet-says name r froms tos (figureText name r froms tos) row)
 
 pub figures-one : FiguresOne
 figures-one r froms tos row answer answer′ out out′ fits fits′ = (fits .0 ∙ sym (fits′ .0), fits .1 ∙ sym (fits′ .1))
@@ -234,7 +242,7 @@ module _ (r : Run) (list : List Detour) (accepts : refuses (judgeOf r) ≡ false
         run = accepts;
         list =
             list-accepted (stopsOf r) (map (λ d. d .from) list) (map (λ d. d .to) list) (length-map list (λ d. d .from) ∙ sym (length-map list (λ d. d .to)))
-            (rw (list-of-rows list) (least .formed));
+            (rw (list-of-halves list) (least .formed));
       }
 
   pays : (i : ℕ) → i < length list → (n : ℕ) × (0 < n) × (figureOf r list i ≡ pos n)
@@ -246,9 +254,9 @@ module _ (r : Run) (list : List Detour) (accepts : refuses (judgeOf r) ≡ false
   plan-pays =
       let so = figured-so r (map (λ d. d .from) list) (map (λ d. d .to) list) row rows-priceable (omega (arith, length-map list (λ d. d .from), fits)) _ refl in
       let at : (i : ℕ) → i < length list → getD (figuresRow r (map (λ d. d .from) list) (map (λ d. d .to) list) row) i (pos 0) ≡ figureOf r list i =
-      λ i l. rw (← (so .1)) (figure-in r (map (λ d. d .from) list) (map (λ d. d .to) list) rows-priceable _ i (omega (arith, length-map list (λ d. d .from))) ∙ ap (λ l. figureOf r l i) (list-of-rows list)) in
+      λ i l. rw (← (so .1)) (figure-in r (map (λ d. d .from) list) (map (λ d. d .to) list) rows-priceable _ i (omega (arith, length-map list (λ d. d .from))) ∙ ap (λ l. figureOf r l i) (list-of-halves list)) in
       record {
-        same = sym (so .0) ∙ ap (pricedAnswer r) (list-of-rows list);
+        same = sym (so .0) ∙ ap (pricedAnswer r) (list-of-halves list);
         not-below = λ i l. (pays i l .0, at i l ∙ pays i l .2);
         above = λ i l. (pays i l .0, pays i l .1, at i l ∙ pays i l .2);
       }

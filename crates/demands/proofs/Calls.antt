@@ -21,12 +21,12 @@ use Rattle.runs.proofs.Judged.{GoodRun, accepted-run}
 use Rattle.planner.specs.Plan.{roomFor, shortRows}
 use Rattle.planner.specs.Rows.{Rows}
 use Rattle.boundary.specs.Boundary.{shortSums, priceCall, priceReads, priceSums, PriceCalled, leastRule, badRule, planCall, PlanCalled}
-use Rattle.demands.specs.RefusalTable.{RunApplies, ListIsBad, runOrder, FirstThatApplies, none, here, later}
+use Rattle.demands.specs.RefusalTable.{RunApplies, ListIsBad, FirstThatApplies, none, here, later}
 use Rattle.demands.specs.Demand1.{PriceApplies, PlanApplies, priceOrder}
 use Rattle.demands.specs.Calls.{PriceCallApplies, PlanCallApplies, planCallOrder, PlanCallAnswers, Demand1PriceCall, Demand1PlanCall, RefusedForItsRule}
 use Rattle.demands.proofs.Tests.{tells-equal, tells-below, tells-not, tells-either}
 use Rattle.demands.proofs.Checks.{decides-if, decides-reworded, Finds, finds-none, finds-first, first-of-joined, AllOfRun, behind-front, past-front, some-reworded}
-use Rattle.demands.proofs.Judged.{run-finds, run-small}
+use Rattle.demands.proofs.Judged.{run-finds, run-small, runOrder, none-of-run, some-of-run}
 use Rattle.demands.proofs.Listed.{decides-list}
 use Rattle.demands.proofs.Demand1.{tells-reads, price-of-run, price-list, ReadsShort, short-reads, reads-short, plan-of-run, IsShort, short-row, row-short, short-room, room-short, tells-short}
 
@@ -190,11 +190,11 @@ refused-for-its-rule r rule before sums code after out called =
           let fourteen : numberOf (answers .kind) ≡ 14 = omega (arith, e, answers .says, number-small (answers .kind)) in
           let behind = behind-front at runOrder run-first (omega (arith, fourteen)) (answers .first) in
           record {
-            good-run = λ s. behind .0 (some-reworded (RunApplies r) at runOrder run-first (λ k p l h. PlanCallApplies.plan (PlanApplies.run h)) s);
+            good-run = λ k p h. behind .0 (some-reworded (RunApplies r) at runOrder run-first (λ k p l h. PlanCallApplies.plan (PlanApplies.run h)) (some-of-run r k p h));
             bad-rule = rule-is-bad r rule before sums (behind .1) fourteen;
           },
       λ alone.
           answers .says
           ∙ rule-is-told r rule before sums (alone .bad-rule)
-          (past-front at runOrder (λ s. alone .good-run (some-reworded at (RunApplies r) runOrder run-first (plan-call-run r rule before sums) s)) (answers .first)),
+          (past-front at runOrder (λ s. none-of-run r runOrder (alone .good-run) (some-reworded at (RunApplies r) runOrder run-first (plan-call-run r rule before sums) s)) (answers .first)),
     )

@@ -19,6 +19,7 @@ use Rattle.least.specs.Least.{LeastForRun}
 use Rattle.least.specs.Recurrence.{planDetours, W, lowest, scan, filledTo, filled, candidate, next, value, choice, built, nextPlan, best, leastList}
 use Rattle.least.proofs.LeastList.{least-list, least-unique}
 use Rattle.demands.specs.Cases.{Case, CaseHolds, AllHold, cases, CasesHold}
+use Rattle.demands.proofs.Judged.{judged-nothing}
 
 -- Whether two rows, and whether two lists, are equal.
 sameRow : List ℕ → List ℕ → Bool
@@ -100,7 +101,7 @@ holds-if-passes c e =
     let one = and-true-both _ _ (two .0) in
     let accepted = not-true _ (one .0) in
     record {
-      accepted = accepted;
+      accepted = judged-nothing (c .run) accepted;
       formed = eqb-true _ _ (one .1);
       sum = eqb-true _ _ (two .1);
       times = same-row _ _ (three .1);

@@ -18,8 +18,15 @@ use Rattle.runs.proofs.Members.{first-below, last-above, last-within, member-fi
 use Rattle.runs.proofs.Numbers.{same-number-first, same-first-number}
 use Rattle.runs.proofs.Stops.{right-end-none, right-end-some}
 use Rattle.runs.proofs.Judged.{GoodTable, GoodWants, wants-named, not-past-last}
-use Rattle.demands.specs.RefusalTable.{IsFile, Together, Returns, FileIsBad, WantIsBad, WantedWith, WantedBeyond, startOfFile, endOfFile}
+use Rattle.demands.specs.RefusalTable.{IsFile, Together, Returns, FileIsBad, WantIsBad, WantedWith, endOfFile}
 use Rattle.demands.proofs.Tests.{Tells, tells-equal, tells-below, tells-at-most, tells-not, tells-either, tells-both, tells-some, tells-reworded, tells-regrouped}
+
+-- 7: a file that lies together with a wanted one ends right of the head.
+pub record WantedBeyond (r : Run) : Type 0 where
+  pub which : ℕ
+  pub file : IsFile r which
+  pub wanted : WantedWith r which
+  pub beyond : r .head < endOfFile r which
 
 -- 1 and 3: too many, or rows of unequal number.
 pub rows-unfit : (most n m : ℕ) → Tells (ltb most n || not (eqb n m)) ((most < n) ⊎ (n ≡ m → ⊥))
@@ -77,22 +84,21 @@ module _ (r : Run) where
       tells-either (ltb mostAggregates (getD (r .aggregates) i 0)) (returns (r .aggregates) i) (tells-below mostAggregates (getD (r .aggregates) i 0)) (number-returns i)
 
   -- A start before the previous end; the first file has no file before it.
-  before-previous : (i : ℕ) → Tells (ltb (getD (r .starts) i 0) (endBefore (r .starts) (r .lengths) i)) ((j : ℕ) × (i ≡ suc j) × (startOfFile r (suc i) < endOfFile r (suc j)))
+  before-previous : (i : ℕ) → Tells (ltb (getD (r .starts) i 0) (endBefore (r .starts) (r .lengths) i)) ((j : ℕ) × (i ≡ suc j) × (getD (r .starts) i 0 < endOfFile r (suc j)))
   before-previous zero = record {
     when-true = λ e. let l : getD (r .starts) 0 0 < 0 = ltb-true (getD (r .starts) 0 0) 0 e in absurd (omega arith);
     when-false = λ e h. omega (arith, h .1);
   }
   before-previous (suc i) =
-      let same : suc (suc i) - 1 ≡ suc i = omega arith in
       let prev : suc i - 1 ≡ i = omega arith in
       tells-reworded
-      (λ l. (i, refl, rw (same, prev) l))
-      (λ h. let k : h .0 ≡ i = omega (arith, h .1) in rw (same, k, prev) at (h .2))
+      (λ l. (i, refl, rw prev l))
+      (λ h. let k : h .0 ≡ i = omega (arith, h .1) in rw (k, prev) at (h .2))
       (tells-below (getD (r .starts) (suc i) 0) (endAt (r .starts) (r .lengths) i))
 
   place-is-bad : (i : ℕ)
       → Tells (badPlace (r .starts) (r .lengths) i)
-      ((getD (r .lengths) i 0 ≡ 0) ⊎ (((j : ℕ) × (i ≡ suc j) × (startOfFile r (suc i) < endOfFile r (suc j))) ⊎ (lastPlace < endOfFile r (suc i))))
+      ((getD (r .lengths) i 0 ≡ 0) ⊎ (((j : ℕ) × (i ≡ suc j) × (getD (r .starts) i 0 < endOfFile r (suc j))) ⊎ (lastPlace < endOfFile r (suc i))))
   place-is-bad i =
       let here : suc i - 1 ≡ i = omega arith in
       tells-regrouped

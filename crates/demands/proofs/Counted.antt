@@ -13,7 +13,7 @@ use Rattle.runs.proofs.Members.{between-first}
 use Rattle.runs.proofs.Joined.{by-name, join-none, join-same, join-other, leftmost-joined, some-joined}
 use Rattle.runs.proofs.Judged.{GoodRun, numbers-rise}
 use Rattle.runs.proofs.Stops.{first-file, wants-length, wants-drop}
-use Rattle.demands.specs.RefusalTable.{Together, StopsFrom, behind, one-more, as-many, HasStops}
+use Rattle.demands.specs.RefusalTable.{Together, JoinsLater, StopsFrom, behind, one-more, as-many, HasStops}
 use Rattle.demands.proofs.Conditions.{together-first, first-together, named}
 
 -- A stop before others adds one to them, unless it has the name of the first.
@@ -95,14 +95,14 @@ module _ (r : Run) (good : GoodRun r) where
       let h = count-is rest in
       let l : i < length (r .numbers) = omega (arith, h .0) in
       let e = joined-adds (Here i) (drop (suc i) (wantStopsOf r))
-      (λ some same. let m = some-next i l some in apart (suc i) (omega arith) m (names-together i (suc i) l m (same ∙ next-name i m))) in
+      (λ some same. let m = some-next i l some in apart (suc i, omega arith, m, names-together i (suc i) l m (same ∙ next-name i m))) in
       (omega arith, rw (wants-at i l) (ap suc (h .1) ∙ sym e))
-  count-is (as-many {i} {n} j later within together rest) =
+  count-is (as-many {i} {n} joins rest) =
       let h = count-is rest in
       let l : i < length (r .numbers) = omega (arith, h .0) in
-      let m : suc i < length (r .numbers) = omega arith in
+      let m : suc i < length (r .numbers) = omega (arith, joins .1, joins .2) in
       let e = joined-keeps (Here i) (drop (suc i) (wantStopsOf r))
-      (next-some i m) (together-next i j later within together ∙ sym (next-name i m)) in
+      (next-some i m) (together-next i (joins .0) (joins .1) (joins .2) (joins .3) ∙ sym (next-name i m)) in
       (omega arith, rw (wants-at i l) (h .1 ∙ sym e))
 
   -- There is one.
@@ -112,7 +112,7 @@ module _ (r : Run) (good : GoodRun r) where
 
   module _ (i : ℕ) (l : i < length (r .numbers)) (rest : StopsFrom r (suc i) (length (joined (drop (suc i) (wantStopsOf r))))) where
     one-added : (0 < length (drop (suc i) (wantStopsOf r)) → firstFile (r .aggregates) (getD (r .numbers) i 0) ≡ leftmost (drop (suc i) (wantStopsOf r)) → ⊥)
-        → ((j : ℕ) → i < j → j < length (r .numbers) → Together r (getD (r .numbers) i 0) (getD (r .numbers) j 0) → ⊥)
+        → (JoinsLater r i → ⊥)
         → StopsFrom r i (length (joined (Here i ∷ drop (suc i) (wantStopsOf r))))
     one-added first apart = rw (joined-adds (Here i) (drop (suc i) (wantStopsOf r)) first) (one-more apart rest)
 
@@ -120,13 +120,13 @@ module _ (r : Run) (good : GoodRun r) where
         → StopsFrom r i (length (joined (Here i ∷ drop (suc i) (wantStopsOf r))))
     none-added n same =
         rw (joined-keeps (Here i) (drop (suc i) (wantStopsOf r)) (next-some i n) (same ∙ sym (next-name i n)))
-        (as-many {i = i} (suc i) (omega arith) n (names-together i (suc i) l n same) rest)
+        (as-many {i = i} (suc i, omega arith, n, names-together i (suc i) l n same) rest)
 
     counts-here : StopsFrom r i (length (joined (Here i ∷ drop (suc i) (wantStopsOf r))))
     counts-here =
         elim (decLt (suc i) (length (r .numbers))) [
-          | yes n ↦ by-name (Here i) (Here (suc i)) (none-added n) (λ other. one-added (λ some h. other (h ∙ next-name i n)) (λ j a b t. other (together-next i j a b t)))
-          | no n ↦ one-added (λ some h. n (some-next i l some)) (λ j a b t. n (omega arith))
+          | yes n ↦ by-name (Here i) (Here (suc i)) (none-added n) (λ other. one-added (λ some h. other (h ∙ next-name i n)) (λ h. other (together-next i (h .0) (h .1) (h .2) (h .3))))
+          | no n ↦ one-added (λ some h. n (some-next i l some)) (λ h. n (omega (arith, h .1, h .2)))
         ]
 
   counts-from : (m i : ℕ) → i + m ≡ length (r .numbers) → StopsFrom r i (length (joined (drop i (wantStopsOf r))))

@@ -24,7 +24,7 @@ use Rattle.walk.proofs.Priced.{price-accepted}
 use Rattle.planner.specs.Plan.{roomFor, Plans, shortRows, planVerdict}
 use Rattle.planner.specs.Rows.{Rows, readsIn}
 use Rattle.demands.specs.RefusalTable.{RunApplies, ListIsBad}
-use Rattle.demands.specs.Demand1.{OnlyPlace, PriceApplies, PlanApplies, priceOrder, planOrder, PriceAnswers, PlanAnswers, Demand1Price, Demand1Plan, Demand1PriceIff, Demand1PlanIff}
+use Rattle.demands.specs.Demand1.{OnlyPlace, ByTheTable, PriceApplies, PlanApplies, priceOrder, planOrder, Demand1Price, Demand1Plan, Demand1PriceIff, Demand1PlanIff}
 use Rattle.demands.proofs.Tests.{Tells, tells-below, tells-either, tells-regrouped}
 use Rattle.demands.proofs.Checks.{refused-iff, decides-if, decides-reworded, Finds, finds-none, finds-first}
 use Rattle.demands.proofs.Judged.{run-finds, run-small}
@@ -33,7 +33,7 @@ use Rattle.demands.proofs.Listed.{decides-list}
 
 -- A refusal's answer.
 pub refusal-only-place : (v : Verdict) → OnlyPlace (refusalAnswer v)
-refusal-only-place v = record { sum = refl; finish = refl; end = refl; detours = refl }
+refusal-only-place v = refl
 
 -- A row for times or legs that is short.
 pub tells-reads : (k : ℕ) (rows : ReadRows) → Tells (shortReadRows k rows) ((length (rows .times) < k) ⊎ (length (rows .legs) < k))
@@ -73,7 +73,7 @@ module _ (r : Run) (froms tos : List ℕ) (rows : ReadRows) where
       (decides-reworded short-reads reads-short (decides-if _ ShortRow (tells-reads (length (r .numbers)) rows)))
       (λ c. finds-none (PriceApplies r froms tos rows))))
 
-  price-says : (b : Bool) → refuses (priceVerdict r froms tos rows) ≡ b → PriceAnswers r froms tos rows (priceAnswer r froms tos rows) (priceRows r froms tos rows)
+  price-says : (b : Bool) → refuses (priceVerdict r froms tos rows) ≡ b → ByTheTable (PriceApplies r froms tos rows) priceOrder rows (priceAnswer r froms tos rows) (priceRows r froms tos rows)
   unfolding priceAnswer priceRows pricedAnswer
   price-says true e = rw e (record { first = price-finds; kept = λ n. (refusal-only-place (priceVerdict r froms tos rows), refl) })
   price-says false e = rw e (record { first = rw (price-accepted r froms tos rows e) at price-finds; kept = λ n. absurd (n refl) })
@@ -150,7 +150,7 @@ module _ (r : Run) (rows : Rows) where
       none-refuses (judgeOf r ∷ refuseIf (shortRows (length (r .numbers)) (length (stopsOf r)) rows) ShortRow ∷ refuseIf (ltb (length (rows .room)) (roomFor r)) ShortRoom ∷ []) e
 
   module _ (answer : Answer) (after : Rows) (plans : Plans r rows answer after) where
-    plan-says : (b : Bool) → refuses (planVerdict r rows) ≡ b → PlanAnswers r rows answer after
+    plan-says : (b : Bool) → refuses (planVerdict r rows) ≡ b → ByTheTable (PlanApplies r rows) planOrder rows answer after
     unfolding pricedAnswer
     plan-says true e =
         let refusal = plans .refused e in

@@ -1,39 +1,68 @@
 -- Demand 2: the pricer's and the planner's numbers are the walk's, the planner's list is the least, and its contract fits one answer.
 use Prim.Native.Nat.{ℕ}
 use mathlib.Core.Path.{_≡_, refl, sym, ap, _∙_}
-use mathlib.Core.Bool.{Bool, true, false, not, true≢false}
+use mathlib.Core.Bool.{true, false, true≢false}
 use mathlib.Core.Logic.{⊎-elim}
 use mathlib.Core.List.{List, [], _∷_, map}
 use lib.ListN.{length, drop}
 use lib.Seq.{take-at}
-use lib.Dec.{eqb}
-use borrow.Author.Tests.{eqb-true, not-false}
 use Rattle.refusals.specs.declared.Refusal.the-variants.{Accepted, BadEntry, ShortRow}
 use Rattle.walk.specs.declared.Answer.{Answer}
-use Rattle.refusals.specs.Refusals.{isRefusal, refuseIf, refuseAt}
+use Rattle.refusals.specs.Refusals.{isRefusal, refuseIf}
 use Rattle.runs.specs.Run.{Run, Stop, stopsOf, wantStopsOf}
 use Rattle.walk.specs.Walk.{headAt, timesOf, legsFor}
 use Rattle.walk.specs.Detours.{legsOf}
 use Rattle.runs.specs.Judging.{judgeOf}
-use Rattle.runs.specs.Lists.{Detour, WellFormed, listOf, firstBadEntry, listVerdict}
+use Rattle.runs.specs.Lists.{Detour, WellFormed, listOf, listVerdict}
 use Rattle.walk.specs.Price.{pricedAnswer, pricedTimes, pricedLegs, readRowsWith, shortReadRows, priceVerdict, priceAnswer, priceRows}
 use Rattle.walk.specs.Rows.{ReadRows}
-use Rattle.refusals.proofs.Verdicts.{refuses, AllAccept, all-accept, accepts-if, accepts-at}
-use Rattle.runs.proofs.Judged.{accepted-run}
+use Rattle.refusals.proofs.Verdicts.{refuses, AllAccept, all-accept}
+use Rattle.runs.proofs.Judged.{GoodRun, accepted-run}
 use Rattle.runs.proofs.Search.{true-or-false}
 use Rattle.walk.proofs.Filling.{one-each}
 use Rattle.walk.proofs.Joins.{run-sum-joined}
+use Rattle.walk.proofs.Walks.{accepted-list}
+use Rattle.engine_stops.proofs.Halves.{list-accepted, list-of-halves, halves-even}
+use Rattle.figures.proofs.Answers.{list-formed}
 use Rattle.runs.proofs.Stops.{wants-length}
 use Rattle.least.specs.Least.{LeastFor}
 use Rattle.planner.specs.Plan.{rowsWith}
 use Rattle.planner.specs.Rows.{Rows, readsIn}
 use Rattle.planner.proofs.Determined.{plan-determined}
-use Rattle.demands.specs.Demand2.{listIn, IsWalkOf, IsTheWalk, IsPriceOf, IsLeast, Demand2Price, Demand2Walk, Demand2Least, Demand2One}
+use Rattle.demands.specs.RefusalTable.{ListIsBad}
+use Rattle.demands.specs.Demand2.{IsFormed, listIn, IsWalkOf, IsTheWalk, IsPriceOf, IsLeast, Demand2Price, Demand2Walk, Demand2Least, Demand2One}
+use Rattle.demands.proofs.Checks.{Decides, refused, passed}
+use Rattle.demands.proofs.Listed.{decides-list}
 use Rattle.demands.proofs.Planned.{plan-in-rows, run-accepted, list-in-rows}
+
+-- In an accepted run a list is well formed if and only if 10 does not apply to it.
+module _ (r : Run) (good : GoodRun r) (list : List Detour) where
+  abbrev froms : List ℕ
+  froms = map (λ d. d .from) list
+
+  abbrev tos : List ℕ
+  tos = map (λ d. d .to) list
+
+  decides-ten : Decides BadEntry (ListIsBad r froms tos) (listVerdict (stopsOf r) froms tos)
+  decides-ten = decides-list r good froms tos (sym (good .wants .equal))
+
+  pub formed-list : IsFormed r list → WellFormed (stopsOf r) list
+  formed-list n = go decides-ten
+    where
+      go : Decides BadEntry (ListIsBad r froms tos) (listVerdict (stopsOf r) froms tos) → WellFormed (stopsOf r) list
+      go (refused p e h) = absurd (n p h)
+      go (passed e none) = rw (list-of-halves list) at (list-formed (stopsOf r) froms tos (ap refuses e))
+
+  pub is-formed : WellFormed (stopsOf r) list → IsFormed r list
+  is-formed w = go decides-ten
+    where
+      go : Decides BadEntry (ListIsBad r froms tos) (listVerdict (stopsOf r) froms tos) → IsFormed r list
+      go (refused p e h) = absurd (true≢false (sym (ap refuses e) ∙ list-accepted (stopsOf r) froms tos (halves-even (λ d. d .from) (λ d. d .to) list) (rw (list-of-halves list) w)))
+      go (passed e none) = none
 
 -- The pricer's numbers, times and legs for a well-formed list, in rows that have them in front.
 priced-walk : (r : Run) (list : List Detour) (rows before : ReadRows) (answer : Answer) → answer ≡ pricedAnswer r list → rows ≡ readRowsWith r list before
-    → WellFormed (stopsOf r) list → length (r .counts) ≡ length (r .numbers) → IsWalkOf r list rows answer
+    → IsFormed r list → length (r .counts) ≡ length (r .numbers) → IsWalkOf r list rows answer
 unfolding pricedAnswer pricedTimes pricedLegs timesOf legsFor
 priced-walk r list rows before answer says fills formed same =
     let size : (f : Stop → ℕ) → length (map f (wantStopsOf r)) ≡ length (r .numbers) = λ f. one-each f (wantStopsOf r) ∙ wants-length (r .starts) (r .lengths) (r .aggregates) (r .numbers) (r .counts) same in
@@ -52,14 +81,17 @@ module _ (r : Run) (list : List Detour) (before : Rows) (answer : Answer) (after
   in-rows : listIn answer after ≡ list
   in-rows = list-in-rows r list before answer after says rows
 
-  walk-of-list : WellFormed (stopsOf r) list → length (r .counts) ≡ length (r .numbers) → IsTheWalk r answer after
+  walk-of-list : IsFormed r list → length (r .counts) ≡ length (r .numbers) → IsTheWalk r answer after
   walk-of-list formed same =
       rw in-rows (priced-walk r list (readsIn after) (readsIn before) answer says (ap readsIn rows) formed same)
 
-  least-of-list : LeastFor (r .turn) (r .head) (stopsOf r) list → IsLeast r answer after
+  least-of-list : LeastFor (r .turn) (r .head) (stopsOf r) list → ((other : List Detour) → IsFormed r other → WellFormed (stopsOf r) other) → IsLeast r answer after
   unfolding pricedAnswer
-  least-of-list least =
-      record { smallest = λ other v. rw says (least .smallest other v); first = λ other v e. rw in-rows (least .first other v (rw says at e)) }
+  least-of-list least formed =
+      record {
+        smallest = λ other v. rw says (least .smallest other (formed other v));
+        first = λ other v e. rw in-rows (least .first other (formed other v) (rw says at e));
+      }
 
 -- What an accepted verdict of the pricer says of the run and the list.
 module _ (r : Run) (froms tos : List ℕ) (rows : ReadRows) (e : refuses (priceVerdict r froms tos rows) ≡ false) where
@@ -67,21 +99,17 @@ module _ (r : Run) (froms tos : List ℕ) (rows : ReadRows) (e : refuses (priceV
   unfolding priceVerdict
   checks-pass = all-accept (judgeOf r ∷ listVerdict (stopsOf r) froms tos ∷ refuseIf (shortReadRows (length (r .numbers)) rows) ShortRow ∷ []) e
 
-  list-passes : AllAccept (refuseIf (not (eqb (length froms) (length tos))) BadEntry ∷ refuseAt (firstBadEntry (stopsOf r) (listOf froms tos)) BadEntry ∷ [])
-  unfolding listVerdict
-  list-passes =
-      all-accept (refuseIf (not (eqb (length froms) (length tos))) BadEntry ∷ refuseAt (firstBadEntry (stopsOf r) (listOf froms tos)) BadEntry ∷ []) (checks-pass .1 .0)
-
   -- So the numbers are those of the walk of that list.
   pub price-of-list : (answer : Answer) (out : ReadRows) → answer ≡ pricedAnswer r (listOf froms tos)
       → out ≡ readRowsWith r (listOf froms tos) rows → IsPriceOf r froms tos out answer
   price-of-list answer out says fills =
+      let good = accepted-run r (checks-pass .0) in
       record {
-        even = eqb-true (length froms) (length tos) (not-false _ (accepts-if _ BadEntry refl (list-passes .0)));
+        even = accepted-list (stopsOf r) froms tos (checks-pass .1 .0) .even;
         walk =
             priced-walk r (listOf froms tos) out rows answer says fills
-            (accepts-at _ BadEntry refl (list-passes .1 .0))
-            (sym (accepted-run r (checks-pass .0) .wants .equal));
+            (is-formed r good (listOf froms tos) (list-formed (stopsOf r) froms tos (checks-pass .1 .0)))
+            (sym (good .wants .equal));
       }
 
 -- An answer that is no refusal comes of a verdict that is none.
@@ -107,14 +135,14 @@ demand2-price r froms tos rows answer out says fills accepts =
 pub demand2-walk : Demand2Walk
 demand2-walk r before answer after plans accepts =
     let plan = plan-in-rows r before answer after plans accepts in
-    walk-of-list r (plan .list) before answer after (plan .says) (plan .rows)
-    (plan .least .formed)
-    (sym (accepted-run r (run-accepted r before answer after plans accepts) .wants .equal))
+    let good = accepted-run r (run-accepted r before answer after plans accepts) in
+    walk-of-list r (plan .list) before answer after (plan .says) (plan .rows) (is-formed r good (plan .list) (plan .least .formed)) (sym (good .wants .equal))
 
 pub demand2-least : Demand2Least
 demand2-least r before answer after plans accepts =
     let plan = plan-in-rows r before answer after plans accepts in
     least-of-list r (plan .list) before answer after (plan .says) (plan .rows) (plan .least)
+    (formed-list r (accepted-run r (run-accepted r before answer after plans accepts)))
 
 pub demand2-one : Demand2One
 demand2-one r before answer answer′ after after′ plans plans′ = plan-determined r before answer answer′ after after′ plans plans′

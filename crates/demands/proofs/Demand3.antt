@@ -7,6 +7,7 @@ use Rattle.runs.proofs.Stops.{accepted-sound}
 use Rattle.least.proofs.Unbeaten.{SameTable, same-table, covers-of-reads, no-movement-beats}
 use Rattle.least.proofs.Wanted.{reads-no-more}
 use Rattle.demands.specs.Demand3.{Demand3, Demand3Same}
+use Rattle.demands.proofs.Judged.{nothing-judged, judged-nothing}
 use Rattle.demands.proofs.Planned.{plan-in-rows, run-accepted, reported-sum}
 
 -- Runs over one tape table have their files at the same places.
@@ -14,7 +15,8 @@ one-table : (first second : Run) → first .starts ≡ second .starts → first 
 one-table first second s l a = rw (s, l, a) (same-table (second .starts) (second .lengths) (second .aggregates) (first .numbers) (first .counts) (second .numbers) (second .counts))
 
 pub demand3 : Demand3
-demand3 first second before answer after accepted plans accepts asks gs moves serves =
+demand3 first second before answer after nothing plans accepts asks gs moves serves =
+    let accepted = nothing-judged first nothing in
     let plan = plan-in-rows second before answer after plans accepts in
     let passes = run-accepted second before answer after plans accepts in
     let sound = accepted-sound second passes in
@@ -27,6 +29,6 @@ demand3 first second before answer after accepted plans accepts asks gs moves se
 
 pub demand3-same : Demand3Same
 demand3-same r before answer after plans accepts gs moves serves =
-    demand3 r r before answer after (run-accepted r before answer after plans accepts) plans accepts
+    demand3 r r before answer after (judged-nothing r (run-accepted r before answer after plans accepts)) plans accepts
     (record { starts = refl; lengths = refl; aggregates = refl; reads = λ f. le-refl _; turn = le-refl _; head = le-refl _ })
     gs moves serves

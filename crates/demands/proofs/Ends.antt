@@ -12,7 +12,7 @@ use Rattle.walk.specs.declared.Leg.{Leg}
 use Rattle.runs.specs.Run.{Run, Stop, endAt, lastMember, stopsOf, wantStopsOf}
 use Rattle.runs.specs.Rows.{stopAt}
 use Rattle.runs.specs.Judging.{judgeOf}
-use Rattle.runs.specs.Lists.{Detour, listOf}
+use Rattle.runs.specs.Lists.{Detour, WellFormed, listOf}
 use Rattle.walk.specs.Walk.{headAt, timeOf, timesOf, sumOf}
 use Rattle.walk.specs.Detours.{legsOf, fullLegsOf}
 use Rattle.refusals.proofs.Verdicts.{refuses}
@@ -25,10 +25,11 @@ use Rattle.walk.specs.Rows.{ReadRows}
 use Rattle.planner.specs.Rows.{readsIn}
 use Rattle.demands.specs.Demand2.{listIn, IsWalkOf}
 use Rattle.demands.specs.Ends.{EndsWithARead, PriceEndsWithARead, PlanEndsWithARead, TimesStay}
+use Rattle.demands.proofs.Judged.{nothing-judged}
 use Rattle.demands.proofs.Conditions.{named, last-with, within-extent}
 use Rattle.demands.proofs.Stops.{PlacedIn, joined-placed, wants-placed}
 use Rattle.demands.proofs.Planned.{run-accepted}
-use Rattle.demands.proofs.Demand2.{demand2-price, demand2-walk, price-run-accepted}
+use Rattle.demands.proofs.Demand2.{formed-list, demand2-price, demand2-walk, price-run-accepted}
 
 -- A number for each stop, by index; and times that agree one by one have one row and one sum.
 pub entry-at : (f : Stop → ℕ) (ss : List Stop) (i : ℕ) → i < length ss → getD (map f ss) i 0 ≡ f (stopAt ss i)
@@ -62,7 +63,8 @@ module _ (r : Run) (ok : refuses (judgeOf r) ≡ false) where
   want-of-stop j l = joined-placed (wantStopsOf r) j l
 
 pub times-stay-put : TimesStay
-times-stay-put r ok list =
+times-stay-put r nothing list =
+    let ok = nothing-judged r nothing in
     let U = r .turn in
     let h = headAt (r .head) in
     let short = legsOf (stopsOf r) list in
@@ -88,13 +90,13 @@ module _ (r : Run) (ok : refuses (judgeOf r) ≡ false) (list : List Detour) (ro
       ∙ ap (λ ts. getD ts i 0) (walk .times)
       ∙ entry-at (timeOf (r .turn) (headAt (r .head)) (legsOf (stopsOf r) list)) (wantStopsOf r) i (omega (arith, size r ok))
 
-  ends-with-a-read : 0 < length (r .numbers) → EndsWithARead r (rows .times) answer
-  ends-with-a-read some =
+  ends-with-a-read : WellFormed (stopsOf r) list → 0 < length (r .numbers) → EndsWithARead r (rows .times) answer
+  ends-with-a-read formed some =
       let U = r .turn in
       let h = headAt (r .head) in
       let gs = legsOf (stopsOf r) list in
       let good = accepted-run r ok in
-      let last = last-read (stopsOf r) (r .head) (accepted-sound r ok) (some-joined (wantStopsOf r) (omega (arith, size r ok))) list (walk .formed) U in
+      let last = last-read (stopsOf r) (r .head) (accepted-sound r ok) (some-joined (wantStopsOf r) (omega (arith, size r ok))) list formed U in
       let w = want-of-stop r ok (last .index) (last .within) in
       let l : w .index < length (r .numbers) = omega (arith, w .within, size r ok) in
       let file = named r (good .files) (good .wants) (w .index) l in
@@ -115,10 +117,12 @@ module _ (r : Run) (ok : refuses (judgeOf r) ≡ false) (list : List Detour) (ro
 
 pub price-ends-with-a-read : PriceEndsWithARead
 price-ends-with-a-read r froms tos rows answer out says fills accepts some =
-    ends-with-a-read r (price-run-accepted r froms tos rows answer says accepts) (listOf froms tos) out answer
-    (demand2-price r froms tos rows answer out says fills accepts .walk) some
+    let ok = price-run-accepted r froms tos rows answer says accepts in
+    let walk = demand2-price r froms tos rows answer out says fills accepts .walk in
+    ends-with-a-read r ok (listOf froms tos) out answer walk (formed-list r (accepted-run r ok) (listOf froms tos) (walk .formed)) some
 
 pub plan-ends-with-a-read : PlanEndsWithARead
 plan-ends-with-a-read r before answer after plans accepts some =
-    ends-with-a-read r (run-accepted r before answer after plans accepts) (listIn answer after) (readsIn after) answer
-    (demand2-walk r before answer after plans accepts) some
+    let ok = run-accepted r before answer after plans accepts in
+    let walk = demand2-walk r before answer after plans accepts in
+    ends-with-a-read r ok (listIn answer after) (readsIn after) answer walk (formed-list r (accepted-run r ok) (listIn answer after) (walk .formed)) some

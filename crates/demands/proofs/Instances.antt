@@ -39,7 +39,7 @@ use Rattle.sheet_reader.specs.Reading.{sheetVerdict, ruleVerdict, readVerdict, 
 use Rattle.sheet_writer.specs.declared.Written.{Written}
 use Rattle.sheet_writer.specs.Writing.{sheetText, rowVerdict, writeVerdict, writtenAnswer, writtenRow}
 use Rattle.answer_rewrite.specs.Rewriting.{priceIsEmpty, bytesBefore, rewritten, rewriteVerdict}
-use Rattle.demands.specs.RefusalTable.{FirstBad}
+use Rattle.demands.specs.RefusalTable.{FirstBad, NothingApplies}
 use Rattle.demands.specs.Lines.{LineIsBad, linesDue}
 use Rattle.demands.specs.Sheets.{GivesBack, RunComesBack}
 use Rattle.demands.specs.Turns.{Rewrites}
@@ -49,6 +49,7 @@ use Rattle.demands.specs.Demand3.{AsksNoLess}
 use Rattle.demands.specs.Plain.{SameAnswer}
 use Rattle.demands.specs.Calls.{PriceCallWalks, PlanCallWalks}
 use Rattle.demands.specs.Cases.{exampleRun, fourFiles}
+use Rattle.demands.proofs.Judged.{nothing-judged, judged-nothing}
 use Rattle.demands.proofs.Formed.{formed-by-the-rules}
 use Rattle.demands.proofs.Demand1.{demand1-price, demand1-plan}
 use Rattle.demands.proofs.Demand2.{demand2-price, demand2-walk, demand2-least}
@@ -128,9 +129,9 @@ moreAsked = runOf (0 ∷ 10 ∷ 20 ∷ []) (10 ∷ 4 ∷ 30 ∷ []) (0 ∷ 0 ∷
 abbrev pub wanderings : List Leg
 wanderings = record { left = 18; right = 55 } ∷ record { left = 5; right = 15 } ∷ record { left = 0; right = 33 } ∷ []
 
-more-accepted : refuses (judgeOf moreAsked) ≡ false
+more-accepted : NothingApplies moreAsked
 unfolding judgeOf firstWhere goesOn firstMember lastWithin wantStops joinTo joined rightEnd
-more-accepted = refl
+more-accepted = judged-nothing moreAsked refl
 
 no-fewer-reads : (a b c : Bool) → cond a 1 0 + (cond b 3 0 + (cond c 1 0 + 0)) ≤ cond a 1 0 + (cond b 4 0 + (cond c 1 0 + 0))
 no-fewer-reads a true c = omega arith
@@ -266,9 +267,9 @@ wanderings-beat-no-call =
     (demand3-plan-call moreAsked exampleRun 1 (sheetRows 54) fiveWords 0 (sheetAfter 54) (sumsWith (sheetAnswer 54) fiveWords) more-accepted sheet-called refl more-asks-no-less wanderings (wanderings-move 70 (omega arith)) (wanderings-serve .0))
 
 -- The sheet's run is written, and read back into rows that are just long enough.
-sheet-judged : refuses (judgeOf exampleRun) ≡ false
+sheet-judged : NothingApplies exampleRun
 unfolding judgeOf firstWhere goesOn firstMember lastWithin wantStops joinTo joined rightEnd
-sheet-judged = refl
+sheet-judged = judged-nothing exampleRun refl
 
 abbrev exampleName : List ℕ
 exampleName = 86 ∷ 88 ∷ 48 ∷ 48 ∷ 52 ∷ 49 ∷ []
@@ -299,7 +300,7 @@ write-passes : refuses (writeVerdict exampleName exampleRun sheetRow) ≡ false
 unfolding writeVerdict rowVerdict
 write-passes =
     let size = length (sheetText exampleName exampleRun) in
-    rw (sheet-judged, sheet-named, length-replicate {A = ℕ} size 7, le-ltb size size (le-refl size))
+    rw (nothing-judged exampleRun sheet-judged, sheet-named, length-replicate {A = ℕ} size 7, le-ltb size size (le-refl size))
 
 write-accepted : sheetWritten .refusal ≡ Accepted
 unfolding writtenAnswer

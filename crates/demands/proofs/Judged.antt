@@ -1,9 +1,9 @@
 -- Rows 1 to 7 of the refusal table: the judging of a run finds the first that applies.
 -- The head's condition comes after those of the table and the wants, so these are good by then.
 use Prim.Native.Nat.{ℕ, _≤_, _<_}
-use mathlib.Core.Path.{_≡_, refl}
-use mathlib.Core.Logic.{_⊎_}
-use mathlib.Core.Bool.{false, not, _||_}
+use mathlib.Core.Path.{_≡_, refl, sym, ap, _∙_}
+use mathlib.Core.Logic.{_⊎_, inl, inr, ⊎-elim, _↔_}
+use mathlib.Core.Bool.{Bool, true, false, not, _||_, true≢false}
 use mathlib.Core.List.{List, [], _∷_}
 use native.Mathlib.Omega.{arith}
 use lib.ListN.{length}
@@ -11,16 +11,16 @@ use lib.Dec.{ltb, eqb}
 use Rattle.refusals.specs.declared.Refusal.{Refusal}
 use Rattle.refusals.specs.declared.Refusal.the-variants.{FileRows, BadFile, WantRows, BadWant, TooManyReads, TurnPrice, HeadPlace}
 use Rattle.refusals.specs.declared.Verdict.{Verdict}
-use Rattle.refusals.specs.Refusals.{numberOf, refuseIf, refuseAt, firstOf, firstWhere}
+use Rattle.refusals.specs.Refusals.{numberOf, isRefusal, accepted, refuseIf, refuseAt, firstOf, firstWhere}
 use Rattle.runs.specs.Run.{Run, mostFiles, mostWants, mostReads, lastPlace, highestTurn, total, stopsOf}
 use Rattle.runs.specs.Judging.{rightEnd}
 use Rattle.runs.specs.Judging.{badFile, badWant, tableChecks, wantsChecks, headChecks, judgeOf}
-use Rattle.refusals.proofs.Verdicts.{refuses}
+use Rattle.refusals.proofs.Verdicts.{refuses, first-refuses, first-passes, none-refuses}
 use Rattle.runs.proofs.Judged.{GoodTable, GoodWants, accepted-table, accepted-wants}
-use Rattle.demands.specs.RefusalTable.{FirstBad, FileIsBad, WantIsBad, WantedBeyond, RunApplies}
+use Rattle.demands.specs.RefusalTable.{FirstBad, FileIsBad, WantIsBad, RunApplies, NothingApplies, SomeApplies}
 use Rattle.demands.proofs.Tests.{tells-below, tells-either}
-use Rattle.demands.proofs.Checks.{Decides, decides-if, decides-at, decides-reworded, Finds, finds-first, first-of-joined, both-pass}
-use Rattle.demands.proofs.Conditions.{rows-unfit, table-rows-unfit, file-is-bad, want-is-bad, head-left-of-end}
+use Rattle.demands.proofs.Checks.{Decides, decides-if, decides-at, decides-reworded, Finds, finds-none, finds-first, first-of-joined, both-pass, AllRefuse, refused-iff}
+use Rattle.demands.proofs.Conditions.{WantedBeyond, rows-unfit, table-rows-unfit, file-is-bad, want-is-bad, head-left-of-end}
 
 -- What each row of the table says, taken back from the condition.
 module _ (r : Run) where
@@ -43,7 +43,11 @@ module _ (r : Run) where
   turn-price-only p (RunApplies.turn-price h) = (refl, h)
 
   head-place-only : (p : ℕ) → RunApplies r HeadPlace p → (p ≡ 0) × ((lastPlace < r .head) ⊎ WantedBeyond r)
-  head-place-only p (RunApplies.head-place h) = (refl, h)
+  head-place-only p (RunApplies.head-far h) = (refl, inl h)
+  head-place-only p (RunApplies.head-near {f} a w h) = (refl, inr (record { which = f; file = a; wanted = w; beyond = h }))
+
+  only-head-place : (p : ℕ) → (p ≡ 0) × ((lastPlace < r .head) ⊎ WantedBeyond r) → RunApplies r HeadPlace p
+  only-head-place p h = rw (h .0) (⊎-elim RunApplies.head-far (λ b. RunApplies.head-near (b .file) (b .wanted) (b .beyond)) (h .1))
 
   -- They are the numbers 1 to 7.
   pub run-small : {k : Refusal} {p : ℕ} → RunApplies r k p → numberOf k ≤ 7
@@ -53,7 +57,8 @@ module _ (r : Run) where
   run-small (RunApplies.bad-want h) = omega arith
   run-small (RunApplies.many-reads h) = omega arith
   run-small (RunApplies.turn-price h) = omega arith
-  run-small (RunApplies.head-place h) = omega arith
+  run-small (RunApplies.head-far h) = omega arith
+  run-small (RunApplies.head-near a w h) = omega arith
 
 -- The checks of a run at the front of a row find the first of 1 to 7 that applies, and then what the others find.
 module _ (r : Run) (applies : Refusal → ℕ → Type 0) (there : (k : Refusal) (p : ℕ) → RunApplies r k p → applies k p)
@@ -97,7 +102,7 @@ module _ (r : Run) (applies : Refusal → ℕ → Type 0) (there : (k : Refusal)
       (first-of-joined (headChecks (r .turn) (r .head) (rightEnd (stopsOf r))) vs)
       (finds-first applies (second ∷ vs) refl (of-run TurnPrice (omega arith) (λ p h. rw (h .0) (RunApplies.turn-price (h .1))) (turn-price-only r) (decides-if _ TurnPrice (tells-below highestTurn (r .turn))))
       (λ a. finds-first applies vs refl
-      (of-run HeadPlace (omega arith) (λ p h. rw (h .0) (RunApplies.head-place (h .1))) (head-place-only r) (decides-if _ HeadPlace
+      (of-run HeadPlace (omega arith) (only-head-place r) (head-place-only r) (decides-if _ HeadPlace
       (tells-either (ltb lastPlace (r .head)) (ltb (r .head) (rightEnd (stopsOf r))) (tells-below lastPlace (r .head)) (head-left-of-end r files wants))))
       (λ b. others (both-pass first (second ∷ []) a (both-pass second [] b refl)))))
 
@@ -114,3 +119,64 @@ module _ (r : Run) (applies : Refusal → ℕ → Type 0) (there : (k : Refusal)
       (λ a. wants-find (TurnPrice ∷ HeadPlace ∷ rest) (head ∷ vs)
       (λ b. head-finds rest vs (accepted-table (r .starts) (r .lengths) (r .aggregates) a) (accepted-wants (length (r .starts)) (r .numbers) (r .counts) b)
       (λ c. others (both-pass table (wants ∷ head ∷ []) a (both-pass wants (head ∷ []) b (both-pass head [] c refl)))))))
+
+-- The order of 1 to 7.
+abbrev pub runOrder : List Refusal
+runOrder = FileRows ∷ BadFile ∷ WantRows ∷ BadWant ∷ TooManyReads ∷ TurnPrice ∷ HeadPlace ∷ []
+
+-- A check that finds the first of an order passes where none of the order applies.
+pub none-found : (applies : Refusal → ℕ → Type 0) {order : List Refusal} (v : Verdict) → Finds applies order (firstOf (v ∷ [])) → AllRefuse order → (SomeApplies applies order → ⊥) → refuses v ≡ false
+none-found applies {order} v finds all none = go (refuses v) refl
+  where
+    go : (b : Bool) → refuses v ≡ b → refuses v ≡ false
+    go true e =
+        let found : Finds applies order v = rw (← first-refuses v [] e) at finds in
+        absurd (none (refused-iff applies found all .0 (λ k. true≢false (sym e ∙ ap isRefusal k))))
+    go false e = e
+
+-- A run is accepted if and only if nothing of 1 to 7 applies to it.
+module _ (r : Run) where
+  pub none-of-run : (order : List Refusal) → NothingApplies r → SomeApplies (RunApplies r) order → ⊥
+  none-of-run [] n s = s
+  none-of-run (k ∷ order) n s = ⊎-elim (λ h. n k (h .0) (h .1)) (none-of-run order n) s
+
+  pub some-of-run : (k : Refusal) (p : ℕ) → RunApplies r k p → SomeApplies (RunApplies r) runOrder
+  some-of-run k p (RunApplies.file-rows h) = inl (0, RunApplies.file-rows h)
+  some-of-run k p (RunApplies.bad-file h) = inr (inl (p, RunApplies.bad-file h))
+  some-of-run k p (RunApplies.want-rows h) = inr (inr (inl (0, RunApplies.want-rows h)))
+  some-of-run k p (RunApplies.bad-want h) = inr (inr (inr (inl (p, RunApplies.bad-want h))))
+  some-of-run k p (RunApplies.many-reads h) = inr (inr (inr (inr (inl (0, RunApplies.many-reads h)))))
+  some-of-run k p (RunApplies.turn-price h) = inr (inr (inr (inr (inr (inl (0, RunApplies.turn-price h))))))
+  some-of-run k p (RunApplies.head-far h) = inr (inr (inr (inr (inr (inr (inl (0, RunApplies.head-far h)))))))
+  some-of-run k p (RunApplies.head-near a w h) = inr (inr (inr (inr (inr (inr (inl (0, RunApplies.head-near a w h)))))))
+
+  judged-finds : Finds (RunApplies r) runOrder (firstOf (judgeOf r ∷ []))
+  judged-finds = run-finds r (RunApplies r) (λ k p h. h) (λ k p l h. h) [] [] (λ a. finds-none (RunApplies r))
+
+  all-refuse : AllRefuse runOrder
+  all-refuse = (refl, (refl, (refl, (refl, (refl, (refl, (refl, tt)))))))
+
+  pub nothing-judged : NothingApplies r → refuses (judgeOf r) ≡ false
+  nothing-judged n = none-found (RunApplies r) (judgeOf r) judged-finds all-refuse (none-of-run runOrder n)
+
+  pub judged-nothing : refuses (judgeOf r) ≡ false → NothingApplies r
+  judged-nothing e k p h =
+      let found : Finds (RunApplies r) runOrder accepted = rw (first-passes (judgeOf r) [] e) at judged-finds in
+      refused-iff (RunApplies r) found all-refuse .1 (some-of-run k p h) refl
+
+  pub accepted-iff : NothingApplies r ↔ (refuses (judgeOf r) ≡ false)
+  accepted-iff = (nothing-judged, judged-nothing)
+
+  -- Its verdict is acceptance, place 0 included.
+  pub judged-accepted : refuses (judgeOf r) ≡ false → judgeOf r ≡ accepted
+  unfolding judgeOf
+  judged-accepted e =
+      none-refuses (firstOf (tableChecks (r .starts) (r .lengths) (r .aggregates)) ∷ firstOf (wantsChecks (length (r .starts)) (r .numbers) (r .counts)) ∷ firstOf (headChecks (r .turn) (r .head) (rightEnd (stopsOf r))) ∷ []) e
+
+  -- The same of its table of files alone, with 1 and 2.
+  pub table-judged : ((p : ℕ) → RunApplies r FileRows p → ⊥) → ((p : ℕ) → RunApplies r BadFile p → ⊥) → refuses (firstOf (tableChecks (r .starts) (r .lengths) (r .aggregates))) ≡ false
+  table-judged rows files =
+      none-found (RunApplies r) (firstOf (tableChecks (r .starts) (r .lengths) (r .aggregates)))
+      (table-finds r (RunApplies r) (λ k p h. h) (λ k p l h. h) [] [] (λ a. finds-none (RunApplies r)))
+      (refl, (refl, tt))
+      (⊎-elim (λ h. rows (h .0) (h .1)) (⊎-elim (λ h. files (h .0) (h .1)) (λ s. s)))

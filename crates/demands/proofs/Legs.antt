@@ -19,6 +19,7 @@ use Rattle.walk.specs.Detours.{legsOf}
 use Rattle.walk.specs.Rows.{ReadRows}
 use Rattle.refusals.proofs.Verdicts.{refuses}
 use Rattle.runs.proofs.Search.{true-or-false}
+use Rattle.runs.proofs.Judged.{accepted-run}
 use Rattle.runs.proofs.Sound.{Sound}
 use Rattle.runs.proofs.Joined.{some-joined}
 use Rattle.runs.proofs.Stops.{accepted-sound}
@@ -28,7 +29,7 @@ use Rattle.planner.specs.Rows.{readsIn}
 use Rattle.demands.specs.Demand2.{listIn, IsWalkOf}
 use Rattle.demands.specs.Legs.{legNumbered, ReadsIn, LegsTold, PriceTellsLegs, PlanTellsLegs}
 use Rattle.demands.proofs.Planned.{run-accepted}
-use Rattle.demands.proofs.Demand2.{demand2-price, demand2-walk, price-run-accepted}
+use Rattle.demands.proofs.Demand2.{formed-list, demand2-price, demand2-walk, price-run-accepted}
 use Rattle.demands.proofs.Ends.{in-row, size, stop-of-want, entry-at}
 use Rattle.demands.proofs.Stops.{first-placed}
 
@@ -120,7 +121,7 @@ module _ (r : Run) (ok : refuses (judgeOf r) ≡ false) (list : List Detour) (ro
         leftmost = λ some.
             leg-in-row 0 some
             ∙ leg-same 1 (legsOf (stopsOf r) list) (stopAt (wantStopsOf r) 0) (stopAt (stopsOf r) 0) (first-placed (wantStopsOf r) (omega (arith, long)))
-            ∙ leftmost-leg (stopsOf r) (r .head) (accepted-sound r ok) list (walk .formed) (some-stops some);
+            ∙ leftmost-leg (stopsOf r) (r .head) (accepted-sound r ok) list (formed-list r (accepted-run r ok) list (walk .formed)) (some-stops some);
         one = only-one;
         apart = λ i j a b l.
             rw (in-row r ok list rows answer walk i a, in-row r ok list rows answer walk j b)

@@ -12,7 +12,7 @@ use Rattle.refusals.specs.declared.Refusal.the-variants.{BadEntry}
 use Rattle.refusals.specs.Refusals.{refuseAt, firstOf}
 use Rattle.runs.specs.Run.{Run, goesOn, firstMember, lastMember, stopsOf}
 use Rattle.runs.specs.Lists.{listOf, badAfter, firstBadEntry, listVerdict}
-use Rattle.runs.specs.Private.{between, rowNamed, rowEntry, rowAlone, rowClash, rowBad}
+use Rattle.runs.specs.Private.{someBetween, rowNamed, rowEntry, rowAlone, rowClash, rowBad}
 use Rattle.runs.proofs.Search.{true-or-false}
 use Rattle.runs.proofs.Members.{and-true-both, goes-on-zero, goes-on-same, first-stays, first-below, last-above, member-first, same-last}
 use Rattle.runs.proofs.Judged.{GoodRun}
@@ -29,19 +29,19 @@ pub record Between (numbers : List ℕ) (low high : ℕ) : Type 0 where
   pub above : low ≤ getD numbers index 0
   pub below : getD numbers index 0 ≤ high
 
-lies-between : (numbers : List ℕ) (low high : ℕ) → between numbers low high ≡ true → Between numbers low high
-unfolding between
+lies-between : (numbers : List ℕ) (low high : ℕ) → someBetween numbers low high ≡ true → Between numbers low high
+unfolding someBetween
 lies-between [] low high e = absurd (true≢false (sym e))
 lies-between (n ∷ ns) low high e = go (leb low n && leb n high) refl (lies-between ns low high)
   where
-    go : (b : Bool) → (leb low n && leb n high) ≡ b → (between ns low high ≡ true → Between ns low high) → Between (n ∷ ns) low high
+    go : (b : Bool) → (leb low n && leb n high) ≡ b → (someBetween ns low high ≡ true → Between ns low high) → Between (n ∷ ns) low high
     go true h rest = let both = and-true-both _ _ h in record { index = 0; within = omega arith; above = leb-true low n (both .0); below = leb-true n high (both .1) }
     go false h rest =
         let found = rest (rw h at e) in
         record { index = suc (found .index); within = omega (arith, found .within); above = found .above; below = found .below }
 
-between-lies : (numbers : List ℕ) (low high i : ℕ) → i < length numbers → low ≤ getD numbers i 0 → getD numbers i 0 ≤ high → between numbers low high ≡ true
-unfolding between
+between-lies : (numbers : List ℕ) (low high i : ℕ) → i < length numbers → low ≤ getD numbers i 0 → getD numbers i 0 ≤ high → someBetween numbers low high ≡ true
+unfolding someBetween
 between-lies [] low high i l a b = absurd (omega arith)
 between-lies (n ∷ ns) low high zero l a b = rw (le-leb low n a, le-leb n high b)
 between-lies (n ∷ ns) low high (suc i) l a b = rw (between-lies ns low high i (omega arith) a b, or-true)
@@ -68,11 +68,11 @@ module _ (r : Run) (good : GoodRun r) where
 
   test-names : (f : ℕ) → rowNamed (r .aggregates) (r .numbers) f ≡ true → NamesStop r f
   test-names zero e =
-      let both = and-true-both (not (goesOn (r .aggregates) (0 - 1))) (between (r .numbers) 0 0) e in
+      let both = and-true-both (not (goesOn (r .aggregates) (0 - 1))) (someBetween (r .numbers) 0 0) e in
       let w = lies-between (r .numbers) 0 0 (both .1) in
       absurd (omega (arith, w .below, wanted-file (w .index) (w .within) .least))
   test-names (suc i) e =
-      let both = and-true-both (not (goesOn (r .aggregates) (suc i - 1))) (between (r .numbers) (suc i) (suc (lastMember (r .aggregates) i))) e in
+      let both = and-true-both (not (goesOn (r .aggregates) (suc i - 1))) (someBetween (r .numbers) (suc i) (suc (lastMember (r .aggregates) i))) e in
       let w = lies-between (r .numbers) (suc i) (suc (lastMember (r .aggregates) i)) (both .1) in
       let at = wanted-file (w .index) (w .within) in
       let here : suc i - 1 ≡ i = omega arith in

@@ -30,8 +30,9 @@ use Rattle.engine_plain.proofs.Checks.{late-behind}
 use Rattle.engine_plain.proofs.Determined.{plain-determined}
 use Rattle.runs.proofs.Judged.{GoodRun, accepted-run}
 use Rattle.demands.specs.RefusalTable.{RunApplies, FirstThatApplies, here, later}
+use Rattle.demands.specs.Demand1.{ByTheTable}
 use Rattle.demands.specs.Demand2.{listIn, IsTheWalk, IsLeast}
-use Rattle.demands.specs.Plain.{withRoom, plainOrder, PlainApplies, PlainAnswers, SameAnswer, PlainWalks, Demand1Plain, Demand1PlainIff, PlainAsPlanned, PlannerWithRoom, Demand2Plain, Demand2PlainOne, Demand3Plain}
+use Rattle.demands.specs.Plain.{withRoom, plainOrder, PlainApplies, SameAnswer, PlainWalks, Demand1Plain, Demand1PlainIff, PlainAsPlanned, PlannerWithRoom, Demand2Plain, Demand2PlainOne, Demand3Plain}
 use Rattle.demands.proofs.Counted.{has-stops, stops-one}
 use Rattle.demands.proofs.Tests.{Tells, tells-below, tells-either, tells-regrouped}
 use Rattle.demands.proofs.Checks.{refused-iff, decides-if, decides-reworded, Finds, finds-none, finds-first}
@@ -131,7 +132,7 @@ module _ (r : Run) (rows : PlainRows) where
       (firstOf (tableChecks (r .starts) (r .lengths) (r .aggregates)) ∷ refuseIf (unevenWants r) WantRows ∷ refuseIf (ltb mostPlainWants (length (r .numbers))) OverEightWants ∷ judgeOf r ∷ rowsCheck ∷ []) e .1 .1 .1 .0
 
   module _ (answer : Answer) (after : PlainRows) (plans : PlainPlans r rows answer after) where
-    plain-says : (b : Bool) → refuses (plainVerdict r rows) ≡ b → PlainAnswers r rows answer after
+    plain-says : (b : Bool) → refuses (plainVerdict r rows) ≡ b → ByTheTable (PlainApplies r rows) plainOrder rows answer after
     unfolding pricedAnswer
     plain-says true e =
         let refusal = plans .refused e in

@@ -14,15 +14,10 @@ use Rattle.runs.specs.Lists.{Detour, listOf}
 use Rattle.walk.specs.Price.{pricedAnswer}
 use Rattle.refusals.proofs.Verdicts.{refuses, all-accept}
 use Rattle.least.specs.Least.{listSum}
+use Rattle.engine_stops.proofs.Halves.{list-of-halves}
 use Rattle.planner.specs.Plan.{roomFor, Plans, Planned, planVerdict, shortRows, rowsWith}
 use Rattle.planner.specs.Rows.{Rows}
 use Rattle.demands.specs.Demand2.{listIn}
-
--- The list in two rows that hold its starts and its ends.
-pub list-of-rows : (list : List Detour) → listOf (map (λ d. d .from) list) (map (λ d. d .to) list) ≡ list
-unfolding listOf
-list-of-rows [] = refl
-list-of-rows (d ∷ list) = ap (λ l. d ∷ l) (list-of-rows list)
 
 -- The rows of an accepted plan hold its list's starts and ends.
 module _ (r : Run) (list : List Detour) (before : Rows) (answer : Answer) (after : Rows) (says : answer ≡ pricedAnswer r list) (rows : after ≡ rowsWith r list before) where
@@ -35,7 +30,7 @@ module _ (r : Run) (list : List Detour) (before : Rows) (answer : Answer) (after
   ends-in-rows = rw (says, rows) (take-at (map (λ d. d .to) list) (drop (length list) (before .tos)) (length list) (length-map list (λ d. d .to)))
 
   pub list-in-rows : listIn answer after ≡ list
-  list-in-rows = ap₂ listOf starts-in-rows ends-in-rows ∙ list-of-rows list
+  list-in-rows = ap₂ listOf starts-in-rows ends-in-rows ∙ list-of-halves list
 
 pub reported-sum : (r : Run) (list : List Detour) (answer : Answer) → answer ≡ pricedAnswer r list → answer .sum ≡ listSum (r .turn) (r .head) (stopsOf r) list
 unfolding pricedAnswer

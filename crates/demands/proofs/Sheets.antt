@@ -25,10 +25,9 @@ use Rattle.sheet_reader.proofs.Good.{good-lines}
 use Rattle.sheet_writer.specs.declared.Written.{Written}
 use Rattle.sheet_writer.specs.Writing.{refusedWriting, sheetText, rowVerdict, writeVerdict, writtenAnswer, writtenRow, Handed}
 use Rattle.sheet_writer.specs.PlanSheet.{planText, planSheetVerdict}
-use Rattle.sheet_figures.specs.FigureSheet.{figureText, figureSheetVerdict}
 use Rattle.demands.specs.RefusalTable.{FirstBad, RunApplies, ListIsBad}
 use Rattle.demands.specs.Lines.{LineIsBad, linesDue, Ruled}
-use Rattle.demands.specs.Sheets.{readOrder, ReadApplies, ReadAnswers, OneRule, writeOrder, listSheetOrder, WriteApplies, ListSheetApplies, WriteAnswers, Demand1Read, Demand1Write, Demand1PlanSheet, Demand1FigureSheet}
+use Rattle.demands.specs.Sheets.{readOrder, ReadApplies, ReadAnswers, OneRule, writeOrder, listSheetOrder, WriteApplies, ListSheetApplies, WriteAnswers, Demand1Read, Demand1Write, Demand1PlanSheet}
 use Rattle.demands.proofs.Tests.{tells-false, Tells, tells-below, tells-either}
 use Rattle.demands.proofs.Checks.{decides-if, decides-there, decides-reworded, Finds, finds-none, finds-first, first-of-joined}
 use Rattle.demands.proofs.Lines.{tells-sweep, names-least}
@@ -266,7 +265,3 @@ module _ (name : List ℕ) (r : Run) (froms tos text row : List ℕ) where
 pub demand1-plan-sheet : Demand1PlanSheet
 unfolding planSheetVerdict
 demand1-plan-sheet name r froms tos row answer out says fills = rw (says, fills) (sheet-says name r froms tos (planText name r froms tos) row)
-
-pub demand1-figure-sheet : Demand1FigureSheet
-unfolding figureSheetVerdict
-demand1-figure-sheet name r froms tos row answer out says fills = rw (says, fills) (sheet-says name r froms tos (figureText name r froms tos) row)

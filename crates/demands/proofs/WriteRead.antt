@@ -9,11 +9,10 @@ use lib.Dec.{ltb}
 use borrow.Author.Tests.{le-ltb, ltb-false, not-false}
 use Rattle.refusals.specs.declared.Refusal.the-variants.{Accepted, BadName}
 use Rattle.refusals.specs.declared.Verdict.{Verdict}
-use Rattle.refusals.specs.Refusals.{isRefusal, accepted, refuseIf, firstOf}
-use Rattle.runs.specs.Run.{Run, stopsOf}
-use Rattle.runs.specs.Judging.{rightEnd}
-use Rattle.runs.specs.Judging.{tableChecks, wantsChecks, headChecks, judgeOf}
-use Rattle.refusals.proofs.Verdicts.{none-refuses, refuses, all-accept, accepts-if}
+use Rattle.refusals.specs.Refusals.{isRefusal, accepted, refuseIf}
+use Rattle.runs.specs.Run.{Run}
+use Rattle.runs.specs.Judging.{judgeOf}
+use Rattle.refusals.proofs.Verdicts.{refuses, all-accept, accepts-if}
 use Rattle.runs.proofs.Search.{or-false-both}
 use Rattle.runs.proofs.Judged.{accepted-run}
 use Rattle.text_bytes.specs.Text.{isName}
@@ -24,14 +23,9 @@ use Rattle.sheet_writer.specs.declared.Written.{Written}
 use Rattle.sheet_writer.specs.Writing.{refusedWriting, sheetText, rowVerdict, writeVerdict, writtenAnswer, writtenRow}
 use Rattle.sheet_reader.proofs.Rows.{length-each}
 use Rattle.sheet_writer.proofs.RoundTrip.{round-trip}
+use Rattle.demands.proofs.Judged.{judged-accepted, judged-nothing, nothing-judged}
 use Rattle.demands.proofs.Sheets.{one-rule}
 use Rattle.demands.specs.Sheets.{Demand2Written, GivesBack, Demand2RoundTrip, runRead, RunComesBack, WriteThenRead}
-
--- An accepted run's verdict is acceptance, place 0 included.
-judged-accepted : (r : Run) → refuses (judgeOf r) ≡ false → judgeOf r ≡ accepted
-unfolding judgeOf
-judged-accepted r e =
-    none-refuses (firstOf (tableChecks (r .starts) (r .lengths) (r .aggregates)) ∷ firstOf (wantsChecks (length (r .starts)) (r .numbers) (r .counts)) ∷ firstOf (headChecks (r .turn) (r .head) (rightEnd (stopsOf r))) ∷ []) e
 
 -- The counts of a sheet are the lengths of its rows.
 files-in : (sheet : List ℕ) → sheetFiles sheet ≡ length (sheetRun sheet .starts)
@@ -78,7 +72,8 @@ demand2-written name r row answer out a o e =
 
 pub demand2-round-trip : Demand2RoundTrip
 unfolding readAnswer readRow
-demand2-round-trip name r e few named starts lengths aggregates numbers counts a b g c d =
+demand2-round-trip name r nothing few named starts lengths aggregates numbers counts a b g c d =
+    let e = nothing-judged r nothing in
     let sheet = sheetText name r in
     let back = round-trip name r (judged-accepted r e) few named in
     let good = accepted-run r e in
@@ -138,5 +133,5 @@ write-then-read name r row written out writes accepts before answer after long r
     let text = demand2-written name r row written out (writes .answer) (writes .left) accepts in
     let needs = write-needs name r row (written-passes (writeVerdict name r row) (sheetText name r) written (writes .answer) accepts) in
     let good = accepted-run r (needs .0) in
-    let back = demand2-round-trip name r (needs .0) (needs .1) (needs .2) (before .starts) (before .lengths) (before .aggregates) (before .numbers) (before .counts) (long .starts) (long .lengths) (long .aggregates) (long .numbers) (long .counts) in
+    let back = demand2-round-trip name r (judged-nothing r (needs .0)) (needs .1) (needs .2) (before .starts) (before .lengths) (before .aggregates) (before .numbers) (before .counts) (long .starts) (long .lengths) (long .aggregates) (long .numbers) (long .counts) in
     rw text (comes-back name r before answer after (sym (good .files .table .equal)) (sym (good .files .rows)) (sym (good .wants .equal)) (rw text at read) back)

@@ -13,11 +13,15 @@ use Rattle.runs.specs.Run.{Run, runOf, stopsOf}
 use Rattle.runs.specs.Lists.{Detour, WellFormed, listOf}
 use Rattle.least.specs.Least.{listSum}
 use Rattle.figures.specs.Figures.{figuresAnswer, figuresRow}
+use Rattle.sheet_writer.specs.declared.Written.{Written}
+use Rattle.sheet_writer.specs.Writing.{writtenAnswer, writtenRow}
+use Rattle.sheet_figures.specs.FigureSheet.{figureText, figureSheetVerdict}
 use Rattle.planner.specs.Plan.{Plans}
 use Rattle.planner.specs.Rows.{Rows}
-use Rattle.demands.specs.RefusalTable.{RunApplies, ListIsBad, FirstThatApplies, SomeApplies}
-use Rattle.demands.specs.Demand1.{OnlyPlace, priceOrder}
+use Rattle.demands.specs.RefusalTable.{RunApplies, ListIsBad, SomeApplies}
+use Rattle.demands.specs.Demand1.{ByTheTable, priceOrder}
 use Rattle.demands.specs.Cases.{twoFiles, exampleRun}
+use Rattle.demands.specs.Sheets.{ListSheetApplies, listSheetOrder, WriteAnswers}
 
 -- The refusals, in the pricer's order: 1 to 7, then 10, then 8, where the row has fewer entries than the list.
 pub data BuysApplies (r : Run) (froms tos : List ℕ) (row : List ℤ) : Refusal → ℕ → Type 0 where
@@ -25,23 +29,27 @@ pub data BuysApplies (r : Run) (froms tos : List ℕ) (row : List ℤ) : Refusal
   bad-list : {place : ℕ} → ListIsBad r froms tos place → BuysApplies r froms tos row BadEntry place
   short-row : length row < length froms → BuysApplies r froms tos row ShortRow 0
 
--- Whatever is handed in, and whatever answer and row fit the contract: the first that applies, and a refusal changes nothing.
-pub record BuysAnswers (r : Run) (froms tos : List ℕ) (row : List ℤ) (answer : Answer) (out : List ℤ) : Type 0 where
-  pub first : FirstThatApplies (BuysApplies r froms tos row) priceOrder (answer .refusal) (answer .place)
-  pub kept : (answer .refusal ≡ Accepted → ⊥) → OnlyPlace answer × (out ≡ row)
-
+-- Whatever is handed in, and whatever answer and row fit the contract, goes by the table.
 abbrev pub FiguresAnswer : Type 0
 FiguresAnswer =
     (r : Run) (froms tos : List ℕ) (row : List ℤ) (answer : Answer) (out : List ℤ)
     → answer ≡ figuresAnswer r froms tos row
     → out ≡ figuresRow r froms tos row
-    → BuysAnswers r froms tos row answer out
+    → ByTheTable (BuysApplies r froms tos row) priceOrder row answer out
 
 abbrev pub FiguresAnswerIff : Type 0
 FiguresAnswerIff =
     (r : Run) (froms tos : List ℕ) (row : List ℤ) (answer : Answer)
     → answer ≡ figuresAnswer r froms tos row
     → (answer .refusal ≡ Accepted → ⊥) ↔ SomeApplies (BuysApplies r froms tos row) priceOrder
+
+-- The writer of figure sheets refuses as that of plan sheets does (Sheets).
+abbrev pub Demand1FigureSheet : Type 0
+Demand1FigureSheet =
+    (name : List ℕ) (r : Run) (froms tos row : List ℕ) (answer : Written) (out : List ℕ)
+    → answer ≡ writtenAnswer (figureSheetVerdict name r froms tos row) (figureText name r froms tos)
+    → out ≡ writtenRow (figureSheetVerdict name r froms tos row) (figureText name r froms tos) row
+    → WriteAnswers (ListSheetApplies name r froms tos (figureText name r froms tos) row) listSheetOrder row answer out
 
 -- A whole number with its sign is the first number less the second.
 pub data IsLess (a b : ℕ) : ℤ → Type 0 where

@@ -3,22 +3,20 @@
 -- sum, finish, end and number of detours of the walk of the list (demand 2), and no movement beats the first (demand 3).
 use Prim.Native.Nat.{ℕ, _+_, _*_, _≤_, _<_}
 use mathlib.Core.Path.{_≡_}
-use mathlib.Core.Bool.{false}
 use mathlib.Core.Logic.{_↔_}
 use mathlib.Core.List.{List, [], _∷_}
 use lib.ListN.{length, getD}
 use Rattle.refusals.specs.declared.Refusal.{Refusal}
 use Rattle.refusals.specs.declared.Refusal.the-variants.{Accepted, FileRows, BadFile, WantRows, BadWant, TooManyReads, TurnPrice, HeadPlace, ShortRow, ShortRoom, BadRule}
-use Rattle.refusals.specs.Refusals.{numberOf, isRefusal}
+use Rattle.refusals.specs.Refusals.{numberOf}
 use Rattle.runs.specs.Run.{Run, stopsOf}
-use Rattle.runs.specs.Judging.{judgeOf}
 use Rattle.walk.specs.declared.Answer.{Answer}
 use Rattle.walk.specs.declared.Leg.{Leg}
 use Rattle.walk.specs.Walk.{headAt, Moves, ServesAll, sumOf}
 use Rattle.walk.specs.Rows.{ReadRows}
 use Rattle.planner.specs.Rows.{Rows}
 use Rattle.boundary.specs.Boundary.{PriceCalled, PlanCalled}
-use Rattle.demands.specs.RefusalTable.{RunApplies, runOrder, FirstThatApplies, SomeApplies}
+use Rattle.demands.specs.RefusalTable.{NothingApplies, FirstThatApplies}
 use Rattle.demands.specs.Demand1.{PriceApplies, priceOrder, PlanApplies}
 use Rattle.demands.specs.Demand2.{IsTheWalk, IsPriceOf, IsLeast}
 use Rattle.demands.specs.Demand3.{AsksNoLess}
@@ -67,7 +65,7 @@ Demand1PlanCall =
 
 -- So 14 comes back exactly where nothing of 1 to 7 applies and the rule number is not 1, whatever rows were lent.
 pub record RuleAlone (r : Run) (rule : ℕ) : Type 0 where
-  pub good-run : SomeApplies (RunApplies r) runOrder → ⊥
+  pub good-run : NothingApplies r
   pub bad-rule : rule ≡ 1 → ⊥
 
 abbrev pub RefusedForItsRule : Type 0
@@ -109,7 +107,7 @@ Demand2PlanCall =
 abbrev pub Demand3PlanCall : Type 0
 Demand3PlanCall =
     (first second : Run) (rule : ℕ) (before : Rows) (sums : List ℕ) (code : ℕ) (after : Rows) (out : List ℕ)
-    → isRefusal (judgeOf first .refusal) ≡ false
+    → NothingApplies first
     → PlanCalled second rule before sums code after out
     → code ≡ 0
     → AsksNoLess first second

@@ -4,13 +4,12 @@ use mathlib.Core.Path.{_≡_}
 use mathlib.Core.Bool.{Bool, true, false}
 use mathlib.Core.Logic.{_↔_}
 use mathlib.Core.List.{List, [], _∷_}
-use Rattle.refusals.specs.Refusals.{isRefusal}
 use Rattle.runs.specs.Run.{Run, runOf, stopsOf, wantStopsOf}
-use Rattle.runs.specs.Judging.{judgeOf}
 use Rattle.walk.specs.Walk.{headAt, walked, timesOf, legsFor, sumOf}
 use Rattle.runs.specs.Lists.{Detour, WellFormed}
 use Rattle.walk.specs.Detours.{legsOf}
 use Rattle.least.specs.Least.{LeastForRun}
+use Rattle.demands.specs.RefusalTable.{NothingApplies}
 
 -- A run and a detour list, the sum, the times and the legs (one for each want) of its walk, the clock and the place at its end, and whether the list
 -- is the least.
@@ -25,7 +24,7 @@ pub record Case : Type 0 where
   pub least : Bool
 
 pub record CaseHolds (c : Case) : Type 0 where
-  pub accepted : isRefusal (judgeOf (c .run) .refusal) ≡ false
+  pub accepted : NothingApplies (c .run)
   pub formed : WellFormed (stopsOf (c .run)) (c .list)
   pub sum : sumOf (c .run .turn) (headAt (c .run .head)) (legsOf (stopsOf (c .run)) (c .list)) (stopsOf (c .run)) ≡ c .sum
   pub times : timesOf (c .run .turn) (headAt (c .run .head)) (legsOf (stopsOf (c .run)) (c .list)) (wantStopsOf (c .run)) ≡ c .times

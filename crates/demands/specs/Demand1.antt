@@ -15,11 +15,13 @@ use Rattle.planner.specs.Rows.{Rows}
 use Rattle.demands.specs.RefusalTable.{HasStops, RunApplies, ListIsBad, FirstThatApplies, SomeApplies}
 
 -- A refusal's answer: every number but the place is 0.
-pub record OnlyPlace (answer : Answer) : Type 0 where
-  pub sum : answer .sum ≡ 0
-  pub finish : answer .finish ≡ 0
-  pub end : answer .end ≡ 0
-  pub detours : answer .detours ≡ 0
+abbrev pub OnlyPlace : Answer → Type 0
+OnlyPlace answer = answer ≡ record { refusal = answer .refusal; place = answer .place; sum = 0; finish = 0; end = 0; detours = 0 }
+
+-- An answer goes by the table: it is the first of an order that applies; and where that is a refusal, what was lent holds what it held.
+pub record ByTheTable (applies : Refusal → ℕ → Type 0) (order : List Refusal) {Lent : Type 0} (before : Lent) (answer : Answer) (after : Lent) : Type 0 where
+  pub first : FirstThatApplies applies order (answer .refusal) (answer .place)
+  pub kept : (answer .refusal ≡ Accepted → ⊥) → OnlyPlace answer × (after ≡ before)
 
 -- The pricer: 1 to 7, then 10, then 8.
 abbrev pub priceOrder : List Refusal
@@ -31,17 +33,13 @@ pub data PriceApplies (r : Run) (froms tos : List ℕ) (rows : ReadRows) : Refus
   short-times : length (rows .times) < length (r .numbers) → PriceApplies r froms tos rows ShortRow 0
   short-legs : length (rows .legs) < length (r .numbers) → PriceApplies r froms tos rows ShortRow 0
 
--- Whatever is handed to the pricer, and whatever answer and rows fit its contract:
-pub record PriceAnswers (r : Run) (froms tos : List ℕ) (rows : ReadRows) (answer : Answer) (out : ReadRows) : Type 0 where
-  pub first : FirstThatApplies (PriceApplies r froms tos rows) priceOrder (answer .refusal) (answer .place)
-  pub kept : (answer .refusal ≡ Accepted → ⊥) → OnlyPlace answer × (out ≡ rows)
-
+-- Whatever is handed to the pricer, and whatever answer and rows fit its contract, goes by the table.
 abbrev pub Demand1Price : Type 0
 Demand1Price =
     (r : Run) (froms tos : List ℕ) (rows : ReadRows) (answer : Answer) (out : ReadRows)
     → answer ≡ priceAnswer r froms tos rows
     → out ≡ priceRows r froms tos rows
-    → PriceAnswers r froms tos rows answer out
+    → ByTheTable (PriceApplies r froms tos rows) priceOrder rows answer out
 
 -- Both ways: refused if and only if some condition of the order applies.
 abbrev pub Demand1PriceIff : Type 0
@@ -62,13 +60,11 @@ pub data PlanApplies (r : Run) (rows : Rows) : Refusal → ℕ → Type 0 where
   short-ends : {stops : ℕ} → HasStops r stops → length (rows .tos) < stops - 1 → PlanApplies r rows ShortRow 0
   short-room : {stops : ℕ} → HasStops r stops → length (rows .room) < stops * stops * (total (r .counts) + 1) → PlanApplies r rows ShortRoom 0
 
-pub record PlanAnswers (r : Run) (before : Rows) (answer : Answer) (after : Rows) : Type 0 where
-  pub first : FirstThatApplies (PlanApplies r before) planOrder (answer .refusal) (answer .place)
-  pub kept : (answer .refusal ≡ Accepted → ⊥) → OnlyPlace answer × (after ≡ before)
-
 abbrev pub Demand1Plan : Type 0
 Demand1Plan =
-    (r : Run) (before : Rows) (answer : Answer) (after : Rows) → Plans r before answer after → PlanAnswers r before answer after
+    (r : Run) (before : Rows) (answer : Answer) (after : Rows)
+    → Plans r before answer after
+    → ByTheTable (PlanApplies r before) planOrder before answer after
 
 abbrev pub Demand1PlanIff : Type 0
 Demand1PlanIff =

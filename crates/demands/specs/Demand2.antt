@@ -1,22 +1,27 @@
--- Demand 2: times, legs and sum are the walk's, of the list in the rows and of a list handed in; no well-formed list has a smaller sum than the one that the planner
--- leaves in the rows, ties by the fixed rule; and two answers that fit are equal.
--- A run's turn price is a number. Of a run that was read from a sheet it is the one that the reader gives, 12,000 for an empty `turn=` (Turns).
+-- Demand 2: times, legs and sum are those of the walk of a list: for the pricer the list handed in, for the planner the one that it leaves in the
+-- rows. No well-formed list has a smaller sum than the planner's, and ties go by the fixed rule. Two answers that fit are equal.
+-- Here and in demand 3 a run has a turn price. One that was read from a sheet with an empty `turn=` has 12,000 (Turns).
 use Prim.Native.Nat.{ℕ, _≤_}
 use mathlib.Core.Path.{_≡_}
 use mathlib.Core.Logic.{_⊎_}
-use mathlib.Core.List.{List}
+use mathlib.Core.List.{List, map}
 use lib.ListN.{length, take}
 use Rattle.refusals.specs.declared.Refusal.the-variants.{Accepted}
 use Rattle.walk.specs.declared.Answer.{Answer}
 use Rattle.runs.specs.Run.{Run, stopsOf, wantStopsOf}
 use Rattle.walk.specs.Walk.{headAt, walked, timesOf, legsFor, sumOf}
-use Rattle.runs.specs.Lists.{Detour, WellFormed, listOf}
+use Rattle.runs.specs.Lists.{Detour, listOf}
 use Rattle.walk.specs.Detours.{legsOf}
 use Rattle.walk.specs.Price.{priceAnswer, priceRows}
 use Rattle.walk.specs.Rows.{ReadRows}
 use Rattle.least.specs.Least.{ComesFirst, listSum}
 use Rattle.planner.specs.Plan.{Plans}
 use Rattle.planner.specs.Rows.{Rows, readsIn}
+use Rattle.demands.specs.RefusalTable.{ListIsBad}
+
+-- A list is well formed where 10 does not apply to it.
+abbrev pub IsFormed : Run → List Detour → Type 0
+IsFormed r list = (place : ℕ) → ListIsBad r (map (λ d. d .from) list) (map (λ d. d .to) list) place → ⊥
 
 -- The list that an accepted answer leaves in the rows: as many entries as the answer says.
 abbrev pub listIn : Answer → Rows → List Detour
@@ -26,7 +31,7 @@ listIn answer after = listOf (take (answer .detours) (after .froms)) (take (answ
 -- of stops; times and legs are told of each want handed in, and the sum is the same over stops and over wants.
 pub record IsWalkOf (r : Run) (list : List Detour) (rows : ReadRows) (answer : Answer) : Type 0 where
   pub number : length list ≡ answer .detours
-  pub formed : WellFormed (stopsOf r) list
+  pub formed : IsFormed r list
   pub times : take (length (r .numbers)) (rows .times) ≡ timesOf (r .turn) (headAt (r .head)) (legsOf (stopsOf r) list) (wantStopsOf r)
   pub legs : take (length (r .numbers)) (rows .legs) ≡ legsFor (legsOf (stopsOf r) list) (wantStopsOf r)
   pub sum : answer .sum ≡ sumOf (r .turn) (headAt (r .head)) (legsOf (stopsOf r) list) (stopsOf r)
@@ -53,8 +58,8 @@ Demand2Price =
 
 -- No well-formed list is cheaper, and one of the same sum is the same list or comes later by the tie rule.
 pub record IsLeast (r : Run) (answer : Answer) (after : Rows) : Type 0 where
-  pub smallest : (other : List Detour) → WellFormed (stopsOf r) other → answer .sum ≤ listSum (r .turn) (r .head) (stopsOf r) other
-  pub first : (other : List Detour) → WellFormed (stopsOf r) other → listSum (r .turn) (r .head) (stopsOf r) other ≡ answer .sum
+  pub smallest : (other : List Detour) → IsFormed r other → answer .sum ≤ listSum (r .turn) (r .head) (stopsOf r) other
+  pub first : (other : List Detour) → IsFormed r other → listSum (r .turn) (r .head) (stopsOf r) other ≡ answer .sum
       → (other ≡ listIn answer after) ⊎ ComesFirst (listIn answer after) other
 
 abbrev pub Demand2Walk : Type 0

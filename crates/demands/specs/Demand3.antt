@@ -1,19 +1,16 @@
--- Demand 3: no movement that serves at least these reads, at no lower turn price, from no further left, has a smaller sum than we report.
--- Turn prices are numbers here too: of a run that was read from a sheet, the one that the reader gives, 12,000 for an empty `turn=` (Turns).
+-- Demand 3: no movement of a head that serves at least these reads, at no lower turn price and from no further left, beats the sum that we report.
 use Prim.Native.Nat.{ℕ, _≤_}
 use mathlib.Core.Path.{_≡_}
-use mathlib.Core.Bool.{false}
 use mathlib.Core.List.{List}
 use Rattle.refusals.specs.declared.Refusal.the-variants.{Accepted}
 use Rattle.walk.specs.declared.Answer.{Answer}
 use Rattle.walk.specs.declared.Leg.{Leg}
-use Rattle.refusals.specs.Refusals.{isRefusal}
 use Rattle.runs.specs.Run.{Run, stopsOf}
-use Rattle.runs.specs.Judging.{judgeOf}
 use Rattle.walk.specs.Walk.{headAt, Moves, ServesAll, sumOf}
 use Rattle.least.specs.Wants.{readsOfFile}
 use Rattle.planner.specs.Plan.{Plans}
 use Rattle.planner.specs.Rows.{Rows}
+use Rattle.demands.specs.RefusalTable.{NothingApplies}
 
 -- The first run asks for no less than the second: the same tape table with the same aggregates, at least as many reads of every file as handed
 -- in, a turn price no lower, a head no further left.
@@ -29,7 +26,7 @@ pub record AsksNoLess (first second : Run) : Type 0 where
 abbrev pub Demand3 : Type 0
 Demand3 =
     (first second : Run) (before : Rows) (answer : Answer) (after : Rows)
-    → isRefusal (judgeOf first .refusal) ≡ false
+    → NothingApplies first
     → Plans second before answer after
     → answer .refusal ≡ Accepted
     → AsksNoLess first second

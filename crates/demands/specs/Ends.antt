@@ -1,14 +1,11 @@
 -- Request L2: the last sweep stops where nothing is left to read. The log's last event is a read, and no time has moved.
 use Prim.Native.Nat.{ℕ, _-_, _≤_, _<_}
 use mathlib.Core.Path.{_≡_}
-use mathlib.Core.Bool.{false}
 use mathlib.Core.List.{List}
 use lib.ListN.{length, getD}
 use Rattle.refusals.specs.declared.Refusal.the-variants.{Accepted}
-use Rattle.refusals.specs.Refusals.{isRefusal}
 use Rattle.walk.specs.declared.Answer.{Answer}
 use Rattle.runs.specs.Run.{Run, stopsOf, wantStopsOf}
-use Rattle.runs.specs.Judging.{judgeOf}
 use Rattle.runs.specs.Lists.{Detour}
 use Rattle.walk.specs.Walk.{headAt, timesOf, sumOf}
 use Rattle.walk.specs.Detours.{legsOf, fullLegsOf}
@@ -16,7 +13,7 @@ use Rattle.walk.specs.Price.{priceAnswer, priceRows}
 use Rattle.walk.specs.Rows.{ReadRows}
 use Rattle.planner.specs.Plan.{Plans}
 use Rattle.planner.specs.Rows.{Rows}
-use Rattle.demands.specs.RefusalTable.{IsFile, Together, endOfFile}
+use Rattle.demands.specs.RefusalTable.{IsFile, Together, endOfFile, NothingApplies}
 
 -- The finish is the time of one of the wants and no want has a later one; the end is the end of the last file that lies together with it.
 pub record EndsWithARead (r : Run) (times : List ℕ) (answer : Answer) : Type 0 where
@@ -54,4 +51,4 @@ pub record Stay (r : Run) (list : List Detour) : Type 0 where
   pub sum : sumOf (r .turn) (headAt (r .head)) (legsOf (stopsOf r) list) (stopsOf r) ≡ sumOf (r .turn) (headAt (r .head)) (fullLegsOf (stopsOf r) list) (stopsOf r)
 
 abbrev pub TimesStay : Type 0
-TimesStay = (r : Run) → isRefusal (judgeOf r .refusal) ≡ false → (list : List Detour) → Stay r list
+TimesStay = (r : Run) → NothingApplies r → (list : List Detour) → Stay r list

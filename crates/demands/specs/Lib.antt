@@ -1,4 +1,5 @@
--- The three demands, in document 01's order, the table of worked cases and the promises of requests. Each statement is a type; proofs/ has its proof.
+-- The three demands, in document 01's order, the table of worked cases, and the promises of requests but for those in the crate `promises`. Each
+-- statement is a type; proofs/ has its proof.
 pub mod RefusalTable
 pub mod Formed
 pub mod Demand1
@@ -10,9 +11,9 @@ pub mod Offices
 pub mod Calls
 pub mod Cases
 pub mod Alone
-pub mod Buys
 pub mod Lines
 pub mod Sheets
+pub mod Buys
 pub mod Tapes
 pub mod Turns
 pub mod Plain

@@ -2,23 +2,20 @@
 -- answers with room enough; and the three demands hold of it, the first with its own order of checks.
 use Prim.Native.Nat.{ℕ, _-_, _≤_, _<_}
 use mathlib.Core.Path.{_≡_}
-use mathlib.Core.Bool.{false}
 use mathlib.Core.Logic.{_↔_}
 use mathlib.Core.List.{List, [], _∷_, _++_}
 use lib.ListN.{length, take, drop, replicate}
 use Rattle.refusals.specs.declared.Refusal.{Refusal}
 use Rattle.refusals.specs.declared.Refusal.the-variants.{Accepted, FileRows, BadFile, WantRows, OverEightWants, BadWant, TooManyReads, TurnPrice, HeadPlace, ShortRow}
-use Rattle.refusals.specs.Refusals.{isRefusal}
 use Rattle.runs.specs.Run.{Run, stopsOf}
-use Rattle.runs.specs.Judging.{judgeOf}
 use Rattle.walk.specs.declared.Answer.{Answer}
 use Rattle.walk.specs.declared.Leg.{Leg}
 use Rattle.walk.specs.Walk.{headAt, Moves, ServesAll, sumOf}
 use Rattle.planner.specs.Plan.{roomFor, Plans}
 use Rattle.planner.specs.Rows.{Rows, rowsOf}
 use Rattle.engine_plain.specs.Plain.{PlainRows, PlainPlans}
-use Rattle.demands.specs.RefusalTable.{HasStops, RunApplies, FirstThatApplies, SomeApplies}
-use Rattle.demands.specs.Demand1.{OnlyPlace}
+use Rattle.demands.specs.RefusalTable.{HasStops, RunApplies, NothingApplies, SomeApplies}
+use Rattle.demands.specs.Demand1.{ByTheTable}
 use Rattle.demands.specs.Demand2.{listIn, IsTheWalk, IsLeast}
 use Rattle.demands.specs.Demand3.{AsksNoLess}
 
@@ -39,13 +36,11 @@ pub data PlainApplies (r : Run) (rows : PlainRows) : Refusal → ℕ → Type 0 
   short-starts : {stops : ℕ} → HasStops r stops → length (rows .froms) < stops - 1 → PlainApplies r rows ShortRow 0
   short-ends : {stops : ℕ} → HasStops r stops → length (rows .tos) < stops - 1 → PlainApplies r rows ShortRow 0
 
-pub record PlainAnswers (r : Run) (before : PlainRows) (answer : Answer) (after : PlainRows) : Type 0 where
-  pub first : FirstThatApplies (PlainApplies r before) plainOrder (answer .refusal) (answer .place)
-  pub kept : (answer .refusal ≡ Accepted → ⊥) → OnlyPlace answer × (after ≡ before)
-
 abbrev pub Demand1Plain : Type 0
 Demand1Plain =
-    (r : Run) (before : PlainRows) (answer : Answer) (after : PlainRows) → PlainPlans r before answer after → PlainAnswers r before answer after
+    (r : Run) (before : PlainRows) (answer : Answer) (after : PlainRows)
+    → PlainPlans r before answer after
+    → ByTheTable (PlainApplies r before) plainOrder before answer after
 
 abbrev pub Demand1PlainIff : Type 0
 Demand1PlainIff =
@@ -103,7 +98,7 @@ Demand2PlainOne =
 abbrev pub Demand3Plain : Type 0
 Demand3Plain =
     (first second : Run) (before : PlainRows) (answer : Answer) (after : PlainRows)
-    → isRefusal (judgeOf first .refusal) ≡ false
+    → NothingApplies first
     → PlainPlans second before answer after
     → answer .refusal ≡ Accepted
     → AsksNoLess first second

@@ -7,9 +7,7 @@ use mathlib.Core.List.{List, [], _∷_, _++_}
 use lib.ListN.{length, take, drop}
 use Rattle.refusals.specs.declared.Refusal.{Refusal}
 use Rattle.refusals.specs.declared.Refusal.the-variants.{Accepted, FileRows, BadFile, WantRows, BadWant, TooManyReads, TurnPrice, HeadPlace, ShortRow, BadEntry, BadLine, LongSheet, BadName, RetiredRule}
-use Rattle.refusals.specs.Refusals.{isRefusal}
 use Rattle.runs.specs.Run.{Run, runOf}
-use Rattle.runs.specs.Judging.{judgeOf}
 use Rattle.sheet_reader.specs.declared.Reading.{Reading}
 use Rattle.sheet_writer.specs.declared.Written.{Written}
 use Rattle.text_bytes.specs.Text.{isName}
@@ -18,8 +16,7 @@ use Rattle.sheet_reader.specs.Sheet.{longestSheet, mostSheetFiles, sheetFiles, 
 use Rattle.sheet_reader.specs.Reading.{readVerdict, readAnswer, readRow, RunRows, SheetRead, readName}
 use Rattle.sheet_writer.specs.Writing.{sheetText, writeVerdict, writtenAnswer, writtenRow, SheetWritten}
 use Rattle.sheet_writer.specs.PlanSheet.{planText, planSheetVerdict}
-use Rattle.sheet_figures.specs.FigureSheet.{figureText, figureSheetVerdict}
-use Rattle.demands.specs.RefusalTable.{FirstBad, RunApplies, ListIsBad, FirstThatApplies}
+use Rattle.demands.specs.RefusalTable.{FirstBad, RunApplies, NothingApplies, ListIsBad, FirstThatApplies}
 use Rattle.demands.specs.Lines.{LineIsBad, linesDue, Ruled}
 
 -- The reader: 12, then 11 with the first line that is not as described, then 19 with the fourth line where that names the retired rule, then 8.
@@ -58,7 +55,7 @@ OneRule =
     → reading .refusal ≡ Accepted
     → Ruled leastText sheet
 
--- The run sheet writer: 1 to 7, then 13, then 8. The writers of a list's sheets, plan sheet and figure sheet: 1 to 7, then 13, then 10, then 8.
+-- The run sheet writer: 1 to 7, then 13, then 8. The writers of plan sheets and of figure sheets (Buys): 1 to 7, then 13, then 10, then 8.
 abbrev pub writeOrder : List Refusal
 writeOrder = FileRows ∷ BadFile ∷ WantRows ∷ BadWant ∷ TooManyReads ∷ TurnPrice ∷ HeadPlace ∷ BadName ∷ ShortRow ∷ []
 
@@ -96,13 +93,6 @@ Demand1PlanSheet =
     → out ≡ writtenRow (planSheetVerdict name r froms tos row) (planText name r froms tos) row
     → WriteAnswers (ListSheetApplies name r froms tos (planText name r froms tos) row) listSheetOrder row answer out
 
-abbrev pub Demand1FigureSheet : Type 0
-Demand1FigureSheet =
-    (name : List ℕ) (r : Run) (froms tos row : List ℕ) (answer : Written) (out : List ℕ)
-    → answer ≡ writtenAnswer (figureSheetVerdict name r froms tos row) (figureText name r froms tos)
-    → out ≡ writtenRow (figureSheetVerdict name r froms tos row) (figureText name r froms tos) row
-    → WriteAnswers (ListSheetApplies name r froms tos (figureText name r froms tos) row) listSheetOrder row answer out
-
 -- What the writer wrote, where it accepts: as many bytes as it says, and they are the sheet.
 abbrev pub Demand2Written : Type 0
 Demand2Written =
@@ -126,7 +116,7 @@ pub record GivesBack (name : List ℕ) (r : Run) (starts lengths aggregates numb
 abbrev pub Demand2RoundTrip : Type 0
 Demand2RoundTrip =
     (name : List ℕ) (r : Run)
-    → isRefusal (judgeOf r .refusal) ≡ false
+    → NothingApplies r
     → length (r .starts) ≤ mostSheetFiles
     → isName name ≡ true
     → (starts lengths aggregates numbers counts : List ℕ)

@@ -1,6 +1,6 @@
--- The request on empty turn prices (L3): an empty `turn=` means the drives' own price. An old sheet is rewritten with a 0 there, byte for byte the same
--- elsewhere. Whatever an empty `turn=` means to a reader, it reads the new sheet as the old one was read when that was 0. Demands 2 and 3 speak of a
--- run's price: for a run that was read from a sheet it is the number that the reader gives by this rule.
+-- The request on empty turn prices (L3): an empty `turn=` means the drives' own price. An old sheet is rewritten byte for byte with a 0 there, and
+-- then means to every reader what it meant to one that takes an empty price for 0. Demands 2 and 3 speak of a run's price: for a run that was read
+-- from a sheet it is the number that the reader gives by this rule.
 use Prim.Native.Nat.{ℕ, _≤_, _<_}
 use Prim.Native.Char.{code}
 use mathlib.Core.Path.{_≡_}
@@ -20,14 +20,14 @@ use Rattle.answer_rewrite.specs.Rewriting.{rewritten, SheetRewritten}
 use Rattle.demands.specs.RefusalTable.{FirstBad, FirstThatApplies}
 use Rattle.demands.specs.Lines.{Stands, Number, LineIsBad, linesDue}
 
--- Behind two lines stands an empty `turn=`, or one with a number.
+-- Behind two lines stands `turn=` with nothing after it, or with a number.
 abbrev pub EmptyPrice : List ℕ → Type 0
 EmptyPrice sheet = Stands turnKey (λ text. text ≡ []) sheet 2
 
 abbrev pub GivenPrice : List ℕ → Type 0
 GivenPrice sheet = Stands turnKey Number sheet 2
 
--- What the reader hands on: 12,000 where nothing stands there, else the number.
+-- What the reader hands on: 12,000 for an empty price, else the number.
 pub record PriceRead (sheet : List ℕ) (answer : Reading) : Type 0 where
   pub empty : EmptyPrice sheet → answer .turn ≡ 12000
   pub given : (price : GivenPrice sheet) → answer .turn ≡ valueOf (price .value)
@@ -62,8 +62,8 @@ RewrittenBytes =
     → answer .refusal ≡ Accepted
     → Rewrites sheet row answer out
 
--- Whatever an empty `turn=` means to the reader of the new sheet: it answers, and leaves in rows of any lengths, what the old reader, to whom that was 0,
--- answered and left for the old sheet: head, price, files and wants, or the refusal, 19 among them. The name is the same.
+-- A reader that takes an empty price for e, whatever e is, answers for the new sheet, and leaves in rows of any lengths, what one that takes it for
+-- 0 does for the old sheet: head, price, files and wants, or the refusal, 19 among them. The name is the same.
 pub record ReadsAsBefore (old new : Reading) (oldRows newRows : RunRows) (oldName newName : List ℕ) : Type 0 where
   pub answers : new ≡ old
   pub rows : newRows ≡ oldRows

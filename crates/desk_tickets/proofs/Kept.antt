@@ -18,7 +18,7 @@ use Rattle.desk_tickets.specs.declared.Withdrawal.{Withdrawal}
 use Rattle.desk_tickets.specs.WaitingTable.{offices, places, noTicket, upTo, isTicket, lastOf, waiting, rowOf, Waits, Sound}
 use Rattle.desk_tickets.specs.Filings.{inRange, fileVerdict, numberFor, lastsWith, ticketOf, withTicket, rowWithTicket, notFiled, filedIn, fileRow}
 use Rattle.desk_tickets.specs.Withdrawals.{hasNumber, withoutNumber, withdrawVerdict, withoutTicket, rowLeft, withdrawRow}
-use Rattle.desk_tickets.specs.Private.{leaving, indexOf}
+use Rattle.desk_tickets.specs.Private.{withoutSome, indexOf}
 use Rattle.desk_tickets.proofs.Sound.{and-true-both}
 use Rattle.desk_tickets.proofs.Placed.{leaving-before, leaving-behind, waiting-one, waiting-two}
 use Rattle.desk_tickets.proofs.Storing.{office-is, range-office}
@@ -86,7 +86,7 @@ waits-behind office last n ts w =
 
 -- One gone, wherever it stood.
 module _ (office last p : ℕ) (ts : List Ticket) (in-ts : p < length ts) (w : Waits office last ts) where
-  one-less : suc (length (leaving p 1 ts)) ≡ length ts
+  one-less : suc (length (withoutSome p 1 ts)) ≡ length ts
   one-less =
       omega (
         arith,
@@ -97,13 +97,13 @@ module _ (office last p : ℕ) (ts : List Ticket) (in-ts : p < length ts) (w : W
         ap length (lib.ListN.take-append-drop p ts),
       )
 
-  behind : (i : ℕ) → p ≤ i → getD (leaving p 1 ts) i noTicket ≡ getD ts (suc i) noTicket
+  behind : (i : ℕ) → p ≤ i → getD (withoutSome p 1 ts) i noTicket ≡ getD ts (suc i) noTicket
   behind i l = let e : i + 1 ≡ suc i = omega arith in leaving-behind p 1 ts i l (omega arith) ∙ ap (λ k. getD ts k noTicket) e
 
-  waits-leaving : Waits office last (leaving p 1 ts)
+  waits-leaving : Waits office last (withoutSome p 1 ts)
   waits-leaving = record { few = omega (arith, one-less, w .few); each = each; ascends = ascends }
     where
-      each : (i : ℕ) → i < length (leaving p 1 ts) → isTicket office last (getD (leaving p 1 ts) i noTicket) ≡ true
+      each : (i : ℕ) → i < length (withoutSome p 1 ts) → isTicket office last (getD (withoutSome p 1 ts) i noTicket) ≡ true
       each i l =
           let less = one-less in
           elim (decLt i p) [
@@ -111,7 +111,7 @@ module _ (office last p : ℕ) (ts : List Ticket) (in-ts : p < length ts) (w : W
             | no m ↦ rw (behind i (omega arith)) (w .each (suc i) (omega arith))
           ]
 
-      ascends : (i : ℕ) → suc i < length (leaving p 1 ts) → getD (leaving p 1 ts) i noTicket .number < getD (leaving p 1 ts) (suc i) noTicket .number
+      ascends : (i : ℕ) → suc i < length (withoutSome p 1 ts) → getD (withoutSome p 1 ts) i noTicket .number < getD (withoutSome p 1 ts) (suc i) noTicket .number
       ascends i l =
           let less = one-less in
           let first = w .ascends i (omega arith) in

@@ -21,7 +21,7 @@ use Rattle.desk_tickets.specs.declared.Withdrawal.{Withdrawal}
 use Rattle.desk_tickets.specs.declared.WithdrawnRow.{WithdrawnRow}
 use Rattle.desk_tickets.specs.WaitingTable.{offices, places, allPlaces, noTicket, upTo, firstPlace, waiting, placed, rowOf, recordsVerdict, Sound}
 use Rattle.desk_tickets.specs.Withdrawals.{hasNumber, withoutNumber, isWaiting, withdrawVerdict, withdrawRow}
-use Rattle.desk_tickets.specs.Private.{leaving, closedUp, indexOf}
+use Rattle.desk_tickets.specs.Private.{withoutSome, closedUp, indexOf}
 use Rattle.desk_tickets.proofs.Halves.{tickets-at, tickets-fit, placesFrom, places-long, place-in-row, first-place-within}
 use Rattle.desk_tickets.proofs.Sound.{and-true-both}
 use Rattle.desk_tickets.proofs.Placed.{placed-leaving, placed-long, closed-long, half-one, half-two, sound-long}
@@ -71,12 +71,12 @@ module _ (n : ℕ) where
           has-later t ts e ∙ rest
           ∙ (rw (index-later t ts e) (ltb-same (indexOf n ts) (length ts) (suc (indexOf n ts)) (suc (length ts)) (λ h. omega arith) (λ h. omega arith)))
 
-  pub without-index : (ts : List Ticket) → hasNumber n ts ≡ true → withoutNumber n ts ≡ leaving (indexOf n ts) 1 ts
+  pub without-index : (ts : List Ticket) → hasNumber n ts ≡ true → withoutNumber n ts ≡ withoutSome (indexOf n ts) 1 ts
   without-index [] h = absurd (true≢false (sym h ∙ has-end))
   without-index (t ∷ ts) h = by-case (eqb (t .number) n) refl (without-index ts)
     where
-      by-case : (b : Bool) → eqb (t .number) n ≡ b → (hasNumber n ts ≡ true → withoutNumber n ts ≡ leaving (indexOf n ts) 1 ts)
-          → withoutNumber n (t ∷ ts) ≡ leaving (indexOf n (t ∷ ts)) 1 (t ∷ ts)
+      by-case : (b : Bool) → eqb (t .number) n ≡ b → (hasNumber n ts ≡ true → withoutNumber n ts ≡ withoutSome (indexOf n ts) 1 ts)
+          → withoutNumber n (t ∷ ts) ≡ withoutSome (indexOf n (t ∷ ts)) 1 (t ∷ ts)
       by-case true e rest = rw (without-here t ts e, index-here t ts e)
       by-case false e rest = rw (without-later t ts e, index-later t ts e) (ap {B = List Ticket} (λ r. t ∷ r) (rest (sym (has-later t ts e) ∙ h)))
 
@@ -124,23 +124,23 @@ waits-index office n row i m e i-is m-is = rw (e, i-is, m-is) (sym (has-index n 
 
 -- A sound row's places closed up over one ticket.
 module _ (l : Lasts) (ones twos row : List Ticket) (s : Sound l ones twos row) (p : ℕ) where
-  closed-one : p ≤ length ones → paste row 0 (closedUp 0 p 1 row) places ≡ rowOf (leaving p 1 ones) twos
+  closed-one : p ≤ length ones → paste row 0 (closedUp 0 p 1 row) places ≡ rowOf (withoutSome p 1 ones) twos
   closed-one in-ones =
       let all = sound-long l ones twos row s in
       let back : drop places row ≡ placed twos = ap (drop places) (s .is) ∙ drop-at (placed ones) (placed twos) places (placed-long ones (s .one .few)) in
-      let g : closedUp 0 p 1 row ≡ placed (leaving p 1 ones) = ap (λ h. placed (leaving p 1 h)) (half-one l ones twos row s) ∙ placed-leaving p 1 ones (s .one .few) in-ones in
+      let g : closedUp 0 p 1 row ≡ placed (withoutSome p 1 ones) = ap (λ h. placed (withoutSome p 1 h)) (half-one l ones twos row s) ∙ placed-leaving p 1 ones (s .one .few) in-ones in
       ap (λ r. r ++ drop places row) (take-all places (closedUp 0 p 1 row) (omega (arith, closed-long 0 row (omega arith) all p 1)))
       ∙ ap (λ r. r ++ drop places row) g
-      ∙ ap (λ r. placed (leaving p 1 ones) ++ r) back
+      ∙ ap (λ r. placed (withoutSome p 1 ones) ++ r) back
 
-  closed-two : p ≤ length twos → paste row places (closedUp places p 1 row) places ≡ rowOf ones (leaving p 1 twos)
+  closed-two : p ≤ length twos → paste row places (closedUp places p 1 row) places ≡ rowOf ones (withoutSome p 1 twos)
   closed-two in-twos =
       let all = sound-long l ones twos row s in
-      let g : closedUp places p 1 row ≡ placed (leaving p 1 twos) = ap (λ h. placed (leaving p 1 h)) (half-two l ones twos row s) ∙ placed-leaving p 1 twos (s .two .few) in-twos in
+      let g : closedUp places p 1 row ≡ placed (withoutSome p 1 twos) = ap (λ h. placed (withoutSome p 1 h)) (half-two l ones twos row s) ∙ placed-leaving p 1 twos (s .two .few) in-twos in
       ap (λ r. take places row ++ r ++ drop allPlaces row) (take-all places (closedUp places p 1 row) (omega (arith, closed-long places row (omega arith) all p 1)) ∙ g)
-      ∙ ap (λ r. r ++ placed (leaving p 1 twos) ++ drop allPlaces row) (half-one l ones twos row s)
-      ∙ ap (λ r. placed ones ++ placed (leaving p 1 twos) ++ r) (drop-of-length-le row {i = allPlaces} (omega arith))
-      ∙ append-nil (placed ones ++ placed (leaving p 1 twos))
+      ∙ ap (λ r. r ++ placed (withoutSome p 1 twos) ++ drop allPlaces row) (half-one l ones twos row s)
+      ∙ ap (λ r. placed ones ++ placed (withoutSome p 1 twos) ++ r) (drop-of-length-le row {i = allPlaces} (omega arith))
+      ∙ append-nil (placed ones ++ placed (withoutSome p 1 twos))
 
 -- Acceptance of a withdrawal.
 pub record Taken (len : ℕ) (row : List Ticket) (w : Withdrawal) : Type 0 where

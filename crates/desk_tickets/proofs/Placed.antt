@@ -13,7 +13,7 @@ use Rattle.runs.proofs.Search.{first-all}
 use Rattle.desk_tickets.specs.declared.Ticket.{Ticket}
 use Rattle.desk_tickets.specs.declared.Lasts.{Lasts}
 use Rattle.desk_tickets.specs.WaitingTable.{places, allPlaces, noTicket, isEmptyPlace, isTicket, lastOf, officeAt, isFirstPlace, isOutOfTurn, badRecord, half, ticketsIn, waiting, placed, rowOf, Waits, Sound, rowWithout}
-use Rattle.desk_tickets.specs.Private.{leaving, closedUp}
+use Rattle.desk_tickets.specs.Private.{withoutSome, closedUp}
 use Rattle.desk_tickets.proofs.Halves.{tickets-none, tickets-one, tickets-end, placesFrom, places-long, place-in-row}
 use Rattle.desk_tickets.proofs.Sound.{ticket-not-empty}
 
@@ -76,31 +76,31 @@ module _ (p n : ℕ) (h : List Ticket) where
   split-long : length (take p h) + length (drop p h) ≡ length h
   split-long = sym (length-append (take p h) (drop p h)) ∙ ap length (take-append-drop p h)
 
-  pub leaving-long : length (leaving p n h) ≤ length h
+  pub leaving-long : length (withoutSome p n h) ≤ length h
   leaving-long = omega (arith, length-append (take p h) (drop n (drop p h)), length-drop n (drop p h), split-long)
 
-  pub leaving-before : (i : ℕ) → i < p → i < length h → getD (leaving p n h) i noTicket ≡ getD h i noTicket
+  pub leaving-before : (i : ℕ) → i < p → i < length h → getD (withoutSome p n h) i noTicket ≡ getD h i noTicket
   leaving-before i l in-h =
       List·getD-append (take p h) (drop n (drop p h)) noTicket i (omega (arith, split-long, length-drop p h)) ∙ getD-take p h i noTicket l
 
-  pub leaving-behind : (i : ℕ) → p ≤ i → p ≤ length h → getD (leaving p n h) i noTicket ≡ getD h (i + n) noTicket
+  pub leaving-behind : (i : ℕ) → p ≤ i → p ≤ length h → getD (withoutSome p n h) i noTicket ≡ getD h (i + n) noTicket
   leaving-behind i l in-h =
       let here : length (take p h) + (i - p) ≡ i = omega (arith, split-long, length-drop p h) in
       let there : p + (n + (i - p)) ≡ i + n = omega arith in
-      ap (λ k. getD (leaving p n h) k noTicket) (sym here)
+      ap (λ k. getD (withoutSome p n h) k noTicket) (sym here)
       ∙ getD-append-add (take p h) (drop n (drop p h)) (i - p) noTicket
       ∙ getD-drop n (drop p h) (i - p) noTicket
       ∙ getD-drop p h (n + (i - p)) noTicket
       ∙ ap (λ k. getD h k noTicket) there
 
-pub placed-leaving : (p n : ℕ) (ts : List Ticket) → length ts ≤ places → p ≤ length ts → placed (leaving p n (placed ts)) ≡ placed (leaving p n ts)
+pub placed-leaving : (p n : ℕ) (ts : List Ticket) → length ts ≤ places → p ≤ length ts → placed (withoutSome p n (placed ts)) ≡ placed (withoutSome p n ts)
 placed-leaving p n ts l in-ts =
-    ext-getD noTicket (placed (leaving p n (placed ts))) (placed (leaving p n ts))
-    (placed-long (leaving p n (placed ts)) (omega (arith, leaving-long p n (placed ts), placed-long ts l))
-    ∙ sym (placed-long (leaving p n ts) (omega (arith, leaving-long p n ts))))
-    (λ i h. placed-at (leaving p n (placed ts)) i ∙ same i ∙ sym (placed-at (leaving p n ts) i))
+    ext-getD noTicket (placed (withoutSome p n (placed ts))) (placed (withoutSome p n ts))
+    (placed-long (withoutSome p n (placed ts)) (omega (arith, leaving-long p n (placed ts), placed-long ts l))
+    ∙ sym (placed-long (withoutSome p n ts) (omega (arith, leaving-long p n ts))))
+    (λ i h. placed-at (withoutSome p n (placed ts)) i ∙ same i ∙ sym (placed-at (withoutSome p n ts) i))
   where
-    same : (i : ℕ) → getD (leaving p n (placed ts)) i noTicket ≡ getD (leaving p n ts) i noTicket
+    same : (i : ℕ) → getD (withoutSome p n (placed ts)) i noTicket ≡ getD (withoutSome p n ts) i noTicket
     same i =
         elim (decLt i p) [
           | yes h ↦ leaving-before p n (placed ts) i h (omega (arith, placed-long ts l)) ∙ placed-at ts i ∙ sym (leaving-before p n ts i h (omega arith))
@@ -109,16 +109,16 @@ placed-leaving p n ts l in-ts =
 
 module _ (first : ℕ) (row : List Ticket) (in-row : first ≤ places) (all : length row ≡ allPlaces) (p n : ℕ) where
   pub closed-long : length (closedUp first p n row) ≡ places
-  closed-long = placed-long (leaving p n (placesFrom first row)) (omega (arith, leaving-long p n (placesFrom first row), places-long first row in-row all))
+  closed-long = placed-long (withoutSome p n (placesFrom first row)) (omega (arith, leaving-long p n (placesFrom first row), places-long first row in-row all))
 
   pub kept-here : (i : ℕ) → i < p → i < places → getD row (first + i) noTicket ≡ getD (closedUp first p n row) i noTicket
   kept-here i l in-half =
-      sym (placed-at (leaving p n (placesFrom first row)) i
+      sym (placed-at (withoutSome p n (placesFrom first row)) i
       ∙ leaving-before p n (placesFrom first row) i l (rw (places-long first row in-row all) in-half)
       ∙ place-in-row first row in-row all i in-half)
 
   closed-at : (i : ℕ) → p ≤ i → i < places → getD (closedUp first p n row) i noTicket ≡ getD (placesFrom first row) (i + n) noTicket
-  closed-at i l in-half = placed-at (leaving p n (placesFrom first row)) i ∙ leaving-behind p n (placesFrom first row) i l (rw (places-long first row in-row all) (omega arith))
+  closed-at i l in-half = placed-at (withoutSome p n (placesFrom first row)) i ∙ leaving-behind p n (placesFrom first row) i l (rw (places-long first row in-row all) (omega arith))
 
   pub moved-here : (i : ℕ) → p ≤ i → i + n < places → getD row (first + (i + n)) noTicket ≡ getD (closedUp first p n row) i noTicket
   moved-here i l in-half = sym (closed-at i l (omega arith) ∙ place-in-row first row in-row all (i + n) in-half)

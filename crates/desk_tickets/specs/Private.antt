@@ -8,12 +8,12 @@ use Rattle.desk_tickets.specs.declared.Ticket.{Ticket}
 use Rattle.desk_tickets.specs.WaitingTable.{places, placed}
 
 -- Some records without n of them, from index p on.
-abbrev pub leaving : ℕ → ℕ → List Ticket → List Ticket
-leaving p n h = take p h ++ drop n (drop p h)
+abbrev pub withoutSome : ℕ → ℕ → List Ticket → List Ticket
+withoutSome p n h = take p h ++ drop n (drop p h)
 
 -- The places from `first` on, once so have left.
 abbrev pub closedUp : ℕ → ℕ → ℕ → List Ticket → List Ticket
-closedUp first p n row = placed (leaving p n (take places (drop first row)))
+closedUp first p n row = placed (withoutSome p n (take places (drop first row)))
 
 -- Where the ticket with a number stands, from 0; behind them all where none has it.
 unfoldable pub indexOf : ℕ → List Ticket → ℕ

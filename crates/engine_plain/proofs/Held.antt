@@ -26,7 +26,7 @@ use Rattle.least.specs.Recurrence.{planDetours, best, leastList, fileAt, leftAt
 use Rattle.least.proofs.Times.{starts-rise}
 use Rattle.least.proofs.Walks.{sound-spaced}
 use Rattle.least.proofs.LeastList.{least-list-none, least-list-some}
-use Rattle.engine_plain.specs.Private.{startAt, stopEnd, countOf, nameOf, Laid, StopRows, ListWritten, listAt, with24}
+use Rattle.engine_plain.specs.Private.{startAt, stopEnd, readsAt, nameOf, Laid, StopRows, ListWritten, listAt, with24}
 use Rattle.engine_plain.proofs.Checks.{runChecks, run-passed, run-few, few-stops, verdict-is}
 use Rattle.least.proofs.Best.{best-none}
 use Rattle.engine_plain.proofs.Overlays.{written-same}
@@ -65,10 +65,10 @@ module _ (ss : List Stop) (m : ℕ) (ok : Sound ss m) where
       let files : nameOf (map (λ s. s .file) ss) ≡ fileAt ss = fun-ext (column-at (λ s. s .file) refl ss) in
       let starts : startAt (map (λ s. s .start) ss) ≡ leftAt ss = fun-ext (column-at (λ s. s .start) refl ss) in
       let ends : stopEnd (map (λ s. s .start) ss) (map lengthOf ss) ≡ rightAt ss = fun-ext end-at in
-      let counts : countOf (map (λ s. s .count) ss) ≡ countAt ss = fun-ext (column-at (λ s. s .count) refl ss) in
-      ap (λ F. planDetours F (best (startAt (map (λ s. s .start) ss)) (stopEnd (map (λ s. s .start) ss) (map lengthOf ss)) (countOf (map (λ s. s .count) ss)) turn 0 n 0) n) files
-      ∙ ap (λ L. planDetours (fileAt ss) (best L (stopEnd (map (λ s. s .start) ss) (map lengthOf ss)) (countOf (map (λ s. s .count) ss)) turn 0 n 0) n) starts
-      ∙ ap (λ R. planDetours (fileAt ss) (best (leftAt ss) R (countOf (map (λ s. s .count) ss)) turn 0 n 0) n) ends
+      let counts : readsAt (map (λ s. s .count) ss) ≡ countAt ss = fun-ext (column-at (λ s. s .count) refl ss) in
+      ap (λ F. planDetours F (best (startAt (map (λ s. s .start) ss)) (stopEnd (map (λ s. s .start) ss) (map lengthOf ss)) (readsAt (map (λ s. s .count) ss)) turn 0 n 0) n) files
+      ∙ ap (λ L. planDetours (fileAt ss) (best L (stopEnd (map (λ s. s .start) ss) (map lengthOf ss)) (readsAt (map (λ s. s .count) ss)) turn 0 n 0) n) starts
+      ∙ ap (λ R. planDetours (fileAt ss) (best (leftAt ss) R (readsAt (map (λ s. s .count) ss)) turn 0 n 0) n) ends
       ∙ ap (λ C. planDetours (fileAt ss) (best (leftAt ss) (rightAt ss) C turn 0 n 0) n) counts
 
   list-nothing : (turn n : ℕ) → n ≤ 0 → listBy turn n ≡ []

@@ -9,7 +9,7 @@ use Rattle.least.specs.Recurrence.{planDetours, best}
 use Rattle.least.proofs.Plan.{listed-few}
 use Rattle.least.proofs.Best.{best-none, best-skip, best-detour, best-over}
 use Rattle.least.proofs.Value.{choice-first}
-use Rattle.engine_plain.specs.Private.{startAt, stopEnd, countOf, nameOf, chosenAt, listAt, Asked, StopRows, ListFits, ListWritten}
+use Rattle.engine_plain.specs.Private.{startAt, stopEnd, readsAt, nameOf, chosenAt, listAt, Asked, StopRows, ListFits, ListWritten}
 use Rattle.engine_plain.proofs.Sizes.{reads-within}
 use Rattle.engine_plain.proofs.Overlays.{overlay-length, written-none, written-same, written-more}
 
@@ -19,7 +19,7 @@ between firsts c b = record { from = getD firsts c 0; to = getD firsts b 0 }
 module _ (firsts lefts spans reads : List ℕ) (turn a : ℕ) where
   list-none : (b s : ℕ) → b ≤ a → listAt firsts lefts spans reads turn a b s ≡ []
   unfolding planDetours
-  list-none b s h = rw (best-none (startAt lefts) (stopEnd lefts spans) (countOf reads) turn a b s h)
+  list-none b s h = rw (best-none (startAt lefts) (stopEnd lefts spans) (readsAt reads) turn a b s h)
 
   list-skip : (b s c : ℕ) → a < b → c ≡ chosenAt lefts spans reads turn a b s → c ≡ 0 → listAt firsts lefts spans reads turn a (b - 1) (s + getD reads b 0) ≡ listAt firsts lefts spans reads turn a b s
   unfolding planDetours
@@ -27,7 +27,7 @@ module _ (firsts lefts spans reads : List ℕ) (turn a : ℕ) where
   list-skip (suc b) s c h is e =
       let back : suc b - 1 ≡ b = omega arith in
       let none = sym (rw back at is) ∙ e in
-      rw (back, best-skip (startAt lefts) (stopEnd lefts spans) (countOf reads) turn a b s (omega arith) none)
+      rw (back, best-skip (startAt lefts) (stopEnd lefts spans) (readsAt reads) turn a b s (omega arith) none)
 
   list-detour : (b s c : ℕ) → a < b → c ≡ chosenAt lefts spans reads turn a b s → (c ≡ 0 → ⊥)
       → listAt firsts lefts spans reads turn a b s ≡ listAt firsts lefts spans reads turn c (b - 1) (s + getD reads b 0) ++ between firsts c b ∷ listAt firsts lefts spans reads turn a (c - 1) s
@@ -38,15 +38,15 @@ module _ (firsts lefts spans reads : List ℕ) (turn a : ℕ) where
       let back : suc b - 1 ≡ b = omega arith in
       let down : suc d - 1 ≡ d = omega arith in
       let here = sym (rw back at is) in
-      rw (back, down, best-detour (startAt lefts) (stopEnd lefts spans) (countOf reads) turn a b s d (omega arith) here)
+      rw (back, down, best-detour (startAt lefts) (stopEnd lefts spans) (readsAt reads) turn a b s d (omega arith) here)
 
   pub list-few : (b s : ℕ) → length (listAt firsts lefts spans reads turn a b s) ≤ b - a
-  list-few b s = listed-few (nameOf firsts) (best (startAt lefts) (stopEnd lefts spans) (countOf reads) turn a b s) a b (best-over (startAt lefts) (stopEnd lefts spans) (countOf reads) turn a b s)
+  list-few b s = listed-few (nameOf firsts) (best (startAt lefts) (stopEnd lefts spans) (readsAt reads) turn a b s) a b (best-over (startAt lefts) (stopEnd lefts spans) (readsAt reads) turn a b s)
 
   -- A detour starts inside the window.
   start-within : (b s c : ℕ) → a < b → c ≡ chosenAt lefts spans reads turn a b s → (c ≡ 0 → ⊥) → (a < c) × (c ≤ b)
   start-within b s c h is some =
-      let w = choice-first (startAt lefts) (stopEnd lefts spans) (countOf reads) turn a (b - 1) s (omega arith) .within (omega arith) in
+      let w = choice-first (startAt lefts) (stopEnd lefts spans) (readsAt reads) turn a (b - 1) s (omega arith) .within (omega arith) in
       (omega (arith, w .0), omega (arith, w .1))
 
 -- The rows have room for what each call writes, and in the end hold the window's list.

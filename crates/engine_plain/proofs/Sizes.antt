@@ -11,13 +11,13 @@ use Rattle.runs.specs.Rows.{countedReads}
 use Rattle.runs.proofs.Accepted.{counted-exact}
 use Rattle.least.specs.Recurrence.{W}
 use Rattle.least.proofs.Sums.{W-zero, W-suc, W-front, W-rises}
-use Rattle.engine_plain.specs.Private.{countOf, readsIn, Laid, EarlyFits, Asked}
+use Rattle.engine_plain.specs.Private.{readsAt, readsUpTo, Laid, EarlyFits, Asked}
 
 -- The first n counts by themselves, and all.
-total-first : (xs : List ℕ) (n : ℕ) → n ≤ length xs → total (take n xs) ≡ W (countOf xs) n
-total-first xs zero h = sym (W-zero (countOf xs))
+total-first : (xs : List ℕ) (n : ℕ) → n ≤ length xs → total (take n xs) ≡ W (readsAt xs) n
+total-first xs zero h = sym (W-zero (readsAt xs))
 total-first [] (suc n) h = absurd (omega arith)
-total-first (x ∷ xs) (suc n) h = omega (arith, W-front (countOf (x ∷ xs)) n, total-first xs n (omega arith))
+total-first (x ∷ xs) (suc n) h = omega (arith, W-front (readsAt (x ∷ xs)) n, total-first xs n (omega arith))
 
 total-part : (xs : List ℕ) (n : ℕ) → total (take n xs) ≤ total xs
 total-part xs zero = omega arith
@@ -25,22 +25,22 @@ total-part [] (suc n) = omega arith
 total-part (x ∷ xs) (suc n) = omega (arith, total-part xs n)
 
 module _ (reads : List ℕ) where
-  pub reads-more : (i : ℕ) → readsIn reads (i + 1) ≡ readsIn reads i + getD reads i 0
-  unfolding readsIn
-  reads-more i = rw (add-one i) (W-suc (countOf reads) i)
+  pub reads-more : (i : ℕ) → readsUpTo reads (i + 1) ≡ readsUpTo reads i + getD reads i 0
+  unfolding readsUpTo
+  reads-more i = rw (add-one i) (W-suc (readsAt reads) i)
 
-  pub reads-rise : (i j : ℕ) → i ≤ j → readsIn reads i ≤ readsIn reads j
-  unfolding readsIn
-  reads-rise i j h = W-rises (countOf reads) i j h
+  pub reads-rise : (i j : ℕ) → i ≤ j → readsUpTo reads i ≤ readsUpTo reads j
+  unfolding readsUpTo
+  reads-rise i j h = W-rises (readsAt reads) i j h
 
-  reads-first : (n : ℕ) → n ≤ length reads → total (take n reads) ≡ readsIn reads n
-  unfolding readsIn
+  reads-first : (n : ℕ) → n ≤ length reads → total (take n reads) ≡ readsUpTo reads n
+  unfolding readsUpTo
   reads-first n h = total-first reads n h
 
-  pub reads-counted : (n : ℕ) → n ≤ length reads → total reads ≤ mostReads → countedReads (take n reads) ≡ readsIn reads n
+  pub reads-counted : (n : ℕ) → n ≤ length reads → total reads ≤ mostReads → countedReads (take n reads) ≡ readsUpTo reads n
   reads-counted n h small = counted-exact (take n reads) (omega (arith, total-part reads n)) ∙ reads-first n h
 
-  pub reads-within : (n : ℕ) → n ≤ length reads → readsIn reads n ≤ total reads
+  pub reads-within : (n : ℕ) → n ≤ length reads → readsUpTo reads n ≤ total reads
   reads-within n h = omega (arith, reads-first n h, total-part reads n)
 
 module _ (lefts spans reads : List ℕ) (turn : ℕ) (l : Laid lefts spans reads turn) where
@@ -67,10 +67,10 @@ module _ (lefts spans reads : List ℕ) (turn a b s : ℕ) (q : Asked lefts span
         few = count-few lefts spans reads turn (q .laid) b (q .inside);
       }
 
-  pub waiting-few : a ≤ b → readsIn reads a + s ≤ mostReads
+  pub waiting-few : a ≤ b → readsUpTo reads a + s ≤ mostReads
   waiting-few h = omega (arith, q .span, reads-rise reads a (b + 1) (omega arith))
 
-  pub wait-small : a ≤ b → 2 * (turn + (endAt lefts spans b - getD lefts a 0)) * (readsIn reads a + s) ≤ 2 * (highestTurn + lastPlace) * mostReads
+  pub wait-small : a ≤ b → 2 * (turn + (endAt lefts spans b - getD lefts a 0)) * (readsUpTo reads a + s) ≤ 2 * (highestTurn + lastPlace) * mostReads
   wait-small h =
       let dear : 2 * (turn + (endAt lefts spans b - getD lefts a 0)) ≤ 2 * (highestTurn + lastPlace) = omega (arith, q .laid .cheap, q .laid .near b (q .inside)) in
       mul-le-mul dear (waiting-few h)

@@ -13,7 +13,7 @@ use Rattle.least.specs.Recurrence.{W, early, wait, lower, lowest, scan, candida
 use Rattle.least.proofs.Scan.{lowest-one-more, lowest-end, scan-one-more, scan-end}
 use Rattle.least.proofs.Value.{value-none, value-step}
 use Rattle.least.proofs.Bounds.{candidate-bound}
-use Rattle.engine_plain.specs.Private.{startAt, stopEnd, countOf, readsIn, Laid, Asked, MayChoose, worth, choiceWorth, chosenAt}
+use Rattle.engine_plain.specs.Private.{startAt, stopEnd, readsAt, readsUpTo, Laid, Asked, MayChoose, worth, choiceWorth, chosenAt}
 use Rattle.engine_plain.proofs.Sizes.{reads-more, reads-rise, left-near, asked-early, early-small, wait-small}
 
 back-one : (b : ℕ) → 0 < b → suc (b - 1) ≡ b
@@ -21,13 +21,13 @@ back-one b h = omega arith
 
 -- What a choice comes to.
 module _ (lefts spans reads : List ℕ) (turn a : ℕ) where
-  pub skip-is : (b s : ℕ) → 0 < b → early (startAt lefts) (countOf reads) a b + worth lefts spans reads turn a (b - 1) (s + getD reads b 0) ≡ choiceWorth lefts spans reads turn a b s 0
+  pub skip-is : (b s : ℕ) → 0 < b → early (startAt lefts) (readsAt reads) a b + worth lefts spans reads turn a (b - 1) (s + getD reads b 0) ≡ choiceWorth lefts spans reads turn a b s 0
   unfolding candidate
   skip-is zero s h = absurd (omega arith)
   skip-is (suc b) s h = let e : suc b - 1 ≡ b = omega arith in rw e
 
   pub detour-is : (b s c : ℕ) → 0 < b → 0 < c
-      → wait (startAt lefts) (stopEnd lefts spans) (countOf reads) turn c b s + early (startAt lefts) (countOf reads) c b + worth lefts spans reads turn c (b - 1) (s + getD reads b 0) + worth lefts spans reads turn a (c - 1) s
+      → wait (startAt lefts) (stopEnd lefts spans) (readsAt reads) turn c b s + early (startAt lefts) (readsAt reads) c b + worth lefts spans reads turn c (b - 1) (s + getD reads b 0) + worth lefts spans reads turn a (c - 1) s
       ≡ choiceWorth lefts spans reads turn a b s c
   unfolding candidate
   detour-is zero s c h k = absurd (omega arith)
@@ -57,25 +57,25 @@ module _ (lefts spans reads : List ℕ) (turn a b s : ℕ) (q : Asked lefts span
 
   -- What a choice comes to is far below a word's limit.
   pub choice-small : (c : ℕ) → 0 < b → c ≤ b → choiceWorth lefts spans reads turn a b s c ≤ 2 * (turn + 2 * lastPlace) * mostReads
-  unfolding readsIn
+  unfolding readsUpTo
   choice-small c h k =
       let e = back-one b h in
       let two : suc (suc (b - 1)) ≡ b + 1 = omega arith in
-      candidate-bound (startAt lefts) (stopEnd lefts spans) (countOf reads) turn lastPlace mostReads a (b - 1) s c
+      candidate-bound (startAt lefts) (stopEnd lefts spans) (readsAt reads) turn lastPlace mostReads a (b - 1) s c
       (λ i m. left-near lefts spans reads turn (q .laid) i (omega (arith, q .inside)))
       (rw e (q .laid .near b (q .inside)))
-      (omega (arith, ap (W (countOf reads)) two, q .span))
+      (omega (arith, ap (W (readsAt reads)) two, q .span))
       (omega arith)
 
   -- The sums that the code forms of what it is told.
-  module _ (e x : ℕ) (e-is : e ≡ early (startAt lefts) (countOf reads) a b) (x-is : x ≡ worth lefts spans reads turn a (b - 1) (s + getD reads b 0)) (some : 0 < b) where
+  module _ (e x : ℕ) (e-is : e ≡ early (startAt lefts) (readsAt reads) a b) (x-is : x ≡ worth lefts spans reads turn a (b - 1) (s + getD reads b 0)) (some : 0 < b) where
     pub skip-so : e + x ≡ choiceWorth lefts spans reads turn a b s 0
     skip-so = rw (e-is, x-is) (skip-is lefts spans reads turn a b s some)
 
     pub skip-fits : e + x ≤ 2 * (turn + 2 * lastPlace) * mostReads
     skip-fits = omega (arith, skip-so, choice-small 0 some (omega arith))
 
-  module _ (c w e x : ℕ) (w-is : w ≡ wait (startAt lefts) (stopEnd lefts spans) (countOf reads) turn c b s) (e-is : e ≡ early (startAt lefts) (countOf reads) c b)
+  module _ (c w e x : ℕ) (w-is : w ≡ wait (startAt lefts) (stopEnd lefts spans) (readsAt reads) turn c b s) (e-is : e ≡ early (startAt lefts) (readsAt reads) c b)
       (x-is : x ≡ worth lefts spans reads turn c (b - 1) (s + getD reads b 0)) (m : MayChoose a b c) (some : c ≡ 0 → ⊥) where
     detour-parts : w + e + x + worth lefts spans reads turn a (c - 1) s ≡ choiceWorth lefts spans reads turn a b s c
     detour-parts = rw (w-is, e-is, x-is) (detour-is lefts spans reads turn a b s c (omega (arith, m .some)) (omega arith))
@@ -90,13 +90,13 @@ module _ (lefts spans reads : List ℕ) (turn a b s : ℕ) (q : Asked lefts span
       pub detour-fits : w + e + x + y ≤ 2 * (turn + 2 * lastPlace) * mostReads
       detour-fits = omega (arith, detour-so, choice-small c (omega (arith, m .some)) (m .up-to))
 
-  pub two-fit : (w e : ℕ) → w ≡ wait (startAt lefts) (stopEnd lefts spans) (countOf reads) turn a b s → e ≡ early (startAt lefts) (countOf reads) a b → a ≤ b
+  pub two-fit : (w e : ℕ) → w ≡ wait (startAt lefts) (stopEnd lefts spans) (readsAt reads) turn a b s → e ≡ early (startAt lefts) (readsAt reads) a b → a ≤ b
       → w + e ≤ 2 * (highestTurn + lastPlace) * mostReads + 2 * lastPlace * mostReads
-  unfolding readsIn
+  unfolding readsUpTo
   two-fit w e w-is e-is h = omega (arith, w-is, e-is, wait-small lefts spans reads turn a b s q h, early-small lefts reads a b (asked-early lefts spans reads turn a b s q a h))
 
   pub no-window : b ≤ a → 0 ≡ worth lefts spans reads turn a b s
-  no-window h = sym (value-none (startAt lefts) (stopEnd lefts spans) (countOf reads) turn a b s h)
+  no-window h = sym (value-none (startAt lefts) (stopEnd lefts spans) (readsAt reads) turn a b s h)
 
 -- Before the choice c: the choices up to here are in.
 pub record WindowLoop (lefts spans reads : List ℕ) (turn a b s least c : ℕ) : Type 0 where
@@ -128,7 +128,7 @@ module _ (lefts spans reads : List ℕ) (turn a b s : ℕ) where
       record {
         some = h;
         up-to = le-refl b;
-        left = rw (is) (sym (rw e at (value-step (startAt lefts) (stopEnd lefts spans) (countOf reads) turn a (b - 1) s (omega arith))));
+        left = rw (is) (sym (rw e at (value-step (startAt lefts) (stopEnd lefts spans) (readsAt reads) turn a (b - 1) s (omega arith))));
       }
 
   module _ (least c : ℕ) (w : WindowLoop lefts spans reads turn a b s least c) where

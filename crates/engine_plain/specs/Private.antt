@@ -21,15 +21,15 @@ startAt lefts i = getD lefts i 0
 abbrev pub stopEnd : List ℕ → List ℕ → ℕ → ℕ
 stopEnd lefts spans i = endAt lefts spans i
 
-abbrev pub countOf : List ℕ → ℕ → ℕ
-countOf reads i = getD reads i 0
+abbrev pub readsAt : List ℕ → ℕ → ℕ
+readsAt reads i = getD reads i 0
 
 abbrev pub nameOf : List ℕ → ℕ → ℕ
 nameOf firsts i = getD firsts i 0
 
 -- The reads of the first n stops.
-unfoldable pub readsIn : List ℕ → ℕ → ℕ
-readsIn reads n = W (countOf reads) n
+unfoldable pub readsUpTo : List ℕ → ℕ → ℕ
+readsUpTo reads n = W (readsAt reads) n
 
 -- Rows that hold stops from left to right, as an accepted run's are.
 pub record Laid (lefts spans reads : List ℕ) (turn : ℕ) : Type 0 where
@@ -42,25 +42,25 @@ pub record Laid (lefts spans reads : List ℕ) (turn : ℕ) : Type 0 where
 
 -- What the window (a, b] is worth with s reads skipped right of it, and what a choice at stop b comes to: 0 skips it, c starts a detour at c.
 abbrev pub worth : List ℕ → List ℕ → List ℕ → ℕ → ℕ → ℕ → ℕ → ℕ
-worth lefts spans reads turn a b s = value (startAt lefts) (stopEnd lefts spans) (countOf reads) turn a b s
+worth lefts spans reads turn a b s = value (startAt lefts) (stopEnd lefts spans) (readsAt reads) turn a b s
 
 abbrev pub choiceWorth : List ℕ → List ℕ → List ℕ → ℕ → ℕ → ℕ → ℕ → ℕ → ℕ
 choiceWorth lefts spans reads turn a b s c =
-    candidate (startAt lefts) (stopEnd lefts spans) (countOf reads) turn (worth lefts spans reads turn) a (b - 1) s c
+    candidate (startAt lefts) (stopEnd lefts spans) (readsAt reads) turn (worth lefts spans reads turn) a (b - 1) s c
 
 -- The choice that the least plan makes at stop b, and its list for a window.
 abbrev pub chosenAt : List ℕ → List ℕ → List ℕ → ℕ → ℕ → ℕ → ℕ → ℕ
-chosenAt lefts spans reads turn a b s = choice (startAt lefts) (stopEnd lefts spans) (countOf reads) turn a (b - 1) s
+chosenAt lefts spans reads turn a b s = choice (startAt lefts) (stopEnd lefts spans) (readsAt reads) turn a (b - 1) s
 
 abbrev pub listAt : List ℕ → List ℕ → List ℕ → List ℕ → ℕ → ℕ → ℕ → ℕ → List Detour
 listAt firsts lefts spans reads turn a b s =
-    planDetours (nameOf firsts) (best (startAt lefts) (stopEnd lefts spans) (countOf reads) turn a b s) b
+    planDetours (nameOf firsts) (best (startAt lefts) (stopEnd lefts spans) (readsAt reads) turn a b s) b
 
 -- A window that may be asked for: (a, b], with s reads skipped right of it.
 pub record Asked (lefts spans reads : List ℕ) (turn a b s : ℕ) : Type 0 where
   pub laid : Laid lefts spans reads turn
   pub inside : b < length lefts
-  pub span : s + readsIn reads (b + 1) ≤ mostReads
+  pub span : s + readsUpTo reads (b + 1) ≤ mostReads
 
 -- Stop b, and stop a left of it or itself: what b pays the leg from a fits a word.
 pub record EarlyFits (lefts reads : List ℕ) (a b : ℕ) : Type 0 where

@@ -5,12 +5,12 @@ ghost use Prim.Native.Nat.{_+_, _-_, _*_, _≤_, _<_};
 ghost use lib.ListN.{length};
 ghost use lib.Dec.{ltb};
 ghost use Rattle.least.specs.Recurrence.{lower, early, wait};
-ghost use Rattle.engine_plain.specs.Private.{startAt, stopEnd, countOf, EarlyFits, Asked, MayChoose, worth, choiceWorth, chosenAt};
+ghost use Rattle.engine_plain.specs.Private.{startAt, stopEnd, readsAt, EarlyFits, Asked, MayChoose, worth, choiceWorth, chosenAt};
 
 // What stop b pays when it is read by the leg from stop a.
 fn early_of(lefts: &[u64], reads: &[u64], a: usize, b: usize) -> u64
     requires { ⌜ EarlyFits (now lefts) (now reads) a b ⌝ }
-    ensures { λ r. ⌜ r ≡ early (startAt (now (lefts .entry))) (countOf (now (reads .entry))) a b ⌝ }
+    ensures { λ r. ⌜ r ≡ early (startAt (now (lefts .entry))) (readsAt (now (reads .entry))) a b ⌝ }
 {
     2 * (lefts[b] - lefts[a]) * reads[b]
 }
@@ -27,7 +27,7 @@ fn wait_of(
 ) -> u64
     requires { ⌜ Asked (now lefts) (now spans) (now reads) turn c b s ⌝ }
     requires { ⌜ c ≤ b ⌝ }
-    ensures { λ r. ⌜ r ≡ wait (startAt (now (lefts .entry))) (stopEnd (now (lefts .entry)) (now (spans .entry))) (countOf (now (reads .entry))) turn c b s ⌝ }
+    ensures { λ r. ⌜ r ≡ wait (startAt (now (lefts .entry))) (stopEnd (now (lefts .entry)) (now (spans .entry))) (readsAt (now (reads .entry))) turn c b s ⌝ }
 {
     let left = runs::count_reads(&reads[..c]);
     2 * (turn + (lefts[b] + spans[b] - lefts[c])) * (left + s)

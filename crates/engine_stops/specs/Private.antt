@@ -43,8 +43,8 @@ abbrev pub joinsNext : List ℕ → List ℕ → ℕ → Bool
 joinsNext aggregates numbers i =
     ltb (suc i) (length numbers) && eqb (firstFile aggregates (getD numbers i 0)) (firstFile aggregates (getD numbers (suc i) 0))
 
-abbrev pub shortRows : ℕ → ℕ → ℕ → ℕ → ℕ → Bool
-shortRows stops firsts lefts spans reads = ltb firsts stops || ltb lefts stops || ltb spans stops || ltb reads stops
+abbrev pub shortStopRows : ℕ → ℕ → ℕ → ℕ → ℕ → Bool
+shortStopRows stops firsts lefts spans reads = ltb firsts stops || ltb lefts stops || ltb spans stops || ltb reads stops
 
 -- The joined table: the run whose files are the stops of a run, numbered from 1 and all wanted. Engines plan it; its lists name stops by these
 -- numbers, and the run's own lists by first files.

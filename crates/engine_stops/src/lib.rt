@@ -10,7 +10,7 @@ ghost use Rattle.runs.specs.Run.{joined, wantStops};
 ghost use Rattle.runs.specs.Rows.{runAt};
 ghost use Rattle.runs.specs.Private.{SoundTable, InTable, wantStopsAt};
 ghost use Rattle.engine_stops.specs.Joining.{joinAnswer, joinRowsOf, joinRowsBefore, joinRowsAfter, rowWith, lengthOf};
-ghost use Rattle.engine_stops.specs.Private.{WantsFit, JoinFits, placeOf, joinsNext, shortRows};
+ghost use Rattle.engine_stops.specs.Private.{WantsFit, JoinFits, placeOf, joinsNext, shortStopRows};
 use refusals::Refusal;
 use refusals::Verdict;
 use refusals::refuse_if;
@@ -93,7 +93,7 @@ fn count_stops(aggregates: &[u64], numbers: &[u64]) -> usize
 
 // Whether a row is shorter than the stops.
 fn short_rows(stops: usize, firsts: usize, lefts: usize, spans: usize, reads: usize) -> bool
-    ensures { λ r. ⌜ r ≡ shortRows stops firsts lefts spans reads ⌝ }
+    ensures { λ r. ⌜ r ≡ shortStopRows stops firsts lefts spans reads ⌝ }
 {
     if firsts < stops {
         return true;

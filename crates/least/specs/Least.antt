@@ -15,7 +15,7 @@ unfoldable pub startFor : List Detour → ℕ → ℕ
 startFor [] f = 0
 startFor (d ∷ ds) f = cond (eqb (d .to) f) (d .from) (startFor ds f)
 
--- Of two starts for one end the first comes first: it is none where the second is one, or both are and it is further right.
+-- At one end, a start c comes before a start c′ (0 is none): c is none and c′ is not, or both are starts and c is further right.
 abbrev pub Sooner : ℕ → ℕ → Type 0
 Sooner c c′ = ((c ≡ 0) × (0 < c′)) ⊎ ((0 < c′) × (c′ < c))
 

@@ -21,7 +21,7 @@ use Rattle.engine_stops.proofs.Renamed.{Within, InTable, formed-within}
 use Rattle.engine_table.specs.declared.Listed.{Listed}
 use Rattle.engine_table.specs.Listing.{ListRows, listRows, Lists, IsListed, NotListed, listingVerdict, shortListRows, roomSize}
 use Rattle.planner.specs.Plan.{roomFor}
-use Rattle.planner.specs.Private.{RunInRows, nameIn, stopsVerdict, ListsNamed}
+use Rattle.planner.specs.Private.{RunInRows, firstFileIn, stopsVerdict, ListsNamed}
 use Rattle.engine_stops.proofs.Halves.{front, behind, holds-front, entry-in}
 use Rattle.planner.proofs.Joined.{few-stops}
 use Rattle.planner.proofs.Named.{least-named}
@@ -43,21 +43,21 @@ count-part n zero (suc k) l = absurd (omega arith)
 count-part n (suc j) (suc k) l = ap (λ ns. n ∷ ns) (count-part (suc n) j k (omega arith))
 
 module _ (ss : List Stop) where
-  name-is : (a : ℕ) → nameIn (map (λ s. s .file) ss) a ≡ nameOf ss a
+  name-is : (a : ℕ) → firstFileIn (map (λ s. s .file) ss) a ≡ nameOf ss a
   name-is a = List·getD-map (λ s. s .file) ss (a - 1) (record { file = 0; start = 0; end = 0; count = 0 })
 
   -- Starts, or ends, by first files.
   half-named : (f : Detour → ℕ) → ((d : Detour) → f (entryNamed ss d) ≡ nameOf ss (f d)) → (list : List Detour)
-      → map (nameIn (map (λ s. s .file) ss)) (map f list) ≡ map f (listNamed ss list)
+      → map (firstFileIn (map (λ s. s .file) ss)) (map f list) ≡ map f (listNamed ss list)
   unfolding listNamed
   half-named f same [] = refl
   half-named f same (d ∷ list) = rw (name-is (f d), half-named f same list, same d) refl
 
   row-named : (f : Detour → ℕ) → ((d : Detour) → f (entryNamed ss d) ≡ nameOf ss (f d)) → (list : List Detour) (n : ℕ) (row row′ row″ : List ℕ) → n ≡ length list
-      → row′ ≡ map f list ++ drop (length list) row → row″ ≡ map (nameIn (map (λ s. s .file) ss)) (take n row′) ++ drop n row′ → row″ ≡ map f (listNamed ss list) ++ drop (length list) row
+      → row′ ≡ map f list ++ drop (length list) row → row″ ≡ map (firstFileIn (map (λ s. s .file) ss)) (take n row′) ++ drop n row′ → row″ ≡ map f (listNamed ss list) ++ drop (length list) row
   row-named f same list n row row′ row″ e is out =
-      out ∙ ap (λ r. map (nameIn (map (λ s. s .file) ss)) r ++ drop n row′) (front f list n row row′ e is)
-      ∙ ap (λ r. map (nameIn (map (λ s. s .file) ss)) (map f list) ++ r) (behind f list n row row′ e is)
+      out ∙ ap (λ r. map (firstFileIn (map (λ s. s .file) ss)) r ++ drop n row′) (front f list n row row′ e is)
+      ∙ ap (λ r. map (firstFileIn (map (λ s. s .file) ss)) (map f list) ++ r) (behind f list n row row′ e is)
       ∙ ap (λ r. r ++ drop (length list) row) (half-named f same list)
 
   named-length : (list : List Detour) → length (listNamed ss list) ≡ length list
@@ -141,8 +141,8 @@ module _ (r : Run) (firsts lefts spans reads : List ℕ) (head turn : ℕ) (h : 
       pub tos-nameable : Nameable (mid .tos)
       tos-nameable = nameable (λ d. d .to) refl (λ i b. within i b .to) (before .tos) (mid .tos) (ap (λ x. x .tos) (is-listed .rows))
 
-      pub named-listed : (froms tos : List ℕ) → froms ≡ map (nameIn firsts) (take (l .detours) (mid .froms)) ++ drop (l .detours) (mid .froms)
-          → tos ≡ map (nameIn firsts) (take (l .detours) (mid .tos)) ++ drop (l .detours) (mid .tos) → ListsNamed r before l (listRows froms tos (mid .room))
+      pub named-listed : (froms tos : List ℕ) → froms ≡ map (firstFileIn firsts) (take (l .detours) (mid .froms)) ++ drop (l .detours) (mid .froms)
+          → tos ≡ map (firstFileIn firsts) (take (l .detours) (mid .tos)) ++ drop (l .detours) (mid .tos) → ListsNamed r before l (listRows froms tos (mid .room))
       named-listed froms tos froms-are tos-are =
           record {
             refused = λ q. absurd (true≢false (sym q ∙ sym answers ∙ passes));
@@ -155,7 +155,7 @@ module _ (r : Run) (firsts lefts spans reads : List ℕ) (head turn : ℕ) (h : 
                 };
           }
         where
-          half : (f : Detour → ℕ) → ((d : Detour) → f (entryNamed (stopsOf r) d) ≡ nameOf (stopsOf r) (f d)) → (row row′ row″ : List ℕ) → row″ ≡ map (nameIn firsts) (take (l .detours) row′) ++ drop (l .detours) row′
+          half : (f : Detour → ℕ) → ((d : Detour) → f (entryNamed (stopsOf r) d) ≡ nameOf (stopsOf r) (f d)) → (row row′ row″ : List ℕ) → row″ ≡ map (firstFileIn firsts) (take (l .detours) row′) ++ drop (l .detours) row′
               → row′ ≡ map f (is-listed .list) ++ drop (length (is-listed .list)) row → row″ ≡ map f (listNamed (stopsOf r) (is-listed .list)) ++ drop (length (listNamed (stopsOf r) (is-listed .list))) row
           half f same row row′ row″ out is =
               row-named (stopsOf r) f same (is-listed .list) (l .detours) row row′ row″ n-is is (rw (h .first-files) at out)

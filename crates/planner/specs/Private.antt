@@ -32,8 +32,8 @@ pub record HoldsSome (firsts lefts spans reads : List ℕ) (head turn : ℕ) : T
   pub holds : RunInRows run firsts lefts spans reads head turn
 
 -- A file of the joined table by its first file.
-abbrev pub nameIn : List ℕ → ℕ → ℕ
-nameIn firsts a = getD firsts (a - 1) 0
+abbrev pub firstFileIn : List ℕ → ℕ → ℕ
+firstFileIn firsts a = getD firsts (a - 1) 0
 
 -- What is left to judge behind the run: 8 for starts and ends, then 9.
 abbrev pub stopsVerdict : Run → ListRows → Verdict

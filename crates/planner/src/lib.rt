@@ -9,7 +9,7 @@ ghost use Rattle.runs.specs.Rows.{runAt};
 ghost use Rattle.engine_table.specs.Listing.{listRowsBefore, listRowsAfter};
 ghost use Rattle.planner.specs.Plan.{Plans};
 ghost use Rattle.planner.specs.Rows.{rowsBefore, rowsAfter};
-ghost use Rattle.planner.specs.Private.{RunInRows, HoldsSome, nameIn, ListsNamed};
+ghost use Rattle.planner.specs.Private.{RunInRows, HoldsSome, firstFileIn, ListsNamed};
 ghost use Rattle.engine_stops.specs.Private.{countUp};
 use engine_table::Listed;
 use refusals::Refusal;
@@ -32,7 +32,7 @@ fn count_up(row: &mut [u64])
 fn name_files(firsts: &[u64], row: &mut [u64], entries: usize)
     requires { ⌜ entries ≤ length (now row) ⌝ }
     requires { ⌜ ((i : ℕ) → i < entries → (0 < getD (now row) i 0) × (getD (now row) i 0 ≤ length (now firsts))) ⌝ }
-    ensures { λ _. ⌜ now (row .exit) ≡ map (nameIn (now (firsts .entry))) (take entries (now (row .entry))) ++ drop entries (now (row .entry)) ⌝ }
+    ensures { λ _. ⌜ now (row .exit) ≡ map (firstFileIn (now (firsts .entry))) (take entries (now (row .entry))) ++ drop entries (now (row .entry)) ⌝ }
 {
     let mut i: usize = 0;
     while i < entries {

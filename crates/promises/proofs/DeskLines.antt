@@ -103,9 +103,9 @@ module _ (len : ℕ) (tape : Tape) (row : List Ticket) (b : Boarding) (before af
 
 pub tickets-have-wants : TicketsHaveWants
 unfolding wantsOf
-tickets-have-wants len tape row b before after r i boards e l =
+tickets-have-wants len tape row b before after r i boards accepts l =
     let f = getD (boarders row) i noTicket .file in
     let ns = fileNumbers (wantsOf row) in
     let h : Among f ns = each-added (boarders row) [] i l in
-    let place : placeIn f (r .boarded .wants .numbers) ≡ placeIn f ns = ap (placeIn f) (numbers-told len tape row b before after r boards e) ∙ not-moved f ns _ h in
+    let place : placeIn f (r .boarded .wants .numbers) ≡ placeIn f ns = ap (placeIn f) (numbers-told len tape row b before after r boards (ap isRefusal accepts)) ∙ not-moved f ns _ h in
     record { want = placeIn f ns; among = h; file = there f ns h; line = rw place }

@@ -29,8 +29,9 @@ use Rattle.desk_boardings.specs.Boarders.{Want, wantOf, addWant, withWants, wan
 use Rattle.desk_boardings.specs.Boardings.{boardRun}
 use Rattle.desk_boardings.proofs.Adding.{by-order, add-longer, add-total}
 use Rattle.desk_boardings.proofs.Who.{share-within, shares-fit}
+use Rattle.demands.proofs.Judged.{table-judged}
 use Rattle.promises.specs.Desk.{IsTable}
-use Rattle.promises.specs.DeskWants.{asked, WantsAdded, OnlyTheRun, nothing, turn-price, head-place, short-row, short-room, RefusedForTheRun}
+use Rattle.promises.specs.DeskWants.{asked, WantsAdded, noWantsOn, OnlyTheRun, nothing, turn-price, head-place, short-row, short-room, RefusedForTheRun}
 
 -- The reads of one file, with one want more.
 reads-added : (w : Want) (ws : List Want) (f : ℕ) → readsOfFile (fileNumbers (addWant w ws)) (readCounts (addWant w ws)) f ≡ cond (eqb (w .file) f) (w .count) 0 + readsOfFile (fileNumbers ws) (readCounts ws) f
@@ -242,5 +243,5 @@ refused-for-the-run len tape row b before after r table tape-ok names fits =
   where
     kind : OnlyTheRun (planVerdict (boardRun tape row b) before .refusal)
     kind =
-        plan-kind (boardRun tape row b) before (none-refuses (tableChecks (tape .starts) (tape .lengths) (tape .aggregates)) tape-ok)
+        plan-kind (boardRun tape row b) before (none-refuses (tableChecks (tape .starts) (tape .lengths) (tape .aggregates)) (table-judged (noWantsOn tape) (tape-ok .rows) (tape-ok .files)))
         (boarded-wants-pass (length (tape .starts)) (b .lasts) row table (λ i l. names 1 i (inl refl) l) (λ i l. names 2 i (inr refl) l))

@@ -30,6 +30,7 @@ use Rattle.answer_mend.specs.declared.wants.Fate.the-variants.{Stays, Moved, Ad
 use Rattle.answer_mend.specs.Wants.{readsInAll, askedOf, readsOfWant, sameAbove, higherAbove, fateOf}
 use Rattle.answer_mend.specs.Mending.{firstLines, sheetRemaining, sheetReads, mendedText, changeIf, changesText, fateLine, fateLines, wantsVerdicts, textsVerdicts, mendVerdict, SheetMended}
 use Rattle.answer_mend.proofs.Answers.{mend-determined}
+use Rattle.demands.proofs.Judged.{nothing-judged}
 use Rattle.promises.specs.Mends.{InRows, MendedRows, MendingDetermined, WasMended, SameReads, ReadsKept, SheetInOrder, MendedInOrder, MendedIsRead, SameFile, HigherFile, FateBy, FatesByConditions, SaidOf, EveryFateListed, ListedWhen, TopChangesListed, OnceIsEnough, AcceptedComesBack, AcceptedAsWritten, AcceptedTaken}
 use Rattle.promises.proofs.Gathered.{rising-at, Clean, remaining-clean, clean-remaining, clean-each, clean-stays, reads-kept, total-kept}
 use Rattle.runs.specs.Judging.{judgeOf}
@@ -381,9 +382,9 @@ top-changes-listed sheet =
     }
 
 pub accepted-comes-back : AcceptedComesBack
-accepted-comes-back sheet read least fair =
+accepted-comes-back sheet read least nothing =
     let good : isRefusal (sheetVerdict sheet .refusal) ≡ false = rw read in
-    let run : isRefusal (judgeOf (sheetRun sheet) .refusal) ≡ false = rw fair in
+    let run = nothing-judged (sheetRun sheet) nothing in
     record {
       above = firstLines 2 sheet;
       back = afterLines 3 sheet;
@@ -394,20 +395,20 @@ accepted-comes-back sheet read least fair =
     }
 
 pub accepted-as-written : AcceptedAsWritten
-accepted-as-written sheet read least fair = written-so sheet (rw read) (rw fair) least
+accepted-as-written sheet read least nothing = written-so sheet (rw read) (nothing-judged (sheetRun sheet) nothing) least
 
 pub accepted-taken : AcceptedTaken
-accepted-taken sheet read least fair out notes answer out′ notes′ h row list =
+accepted-taken sheet read least nothing out notes answer out′ notes′ h row list =
     record { taken = fits; given = given; left-out = five-longer sheet good run least }
   where
     good : isRefusal (sheetVerdict sheet .refusal) ≡ false
     good = rw read
 
     run : isRefusal (judgeOf (sheetRun sheet) .refusal) ≡ false
-    run = rw fair
+    run = nothing-judged (sheetRun sheet) nothing
 
     fits : answer ≡ record { refusal = Accepted; place = 0; bytes = length (mendedText sheet); noted = length (changesText sheet) }
-    fits = h .answer ∙ rw (taken sheet good run least out notes (mended-short sheet good run least fair) row list)
+    fits = h .answer ∙ rw (taken sheet good run least out notes (mended-short sheet good run least) row list)
 
     given : priceLeftOut sheet ≡ false → answer ≡ record { refusal = Accepted; place = 0; bytes = length sheet; noted = 0 }
     given there =

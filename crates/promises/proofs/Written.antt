@@ -9,7 +9,6 @@ use native.Mathlib.Omega.{arith}
 use lib.ListN.{length, take, drop, length-append}
 use lib.Seq.{take-at}
 use borrow.Author.Tests.{not-false}
-use Rattle.refusals.specs.Refusals.{accepted}
 use Rattle.refusals.proofs.Verdicts.{refuses}
 use Rattle.runs.specs.Judging.{judgeOf}
 use Rattle.runs.proofs.Search.{true-or-false, first-zero}
@@ -27,6 +26,7 @@ use Rattle.sheet_writer.specs.Writing.{topText, sheetText}
 use Rattle.sheet_writer.proofs.RoundTrip.{round-trip}
 use Rattle.sheet_loose.specs.Loose.{looseFiles}
 use Rattle.answer_mend.specs.Mending.{firstLines, sheetRemaining, sheetReads, mendedText}
+use Rattle.demands.proofs.Judged.{judged-accepted}
 use Rattle.promises.proofs.Canonical.{number-text}
 use Rattle.promises.proofs.Same.{text-line, number-line, behind-none, no-number, pair-value, g, below, files-same, named, counted, remain, ask, lower-is, new-sheet}
 
@@ -164,7 +164,7 @@ module _ (sheet : List ℕ) (good : refuses (sheetVerdict sheet) ≡ false) (fai
       (tripleLines fileKey (sheetRun sheet .starts) (sheetRun sheet .lengths) (sheetRun sheet .aggregates)) (numberLine wantsKey (length (sheetRun sheet .numbers))) (pairLines wantKey (sheetRun sheet .numbers) (sheetRun sheet .counts)))
 
   -- Within the limit, as every sheet that the writer writes.
-  pub mended-short : judgeOf (sheetRun sheet) ≡ accepted → length (mendedText sheet) ≤ longestSheet
-  mended-short e =
+  pub mended-short : length (mendedText sheet) ≤ longestSheet
+  mended-short =
       rw written-so
-      (round-trip (sheetName sheet) (sheetRun sheet) e (omega (arith, files-many, files-same sheet good fair least, few-files sheet good)) (good-name sheet good) .short)
+      (round-trip (sheetName sheet) (sheetRun sheet) (judged-accepted (sheetRun sheet) fair) (omega (arith, files-many, files-same sheet good fair least, few-files sheet good)) (good-name sheet good) .short)

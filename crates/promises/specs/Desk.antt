@@ -11,7 +11,6 @@ use Rattle.refusals.specs.declared.Refusal.{Refusal}
 use Rattle.refusals.specs.declared.Refusal.the-variants.{Accepted}
 use Rattle.refusals.specs.Refusals.{isRefusal}
 use Rattle.runs.specs.Run.{Run, stopsOf}
-use Rattle.runs.specs.Judging.{judgeOf}
 use Rattle.walk.specs.declared.Leg.{Leg}
 use Rattle.walk.specs.Walk.{headAt, Moves, ServesAll, sumOf}
 use Rattle.planner.specs.Rows.{Rows}
@@ -28,6 +27,7 @@ use Rattle.desk_boardings.specs.declared.Boarding.{Boarding}
 use Rattle.desk_boardings.specs.declared.BoardedRow.{BoardedRow}
 use Rattle.desk_boardings.specs.Boarders.{boarders}
 use Rattle.desk_boardings.specs.Boardings.{Tape, boardRun, Boards}
+use Rattle.demands.specs.RefusalTable.{NothingApplies}
 use Rattle.demands.specs.Demand2.{IsTheWalk, IsLeast}
 use Rattle.demands.specs.Demand3.{AsksNoLess}
 
@@ -301,7 +301,7 @@ pub record RunHolds (r : Run) (b : BoardedRow) (after : Rows) : Type 0 where
   pub walk : IsTheWalk r (b .boarded .answer) after
   pub least : IsLeast r (b .boarded .answer) after
   pub unbeaten : (first : Run)
-      → isRefusal (judgeOf first .refusal) ≡ false
+      → NothingApplies first
       → AsksNoLess first r
       → (gs : List Leg)
       → Moves (first .head) gs

@@ -2,10 +2,9 @@
 -- time and the leg which the rows hold for that want; that these are the walk's, `BoardedRunHolds` says.
 use Prim.Native.Nat.{ℕ, _<_}
 use mathlib.Core.Path.{_≡_}
-use mathlib.Core.Bool.{false}
 use mathlib.Core.List.{List}
 use lib.ListN.{length, getD}
-use Rattle.refusals.specs.Refusals.{isRefusal}
+use Rattle.refusals.specs.declared.Refusal.the-variants.{Accepted}
 use Rattle.runs.specs.Run.{Run}
 use Rattle.planner.specs.Rows.{Rows}
 use Rattle.desk_tickets.specs.declared.Ticket.{Ticket}
@@ -29,6 +28,6 @@ abbrev pub TicketsHaveWants : Type 0
 TicketsHaveWants =
     (len : ℕ) (tape : Tape) (row : List Ticket) (b : Boarding) (before after : Rows) (r : BoardedRow) (i : ℕ)
     → Boards len tape row b before r after
-    → isRefusal (r .boarded .answer .refusal) ≡ false
+    → r .boarded .answer .refusal ≡ Accepted
     → i < length (boarders row)
     → HasItsWant (boardRun tape row b) (readsBoarded r after) (getD (boarders row) i noTicket)

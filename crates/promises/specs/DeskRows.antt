@@ -1,4 +1,4 @@
--- Requests L6 and L7 in the form that 01 names: a lent row of records. Calls of desk's three functions on one row, one after the other, are a day on the
+-- Requests L6 and L7 in the form that 01 names: a lent row of records. Calls of the three functions of `desk_rows` on one row, one after the other, are a day on the
 -- table that its first 32 records hold: so every promise over days (Desk) holds of the lent row, and its later records stay as they were.
 use Prim.Native.Nat.{_≤_}
 use mathlib.Core.Path.{_≡_}
@@ -17,7 +17,7 @@ use Rattle.desk_boardings.specs.Boardings.{Tape}
 use Rattle.desk_rows.specs.Desk.{tableIn, filedFrom, rowFiled, withdrawnFrom, rowWithdrawn, BoardsLent}
 use Rattle.promises.specs.Desk.{Kept, Call, filing, withdrawal, boarding, Day}
 
--- A call on a lent row that fits desk's contract: the row and the last numbers go in, the next ones come back. The call that it is: what was handed in,
+-- A call on a lent row that fits the contract of `desk_rows`: the row and the last numbers go in, the next ones come back. The call that it is: what was handed in,
 -- what came back, and the table in the row afterwards.
 pub data LentFits : List Ticket → Lasts → Call → List Ticket → Lasts → Type 0 where
   lent-filing : {ts exit : List Ticket} {l : Lasts} {f : Filing} {r : Filed}

@@ -2,14 +2,13 @@
 -- tickets name, a boarding is refused only by 6, 7, 8 or 9.
 use Prim.Native.Nat.{ℕ, _+_, _≤_, _<_}
 use mathlib.Core.Path.{_≡_}
-use mathlib.Core.Bool.{false, cond}
+use mathlib.Core.Bool.{cond}
 use mathlib.Core.List.{List, [], _∷_}
 use lib.Dec.{eqb}
 use lib.ListN.{length, getD}
 use Rattle.refusals.specs.declared.Refusal.{Refusal}
-use Rattle.refusals.specs.declared.Refusal.the-variants.{Accepted, TurnPrice, HeadPlace, ShortRow, ShortRoom}
-use Rattle.refusals.specs.Refusals.{isRefusal, firstOf}
-use Rattle.runs.specs.Judging.{tableChecks}
+use Rattle.refusals.specs.declared.Refusal.the-variants.{Accepted, FileRows, BadFile, TurnPrice, HeadPlace, ShortRow, ShortRoom}
+use Rattle.runs.specs.Run.{Run, runOf}
 use Rattle.least.specs.Wants.{readsOfFile}
 use Rattle.planner.specs.Rows.{Rows}
 use Rattle.desk_tickets.specs.declared.Ticket.{Ticket}
@@ -18,6 +17,7 @@ use Rattle.desk_boardings.specs.declared.Boarding.{Boarding}
 use Rattle.desk_boardings.specs.declared.BoardedRow.{BoardedRow}
 use Rattle.desk_boardings.specs.Boarders.{boarders}
 use Rattle.desk_boardings.specs.Boardings.{Tape, boardRun, Boards}
+use Rattle.demands.specs.RefusalTable.{RunApplies}
 use Rattle.promises.specs.Desk.{Kept, atFirst, IsTable, IsOffice, Call, filing, withdrawal, boarding, Day}
 
 -- The reads of a file that some tickets ask for.
@@ -30,9 +30,13 @@ WantsAdded =
     (tape : Tape) (row : List Ticket) (b : Boarding) (f : ℕ)
     → readsOfFile (boardRun tape row b .numbers) (boardRun tape row b .counts) f ≡ asked f (boarders row)
 
--- The tape table passes 1 and 2, and every ticket that waits names one of its files.
-abbrev pub TapeAccepted : Tape → Type 0
-TapeAccepted tape = isRefusal (firstOf (tableChecks (tape .starts) (tape .lengths) (tape .aggregates)) .refusal) ≡ false
+-- Neither 1 nor 2 applies to the tape table, with no wants on it; and every ticket that waits names one of its files.
+abbrev pub noWantsOn : Tape → Run
+noWantsOn tape = runOf (tape .starts) (tape .lengths) (tape .aggregates) [] [] 0 0
+
+pub record TapeAccepted (tape : Tape) : Type 0 where
+  pub rows : (place : ℕ) → RunApplies (noWantsOn tape) FileRows place → ⊥
+  pub files : (place : ℕ) → RunApplies (noWantsOn tape) BadFile place → ⊥
 
 abbrev pub NamesItsFiles : Tape → List Ticket → Type 0
 NamesItsFiles tape row = (office i : ℕ) → IsOffice office → i < length (waiting office row) → getD (waiting office row) i noTicket .file ≤ length (tape .starts)

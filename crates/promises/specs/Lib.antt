@@ -1,4 +1,4 @@
--- What the requests after those in `demands` promise, and the auditor's commands. Each statement is a type; proofs/ has its proof.
+-- What requests L6, L7, L11 and L13 promise, and what `price` and `check` tell. Each statement is a type; proofs/ has its proof.
 pub mod Desk
 pub mod DeskRefusals
 pub mod DeskWants

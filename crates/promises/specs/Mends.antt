@@ -9,7 +9,6 @@ use lib.ListN.{length, take, drop, getD}
 use Rattle.refusals.specs.declared.Refusal.the-variants.{Accepted}
 use Rattle.refusals.specs.Refusals.{accepted}
 use Rattle.runs.specs.Run.{mostWants}
-use Rattle.runs.specs.Judging.{judgeOf}
 use Rattle.text_bytes.specs.Text.{bytes}
 use Rattle.text_lines.specs.Lines.{lineAfter, valueText}
 use Rattle.sheet_reader.specs.Lines.{turnKey, ruleKey, sweepText}
@@ -23,6 +22,7 @@ use Rattle.answer_mend.specs.declared.wants.Fate.{Fate}
 use Rattle.answer_mend.specs.declared.wants.Fate.the-variants.{Stays, Moved, Added, Dropped}
 use Rattle.answer_mend.specs.Wants.{readsInAll, readsOfWant, fateOf}
 use Rattle.answer_mend.specs.Mending.{sheetRemaining, mendedText, changeLine, changeIf, changesText, fateLine, fateLines, SheetMended}
+use Rattle.demands.specs.RefusalTable.{NothingApplies}
 
 -- An accepted mending: the mended sheet and the changes stand in the first bytes of the rows, and the later bytes are as they were.
 pub record InRows (sheet out notes : List ℕ) (answer : Mended) (out′ notes′ : List ℕ) : Type 0 where
@@ -173,7 +173,7 @@ AcceptedComesBack =
     (sheet : List ℕ)
     → sheetVerdict sheet ≡ accepted
     → saysSweep sheet ≡ false
-    → judgeOf (sheetRun sheet) ≡ accepted
+    → NothingApplies (sheetRun sheet)
     → SheetComesBack sheet
 
 -- What comes back is the sheet that the writer writes for that run and that name.
@@ -182,7 +182,7 @@ AcceptedAsWritten =
     (sheet : List ℕ)
     → sheetVerdict sheet ≡ accepted
     → saysSweep sheet ≡ false
-    → judgeOf (sheetRun sheet) ≡ accepted
+    → NothingApplies (sheetRun sheet)
     → mendedText sheet ≡ sheetText (sheetName sheet) (sheetRun sheet)
 
 -- And it is accepted, given rows that take both texts: 12, 11, 3 and 5 never apply to it. An empty price, written out, has five digits.
@@ -196,7 +196,7 @@ AcceptedTaken =
     (sheet : List ℕ)
     → sheetVerdict sheet ≡ accepted
     → saysSweep sheet ≡ false
-    → judgeOf (sheetRun sheet) ≡ accepted
+    → NothingApplies (sheetRun sheet)
     → (out notes : List ℕ) (answer : Mended) (out′ notes′ : List ℕ)
     → SheetMended sheet out notes answer out′ notes′
     → length (mendedText sheet) ≤ length out

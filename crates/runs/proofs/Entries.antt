@@ -14,7 +14,7 @@ use Rattle.refusals.specs.declared.Verdict.{Verdict}
 use Rattle.refusals.specs.Refusals.{firstWhere}
 use Rattle.runs.specs.Run.{goesOn, firstMember, lastMember, firstFile, wantStops, joined}
 use Rattle.runs.specs.Lists.{Detour, listOf, wanted, leftmost, badAlone, badAfter, badEntry, anyBelow, entryOf, firstBadEntry, listVerdict}
-use Rattle.runs.specs.Private.{lastFile, between, rowNamed, rowEntry, rowAlone, rowClash, rowBad}
+use Rattle.runs.specs.Private.{lastFile, someBetween, rowNamed, rowEntry, rowAlone, rowClash, rowBad}
 use Rattle.runs.proofs.Search.{first-same, any-same, first-more, first-here, any-none, any-more, any-here, any-done, ltb-same, leb-not-ltb}
 use Rattle.runs.proofs.Members.{and-true-both, goes-on-zero, first-below, first-begins, first-on, first-is, last-above, last-on, member-last}
 use Rattle.runs.proofs.Joined.{wanted-joined, leftmost-joined}
@@ -22,23 +22,23 @@ use Rattle.runs.proofs.Joined.{wanted-joined, leftmost-joined}
 -- Looking for a number between two: what is left to look at decides.
 pub record Looked (numbers : List ℕ) (low high i : ℕ) : Type 0 where
   pub within : i ≤ length numbers
-  pub left : between (drop i numbers) low high ≡ between numbers low high
+  pub left : someBetween (drop i numbers) low high ≡ someBetween numbers low high
 
 between-drop : (numbers : List ℕ) (low high i : ℕ) → i < length numbers
-    → between (drop i numbers) low high ≡ ((leb low (getD numbers i 0) && leb (getD numbers i 0) high) || between (drop (i + 1) numbers) low high)
-unfolding between
+    → someBetween (drop i numbers) low high ≡ ((leb low (getD numbers i 0) && leb (getD numbers i 0) high) || someBetween (drop (i + 1) numbers) low high)
+unfolding someBetween
 between-drop numbers low high i l = rw (add-one, drop-cons numbers i 0)
 
 module _ (numbers : List ℕ) (low high i : ℕ) (p : Looked numbers low high i) where
   module _ (l : i < length numbers) (t : Bool) (test : t ≡ (leb low (getD numbers i 0) && leb (getD numbers i 0) high)) where
-    pub between-here : t ≡ true → true ≡ between numbers low high
+    pub between-here : t ≡ true → true ≡ someBetween numbers low high
     between-here e = rw (between-drop numbers low high i l, ← test, e) at (p .left)
 
     pub looked-on : t ≡ false → Looked numbers low high (i + 1)
     looked-on e = record { within = omega arith; left = rw (between-drop numbers low high i l, ← test, e) at (p .left) }
 
-  pub between-nowhere : length numbers ≤ i → false ≡ between numbers low high
-  unfolding between
+  pub between-nowhere : length numbers ≤ i → false ≡ someBetween numbers low high
+  unfolding someBetween
   between-nowhere l = rw (drop-of-length-le numbers l) at (p .left)
 
 pub looked-none : (numbers : List ℕ) (low high : ℕ) → Looked numbers low high 0
@@ -51,13 +51,13 @@ last-file aggregates zero some = absurd (some refl)
 last-file aggregates (suc i) some = let e : suc i - 1 ≡ i = omega arith in rw (e, add-one)
 
 -- A row with a number between two is not empty.
-between-some : (numbers : List ℕ) (low high : ℕ) → between numbers low high ≡ true → 0 < length numbers
-unfolding between
+between-some : (numbers : List ℕ) (low high : ℕ) → someBetween numbers low high ≡ true → 0 < length numbers
+unfolding someBetween
 between-some [] low high e = absurd (true≢false (sym e))
 between-some (n ∷ numbers) low high e = omega arith
 
 pub named-some : (aggregates numbers : List ℕ) (f : ℕ) → rowNamed aggregates numbers f ≡ true → 0 < length numbers
-named-some aggregates numbers f e = between-some numbers f (lastFile aggregates f) (and-true-both (not (goesOn aggregates (f - 1))) (between numbers f (lastFile aggregates f)) e .1)
+named-some aggregates numbers f e = between-some numbers f (lastFile aggregates f) (and-true-both (not (goesOn aggregates (f - 1))) (someBetween numbers f (lastFile aggregates f)) e .1)
 
 -- The list in two rows has their entries.
 pub length-list : (froms tos : List ℕ) → length froms ≡ length tos → length (listOf froms tos) ≡ length froms
@@ -135,12 +135,12 @@ spread false a b = refl
 
 module _ (starts lengths aggregates : List ℕ) where
   wanted-wants : (ns cs : List ℕ) → length cs ≡ length ns → (f : ℕ) → wanted (wantStops starts lengths aggregates ns cs) f ≡ rowNamed aggregates ns f
-  unfolding wanted between wantStops
+  unfolding wanted someBetween wantStops
   wanted-wants [] cs e f = sym (and-false (not (goesOn aggregates (f - 1))))
   wanted-wants (n ∷ ns) [] e f = absurd (omega arith)
   wanted-wants (n ∷ ns) (c ∷ cs) e f =
       rw (name-is aggregates f n, wanted-wants ns cs (omega arith) f)
-      (spread (not (goesOn aggregates (f - 1))) (leb f n && leb n (lastFile aggregates f)) (between ns f (lastFile aggregates f)))
+      (spread (not (goesOn aggregates (f - 1))) (leb f n && leb n (lastFile aggregates f)) (someBetween ns f (lastFile aggregates f)))
 
   leftmost-wants : (ns cs : List ℕ) → length cs ≡ length ns → leftmost (wantStops starts lengths aggregates ns cs) ≡ firstFile aggregates (getD ns 0 0)
   unfolding wantStops

@@ -40,13 +40,13 @@ lastFile aggregates zero = 0
 lastFile aggregates (suc i) = suc (lastMember aggregates i)
 
 -- Whether a number of a row lies between two.
-unfoldable pub between : List ℕ → ℕ → ℕ → Bool
-between [] low high = false
-between (n ∷ ns) low high = (leb low n && leb n high) || between ns low high
+unfoldable pub someBetween : List ℕ → ℕ → ℕ → Bool
+someBetween [] low high = false
+someBetween (n ∷ ns) low high = (leb low n && leb n high) || someBetween ns low high
 
 -- Whether a number names a stop: it is the first of its aggregate, and a file of that is wanted.
 abbrev pub rowNamed : List ℕ → List ℕ → ℕ → Bool
-rowNamed aggregates numbers f = not (goesOn aggregates (f - 1)) && between numbers f (lastFile aggregates f)
+rowNamed aggregates numbers f = not (goesOn aggregates (f - 1)) && someBetween numbers f (lastFile aggregates f)
 
 -- The entry of a list at an index of its two rows.
 abbrev pub rowEntry : List ℕ → List ℕ → ℕ → Detour

@@ -5,8 +5,8 @@ use mathlib.Core.Bool.{Bool, false, not, cond, _&&_}
 use lib.ListN.{length, getD}
 use lib.Dec.{eqb}
 
--- What is handed in. File f (from 1) starts at entry f - 1 of `starts`, is that long in `lengths` and lies in the aggregate of that number in
--- `aggregates`, 0 for none; want i names a file and how often.
+-- What is handed in. Entry f - 1 of `starts`, `lengths` and `aggregates` is the start of file f, its length and the number of its aggregate, 0 for
+-- none. An entry of `numbers` and `counts` is a want: the file that it names, and how often that is to be read.
 pub record Run : Type 0 where
   pub starts : List ℕ
   pub lengths : List ℕ
@@ -58,7 +58,7 @@ unfoldable pub firstMember : List ℕ → ℕ → ℕ
 firstMember aggregates zero = 0
 firstMember aggregates (suc i) = cond (goesOn aggregates (suc i)) (firstMember aggregates i) (suc i)
 
--- The last: as far right as entries go on, in at most so many steps. Past the row no entry does.
+-- The last: as far right as entries go on, in at most so many steps. No entry past the row goes on.
 unfoldable pub lastWithin : List ℕ → ℕ → ℕ → ℕ
 lastWithin aggregates zero i = i
 lastWithin aggregates (suc n) i = cond (goesOn aggregates (suc i)) (lastWithin aggregates n (suc i)) i

@@ -8,7 +8,7 @@ ghost use lib.Dec.{leb};
 ghost use Rattle.refusals.specs.Refusals.{firstWhere};
 ghost use Rattle.runs.specs.Run.{goesOn, joined, wantStops};
 ghost use Rattle.runs.specs.Lists.{badAfter, listVerdict};
-ghost use Rattle.runs.specs.Private.{lastFile, between, rowNamed, rowAlone, rowClash, rowBad};
+ghost use Rattle.runs.specs.Private.{lastFile, someBetween, rowNamed, rowAlone, rowClash, rowBad};
 use crate::aggregates::goes_on;
 use crate::aggregates::last_member;
 use refusals::Refusal;
@@ -29,7 +29,7 @@ fn lies_between(number: u64, low: u64, high: u64) -> bool
 
 // Whether a number of a row does.
 fn any_between(numbers: &[u64], low: u64, high: u64) -> bool
-    ensures { λ r. ⌜ r ≡ between (now (numbers .entry)) low high ⌝ }
+    ensures { λ r. ⌜ r ≡ someBetween (now (numbers .entry)) low high ⌝ }
 {
     let mut i: usize = 0;
     while i < numbers.len() {

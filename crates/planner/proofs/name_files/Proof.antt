@@ -6,24 +6,24 @@ use mathlib.Core.List.{List, map}
 use native.Mathlib.Omega.{arith}
 use lib.ListN.{length, getD, take, length-map}
 use lib.Seq.{length-take-le, getD-take}
-use Rattle.planner.specs.Private.{nameIn}
+use Rattle.planner.specs.Private.{firstFileIn}
 use Rattle.planner.proofs.Filling.{Filling, filling-start, filling-next, filling-more, filling-all, map-at}
 use borrow.Author.Needs.{needs}
 use Rattle.planner.proofs.name_files.Statement.{statement}
 use Rattle.planner.proofs.name_files.Tie as tie
 
 abbrev Inv-loop : tie.InvT-loop
-Inv-loop firsts row₀ entries i₀ row i = Filling (map (nameIn firsts) (take entries row₀)) row₀ row i
+Inv-loop firsts row₀ entries i₀ row i = Filling (map (firstFileIn firsts) (take entries row₀)) row₀ row i
 
 abbrev μ-loop : tie.MeasureT-loop
 μ-loop firsts row₀ entries i₀ row i = entries - i
 
 -- So many names are to be written.
 abbrev names : tie.Start Inv-loop μ-loop → List ℕ
-names s = map (nameIn (s .args .firsts .now)) (take (s .args .entries) (s .args .row .now))
+names s = map (firstFileIn (s .args .firsts .now)) (take (s .args .entries) (s .args .row .now))
 
 size : (s : tie.Start Inv-loop μ-loop) → length (names s) ≡ s .args .entries
-size s = length-map (take (s .args .entries) (s .args .row .now)) (nameIn (s .args .firsts .now)) ∙ length-take-le (s .args .entries) (s .args .row .now) (s .pre .0)
+size s = length-map (take (s .args .entries) (s .args .row .now)) (firstFileIn (s .args .firsts .now)) ∙ length-take-le (s .args .entries) (s .args .row .now) (s .pre .0)
 
 loop-holds : tie.Need-loop-holds Inv-loop μ-loop
 loop-holds c = filling-start _ _ (omega (arith, size c, c .pre .0))
@@ -73,8 +73,8 @@ loop-again c =
     let i = l .before .loop .i in
     let row₀ = s .args .row .now in
     filling-more _ _ _ _ (l .before .loop .inv) (omega (arith, size s, l .loop-test .taken)) _
-    (sym (map-at (nameIn (s .args .firsts .now)) (take (s .args .entries) row₀) i (omega (arith, size s, l .loop-test .taken, length-take-le (s .args .entries) row₀ (s .pre .0)))
-    ∙ ap (nameIn (s .args .firsts .now)) (getD-take (s .args .entries) row₀ i 0 (l .loop-test .taken) ∙ sym (at-hand l))))
+    (sym (map-at (firstFileIn (s .args .firsts .now)) (take (s .args .entries) row₀) i (omega (arith, size s, l .loop-test .taken, length-take-le (s .args .entries) row₀ (s .pre .0)))
+    ∙ ap (firstFileIn (s .args .firsts .now)) (getD-take (s .args .entries) row₀ i 0 (l .loop-test .taken) ∙ sym (at-hand l))))
 
 same-length : tie.Need-same-length Inv-loop μ-loop
 same-length c = c .before .loop .inv .same

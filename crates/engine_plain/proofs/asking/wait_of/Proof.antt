@@ -6,7 +6,7 @@ use native.Mathlib.Omega.{arith}
 use lib.ListN.{getD, take}
 use lib.Seq.{length-take-le}
 use Rattle.runs.specs.Rows.{countedReads}
-use Rattle.engine_plain.specs.Private.{readsIn}
+use Rattle.engine_plain.specs.Private.{readsUpTo}
 use Rattle.engine_plain.proofs.Sizes.{reads-counted, waiting-few, wait-small}
 use borrow.Author.Needs.{needs}
 use Rattle.engine_plain.proofs.asking.wait_of.Statement.{statement}
@@ -19,7 +19,7 @@ count-reads-requires : tie.Need-count-reads-requires
 count-reads-requires c κs = search needs
 
 -- The reads left of stop c.
-left-is : (c : tie.After-count-reads) → c .count-reads .result ≡ readsIn (c .before .before .before .before .before .args .reads .now) (c .before .before .before .before .before .args .c)
+left-is : (c : tie.After-count-reads) → c .count-reads .result ≡ readsUpTo (c .before .before .before .before .before .args .reads .now) (c .before .before .before .before .before .args .c)
 left-is c =
     let z = c .before .before .before .before .before in
     c .count-reads .ensures ∙ reads-counted (z .args .reads .now) (z .args .c) (omega (arith, z .pre .0 .inside, z .pre .0 .laid .even-reads, z .pre .1)) (z .pre .0 .laid .few)
@@ -61,7 +61,7 @@ mul-result-5 : tie.Need-mul-result-5
 mul-result-5 c = let z = c .before .before .before .before .before .before .before .before in omega (arith, rw (← left-is (c .before .before .before)) at (wait-small _ _ _ _ _ _ _ (z .pre .0) (z .pre .1)))
 
 returns : tie.Need-returns
-unfolding readsIn
+unfolding readsUpTo
 returns c = rw (left-is (c .before .before .before))
 
 pub wait-of-spec : {M : Type 1} → statement M

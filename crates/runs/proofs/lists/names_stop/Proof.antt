@@ -1,7 +1,7 @@
 -- `runs::lists::names_stop` meets its contract: a later member names none; else a want is looked for from it to the last file.
 -- Assumes nothing.
 use mathlib.Core.Path.{sym, ap, _∙_}
-use Rattle.runs.specs.Private.{between}
+use Rattle.runs.specs.Private.{someBetween}
 use borrow.Author.Needs.{needs}
 use Rattle.runs.proofs.lists.names_stop.Statement.{statement}
 use Rattle.runs.proofs.lists.names_stop.Tie as tie
@@ -22,7 +22,7 @@ returns-2 : tie.Need-returns-2
 returns-2 c =
     let e = c .before .before in
     let a = c .before .before .before .before .before .before .args in
-    rw (sym (e .before .is-later-member .ensures) ∙ e .if1 .left) (c .any-between .ensures ∙ ap (between (a .numbers .now) (a .file)) (c .before .last-file .ensures))
+    rw (sym (e .before .is-later-member .ensures) ∙ e .if1 .left) (c .any-between .ensures ∙ ap (someBetween (a .numbers .now) (a .file)) (c .before .last-file .ensures))
 
 pub names-stop-spec : {M : Type 1} → statement M
 names-stop-spec = tie.close (tie.spec is-later-member-requires returns last-file-requires any-between-requires returns-2)

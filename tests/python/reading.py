@@ -1,0 +1,112 @@
+#!/usr/bin/env python3
+"""Sees to it that what an auditor must believe stays short, stands apart from proofs, and has one meaning to a name.
+
+usage: tests/python/reading.py
+
+Fails where tools/reading.py counts 500 lines or more for demands 1 to 3; where that reading passes through a file Private, which holds what no
+statement cites; where a file of demands/specs or promises/specs holds a proof and not statements alone; and where two public files of specs/, of
+any crates, define one name.
+
+So that a reader that sees nothing does not pass, each of these is then planted in a copy, and must be found.
+"""
+import collections
+import glob
+import os
+import re
+import shutil
+import sys
+import tempfile
+
+import programs
+
+sys.path.insert(0, os.path.join(programs.ROOT, "tools"))
+import reading  # noqa: E402
+
+MOST = 500
+STATEMENTS = ("crates/demands/specs", "crates/promises/specs")
+PRIVATE = re.compile(r"/specs/Private[/.]")
+# A law: a name and its type, with nothing before them that makes it a definition; and the words that proofs are made of.
+LAW = re.compile(r"^(?:pub )?([\w′-]+) :")
+PROVES = re.compile(r"\b(refl|rw|omega|search|absurd|subst|sym|tt|proofs)\b")
+
+
+def too_long():
+    lines = sum(reading.counted(reading.reading()).values())
+    return [f"demands 1 to 3 ask for {lines} lines, and {MOST} are too many"] if lines >= MOST else []
+
+
+def through_private():
+    return [f"the reading passes through {path}: {', '.join(sorted(names))}" for path, names in reading.reading().items() if PRIVATE.search(path)]
+
+
+def proofs_among_statements():
+    found = []
+    for path in sorted(path for folder in STATEMENTS for path in glob.glob(f"{folder}/**/*.antt", recursive=True)):
+        for at, line in enumerate(open(path, encoding="utf-8"), 1):
+            if not line.startswith("--") and (LAW.match(line) or PROVES.search(line) or line.startswith("module")):
+                found.append(f"{path}:{at} holds a proof: {line.strip()}")
+    return found
+
+
+def names_twice():
+    defined = collections.defaultdict(set)
+    for path in glob.glob("crates/*/specs/**/*.antt", recursive=True):
+        if not PRIVATE.search(path):
+            for line in open(path, encoding="utf-8"):
+                match = reading.DEFINES.match(line) or re.match(r"\s+(?:pub )?(?:abbrev|unfoldable|record|data) (?:pub )?([^\s:{(]+)", line)
+                if match and match.group(1) != "mod":
+                    defined[match.group(1)].add(path)
+    return [f"{name} is defined in {' and in '.join(sorted(paths))}" for name, paths in sorted(defined.items()) if len(paths) > 1]
+
+
+CHECKS = (too_long, through_private, proofs_among_statements, names_twice)
+
+# What is planted: the check that must find it, the file, and pairs of a text that stands there once and what is put in its place.
+DEMAND, OTHER, FIRST = "crates/demands/specs/Demand3.antt", "crates/demands/specs/Alone.antt", "abbrev pub AloneAsBefore : Type 0\n"
+PLANTED = (
+    (too_long, DEMAND, [("\n-- In particular", "\n" + "-- A line more.\n" * 40 + "-- In particular")]),
+    (through_private, DEMAND, [("use Rattle.runs.specs.Run.", "use Rattle.runs.specs.Private.{rowNamed}\nuse Rattle.runs.specs.Run."),
+                               ("    → AsksNoLess first second\n", "    → rowNamed [] [] 0 ≡ rowNamed [] [] 0\n")]),
+    (proofs_among_statements, OTHER, [(FIRST, "pub alone : AloneAsBefore\n" + FIRST)]),
+    (proofs_among_statements, OTHER, [(FIRST, "abbrev pub same : 0 ≡ 0\nsame = refl\n" + FIRST)]),
+    (names_twice, OTHER, [(FIRST, "abbrev pub stopsOf : Type 0\n" + FIRST)]),
+)
+
+
+def write(path, text):
+    with open(path, "w", encoding="utf-8") as file:
+        file.write(text)
+
+
+def planted_and_unseen():
+    """Which of the planted faults is not found in a copy."""
+    unseen = []
+    with tempfile.TemporaryDirectory() as copy:
+        for path in glob.glob("crates/*/specs") + glob.glob("crates/*/src"):
+            shutil.copytree(path, f"{copy}/{path}")
+        os.chdir(copy)
+        for check, path, pairs in PLANTED:
+            text = wrong = open(path, encoding="utf-8").read()
+            for old, new in pairs:
+                if wrong.count(old) != 1:
+                    unseen.append(f"{path} has {wrong.count(old)} times: {old.strip()}")
+                wrong = wrong.replace(old, new)
+            write(path, wrong)
+            if not check():
+                unseen.append(f"{check.__name__} does not see: {pairs[-1][1].strip()[:80]}")
+            write(path, text)
+        os.chdir(programs.ROOT)
+    return unseen
+
+
+def main():
+    os.chdir(programs.ROOT)
+    faults = [fault for check in CHECKS for fault in check()] or planted_and_unseen()
+    if faults:
+        sys.exit("\n".join(faults))
+    print(f"reading: {sum(reading.counted(reading.reading()).values())} lines for demands 1 to 3, none of them in a Private file; no proof among the "
+          f"statements; no public name twice; all {len(PLANTED)} planted faults are found")
+
+
+if __name__ == "__main__":
+    main()
