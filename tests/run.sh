@@ -271,6 +271,7 @@ run python/desk
 run python/desk_rows
 run python/pricer_rows
 run python/edits
+run python/paths
 run python/command
 
 [ "$tests_run" -gt 0 ] || fail "no test is called $only"
