@@ -273,6 +273,7 @@ run python/pricer_rows
 run python/reading
 run python/edits
 run python/pages
+run python/paths
 run python/command
 
 [ "$tests_run" -gt 0 ] || fail "no test is called $only"

@@ -21,10 +21,20 @@ start e = e .before .before .before .before .before .before .before .before .bef
 refused-code-requires : tie.Need-refused-code-requires
 refused-code-requires c κs = search needs
 
+-- The way back from a place in the code to the one that the name says.
+abbrev at-start : tie.Then1 → tie.Start
+at-start c = c .before .before .before .before .before .before .before .before .before .before .before .before
+
+abbrev at-if2 : tie.After-plan → tie.Else2
+at-if2 c = c .before .before .before .before .before .before
+
+abbrev at-plan : tie.After-slice-known11 → tie.After-plan
+at-plan c = c .before .before .before .before .before .before .before .before .before .before
+
 returns : tie.Need-returns
 returns c =
     let t = c .before in
-    let s = t .before .before .before .before .before .before .before .before .before .before .before .before in
+    let s = at-start t in
     rule-refused (run s) (s .args .rule) (rows s) (s .args .sums .now) (λ e. omega (arith, e, t .if1 .taken)) _ (c .refused-code .ensures)
 
 refused-code-requires-2 : tie.Need-refused-code-requires-2
@@ -41,8 +51,8 @@ plan-requires c κs = search needs
 
 code-requires : tie.Need-code-requires
 code-requires c κs =
-    let p = c .before .before .before .before .before .before .before .before .before .before in
-    let g = p .before .before .before .before .before .before in
+    let p = at-plan c in
+    let g = at-if2 p in
     let e = g .before in
     let s = start e in
     plan-placed (run s) (s .args .rule) (rows s) (s .args .sums .now) (e .if1 .left) (g .if2 .left) _ _ (p .plan .ensures)
@@ -64,8 +74,8 @@ same-length-5 c = search needs
 
 returns-3 : tie.Need-returns-3
 returns-3 c =
-    let p = c .before .before .before .before .before .before .before .before .before .before .before .before in
-    let g = p .before .before .before .before .before .before in
+    let p = at-plan (c .before .before) in
+    let g = at-if2 p in
     let e = g .before in
     let s = start e in
     plan-refused (run s) (s .args .rule) (rows s) (s .args .sums .now) (e .if1 .left) (g .if2 .left) _ _ (p .plan .ensures)
@@ -94,13 +104,14 @@ same-length-11 c = search needs
 
 returns-4 : tie.Need-returns-4
 returns-4 c =
-    let d = c .before .before .before .before in
-    let p = d .before .before .before .before .before .before .before .before .before .before .before .before in
-    let g = p .before .before .before .before .before .before in
+    let fs = c .before .before in
+    let d = fs .before .before in
+    let p = at-plan (d .before .before) in
+    let g = at-if2 p in
     let e = g .before in
     let s = start e in
     plan-filled (run s) (s .args .rule) (rows s) (s .args .sums .now) (e .if1 .left) (g .if2 .left) _ _ (p .plan .ensures)
-    _ (d .before .code .ensures) (d .if3 .left) _ (c .before .before .fill-sums .ensures)
+    _ (d .before .code .ensures) (d .if3 .left) _ (fs .fill-sums .ensures)
 
 pub violstream-plan-spec : {M : Type 1} → statement M
 violstream-plan-spec =

@@ -21,9 +21,16 @@ rows s = readRows (s .args .times .now) (s .args .legs .now)
 short-price-requires : tie.Need-short-price-requires
 short-price-requires c κs = search needs
 
+-- The way back from a place in the code to the one that the name says.
+abbrev at-start : tie.After-slice-known3 → tie.Start
+at-start c = c .before .before .before .before .before .before .before .before .before .before
+
+abbrev at-price : tie.After-code → tie.After-price
+at-price c = c .before .before .before .before .before
+
 returns : tie.Need-returns
 returns c =
-    let s = c .before .before .before .before .before .before .before .before .before .before .before .before in
+    let s = at-start (c .before .before) in
     record {
       says = c .short-price .ensures (rows s) (s .args .sums .now) (c .before .if1 .taken);
       readsAre = short-reads (run s) (s .args .detour-starts .now) (s .args .detour-ends .now) (rows s) (s .args .sums .now) (c .before .if1 .taken);
@@ -41,9 +48,9 @@ same-length c = search needs
 
 returns-2 : tie.Need-returns-2
 returns-2 c =
-    let p = c .before .before .before .before .before .before in
+    let p = at-price (c .before) in
     let e = p .before .before .before in
-    let s = e .before .before .before .before .before .before .before .before .before .before .before in
+    let s = at-start (e .before) in
     let is = c .before .code .ensures ∙ price-code (run s) (s .args .detour-starts .now) (s .args .detour-ends .now) (rows s) _ (p .price .ensures .0) in
     record {
       says = is ∙ sym (ap codeOf (call-is-price (run s) (s .args .detour-starts .now) (s .args .detour-ends .now) (rows s) (s .args .sums .now) (e .if1 .left)));
@@ -70,10 +77,11 @@ same-length-5 c = search needs
 
 returns-3 : tie.Need-returns-3
 returns-3 c =
-    let d = c .before .before .before .before in
-    let p = d .before .before .before .before .before .before in
+    let fs = c .before .before in
+    let d = fs .before .before in
+    let p = at-price (d .before) in
     let e = p .before .before .before in
-    let s = e .before .before .before .before .before .before .before .before .before .before .before in
+    let s = at-start (e .before) in
     let is = d .before .code .ensures ∙ price-code (run s) (s .args .detour-starts .now) (s .args .detour-ends .now) (rows s) _ (p .price .ensures .0) in
     let none = sym is ∙ d .if2 .left in
     record {
@@ -81,7 +89,7 @@ returns-3 c =
       readsAre = call-reads (run s) (s .args .detour-starts .now) (s .args .detour-ends .now) (rows s) (s .args .sums .now) _ (e .if1 .left) (p .price .ensures .1);
       sumsAre =
           call-sums-filled (run s) (s .args .detour-starts .now) (s .args .detour-ends .now) (rows s) (s .args .sums .now) _ _ (e .if1 .left)
-          (code-accepts (priceVerdict (run s) (s .args .detour-starts .now) (s .args .detour-ends .now) (rows s)) none) (p .price .ensures .0) (c .before .before .fill-sums .ensures);
+          (code-accepts (priceVerdict (run s) (s .args .detour-starts .now) (s .args .detour-ends .now) (rows s)) none) (p .price .ensures .0) (fs .fill-sums .ensures);
     }
 
 pub violstream-price-spec : {M : Type 1} → statement M

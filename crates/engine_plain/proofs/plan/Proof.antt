@@ -93,7 +93,8 @@ returns-2 : tie.Need-returns-2
 returns-2 c =
     let e = c .before .before .before in
     let j = joined e in
-    rows-refused (run j) (rows j) _ _ (judged (e .before)) (e .before .refused .ensures) (e .if1 .left) _ (stops-are e) _ (c .before .before .short-rows .ensures) (c .before .if2 .taken) _ (c .refuse2 .ensures)
+    rows-refused (run j) (rows j) _ _ (judged (e .before)) (e .before .refused .ensures) (e .if1 .left) _ (stops-are e) _ (c .before .before .short-rows .ensures)
+    (c .before .if2 .taken) _ (c .refuse2 .ensures)
 
 -- Where the rows have passed too.
 abbrev first : tie.Else2 → tie.Else1
@@ -123,13 +124,22 @@ array-share-prefix-reads c = front (first (c .before .before .before)) .reads .0
 slice-aggregate-write-list-4 : tie.Need-slice-aggregate-write-list-4
 slice-aggregate-write-list-4 c = sym (length-take-le _ _ (array-share-prefix-reads (c .before)))
 
-long-enough : (d : tie.Else2) → let j = joined (first d) in LongRows (length (run j .numbers)) (length (stopsOf (run j))) (length (rows j .froms)) (length (rows j .tos)) (length (rows j .times)) (length (rows j .legs))
+long-enough : (d : tie.Else2)
+    → let j = joined (first d) in LongRows (length (run j .numbers)) (length (stopsOf (run j))) (length (rows j .froms)) (length (rows j .tos)) (length (rows j .times))
+    (length (rows j .legs))
 long-enough d = long-rows _ _ _ _ _ _ _ _ (stops-are (first d)) (d .before .short-rows .ensures) (d .if2 .left)
+
+-- The way back from a place in the code to the one that the name says.
+abbrev at-if2 : tie.After-write-list-arg2 → tie.Else2
+at-if2 c = c .before .before .before .before .before .before
+
+abbrev at-write-list : tie.After-price → tie.After-write-list
+at-write-list c = c .before .before .before .before .before .before .before .before .before
 
 write-list-requires : tie.Need-write-list-requires
 write-list-requires c κs =
-    let d = c .before .before .before .before .before .before in
-    let e = first d in
+    let d = at-if2 c in
+    let e = d .before .before in
     let j = joined e in
     let accepts = run-passed (run j) (passes e) in
     let size = front-long (run j) accepts _ (after j) (front e) in
@@ -186,9 +196,9 @@ same-length-4 c = search needs
 returns-3 : tie.Need-returns-3
 returns-3 c =
     let p = c .before .before .before .before in
-    let m = p .before .before .before .before .before .before .before .before .before in
+    let m = at-write-list p in
     let d = second m in
-    let e = first d in
+    let e = d .before .before in
     let j = joined e in
     let accepts = run-passed (run j) (passes e) in
     run-planned (run j) (rows j) _ _ (judged (e .before)) (e .before .refused .ensures) (e .if1 .left) _ (stops-are e) _ (d .before .short-rows .ensures) (d .if2 .left) _ _

@@ -27,8 +27,15 @@ good s = good-rows (run s) (s .pre .0 .accepts)
 abbrev begin : tie.At-loop Inv-loop μ-loop → tie.Start Inv-loop μ-loop
 begin l = l .before .before .before .before .before .before .before .before .before .before
 
+-- The way back from a place in the code to the one that the name says.
+abbrev at-start : tie.After-slice-known4 Inv-loop μ-loop → tie.Start Inv-loop μ-loop
+at-start c = c .before .before .before .before .before .before .before .before .before
+
+abbrev at-loop : tie.After-less-unless Inv-loop μ-loop → tie.At-loop Inv-loop μ-loop
+at-loop c = c .before .before .before .before .before
+
 loop-holds : tie.Need-loop-holds Inv-loop μ-loop
-loop-holds c = filling-none _ _ _ _ _ (good (c .before .before .before .before .before .before .before .before .before) .even) _ _ _ _ _
+loop-holds c = filling-none _ _ _ _ _ (good (at-start c) .even) _ _ _ _ _
 
 sub-i : tie.Need-sub-i Inv-loop μ-loop
 sub-i c = search needs
@@ -58,21 +65,24 @@ less-unless-requires c κs =
     at-some _ _ _ _ _ (good s .even) _ (s .pre .0 .all) _ _ _ _ _ _ _ _ _ _ (n .before .before .loop .inv) _ (one-less (n .before)) _ (n .joins-next .ensures)
 
 -- Where the want's stop stands is within the stops.
-at-room : (c : tie.After-less-unless Inv-loop μ-loop) → c .less-unless .result < begin (c .before .before .before .before .before) .args .stops
+at-room : (c : tie.After-less-unless Inv-loop μ-loop) → c .less-unless .result < begin (at-loop c) .args .stops
 at-room c =
     let n = c .before .before .before in
-    let s = begin (n .before .before) in
-    to-room _ _ _ _ _ (good s .even) _ (s .pre .0 .all) _ _ _ _ _ _ _ _ _ _ (n .before .before .loop .inv) _ (one-less (n .before)) _ (n .joins-next .ensures) _ (c .less-unless .ensures)
+    let al = n .before .before in
+    let s = begin al in
+    to-room _ _ _ _ _ (good s .even) _ (s .pre .0 .all) _ _ _ _ _ _ _ _ _ _ (al .loop .inv) _ (one-less (n .before)) _ (n .joins-next .ensures) _ (c .less-unless .ensures)
 
 at-few : (c : tie.After-less-unless Inv-loop μ-loop) → c .less-unless .result < 64
-at-few c = let s = begin (c .before .before .before .before .before) in omega (arith, at-room c, s .pre .0 .all, good s .few)
+at-few c =
+    let s = begin (at-loop c) in
+    omega (arith, at-room c, s .pre .0 .all, good s .few)
 
 mul-firsts : tie.Need-mul-firsts Inv-loop μ-loop
 mul-firsts c = omega (arith, at-few c)
 
 slice-write-firsts : tie.Need-slice-write-firsts Inv-loop μ-loop
 slice-write-firsts c =
-    let l = c .before .before .before .before .before in
+    let l = at-loop c in
     omega (arith, at-room c, l .loop .inv .firsts .same, begin l .pre .1 .0)
 
 mul-lefts : tie.Need-mul-lefts Inv-loop μ-loop
@@ -80,7 +90,7 @@ mul-lefts c = omega (arith, at-few c)
 
 slice-write-lefts : tie.Need-slice-write-lefts Inv-loop μ-loop
 slice-write-lefts c =
-    let l = c .before .before .before .before .before in
+    let l = at-loop c in
     omega (arith, at-room c, l .loop .inv .lefts .same, begin l .pre .1 .1 .0)
 
 mul-spans : tie.Need-mul-spans Inv-loop μ-loop
@@ -88,7 +98,7 @@ mul-spans c = omega (arith, at-few c)
 
 slice-write-spans : tie.Need-slice-write-spans Inv-loop μ-loop
 slice-write-spans c =
-    let l = c .before .before .before .before .before in
+    let l = at-loop c in
     omega (arith, at-room c, l .loop .inv .spans .same, begin l .pre .1 .1 .1 .0)
 
 mul-reads : tie.Need-mul-reads Inv-loop μ-loop
@@ -96,7 +106,7 @@ mul-reads c = search needs
 
 shared-slice-read-reads : tie.Need-shared-slice-read-reads Inv-loop μ-loop
 shared-slice-read-reads c =
-    let l = c .before .before .before .before .before .before in
+    let l = at-loop (c .before) in
     omega (arith, l .loop .inv .within, c .before .before .before .before .before .loop-test .taken, good (begin l) .even)
 
 mul-carried : tie.Need-mul-carried Inv-loop μ-loop
@@ -104,8 +114,9 @@ mul-carried c = omega (arith, at-few (c .before))
 
 slice-read-carried : tie.Need-slice-read-carried Inv-loop μ-loop
 slice-read-carried c =
-    let l = c .before .before .before .before .before .before .before in
-    omega (arith, at-room (c .before .before), l .loop .inv .reads .same, begin l .pre .1 .1 .1 .1)
+    let lu = c .before .before in
+    let l = at-loop lu in
+    omega (arith, at-room lu, l .loop .inv .reads .same, begin l .pre .1 .1 .1 .1)
 
 carried-requires : tie.Need-carried-requires Inv-loop μ-loop
 carried-requires c κs = search needs
@@ -115,15 +126,21 @@ add-reads c =
     let u = c .before .before .before in
     let n = u .before .before .before in
     let s = begin (n .before .before) in
-    omega (arith, reads-small _ _ _ _ _ (good s .even) _ (s .pre .0 .all) _ _ _ _ _ _ _ _ _ _ (n .before .before .loop .inv) _ (one-less (n .before)) _ (n .joins-next .ensures) _ (u .less-unless .ensures) _ (c .carried .ensures), good s .reads)
+    omega (
+      arith,
+      reads-small _ _ _ _ _ (good s .even) _ (s .pre .0 .all) _ _ _ _ _ _ _ _ _ _ (n .before .before .loop .inv) _ (one-less (n .before)) _ (n .joins-next .ensures) _
+          (u .less-unless .ensures) _ (c .carried .ensures),
+      good s .reads,
+    )
 
 mul-reads-2 : tie.Need-mul-reads-2 Inv-loop μ-loop
 mul-reads-2 c = omega (arith, at-few (c .before .before .before))
 
 slice-write-reads : tie.Need-slice-write-reads Inv-loop μ-loop
 slice-write-reads c =
-    let l = c .before .before .before .before .before .before .before .before in
-    omega (arith, at-room (c .before .before .before), l .loop .inv .reads .same, begin l .pre .1 .1 .1 .1)
+    let lu = c .before .before .before in
+    let l = at-loop lu in
+    omega (arith, at-room lu, l .loop .inv .reads .same, begin l .pre .1 .1 .1 .1)
 
 loop-less : tie.Need-loop-less Inv-loop μ-loop
 loop-less c = search needs
@@ -133,7 +150,8 @@ loop-again c =
     let u = c .before .before .before in
     let n = u .before .before .before in
     let s = begin (n .before .before) in
-    filling-more _ _ _ _ _ (good s .even) _ (s .pre .0 .all) _ _ _ _ _ _ _ _ _ _ (n .before .before .loop .inv) _ (one-less (n .before)) _ (n .joins-next .ensures) _ (u .less-unless .ensures) _ (c .carried .ensures)
+    filling-more _ _ _ _ _ (good s .even) _ (s .pre .0 .all) _ _ _ _ _ _ _ _ _ _ (n .before .before .loop .inv) _ (one-less (n .before)) _ (n .joins-next .ensures) _
+    (u .less-unless .ensures) _ (c .carried .ensures)
     (s .pre .1 .0) (s .pre .1 .1 .0) (s .pre .1 .1 .1 .0) (s .pre .1 .1 .1 .1) _ (u .before .stop-place .ensures)
 
 same-length : tie.Need-same-length Inv-loop μ-loop

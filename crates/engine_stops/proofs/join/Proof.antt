@@ -26,10 +26,18 @@ judge-requires c κs = search needs
 refused-requires : tie.Need-refused-requires
 refused-requires c κs = search needs
 
+-- The way back from a place in the code to the one that the name says.
+abbrev at-start : tie.After-judge → tie.Start
+at-start c = c .before .before .before .before .before .before .before .before .before .before
+
+abbrev at-fill : tie.After-slice-known8 → tie.After-fill
+at-fill c = c .before .before .before .before .before .before .before .before
+
 returns : tie.Need-returns
 returns c =
-    let s = c .before .before .before .before .before .before .before .before .before .before .before .before in
-    let so = run-refused (run s) (rows s) _ _ (c .before .before .judge .ensures) (c .before .refused .ensures) (c .if1 .taken) in
+    let j = c .before .before in
+    let s = at-start j in
+    let so = run-refused (run s) (rows s) _ _ (j .judge .ensures) (c .before .refused .ensures) (c .if1 .taken) in
     (so .says, so .rows)
 
 -- Where the run has passed.
@@ -96,13 +104,14 @@ same-length-4 c = search needs
 
 returns-3 : tie.Need-returns-3
 returns-3 c =
-    let z = c .before .before .before .before .before .before .before .before in
+    let z = at-fill c in
     let d = z .before .before .before .before .before in
     let t = d .before .before in
     let n = t .before .before in
     let e = n .before in
+    let s = start e in
     let filled = z .fill .ensures in
-    let so = rows-accepted (run (start e)) (rows (start e)) _ _ (e .before .before .judge .ensures) (e .before .refused .ensures)
+    let so = rows-accepted (run s) (rows s) _ _ (e .before .before .judge .ensures) (e .before .refused .ensures)
     _ (all-counted n) _ (t .before .short-rows .ensures) _ _ (t .refuse-if .ensures) (d .before .refused2 .ensures) (e .if1 .left) (d .if2 .left)
     _ (four-rows (filled .0) (filled .1 .0) (filled .1 .1 .0) (filled .1 .1 .1))
     in

@@ -32,10 +32,15 @@ shared-slice-read-is-name-byte c = search needs
 is-name-byte-requires : tie.Need-is-name-byte-requires Inv-loop μ-loop
 is-name-byte-requires c κs = search needs
 
+-- The way back from a place in the code to the one that the name says.
+abbrev at-start : tie.At-loop Inv-loop μ-loop → tie.Start Inv-loop μ-loop
+at-start c = c .before .before .before .before
+
 returns-3 : tie.Need-returns-3 Inv-loop μ-loop
 returns-3 c =
-    let a = c .before .before .before .before .before .before .before .before .args in
-    name-bad (a .text .now) (kind-differs isNameByte _ _ (c .before .before .before .before .loop .inv) (search needs) (sym (c .before .is-name-byte .ensures) ∙ not-true _ (c .if3 .taken)))
+    let al = c .before .before .before .before in
+    let a = at-start al .args in
+    name-bad (a .text .now) (kind-differs isNameByte _ _ (al .loop .inv) (search needs) (sym (c .before .is-name-byte .ensures) ∙ not-true _ (c .if3 .taken)))
 
 add-i : tie.Need-add-i Inv-loop μ-loop
 add-i c = search needs
@@ -48,7 +53,7 @@ loop-again c = kind-passed isNameByte _ _ (c .before .before .before .before .lo
 
 returns-4 : tie.Need-returns-4 Inv-loop μ-loop
 returns-4 c =
-    let a = c .before .before .before .before .before .args in
+    let a = at-start (c .before) .args in
     name-good (a .text .now) (search needs) (search needs) (kind-done isNameByte _ _ (c .before .loop .inv) (c .loop-test .left))
 
 pub is-name-spec : {M : Type 1} → statement M

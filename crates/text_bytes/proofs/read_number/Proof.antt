@@ -36,25 +36,43 @@ is-between-requires c κs = search needs
 returns-2 : tie.Need-returns-2 Inv-loop μ-loop
 returns-2 c = not-digit _ _ _ (c .before .before .before .before .loop .inv) (search needs) (sym (c .before .is-between .ensures) ∙ not-true _ (c .if2 .taken))
 
+-- The way back from a place in the code to the one that the name says.
+abbrev at-start : tie.At-loop Inv-loop μ-loop → tie.Start Inv-loop μ-loop
+at-start c = c .before .before .before .before
+
+abbrev at-loop : tie.Else2 Inv-loop μ-loop → tie.At-loop Inv-loop μ-loop
+at-loop c = c .before .before .before .before
+
 sub-digit : tie.Need-sub-digit Inv-loop μ-loop
-sub-digit c = digit-bounds (getD (c .before .before .before .before .before .before .before .before .args .text .now) (c .before .before .before .before .loop .i) 0) _ (c .before .is-between .ensures) (not-false _ (c .if2 .left)) .least
+sub-digit c =
+    let al = at-loop c in
+    digit-bounds (getD (at-start al .args .text .now) (al .loop .i) 0) _ (c .before .is-between .ensures) (not-false _ (c .if2 .left)) .least
 
 cast-digit : tie.Need-cast-digit Inv-loop μ-loop
-cast-digit c = let d = digit-bounds (getD (c .before .before .before .before .before .before .before .before .args .text .now) (c .before .before .before .before .loop .i) 0) _ (c .before .is-between .ensures) (not-false _ (c .if2 .left)) in omega arith
+cast-digit c =
+    let al = at-loop c in
+    let d = digit-bounds (getD (at-start al .args .text .now) (al .loop .i) 0) _ (c .before .is-between .ensures) (not-false _ (c .if2 .left)) in omega arith
 
 sub-if3 : tie.Need-sub-if3 Inv-loop μ-loop
-sub-if3 c = let d = digit-bounds (getD (c .before .before .before .before .before .before .before .before .args .text .now) (c .before .before .before .before .loop .i) 0) _ (c .before .is-between .ensures) (not-false _ (c .if2 .left)) in omega arith
+sub-if3 c =
+    let al = at-loop c in
+    let d = digit-bounds (getD (at-start al .args .text .now) (al .loop .i) 0) _ (c .before .is-between .ensures) (not-false _ (c .if2 .left)) in omega arith
 
 returns-3 : tie.Need-returns-3 Inv-loop μ-loop
 returns-3 c =
-    let d = digit-bounds (getD (c .before .before .before .before .before .before .before .before .before .args .text .now) (c .before .before .before .before .before .loop .i) 0) _ (c .before .before .is-between .ensures) (not-false _ (c .before .if2 .left)) in
-    too-large _ _ _ (c .before .before .before .before .before .loop .inv) (search needs) (omega arith)
+    let al = at-loop (c .before) in
+    let d = digit-bounds (getD (at-start al .args .text .now) (al .loop .i) 0) _ (c .before .before .is-between .ensures) (not-false _ (c .before .if2 .left)) in
+    too-large _ _ _ (al .loop .inv) (search needs) (omega arith)
 
 mul-value : tie.Need-mul-value Inv-loop μ-loop
-mul-value c = let d = digit-bounds (getD (c .before .before .before .before .before .before .before .before .before .args .text .now) (c .before .before .before .before .before .loop .i) 0) _ (c .before .before .is-between .ensures) (not-false _ (c .before .if2 .left)) in omega arith
+mul-value c =
+    let al = at-loop (c .before) in
+    let d = digit-bounds (getD (at-start al .args .text .now) (al .loop .i) 0) _ (c .before .before .is-between .ensures) (not-false _ (c .before .if2 .left)) in omega arith
 
 add-value : tie.Need-add-value Inv-loop μ-loop
-add-value c = let d = digit-bounds (getD (c .before .before .before .before .before .before .before .before .before .args .text .now) (c .before .before .before .before .before .loop .i) 0) _ (c .before .before .is-between .ensures) (not-false _ (c .before .if2 .left)) in omega arith
+add-value c =
+    let al = at-loop (c .before) in
+    let d = digit-bounds (getD (at-start al .args .text .now) (al .loop .i) 0) _ (c .before .before .is-between .ensures) (not-false _ (c .before .if2 .left)) in omega arith
 
 add-i : tie.Need-add-i Inv-loop μ-loop
 add-i c = search needs
@@ -64,8 +82,10 @@ loop-less c = search needs
 
 loop-again : tie.Need-loop-again Inv-loop μ-loop
 loop-again c =
-    let d = digit-bounds (getD (c .before .before .before .before .before .before .before .before .before .args .text .now) (c .before .before .before .before .before .loop .i) 0) _ (c .before .before .is-between .ensures) (not-false _ (c .before .if2 .left)) in
-    digit-read _ _ _ (c .before .before .before .before .before .loop .inv) (search needs) (sym (c .before .before .is-between .ensures) ∙ not-false _ (c .before .if2 .left)) (omega arith)
+    let ib = c .before .before in
+    let al = ib .before .before .before in
+    let d = digit-bounds (getD (at-start al .args .text .now) (al .loop .i) 0) _ (ib .is-between .ensures) (not-false _ (c .before .if2 .left)) in
+    digit-read _ _ _ (al .loop .inv) (search needs) (sym (ib .is-between .ensures) ∙ not-false _ (c .before .if2 .left)) (omega arith)
 
 returns-4 : tie.Need-returns-4 Inv-loop μ-loop
 returns-4 c = number-read _ _ _ (c .before .loop .inv) (c .loop-test .left) (sym (c .before .before .before .well-begun .ensures) ∙ not-false _ (c .before .before .if1 .left))

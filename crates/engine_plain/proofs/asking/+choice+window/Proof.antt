@@ -66,81 +66,107 @@ choice-add-skipped t c =
     let z = c .before .before .before .before in
     omega (arith, skipped-few _ _ _ _ _ _ _ (z .pre .1 .0))
 
+-- The way back from a place in the code to the one that the name says.
+abbrev choice-at-start : (t : ℕ) → choice-lts.After-shared-slice-known4 (choice-calls t) (choice-at t) choice.Post → choice-lts.Start (choice-calls t) (choice-at t) choice.Post
+choice-at-start t c = c .before .before .before .before
+
+abbrev choice-at-start-from-window2 : (t : ℕ) → choice-lts.After-window2 (choice-calls t) (choice-at t) choice.Post → choice-lts.Start (choice-calls t) (choice-at t) choice.Post
+choice-at-start-from-window2 t c = choice-at-start t (c .before .before .before .before)
+
+abbrev window-at-start : (t : ℕ)
+    → window-lts.In-loop (window-calls t) (window-at t) window.Post window-Inv-loop window-μ-loop
+    → window-lts.Start (window-calls t) (window-at t) window.Post window-Inv-loop window-μ-loop
+window-at-start t c = c .before .before .before .before .before .before .before
+
 choice-early-of-requires : (t : ℕ) → choice-lts.Need-early-of-requires (choice-calls t) (choice-at t) choice.Post
 choice-early-of-requires t c κs =
-    let z = c .before .before .before .before .before in
+    let z = choice-at-start t (c .before) in
     asked-early _ _ _ _ _ _ _ (z .pre .1 .0) _ (omega (arith, z .pre .1 .1 .some))
 
 choice-sub-window : (t : ℕ) → choice-lts.Need-sub-window (choice-calls t) (choice-at t) choice.Post
 choice-sub-window t c =
-    let z = c .before .before .before .before .before .before in
+    let z = choice-at-start t (c .before .before) in
     omega (arith, z .pre .1 .1 .some)
 
 choice-window-requires : (t : ℕ) → choice-lts.Need-window-requires (choice-calls t) (choice-at t) choice.Post
 choice-window-requires t c κs =
-    let z = c .before .before .before .before .before .before in
+    let z = choice-at-start t (c .before .before) in
     (omega (arith, z .pre .0, z .pre .1 .1 .some), asked-inner _ _ _ _ _ _ _ (z .pre .1 .0) _ (omega (arith, z .pre .1 .1 .some)))
 
 choice-add-result : (t : ℕ) → choice-lts.Need-add-result (choice-calls t) (choice-at t) choice.Post
 choice-add-result t c =
-    let z = c .before .before .before .before .before .before .before in
+    let z = choice-at-start t (c .before .before .before) in
     omega (arith, skip-fits _ _ _ _ _ _ _ (z .pre .1 .0) _ _ (c .before .early-of .ensures) (c .window .ensures) (omega (arith, z .pre .1 .1 .some)), z .pre .1 .0 .laid .cheap)
 
 choice-returns : (t : ℕ) → choice-lts.Need-returns (choice-calls t) (choice-at t) choice.Post
 choice-returns t c =
-    let z = c .before .before .before .before .before .before .before in
+    let z = choice-at-start t (c .before .before .before) in
     rw (c .before .before .if1 .taken) (skip-so _ _ _ _ _ _ _ (z .pre .1 .0) _ _ (c .before .early-of .ensures) (c .window .ensures) (omega (arith, z .pre .1 .1 .some)))
 
 choice-wait-of-requires : (t : ℕ) → choice-lts.Need-wait-of-requires (choice-calls t) (choice-at t) choice.Post
 choice-wait-of-requires t c κs =
-    let z = c .before .before .before .before .before in
+    let z = choice-at-start t (c .before) in
     (asked-from _ _ _ _ _ _ _ (z .pre .1 .0) _, z .pre .1 .1 .up-to)
 
 choice-early-of-requires-2 : (t : ℕ) → choice-lts.Need-early-of-requires-2 (choice-calls t) (choice-at t) choice.Post
 choice-early-of-requires-2 t c κs =
-    let z = c .before .before .before .before .before .before in
+    let z = choice-at-start t (c .before .before) in
     asked-early _ _ _ _ _ _ _ (z .pre .1 .0) _ (z .pre .1 .1 .up-to)
 
 choice-add-result-2 : (t : ℕ) → choice-lts.Need-add-result-2 (choice-calls t) (choice-at t) choice.Post
 choice-add-result-2 t c =
-    let z = c .before .before .before .before .before .before .before in
+    let z = choice-at-start t (c .before .before .before) in
     let q = asked-from _ _ _ _ _ _ _ (z .pre .1 .0) (z .args .c) in
     omega (arith, c .early-of2 .ensures, c .before .wait-of .ensures, two-fit _ _ _ _ _ _ _ q _ _ (c .before .wait-of .ensures) (c .early-of2 .ensures) (z .pre .1 .1 .up-to))
 
 choice-sub-window-2 : (t : ℕ) → choice-lts.Need-sub-window-2 (choice-calls t) (choice-at t) choice.Post
 choice-sub-window-2 t c =
-    let z = c .before .before .before .before .before .before .before in
+    let z = choice-at-start t (c .before .before .before) in
     omega (arith, z .pre .1 .1 .some)
 
 choice-window-requires-2 : (t : ℕ) → choice-lts.Need-window-requires-2 (choice-calls t) (choice-at t) choice.Post
 choice-window-requires-2 t c κs =
-    let z = c .before .before .before .before .before .before .before in
+    let z = choice-at-start t (c .before .before .before) in
     (omega (arith, z .pre .0, z .pre .1 .1, z .pre .1 .1 .after (omega (arith, c .before .before .if1 .left))), asked-inner _ _ _ _ _ _ _ (z .pre .1 .0) _ (omega (arith, z .pre .1 .1 .some)))
 
 choice-add-result-3 : (t : ℕ) → choice-lts.Need-add-result-3 (choice-calls t) (choice-at t) choice.Post
 choice-add-result-3 t c =
-    let z = c .before .before .before .before .before .before .before .before in
-    omega (arith, detour-part-fits _ _ _ _ _ _ _ (z .pre .1 .0) _ _ _ _ (c .before .before .wait-of .ensures) (c .before .early-of2 .ensures) (c .window2 .ensures) (z .pre .1 .1) (c .before .before .before .if1 .left), z .pre .1 .0 .laid .cheap)
+    let z = choice-at-start-from-window2 t c in
+    omega (
+      arith,
+      detour-part-fits _ _ _ _ _ _ _ (z .pre .1 .0) _ _ _ _ (c .before .before .wait-of .ensures) (c .before .early-of2 .ensures) (c .window2 .ensures) (z .pre .1 .1)
+          (c .before .before .before .if1 .left),
+      z .pre .1 .0 .laid .cheap,
+    )
 
 choice-sub-window-3 : (t : ℕ) → choice-lts.Need-sub-window-3 (choice-calls t) (choice-at t) choice.Post
 choice-sub-window-3 t c =
-    let z = c .before .before .before .before .before .before .before .before in
+    let z = choice-at-start-from-window2 t c in
     omega (arith, c .before .before .before .if1 .left)
 
 choice-window-requires-3 : (t : ℕ) → choice-lts.Need-window-requires-3 (choice-calls t) (choice-at t) choice.Post
 choice-window-requires-3 t c κs =
-    let z = c .before .before .before .before .before .before .before .before in
-    (omega (arith, z .pre .0, z .pre .1 .1, z .pre .1 .1 .after (omega (arith, c .before .before .before .if1 .left))), asked-rest _ _ _ _ _ _ _ (z .pre .1 .0) _ (omega (arith, c .before .before .before .if1 .left)) (z .pre .1 .1 .up-to))
+    let e1 = c .before .before .before in
+    let z = choice-at-start t (e1 .before) in
+    (omega (arith, z .pre .0, z .pre .1 .1, z .pre .1 .1 .after (omega (arith, e1 .if1 .left))), asked-rest _ _ _ _ _ _ _ (z .pre .1 .0) _ (omega (arith, e1 .if1 .left)) (z .pre .1 .1 .up-to))
 
 choice-add-result-4 : (t : ℕ) → choice-lts.Need-add-result-4 (choice-calls t) (choice-at t) choice.Post
 choice-add-result-4 t c =
-    let z = c .before .before .before .before .before .before .before .before .before in
-    omega (arith, detour-fits _ _ _ _ _ _ _ (z .pre .1 .0) _ _ _ _ (c .before .before .before .wait-of .ensures) (c .before .before .early-of2 .ensures) (c .before .window2 .ensures) (z .pre .1 .1) (c .before .before .before .before .if1 .left) _ (c .window3 .ensures), z .pre .1 .0 .laid .cheap)
+    let wo = c .before .before .before in
+    let z = choice-at-start t (wo .before .before) in
+    omega (
+      arith,
+      detour-fits _ _ _ _ _ _ _ (z .pre .1 .0) _ _ _ _ (wo .wait-of .ensures) (c .before .before .early-of2 .ensures) (c .before .window2 .ensures) (z .pre .1 .1)
+          (wo .before .if1 .left) _ (c .window3 .ensures),
+      z .pre .1 .0 .laid .cheap,
+    )
 
 choice-returns-2 : (t : ℕ) → choice-lts.Need-returns-2 (choice-calls t) (choice-at t) choice.Post
 choice-returns-2 t c =
-    let z = c .before .before .before .before .before .before .before .before .before in
-    detour-so _ _ _ _ _ _ _ (z .pre .1 .0) _ _ _ _ (c .before .before .before .wait-of .ensures) (c .before .before .early-of2 .ensures) (c .before .window2 .ensures) (z .pre .1 .1) (c .before .before .before .before .if1 .left) _ (c .window3 .ensures)
+    let wo = c .before .before .before in
+    let z = choice-at-start t (wo .before .before) in
+    detour-so _ _ _ _ _ _ _ (z .pre .1 .0) _ _ _ _ (wo .wait-of .ensures) (c .before .before .early-of2 .ensures) (c .before .window2 .ensures) (z .pre .1 .1)
+    (wo .before .if1 .left) _ (c .window3 .ensures)
 
 window-returns : (t : ℕ) → window-lts.Need-returns (window-calls t) (window-at t) window.Post window-Inv-loop window-μ-loop
 window-returns t c =
@@ -158,7 +184,7 @@ window-loop-holds t c =
 
 window-choice-requires-2 : (t : ℕ) → window-lts.Need-choice-requires-2 (window-calls t) (window-at t) window.Post window-Inv-loop window-μ-loop
 window-choice-requires-2 t c κs =
-    let z = c .before .before .before .before .before .before .before in
+    let z = window-at-start t c in
     let w = c .before .loop .inv in
     (omega (arith, z .pre .0), (z .pre .1, may-detour _ _ _ (w .some) (w .up-to) (c .loop-test .taken)))
 

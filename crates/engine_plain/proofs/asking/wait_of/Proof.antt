@@ -18,10 +18,18 @@ slice-aggregate-count-reads c = let z = c .before .before .before .before in sym
 count-reads-requires : tie.Need-count-reads-requires
 count-reads-requires c κs = search needs
 
+-- The way back from a place in the code to the one that the name says.
+abbrev at-start : tie.After-count-reads → tie.Start
+at-start c = c .before .before .before .before .before
+
 -- The reads left of stop c.
+<<<<<<< HEAD
 left-is : (c : tie.After-count-reads) → c .count-reads .result ≡ readsUpTo (c .before .before .before .before .before .args .reads .now) (c .before .before .before .before .before .args .c)
+=======
+left-is : (c : tie.After-count-reads) → c .count-reads .result ≡ readsIn (at-start c .args .reads .now) (at-start c .args .c)
+>>>>>>> a208d60683cd509f40e20e13cd4780a04355844c
 left-is c =
-    let z = c .before .before .before .before .before in
+    let z = at-start c in
     c .count-reads .ensures ∙ reads-counted (z .args .reads .now) (z .args .c) (omega (arith, z .pre .0 .inside, z .pre .0 .laid .even-reads, z .pre .1)) (z .pre .0 .laid .few)
 
 mul-result : tie.Need-mul-result
@@ -37,7 +45,9 @@ shared-slice-read-result-2 : tie.Need-shared-slice-read-result-2
 shared-slice-read-result-2 c = search needs
 
 add-result : tie.Need-add-result
-add-result c = let z = c .before .before .before .before .before .before .before in omega (arith, z .pre .0 .laid .near _ (z .pre .0 .inside))
+add-result c =
+    let z = at-start (c .before .before) in
+    omega (arith, z .pre .0 .laid .near _ (z .pre .0 .inside))
 
 mul-result-3 : tie.Need-mul-result-3
 mul-result-3 c = search needs
@@ -46,19 +56,31 @@ shared-slice-read-result-3 : tie.Need-shared-slice-read-result-3
 shared-slice-read-result-3 c = search needs
 
 sub-result : tie.Need-sub-result
-sub-result c = let z = c .before .before .before .before .before .before .before .before in omega (arith, z .pre .0 .laid .rising _ _ (z .pre .1) (z .pre .0 .inside))
+sub-result c =
+    let z = at-start (c .before .before .before) in
+    omega (arith, z .pre .0 .laid .rising _ _ (z .pre .1) (z .pre .0 .inside))
 
 add-result-2 : tie.Need-add-result-2
-add-result-2 c = let z = c .before .before .before .before .before .before .before .before in omega (arith, z .pre .0 .laid .near _ (z .pre .0 .inside), z .pre .0 .laid .cheap)
+add-result-2 c =
+    let z = at-start (c .before .before .before) in
+    omega (arith, z .pre .0 .laid .near _ (z .pre .0 .inside), z .pre .0 .laid .cheap)
 
 mul-result-4 : tie.Need-mul-result-4
-mul-result-4 c = let z = c .before .before .before .before .before .before .before .before in omega (arith, z .pre .0 .laid .near _ (z .pre .0 .inside), z .pre .0 .laid .cheap)
+mul-result-4 c =
+    let z = at-start (c .before .before .before) in
+    omega (arith, z .pre .0 .laid .near _ (z .pre .0 .inside), z .pre .0 .laid .cheap)
 
 add-result-3 : tie.Need-add-result-3
-add-result-3 c = let z = c .before .before .before .before .before .before .before .before in omega (arith, left-is (c .before .before .before), waiting-few _ _ _ _ _ _ _ (z .pre .0) (z .pre .1))
+add-result-3 c =
+    let cr = c .before .before .before in
+    let z = at-start cr in
+    omega (arith, left-is cr, waiting-few _ _ _ _ _ _ _ (z .pre .0) (z .pre .1))
 
 mul-result-5 : tie.Need-mul-result-5
-mul-result-5 c = let z = c .before .before .before .before .before .before .before .before in omega (arith, rw (← left-is (c .before .before .before)) at (wait-small _ _ _ _ _ _ _ (z .pre .0) (z .pre .1)))
+mul-result-5 c =
+    let cr = c .before .before .before in
+    let z = cr .before .before .before .before .before in
+    omega (arith, rw (← left-is cr) at (wait-small _ _ _ _ _ _ _ (z .pre .0) (z .pre .1)))
 
 returns : tie.Need-returns
 unfolding readsUpTo

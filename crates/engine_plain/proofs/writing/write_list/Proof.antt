@@ -5,16 +5,23 @@ use borrow.Author.Needs.{needs}
 use Rattle.engine_plain.proofs.writing.write_list.Statement.{statement}
 use Rattle.engine_plain.proofs.writing.write_list.Tie as tie
 
+-- The way back from a place in the code to the one that the name says.
+abbrev at-start : tie.After-slice-known2 → tie.Start
+at-start c = c .before .before .before .before .before .before
+
 returns : tie.Need-returns
-returns c = let z = c .before .before .before .before .before .before .before in whole-none _ _ _ _ _ (z .pre .0) _ _ (c .if1 .taken)
+returns c =
+    let z = at-start (c .before) in
+    whole-none _ _ _ _ _ (z .pre .0) _ _ (c .if1 .taken)
 
 sub-write-window : tie.Need-sub-write-window
 sub-write-window c = search needs
 
 write-window-requires : tie.Need-write-window-requires
 write-window-requires c κs =
-    let z = c .before .before .before .before .before .before .before .before .before in
-    (whole-asked _ _ _ _ _ (z .pre .0) (c .before .before .if1 .left), whole-fits _ _ _ _ _ (z .pre .0) _ _ (c .before .before .if1 .left) (z .pre .1 .0) (z .pre .1 .1))
+    let e1 = c .before .before in
+    let z = at-start (e1 .before) in
+    (whole-asked _ _ _ _ _ (z .pre .0) (e1 .if1 .left), whole-fits _ _ _ _ _ (z .pre .0) _ _ (e1 .if1 .left) (z .pre .1 .0) (z .pre .1 .1))
 
 same-length : tie.Need-same-length
 same-length c = search needs

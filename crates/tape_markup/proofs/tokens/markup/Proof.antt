@@ -31,8 +31,10 @@ slice-aggregate-end-behind c = search needs
 
 end-behind-requires : tie.Need-end-behind-requires
 end-behind-requires c κs =
-    let h = comment-fits (c .before .before .before .before .before .before .args .text .now) (c .before .before .before .before .before .before .args .at) _
-    (c .before .before .before .opening-of .ensures) (c .before .enum-told .given .1) in
+    let oo = c .before .before .before in
+    let s = oo .before .before .before in
+    let h = comment-fits (s .args .text .now) (s .args .at) _
+    (oo .opening-of .ensures) (c .before .enum-told .given .1) in
     search needs
 
 past-requires : tie.Need-past-requires
@@ -43,8 +45,10 @@ enum-told-2 c = search needs
 
 plain-bytes-requires : tie.Need-plain-bytes-requires
 plain-bytes-requires c κs =
-    let h = plain-fits (c .before .before .before .before .before .args .text .now) (c .before .before .before .before .before .args .at) _
-    (c .before .before .opening-of .ensures) (c .enum-told2 .given .1) in
+    let oo = c .before .before in
+    let s = oo .before .before .before in
+    let h = plain-fits (s .args .text .now) (s .args .at) _
+    (oo .opening-of .ensures) (c .enum-told2 .given .1) in
     search needs
 
 enum-told-3 : tie.Need-enum-told-3
@@ -58,8 +62,10 @@ slice-aggregate-end-behind-2 c = search needs
 
 end-behind-requires-2 : tie.Need-end-behind-requires-2
 end-behind-requires-2 c κs =
-    let h = instruction-fits (c .before .before .before .before .before .before .args .text .now) (c .before .before .before .before .before .before .args .at) _
-    (c .before .before .before .opening-of .ensures) (c .before .enum-told3 .given .1) in
+    let oo = c .before .before .before in
+    let s = oo .before .before .before in
+    let h = instruction-fits (s .args .text .now) (s .args .at) _
+    (oo .opening-of .ensures) (c .before .enum-told3 .given .1) in
     search needs
 
 past-requires-2 : tie.Need-past-requires-2
@@ -73,8 +79,10 @@ add-declaration-end c = search needs
 
 declaration-end-requires : tie.Need-declaration-end-requires
 declaration-end-requires c κs =
-    let h = declaration-fits (c .before .before .before .before .before .args .text .now) (c .before .before .before .before .before .args .at) _
-    (c .before .before .opening-of .ensures) (c .enum-told4 .given .1) in
+    let oo = c .before .before in
+    let s = oo .before .before .before in
+    let h = declaration-fits (s .args .text .now) (s .args .at) _
+    (oo .opening-of .ensures) (c .enum-told4 .given .1) in
     search needs
 
 past-requires-3 : tie.Need-past-requires-3
@@ -85,8 +93,10 @@ enum-told-5 c = search needs
 
 end-tag-requires : tie.Need-end-tag-requires
 end-tag-requires c κs =
-    let h = end-tag-fits (c .before .before .before .before .before .args .text .now) (c .before .before .before .before .before .args .at) _
-    (c .before .before .opening-of .ensures) (c .enum-told5 .given .1) in
+    let oo = c .before .before in
+    let s = oo .before .before .before in
+    let h = end-tag-fits (s .args .text .now) (s .args .at) _
+    (oo .opening-of .ensures) (c .enum-told5 .given .1) in
     search needs
 
 enum-told-6 : tie.Need-enum-told-6
@@ -97,36 +107,51 @@ start-tag-requires c κs = search needs
 
 returns : tie.Need-returns
 returns c =
-    comment-step (c .before .before .before .before .before .before .before .before .args .text .now) (c .before .before .before .before .before .before .before .before .args .at) _
-    (c .before .before .before .before .before .opening-of .ensures) (c .before .before .before .enum-told .given .1)
+    let et = c .before .before .before in
+    let oo = et .before .before in
+    let s = oo .before .before .before in
+    comment-step (s .args .text .now) (s .args .at) _
+    (oo .opening-of .ensures) (et .enum-told .given .1)
     (c .before .end-behind .result) (c .past .result) (c .before .end-behind .ensures) (c .past .ensures)
 
 returns-2 : tie.Need-returns-2
 returns-2 c =
-    plain-told (c .before .before .before .before .before .before .args .text .now) (c .before .before .before .before .before .before .args .at) _
-    (c .before .before .before .opening-of .ensures) (c .before .enum-told2 .given .1) (c .plain-bytes .result) (c .plain-bytes .ensures)
+    let oo = c .before .before .before in
+    let s = oo .before .before .before in
+    plain-told (s .args .text .now) (s .args .at) _
+    (oo .opening-of .ensures) (c .before .enum-told2 .given .1) (c .plain-bytes .result) (c .plain-bytes .ensures)
 
 returns-3 : tie.Need-returns-3
 returns-3 c =
-    instruction-step (c .before .before .before .before .before .before .before .before .args .text .now) (c .before .before .before .before .before .before .before .before .args .at) _
-    (c .before .before .before .before .before .opening-of .ensures) (c .before .before .before .enum-told3 .given .1)
+    let et3 = c .before .before .before in
+    let oo = et3 .before .before in
+    let s = oo .before .before .before in
+    instruction-step (s .args .text .now) (s .args .at) _
+    (oo .opening-of .ensures) (et3 .enum-told3 .given .1)
     (c .before .end-behind2 .result) (c .past2 .result) (c .before .end-behind2 .ensures) (c .past2 .ensures)
 
 returns-4 : tie.Need-returns-4
 returns-4 c =
-    declaration-step (c .before .before .before .before .before .before .before .args .text .now) (c .before .before .before .before .before .before .before .args .at) _
-    (c .before .before .before .before .opening-of .ensures) (c .before .before .enum-told4 .given .1) (c .before .declaration-end .result)
+    let et4 = c .before .before in
+    let oo = et4 .before .before in
+    let s = oo .before .before .before in
+    declaration-step (s .args .text .now) (s .args .at) _
+    (oo .opening-of .ensures) (et4 .enum-told4 .given .1) (c .before .declaration-end .result)
     (c .past3 .result) (c .before .declaration-end .ensures) (c .past3 .ensures)
 
 returns-5 : tie.Need-returns-5
 returns-5 c =
-    end-tag-told (c .before .before .before .before .before .before .args .text .now) (c .before .before .before .before .before .before .args .at) _
-    (c .before .before .before .opening-of .ensures) (c .before .enum-told5 .given .1) (c .end-tag .result) (c .end-tag .ensures)
+    let oo = c .before .before .before in
+    let s = oo .before .before .before in
+    end-tag-told (s .args .text .now) (s .args .at) _
+    (oo .opening-of .ensures) (c .before .enum-told5 .given .1) (c .end-tag .result) (c .end-tag .ensures)
 
 returns-6 : tie.Need-returns-6
 returns-6 c =
-    start-tag-told (c .before .before .before .before .before .before .args .text .now) (c .before .before .before .before .before .before .args .at) _
-    (c .before .before .before .opening-of .ensures) (c .before .enum-told6 .given .1) (c .start-tag .result) (c .start-tag .ensures)
+    let oo = c .before .before .before in
+    let s = oo .before .before .before in
+    start-tag-told (s .args .text .now) (s .args .at) _
+    (oo .opening-of .ensures) (c .before .enum-told6 .given .1) (c .start-tag .result) (c .start-tag .ensures)
 
 pub markup-spec : {M : Type 1} → statement M
 markup-spec =

@@ -29,23 +29,29 @@ enum-told c = search needs
 
 returns-2 : tie.Need-returns-2
 returns-2 c =
-    start-never (c .before .before .before .before .before .before .args .text .now) (c .before .before .before .before .before .before .args .at) _ _
-    (c .before .before .before .before .behind-name .ensures .0) (c .before .before .before .if1 .left) (rw (c .enum-told .given .1) at (c .before .before .tag-end .ensures))
+    let e1 = c .before .before .before in
+    let s = e1 .before .before .before in
+    start-never (s .args .text .now) (s .args .at) _ _
+    (e1 .before .behind-name .ensures .0) (e1 .if1 .left) (rw (c .enum-told .given .1) at (c .before .before .tag-end .ensures))
 
 is-alone-requires : tie.Need-is-alone-requires
 is-alone-requires c κs = let p = rw (c .before .end .given .1) at (c .before .before .before .tag-end .ensures) in let b = p .beyond in let w = p .within in omega arith
 
 returns-3 : tie.Need-returns-3
 returns-3 c =
-    alone-step (c .before .before .before .before .before .before .before .before .before .args .text .now) (c .before .before .before .before .before .before .before .before .before .args .at) _ _
-    (c .before .before .before .before .before .before .before .behind-name .ensures .0) _ (c .before .before .before .before .before .before .if1 .left)
+    let bn = c .before .before .before .before .before .before .before in
+    let s = bn .before .before in
+    alone-step (s .args .text .now) (s .args .at) _ _
+    (bn .behind-name .ensures .0) _ (c .before .before .before .before .before .before .if1 .left)
     (rw (c .before .before .before .end .given .1) at (c .before .before .before .before .before .tag-end .ensures))
     (sym (c .before .is-alone .ensures) ∙ c .if2 .taken)
 
 returns-4 : tie.Need-returns-4
 returns-4 c =
-    opens-step (c .before .before .before .before .before .before .before .before .before .args .text .now) (c .before .before .before .before .before .before .before .before .before .args .at) _ _
-    (c .before .before .before .before .before .before .before .behind-name .ensures .0) _ (c .before .before .before .before .before .before .if1 .left)
+    let bn = c .before .before .before .before .before .before .before in
+    let s = bn .before .before in
+    opens-step (s .args .text .now) (s .args .at) _ _
+    (bn .behind-name .ensures .0) _ (c .before .before .before .before .before .before .if1 .left)
     (rw (c .before .before .before .end .given .1) at (c .before .before .before .before .before .tag-end .ensures))
     (sym (c .before .is-alone .ensures) ∙ c .if2 .left)
 

@@ -27,9 +27,13 @@ mul-read-of c = search needs
 shared-slice-read-read-of : tie.Need-shared-slice-read-read-of Inv-loop μ-loop
 shared-slice-read-read-of c = search needs
 
+-- The way back from a place in the code to the one that the name says.
+abbrev at-start : tie.At-loop Inv-loop μ-loop → tie.Start Inv-loop μ-loop
+at-start c = c .before .before .before .before .before .before .before .before .before .before
+
 read-of-requires : tie.Need-read-of-requires Inv-loop μ-loop
 read-of-requires c κs =
-    let s = c .before .before .before .before .before .before .before .before .before .before .before .before in
+    let s = at-start (c .before .before) in
     (s .pre .0, s .pre .0 .fit .wants _ (search needs))
 
 mul-times : tie.Need-mul-times Inv-loop μ-loop
@@ -38,7 +42,7 @@ mul-times c = search needs
 slice-write-times : tie.Need-slice-write-times Inv-loop μ-loop
 slice-write-times c =
     let l = c .before .before .before in
-    let s = l .before .before .before .before .before .before .before .before .before .before in
+    let s = at-start l in
     omega (arith, s .pre .1 .1 .0, l .loop .inv .timed .same, c .before .before .loop-test .taken)
 
 mul-legs : tie.Need-mul-legs Inv-loop μ-loop
@@ -47,7 +51,7 @@ mul-legs c = search needs
 slice-write-legs : tie.Need-slice-write-legs Inv-loop μ-loop
 slice-write-legs c =
     let l = c .before .before .before in
-    let s = l .before .before .before .before .before .before .before .before .before .before in
+    let s = at-start l in
     omega (arith, s .pre .1 .1 .1, l .loop .inv .numbered .same, c .before .before .loop-test .taken)
 
 mul-sum : tie.Need-mul-sum Inv-loop μ-loop
@@ -56,21 +60,21 @@ mul-sum c = search needs
 shared-slice-read-sum : tie.Need-shared-slice-read-sum Inv-loop μ-loop
 shared-slice-read-sum c =
     let n = c .before .before .before in
-    let s = n .before .before .before .before .before .before .before .before .before .before .before in
+    let s = at-start (n .before) in
     omega (arith, s .pre .1 .0 .0, n .loop-test .taken)
 
 mul-sum-2 : tie.Need-mul-sum-2 Inv-loop μ-loop
 mul-sum-2 c =
     let t = c .before .before in
     let n = t .before .before in
-    let s = n .before .before .before .before .before .before .before .before .before .before .before in
+    let s = at-start (n .before) in
     record { fits = product-fits _ _ _ _ _ (s .pre .1 .0 .0) _ _ _ _ _ _ _ _ _ (n .before .loop .inv) (s .pre .0 .within) (n .loop-test .taken) _ (t .read-of .ensures) (s .pre .1 .0 .1) }
 
 add-sum : tie.Need-add-sum Inv-loop μ-loop
 add-sum c =
     let t = c .before .before in
     let n = t .before .before in
-    let s = n .before .before .before .before .before .before .before .before .before .before .before in
+    let s = at-start (n .before) in
     record { fits = sum-fits _ _ _ _ _ (s .pre .1 .0 .0) _ _ _ _ _ _ _ _ _ (n .before .loop .inv) (s .pre .0 .within) (n .loop-test .taken) _ (t .read-of .ensures) (s .pre .1 .0 .1) }
 
 add-i : tie.Need-add-i Inv-loop μ-loop
@@ -83,7 +87,7 @@ loop-again : tie.Need-loop-again Inv-loop μ-loop
 loop-again c =
     let t = c .before .before in
     let n = t .before .before in
-    let s = n .before .before .before .before .before .before .before .before .before .before .before in
+    let s = at-start (n .before) in
     let p = n .before .loop .inv in
     filled-one _ _ _ _ _ (s .pre .1 .0 .0) _ _ _ _ _ _ _ _ _ p (s .pre .0 .within) (n .loop-test .taken) _ (t .read-of .ensures)
     (omega (arith, s .pre .1 .1 .0, p .timed .same, n .loop-test .taken)) (omega (arith, s .pre .1 .1 .1, p .numbered .same, n .loop-test .taken))
@@ -96,7 +100,7 @@ same-length-2 c = c .before .loop .inv .numbered .same
 
 returns : tie.Need-returns Inv-loop μ-loop
 returns c =
-    let s = c .before .before .before .before .before .before .before .before .before .before .before in
+    let s = at-start (c .before) in
     let p = c .before .loop .inv in (
       filled-sum _ _ _ _ _ (s .pre .1 .0 .0) _ _ _ _ _ _ _ _ _ p (c .loop-test .left),
       (filled-times _ _ _ _ _ (s .pre .1 .0 .0) _ _ _ _ _ _ _ _ _ p (c .loop-test .left), filled-legs _ _ _ _ _ (s .pre .1 .0 .0) _ _ _ _ _ _ _ _ _ p (c .loop-test .left)),

@@ -34,10 +34,23 @@ refuse-requires c κs = search needs
 abbrev lent : tie.Start → ReadRows
 lent s = readRows (s .args .times .now) (s .args .legs .now)
 
+-- The way back from a place in the code to the one that the name says.
+abbrev at-start : tie.After-judge → tie.Start
+at-start c = c .before .before .before .before .before .before .before .before .before .before
+
+abbrev at-if2 : tie.After-sweep-end → tie.Else2
+at-if2 c = c .before .before .before .before .before
+
+abbrev at-if1 : tie.After-sweep-end → tie.Else1
+at-if1 c = at-if2 c .before .before .before
+
+abbrev at-leg-count : tie.After-slice-known4 → tie.After-leg-count
+at-leg-count c = c .before .before .before .before .before .before .before
+
 returns : tie.Need-returns
 returns c =
     let j = c .before .before .before in
-    let s = j .before .before .before .before .before .before .before .before .before .before in
+    let s = at-start j in
     run-refused (run s) (s .args .froms .now) (s .args .tos .now) (lent s) _ _ (j .judge .ensures) (c .before .before .refused .ensures) (c .before .if1 .taken) _ (c .refuse .ensures)
 
 judge-list-requires : tie.Need-judge-list-requires
@@ -116,23 +129,24 @@ sweep-end-requires c κs =
 
 leg-count-requires : tie.Need-leg-count-requires
 leg-count-requires c κs =
-    let d = c .before .before .before .before .before in
+    let d = at-if2 c in
     let e = d .before .before .before in
     let s = start e in
     list-fits (run s) (good-run e) (s .args .froms .now) (s .args .tos .now) (good-list d)
 
 -- The sweep ends where the definition says.
-swept : (w : tie.After-sweep-end) → let s = start (w .before .before .before .before .before .before .before .before) in
+swept : (w : tie.After-sweep-end) → let s = start (at-if1 w) in
     w .sweep-end .result ≡ sweepEnd (detourLegs (s .args .starts .now) (s .args .lengths .now) (s .args .aggregates .now) (s .args .froms .now) (s .args .tos .now)) (wantStopsOf (run s))
 swept w =
-    let e = w .before .before .before .before .before .before .before .before in
+    let e = at-if1 w in
     w .sweep-end .ensures (start e .args .counts .now) (sym (good-run e .wants .equal))
 
 -- So its legs can be walked.
-walk-fits : (n : tie.After-leg-count) → let s = start (n .before .before .before .before .before .before .before .before .before) in
-    WalkFits (s .args .starts .now) (s .args .lengths .now) (s .args .aggregates .now) (s .args .numbers .now) (s .args .froms .now) (s .args .tos .now) (n .before .sweep-end .result) (s .args .head) (s .args .turn) (n .leg-count .result)
+walk-fits : (n : tie.After-leg-count) → let s = start (at-if1 (n .before)) in
+    WalkFits (s .args .starts .now) (s .args .lengths .now) (s .args .aggregates .now) (s .args .numbers .now) (s .args .froms .now) (s .args .tos .now)
+    (n .before .sweep-end .result) (s .args .head) (s .args .turn) (n .leg-count .result)
 walk-fits n =
-    let d = n .before .before .before .before .before .before in
+    let d = at-if2 (n .before) in
     let e = d .before .before .before in
     let s = start e in
     let r = good-run e in
@@ -163,7 +177,7 @@ fill-reads-requires c κs =
     )
 
 walk-end-requires : tie.Need-walk-end-requires
-walk-end-requires c κs = walk-fits (c .before .before .before .before .before .before .before)
+walk-end-requires c κs = walk-fits (at-leg-count c)
 
 same-length : tie.Need-same-length
 same-length c = search needs

@@ -34,27 +34,32 @@ mul-file c = search needs
 shared-slice-read-file : tie.Need-shared-slice-read-file Inv-loop μ-loop
 shared-slice-read-file c = c .before .before .loop .inv .within
 
+-- The way back from a place in the code to the one that the name says.
+abbrev at-start : tie.At-loop Inv-loop μ-loop → tie.Start Inv-loop μ-loop
+at-start c = c .before .before .before .before .before .before .before .before
+
 detour-reads-requires : tie.Need-detour-reads-requires Inv-loop μ-loop
 detour-reads-requires c κs =
     let l = c .before .before in
-    let s = l .before .before .before .before .before .before .before .before in
+    let s = at-start l in
     (s .pre .wants (l .loop .i) (l .loop .inv .within) .least, s .pre .list .even)
 
 extent-end-requires : tie.Need-extent-end-requires Inv-loop μ-loop
 extent-end-requires c κs =
     let l = c .before .before .before .before in
-    let s = l .before .before .before .before .before .before .before .before in
+    let s = at-start l in
     (s .pre .list .table, s .pre .wants _ (l .loop .inv .within))
 
 -- The search by numbers says whether a detour reads the file.
 served-is : (c : tie.After-detour-reads Inv-loop μ-loop)
     → let l = c .before .before .before in
-    let a = l .before .before .before .before .before .before .before .before .args in
-    served (detourLegs (a .starts .now) (a .lengths .now) (a .aggregates .now) (a .froms .now) (a .tos .now)) (stopOf (a .starts .now) (a .lengths .now) (a .aggregates .now) (getD (a .numbers .now) (l .loop .i) 0) 0)
+    let a = at-start l .args in
+    served (detourLegs (a .starts .now) (a .lengths .now) (a .aggregates .now) (a .froms .now) (a .tos .now))
+    (stopOf (a .starts .now) (a .lengths .now) (a .aggregates .now) (getD (a .numbers .now) (l .loop .i) 0) 0)
     ≡ c .detour-reads .result
 served-is c =
     let l = c .before .before .before in
-    let s = l .before .before .before .before .before .before .before .before in
+    let s = at-start l in
     by-number (s .args .starts .now) (s .args .lengths .now) (s .args .aggregates .now) (s .pre .list .table) (getD (s .args .numbers .now) (l .loop .i) 0)
     (s .pre .wants (l .loop .i) (l .loop .inv .within)) (s .args .froms .now) (s .args .tos .now) (s .pre .list)
     ∙ sym (c .detour-reads .ensures)
@@ -82,7 +87,7 @@ shared-slice-read-extent-end c = omega (arith, c .before .before .loop .inv .wit
 extent-end-requires-2 : tie.Need-extent-end-requires-2 Inv-loop μ-loop
 extent-end-requires-2 c κs =
     let l = c .before .before in
-    let s = l .before .before .before .before .before .before .before .before in
+    let s = at-start l in
     (s .pre .list .table, s .pre .wants _ (omega (arith, l .loop .inv .within)))
 
 returns-3 : tie.Need-returns-3 Inv-loop μ-loop

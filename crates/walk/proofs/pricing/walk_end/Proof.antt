@@ -17,22 +17,27 @@ abbrev μ-loop : tie.MeasureT-loop
 at-requires : tie.Need-at-requires Inv-loop μ-loop
 at-requires c κs = search needs
 
+-- The way back from a place in the code to the one that the name says.
+abbrev at-start : tie.After-at Inv-loop μ-loop → tie.Start Inv-loop μ-loop
+at-start c = c .before .before .before .before .before .before .before
+
 loop-holds : tie.Need-loop-holds Inv-loop μ-loop
 loop-holds c =
-    let s = c .before .before .before .before .before .before .before in
+    let s = at-start c in
     rw (c .at .ensures) (ending-start _ _ _ (s .pre .within))
 
 leg-at-requires : tie.Need-leg-at-requires Inv-loop μ-loop
 leg-at-requires c κs =
-    let s = c .before .before .before .before .before .before .before .before .before in
+    let s = at-start (c .before .before) in
     (s .pre .fit, omega (arith, s .pre .all, c .loop-test .taken))
 
 -- The leg that was looked up is the walk's next.
 next : (c : tie.After-leg-at Inv-loop μ-loop)
-    → let a = c .before .before .before .before .before .before .before .before .before .before .args in
-    NextLeg (rowLegs (a .starts .now) (a .lengths .now) (a .aggregates .now) (a .numbers .now) (a .froms .now) (a .tos .now) (a .reach)) (c .before .before .loop .h) (c .before .before .loop .i) (a .turn) (c .leg-at .result)
+    → let a = at-start (c .before .before .before) .args in
+    NextLeg (rowLegs (a .starts .now) (a .lengths .now) (a .aggregates .now) (a .numbers .now) (a .froms .now) (a .tos .now) (a .reach)) (c .before .before .loop .h)
+    (c .before .before .loop .i) (a .turn) (c .leg-at .result)
 next c =
-    let s = c .before .before .before .before .before .before .before .before .before .before in
+    let s = at-start (c .before .before .before) in
     next-leg _ _ _ (s .pre .within) _ _ (c .before .before .loop .inv .walking) (omega (arith, s .pre .all, c .before .loop-test .taken)) _ (c .leg-at .ensures)
 
 set-off-requires : tie.Need-set-off-requires Inv-loop μ-loop
@@ -49,13 +54,14 @@ loop-less c = search needs
 
 loop-again : tie.Need-loop-again Inv-loop μ-loop
 loop-again c =
-    let s = c .before .before .before .before .before .before .before .before .before .before .before .before in
+    let il = c .before .before .before in
+    let s = at-start (il .before .before) in
     rw (c .run-right .ensures, c .before .set-off .ensures)
-    (ending-on _ _ _ _ _ (c .before .before .before .before .loop .inv) (s .pre .within) (omega (arith, s .pre .all, c .before .before .before .loop-test .taken)) _ (next (c .before .before)))
+    (ending-on _ _ _ _ _ (il .before .loop .inv) (s .pre .within) (omega (arith, s .pre .all, il .loop-test .taken)) _ (next (c .before .before)))
 
 returns : tie.Need-returns Inv-loop μ-loop
 returns c =
-    let s = c .before .before .before .before .before .before .before .before .before in
+    let s = at-start (c .before .before) in
     ended _ _ _ _ _ (c .before .loop .inv) (omega (arith, s .pre .all, c .loop-test .left))
 
 pub walk-end-spec : {M : Type 1} → statement M
