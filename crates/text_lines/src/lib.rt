@@ -198,20 +198,20 @@ pub fn fill_pairs(
     ensures { λ _. ⌜ PairsRead (now (key .entry)) (now (text .entry)) at count (now (firsts .entry)) (now (seconds .entry)) (now (firsts .exit)) (now (seconds .exit)) ⌝ }
 {
     let most = lesser(count, lesser(firsts.len() as u64, seconds.len() as u64)) as usize;
-    let mut next = position(text, at);
+    let mut here = position(text, at);
     let mut i: usize = 0;
     while i < most {
         let PairLine::Both {
             first,
             second,
             next: after,
-        } = pair_line(text, next, key)
+        } = pair_line(text, here, key)
         else {
             return;
         };
         firsts[i] = first;
         seconds[i] = second;
-        next = after;
+        here = after;
         i += 1;
     }
 }

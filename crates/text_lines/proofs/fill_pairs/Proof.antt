@@ -10,10 +10,10 @@ use Rattle.text_lines.proofs.fill_pairs.Statement.{statement}
 use Rattle.text_lines.proofs.fill_pairs.Tie as tie
 
 abbrev Inv-loop : tie.InvT-loop
-Inv-loop text at key count firsts₀ seconds₀ most next₀ i₀ firsts seconds next i = Filling key text at most firsts₀ seconds₀ next i firsts seconds
+Inv-loop text at key count firsts₀ seconds₀ most here₀ i₀ firsts seconds here i = Filling key text at most firsts₀ seconds₀ here i firsts seconds
 
 abbrev μ-loop : tie.MeasureT-loop
-μ-loop text at key count firsts₀ seconds₀ most next₀ i₀ firsts seconds next i = most - i
+μ-loop text at key count firsts₀ seconds₀ most here₀ i₀ firsts seconds here i = most - i
 
 -- What was handed in, and how many lines the rows hold.
 abbrev start : tie.After-position Inv-loop μ-loop → tie.Start Inv-loop μ-loop
