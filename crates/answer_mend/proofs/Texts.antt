@@ -12,13 +12,13 @@ use Rattle.refusals.specs.Refusals.{firstWhere}
 use Rattle.runs.specs.Run.{mostWants, mostReads}
 use Rattle.runs.proofs.Search.{first-within}
 use Rattle.text_bytes.specs.Text.{bytes, comma, decimal}
-use Rattle.text_lines.specs.Lines.{lineAfter, afterLines, isTripleLine, firstBadOf}
+use Rattle.text_lines.specs.Lines.{lineAfter, afterLines, isTripleLine, firstBadOf, linesBefore}
 use Rattle.sheet_reader.specs.Lines.{turnKey, ruleKey, leastText, filesKey, fileKey, wantsKey, wantKey}
 use Rattle.sheet_reader.specs.Sheet.{longestSheet, mostSheetFiles, saysSweep, sheetFiles, sheetTurn, fileText}
 use Rattle.text_pages.specs.Printing.{line, numberLine, pairLine, pairLines, Wrote, Put}
 use Rattle.text_pages.proofs.Pages.{wrote-both, wrote-on, wrote-within, wrote-long, put-three, LinesPut, line-put, pairs-left}
 use Rattle.sheet_loose.specs.declared.Parts.{Parts}
-use Rattle.sheet_loose.specs.Loose.{linesBefore, looseFiles, looseWantsText, wantsSaid, priceLeftOut, wantedFiles, wantedCounts}
+use Rattle.sheet_loose.specs.Loose.{looseFiles, looseWantsText, wantsSaid, priceLeftOut, wantedFiles, wantedCounts}
 use Rattle.sheet_loose.specs.Reading.{beginsAt, sheetParts}
 use Rattle.answer_mend.specs.declared.wants.Fate.{Fate}
 use Rattle.answer_mend.specs.Wants.{readsOfWant, readsEach, fateOf}

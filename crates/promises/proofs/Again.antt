@@ -13,12 +13,12 @@ use Rattle.runs.proofs.Search.{first-all, first-here, first-zero}
 use Rattle.text_bytes.specs.Text.{lineFeed, comma, has, before, behind, isEmpty, isNumber, isName, isDigit, leadingZero, allOf, startsWith, decimal, valueOf}
 use Rattle.text_bytes.proofs.Bytes.{and-true-both, not-empty}
 use Rattle.text_bytes.proofs.Decimals.{decimal-without, decimal-some, decimal-value, decimal-number}
-use Rattle.text_lines.specs.Lines.{lineOf, afterLines, lineAfter, valueText, isNumberLine, numberBehind, isPair, isPairLine, firstIn, secondIn, isTriple, isTripleLine, firstBadOf, eachOf}
+use Rattle.text_lines.specs.Lines.{lineOf, afterLines, lineAfter, valueText, isNumberLine, numberBehind, isPair, isPairLine, firstIn, secondIn, isTriple, isTripleLine, firstBadOf, eachOf, linesBefore}
 use Rattle.sheet_reader.specs.Lines.{tapeKey, headKey, turnKey, ruleKey, leastText, filesKey, fileKey, wantsKey, wantKey, isTapeLine, isTurnLine, turnWith, emptyTurn, isRuleLine, namesSweep}
 use Rattle.sheet_reader.specs.Sheet.{longestSheet, mostSheetFiles, sheetTurn, sheetTurnWith, saysSweep, sheetFiles, fileText, unless, firstSome}
 use Rattle.text_pages.specs.Printing.{line, numberLine, pairLines}
 use Rattle.sheet_writer.proofs.Reread.{line-first, line-behind, key-begins, key-value, number-back, value-back, pairs-behind, pairs-good, firsts-back, seconds-back}
-use Rattle.sheet_loose.specs.Loose.{linesBefore, looseFiles, looseWantsText, looseWantText, looseWants, looseEnd, wantsSaid, priceLeftOut, firstBadLooseTop, firstBadLooseBelow, firstBadLoose, wantedFiles, wantedCounts}
+use Rattle.sheet_loose.specs.Loose.{looseFiles, looseWantsText, looseWantText, looseWants, looseEnd, wantsSaid, priceLeftOut, firstBadLooseTop, firstBadLooseBelow, firstBadLoose, wantedFiles, wantedCounts}
 use Rattle.sheet_loose.proofs.Wants.{lines-good, want-lines-good}
 use Rattle.sheet_reader.proofs.Rows.{length-each}
 use Rattle.answer_mend.specs.declared.wants.Fate.the-variants.{Stays}

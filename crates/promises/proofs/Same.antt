@@ -17,14 +17,14 @@ use Rattle.runs.proofs.Judged.{GoodWants, GoodRun, accepted-run}
 use Rattle.text_bytes.specs.Text.{bytes, lineFeed, comma, has, before, behind, isEmpty, isNumber, startsWith, isText, valueOf, decimal}
 use Rattle.text_bytes.proofs.Bytes.{and-true-both}
 use Rattle.text_bytes.proofs.Split.{split-at, key-split, whole-key}
-use Rattle.text_lines.specs.Lines.{lineOf, afterLines, lineAfter, valueText, isNumberLine, numberBehind, isPair, isPairLine, firstIn, secondIn, isTriple, isTripleLine, firstBadOf, eachOf}
+use Rattle.text_lines.specs.Lines.{lineOf, afterLines, lineAfter, valueText, isNumberLine, numberBehind, isPair, isPairLine, firstIn, secondIn, isTriple, isTripleLine, firstBadOf, eachOf, linesBefore}
 use Rattle.sheet_reader.specs.Lines.{turnKey, ruleKey, leastText, sweepText, filesKey, fileKey, wantsKey, wantKey, isCountLine, isTurnLine, turnWith, emptyTurn, isRuleLine, namesSweep}
 use Rattle.sheet_reader.specs.Sheet.{longestSheet, mostSheetFiles, sheetTurn, sheetTurnWith, saysSweep, sheetFiles, fileText, wantsText, sheetWants, wantText, endText, unless, shifted, firstSome, firstBadTop, firstBadBelow, firstBadLine, sheetRun}
 use Rattle.sheet_reader.specs.Reading.{sheetVerdict}
 use Rattle.sheet_reader.proofs.Good.{GoodLines, good-lines, no-bad-line, few-files, few-wants, line-split}
 use Rattle.sheet_reader.proofs.Rows.{length-each}
 use Rattle.text_pages.specs.Printing.{line, numberLine, pairText, pairLine, pairLines}
-use Rattle.sheet_loose.specs.Loose.{linesBefore, looseFiles, looseWantsText, looseWantText, looseWants, wantsSaid, priceLeftOut, wantedFiles, wantedCounts}
+use Rattle.sheet_loose.specs.Loose.{looseFiles, looseWantsText, looseWantText, looseWants, wantsSaid, priceLeftOut, wantedFiles, wantedCounts}
 use Rattle.sheet_loose.proofs.Ends.{after-ends}
 use Rattle.answer_mend.specs.Wants.{remaining, fateOf}
 use Rattle.answer_mend.specs.Mending.{firstLines, sheetRemaining, sheetReads, mendedText, changeIf, changesText, fateLines}

@@ -11,11 +11,11 @@ use Rattle.refusals.specs.declared.Refusal.the-variants.{BadLine, LongSheet, Sh
 use Rattle.refusals.specs.declared.Verdict.{Verdict}
 use Rattle.refusals.specs.Refusals.{isRefusal, refuseIf, refuseAt, firstOf, accepted}
 use Rattle.refusals.proofs.Verdicts.{refuses}
-use Rattle.text_lines.specs.Lines.{lineAfter, firstIn, secondIn, eachOf, isPairLine, firstBadOf}
+use Rattle.text_lines.specs.Lines.{lineAfter, firstIn, secondIn}
+use Rattle.text_lines.specs.Found.{PairsRead}
+use Rattle.text_lines.proofs.Filling.{length-each, pairs-read}
 use Rattle.sheet_reader.specs.Sheet.{longestSheet}
 use Rattle.sheet_reader.specs.Reading.{readRow, shortPairRows}
-use Rattle.sheet_reader.specs.Private.{PairsReady, filledRow}
-use Rattle.sheet_reader.proofs.Rows.{length-each}
 use Rattle.sheet_writer.specs.PlanSheet.{detourKey}
 use Rattle.sheet_lists.specs.declared.ListReading.{ListReading}
 use Rattle.sheet_lists.specs.declared.Form.{Form}
@@ -49,9 +49,6 @@ module _ (list : List ℕ) (form : Form) (froms tos : List ℕ) (within : FormWi
     form-is : FormIs 0 detours (drop at list) list at detours
     form-is = subst (λ f. FormWithin list f) e within
 
-    pub fill-ready : detours ≤ length froms → detours ≤ length tos → PairsReady detourKey list at detours froms tos
-    fill-ready l m = record { within = form-is .within; none = form-is .passed; room = l; space = m }
-
     short-so : shortPairRows detours froms tos ≡ true → (v : Verdict) → v ≡ refuseIf true ShortRow → ReadAs list form froms tos (record { verdict = v; detours = 0 }) froms tos
     short-so s v is = rw (e, is, s) (all-kept (refuseIf true ShortRow) refl detours (drop at list) froms tos)
 
@@ -62,16 +59,17 @@ module _ (list : List ℕ) (form : Form) (froms tos : List ℕ) (within : FormWi
     read-short-tos l m = short-so (rw (le-ltb (length froms) detours l, lt-ltb (length tos) detours m))
 
     pub read-whole : detours ≤ length froms → detours ≤ length tos → (v : Verdict) → v ≡ refuseIf false ShortRow → (froms′ tos′ : List ℕ)
-        → froms′ ≡ filledRow (firstIn detourKey) (drop at list) detours froms → tos′ ≡ filledRow (secondIn detourKey) (drop at list) detours tos
+        → PairsRead detourKey list at detours froms tos froms′ tos′
         → ReadAs list form froms tos (record { verdict = v; detours = detours }) froms′ tos′
     unfolding readRow
-    read-whole l m v is froms′ tos′ f t =
+    read-whole l m v is froms′ tos′ p =
+        let q = pairs-read detourKey list at detours froms tos (record { none = form-is .passed; room = l; space = m }) froms′ tos′ p in
         rw (e, is, le-ltb (length froms) detours l, le-ltb (length tos) detours m)
         (record {
           verdict = refl;
           detours = refl;
-          froms = f ∙ ap (λ n. startsOn detours (drop at list) ++ drop n froms) (sym (length-each (λ i. firstIn detourKey (lineAfter i (drop at list))) detours));
-          tos = t ∙ ap (λ n. endsOn detours (drop at list) ++ drop n tos) (sym (length-each (λ i. secondIn detourKey (lineAfter i (drop at list))) detours));
+          froms = q .0 ∙ ap (λ n. startsOn detours (drop at list) ++ drop n froms) (sym (length-each (λ i. firstIn detourKey (lineAfter i (drop at list))) detours));
+          tos = q .1 ∙ ap (λ n. endsOn detours (drop at list) ++ drop n tos) (sym (length-each (λ i. secondIn detourKey (lineAfter i (drop at list))) detours));
         })
 
 -- From the form that a text has to the answer to the text.

@@ -9,7 +9,6 @@ use Rattle.refusals.specs.declared.Verdict.{Verdict}
 use Rattle.refusals.specs.Refusals.{isRefusal, refuseIf, refuseAt, accepted}
 use Rattle.text_lines.specs.Lines.{isPairLine, firstBadOf}
 use Rattle.sheet_reader.specs.Reading.{shortPairRows}
-use Rattle.sheet_reader.specs.Private.{PairsReady}
 use Rattle.sheet_writer.specs.PlanSheet.{detourKey}
 use Rattle.sheet_lists.specs.declared.ListReading.{ListReading}
 use Rattle.sheet_lists.specs.declared.Top.{Top}
@@ -57,10 +56,6 @@ FormFound bad count text list (Form.Bad line) = LineIs bad line
 -- The lines below the first six.
 abbrev pub BelowFound : List ℕ → Form → Type 0
 BelowFound plan form = FormFound (planBadBelow plan) (detoursTold plan) (detourText plan) plan form
-
--- Lines of detours that are all as described, and rows with room for them.
-abbrev pub FillReady : List ℕ → ℕ → ℕ → List ℕ → List ℕ → Type 0
-FillReady text at detours froms tos = PairsReady detourKey text at detours froms tos
 
 -- A form that some text has.
 abbrev pub FormWithin : List ℕ → Form → Type 0

@@ -3,13 +3,12 @@
 ghost use mathlib.Core.Path.{_≡_};
 ghost use Prim.Native.Nat.{_≤_};
 ghost use lib.ListN.{length, drop};
-ghost use Rattle.text_lines.specs.Lines.{firstIn, secondIn, isPairLine, isTripleLine};
+ghost use Rattle.text_lines.specs.Lines.{isPairLine, isTripleLine};
 ghost use Rattle.runs.specs.Run.{mostWants};
 ghost use Rattle.sheet_writer.specs.PlanSheet.{detourKey, timeKey};
 ghost use Rattle.sheet_lists.specs.Form.{mostDetours, linesIn, linesUpTo, firstBadToEnd, detoursTold, detourText, planBadLine, listDetours, listText, listBadLine};
 ghost use Rattle.sheet_lists.specs.Reading.{PlanRead, ListRead};
-ghost use Rattle.sheet_reader.specs.Private.{filledRow};
-ghost use Rattle.sheet_lists.specs.Private.{TopFound, BelowAt, BelowFound, FormFound, FillReady, FormWithin, ReadAs};
+ghost use Rattle.sheet_lists.specs.Private.{TopFound, BelowAt, BelowFound, FormFound, FormWithin, ReadAs};
 use refusals::Refusal;
 use refusals::Verdict;
 use refusals::refuse_at;
@@ -19,9 +18,8 @@ use sheet_reader::NameLine;
 use sheet_reader::tape_line;
 use text_lines::Lines;
 use text_lines::NumberLine;
-use text_lines::PairLine;
+use text_lines::fill_pairs;
 use text_lines::number_line;
-use text_lines::pair_line;
 use text_lines::pair_lines;
 use text_lines::triple_lines;
 
@@ -166,31 +164,6 @@ fn judge_list(list: &[u8]) -> Form
     judge_bare(list)
 }
 
-// The starts and ends of lines already judged, into the first entries of two rows.
-fn fill(text: &[u8], at: usize, detours: u64, froms: &mut [u64], tos: &mut [u64])
-    requires { ⌜ FillReady (now text) at detours (now froms) (now tos) ⌝ }
-    ensures { λ _. ⌜ now (froms .exit) ≡ filledRow (firstIn detourKey) (drop at (now (text .entry))) detours (now (froms .entry)) ⌝ }
-    ensures { λ _. ⌜ now (tos .exit) ≡ filledRow (secondIn detourKey) (drop at (now (text .entry))) detours (now (tos .entry)) ⌝ }
-{
-    let mut next = at;
-    let mut i: usize = 0;
-    let most = detours as usize;
-    while i < most {
-        let PairLine::Both {
-            first,
-            second,
-            next: after,
-        } = pair_line(text, next, b"detour=")
-        else {
-            return;
-        };
-        froms[i] = first;
-        tos[i] = second;
-        next = after;
-        i += 1;
-    }
-}
-
 // The answer to a form: its line refused by 11, a row too short by 8, or the list in the rows.
 fn read_as(list: &[u8], form: Form, froms: &mut [u64], tos: &mut [u64]) -> ListReading
     requires { ⌜ FormWithin (now list) form ⌝ }
@@ -214,7 +187,7 @@ fn read_as(list: &[u8], form: Form, froms: &mut [u64], tos: &mut [u64]) -> ListR
                     detours: 0,
                 };
             }
-            fill(list, at, detours, froms, tos);
+            fill_pairs(list, at, b"detour=", detours, froms, tos);
             ListReading {
                 verdict: refuse_if(false, Refusal::ShortRow),
                 detours,

@@ -12,13 +12,13 @@ use Rattle.refusals.specs.declared.Verdict.{Verdict}
 use Rattle.refusals.specs.Refusals.{isRefusal, accepted, refuseIf, refuseAt, firstOf, firstWhere}
 use Rattle.refusals.proofs.Verdicts.{refuse-at, test-says, last-at, accepts-if}
 use Rattle.runs.proofs.Search.{or-false-both}
-use Rattle.text_lines.specs.Lines.{afterLines, isPairLine, firstIn, secondIn, firstBadOf, eachOf}
+use Rattle.text_lines.specs.Lines.{afterLines, isPairLine, firstIn, secondIn, firstBadOf, eachOf, filledRow}
+use Rattle.text_lines.specs.Found.{PairsRead}
+use Rattle.text_lines.proofs.Filling.{length-each, PairsReady, pairs-read}
 use Rattle.sheet_reader.specs.Lines.{fileKey, wantKey}
 use Rattle.text_lines.specs.Lines.{isTripleLine}
 use Rattle.sheet_reader.specs.Sheet.{longestSheet, mostSheetFiles, fileText, firstSome}
 use Rattle.sheet_reader.specs.Reading.{shortPairRows, readRow}
-use Rattle.sheet_reader.specs.Private.{PairsReady, filledRow}
-use Rattle.sheet_reader.proofs.Rows.{length-each}
 use Rattle.sheet_loose.specs.declared.Parts.{Parts}
 use Rattle.sheet_loose.specs.declared.Block.{Block}
 use Rattle.sheet_loose.specs.declared.Top.{Top}
@@ -92,20 +92,19 @@ module _ (sheet wanted counts : List ℕ) (parts : Parts) (found : PartsFound sh
   abbrev short : Bool
   short = ltb (length wanted) (parts .wants) || ltb (length counts) (parts .wants)
 
-  pub rows-ready : PairsReady wantKey sheet (judged .body) (judged .wants) wanted counts
+  rows-ready : PairsReady wantKey sheet (judged .body) (judged .wants) wanted counts
   unfolding firstBadOf firstWhere
   rows-ready = go short refl
     where
       go : (b : Bool) → short ≡ b → PairsReady wantKey sheet (judged .body) (judged .wants) wanted counts
       go true e =
           let is : judged ≡ refusedParts (refuseIf true ShortRow) = judged-is ∙ rw e in
-          subst (λ p. PairsReady wantKey sheet (p .body) (p .wants) wanted counts) (sym is) (record { within = omega arith; none = refl; room = omega arith; space = omega arith })
+          subst (λ p. PairsReady wantKey sheet (p .body) (p .wants) wanted counts) (sym is) (record { none = refl; room = omega arith; space = omega arith })
       go false e =
           let is : judged ≡ parts = judged-is ∙ rw e in
           let both = or-false-both (ltb (length wanted) (parts .wants)) (ltb (length counts) (parts .wants)) e in
           subst (λ p. PairsReady wantKey sheet (p .body) (p .wants) wanted counts) (sym is)
           (record {
-            within = found .within;
             none = found .good;
             room = ltb-false (length wanted) (parts .wants) (both .0);
             space = ltb-false (length counts) (parts .wants) (both .1);
@@ -114,21 +113,24 @@ module _ (sheet wanted counts : List ℕ) (parts : Parts) (found : PartsFound sh
   abbrev lv : Verdict
   lv = looseVerdict sheet
 
-  pub loose-read : (wanted′ counts′ : List ℕ) → wanted′ ≡ filledRow (firstIn wantKey) (drop (judged .body) sheet) (judged .wants) wanted
-      → counts′ ≡ filledRow (secondIn wantKey) (drop (judged .body) sheet) (judged .wants) counts → LooseRead sheet wanted counts judged wanted′ counts′
+  pub loose-read : (wanted′ counts′ : List ℕ) → PairsRead wantKey sheet (judged .body) (judged .wants) wanted counts wanted′ counts′
+      → LooseRead sheet wanted counts judged wanted′ counts′
   unfolding looseParts wantRowsVerdict readRow eachOf wantedFiles wantedCounts
-  loose-read wanted′ counts′ w-is c-is = go (isRefusal (lv .refusal)) refl short refl
+  loose-read wanted′ counts′ p = go (isRefusal (lv .refusal)) refl short refl
     where
+      filled : (wanted′ ≡ filledRow (firstIn wantKey) (drop (judged .body) sheet) (judged .wants) wanted) × (counts′ ≡ filledRow (secondIn wantKey) (drop (judged .body) sheet) (judged .wants) counts)
+      filled = pairs-read wantKey sheet (judged .body) (judged .wants) wanted counts rows-ready wanted′ counts′ p
+
       go : (r : Bool) → isRefusal (lv .refusal) ≡ r → (b : Bool) → short ≡ b → LooseRead sheet wanted counts judged wanted′ counts′
       go true e b s =
           let parts-are : parts ≡ refusedParts lv = found .same ∙ rw e in
           let same : judged ≡ refusedParts lv = judged-is ∙ rw (parts-are, le-ltb (length wanted) 0 (omega arith), le-ltb (length counts) 0 (omega arith)) in
-          record { answer = same ∙ rw (e, e); files = w-is ∙ rw (same, e, e); reads = c-is ∙ rw (same, e, e) }
+          record { answer = same ∙ rw (e, e); files = filled .0 ∙ rw (same, e, e); reads = filled .1 ∙ rw (same, e, e) }
       go false e true s =
           let parts-are : parts ≡ sheetParts sheet = found .same ∙ rw e in
           let same : judged ≡ refusedParts (refuseIf true ShortRow) = judged-is ∙ rw s in
           let many : shortPairRows (looseWants sheet) wanted counts ≡ true = ap (λ p. ltb (length wanted) (p .wants) || ltb (length counts) (p .wants)) (sym parts-are) ∙ s in
-          record { answer = same ∙ rw (e, many); files = w-is ∙ rw (same, e, many); reads = c-is ∙ rw (same, e, many) }
+          record { answer = same ∙ rw (e, many); files = filled .0 ∙ rw (same, e, many); reads = filled .1 ∙ rw (same, e, many) }
       go false e false s =
           let parts-are : parts ≡ sheetParts sheet = found .same ∙ rw e in
           let same : judged ≡ parts = judged-is ∙ rw s in
@@ -137,8 +139,8 @@ module _ (sheet wanted counts : List ℕ) (parts : Parts) (found : PartsFound sh
           let text : drop (judged .body) sheet ≡ looseWantText sheet = ap (λ p. drop (p .body) sheet) same ∙ found .rest e in
           record {
             answer = same ∙ parts-are ∙ rw (e, many);
-            files = w-is ∙ rw (wants, text, e, many, length-each);
-            reads = c-is ∙ rw (wants, text, e, many, length-each);
+            files = filled .0 ∙ rw (wants, text, e, many, length-each);
+            reads = filled .1 ∙ rw (wants, text, e, many, length-each);
           }
 
 -- The contract determines the answer and both rows.

@@ -12,14 +12,13 @@ use Rattle.runs.proofs.Search.{first-before, first-all, first-zero, first-none}
 use Rattle.text_bytes.specs.Text.{lineFeed, behind, isEmpty, isNumber, startsWith}
 use Rattle.text_bytes.proofs.Bytes.{and-true-both, begun-long}
 use Rattle.text_lines.specs.declared.NumberLine.{NumberLine}
-use Rattle.text_lines.specs.Lines.{lineOf, afterLines, lineAfter, valueText, isPair, isPairLine, firstBadOf}
+use Rattle.text_lines.specs.Lines.{lineOf, afterLines, lineAfter, valueText, isPair, isPairLine, firstBadOf, linesBefore}
 use Rattle.text_lines.specs.Found.{Passed, NumberLineFound, LinesPassed, LineBad}
 use Rattle.sheet_reader.specs.declared.NameLine.{NameLine}
 use Rattle.sheet_reader.specs.declared.RuleLine.{RuleLine}
 use Rattle.sheet_reader.specs.Lines.{turnKey, wantKey, isTapeLine, isTurnLine, isRuleLine, namesSweep}
 use Rattle.sheet_reader.specs.Found.{NamePart, NameLineFound, RuleLineFound}
 use Rattle.sheet_reader.proofs.Good.{line-split}
-use Rattle.sheet_loose.specs.Loose.{linesBefore}
 use Rattle.sheet_loose.specs.Private.{Stands, BlockFound}
 
 -- What the readers of a line answered.

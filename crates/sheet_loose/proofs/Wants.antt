@@ -7,10 +7,10 @@ use native.Mathlib.Omega.{arith}
 use lib.ListN.{length}
 use Rattle.refusals.specs.Refusals.{firstWhere}
 use Rattle.runs.proofs.Search.{first-before, first-all}
-use Rattle.text_lines.specs.Lines.{afterLines, lineAfter, isPairLine, firstBadOf}
+use Rattle.text_lines.specs.Lines.{afterLines, lineAfter, isPairLine, firstBadOf, linesBefore}
 use Rattle.sheet_reader.specs.Lines.{wantKey}
 use Rattle.sheet_reader.specs.Sheet.{longestSheet, fileText}
-use Rattle.sheet_loose.specs.Loose.{linesBefore, looseFiles, looseWantsText, looseWantText, looseWants}
+use Rattle.sheet_loose.specs.Loose.{looseFiles, looseWantsText, looseWantText, looseWants}
 use Rattle.sheet_loose.proofs.Passing.{wants-long}
 use Rattle.sheet_loose.proofs.Ends.{Ends, ends-on, after-ends}
 

@@ -1,18 +1,13 @@
 -- A loose sheet: a run sheet as it comes by mail, before it is mended. Its lines are document 01's, in its order and form, but for the two counts: after
 -- `files=` stands any number and up to 256 file lines follow, after `wants=` any number and want lines to the end.
-use Prim.Native.Nat.{ℕ, suc, zero, _+_, _-_}
+use Prim.Native.Nat.{ℕ, _+_}
 use mathlib.Core.Bool.{Bool}
 use mathlib.Core.List.{List, [], _∷_}
 use lib.ListN.{length}
 use Rattle.text_bytes.specs.Text.{isEmpty}
-use Rattle.text_lines.specs.Lines.{lineOf, afterLines, lineAfter, valueText, isNumberLine, numberBehind, isPairLine, firstIn, secondIn, isTripleLine, firstBadOf, eachOf}
+use Rattle.text_lines.specs.Lines.{lineOf, afterLines, lineAfter, valueText, isNumberLine, numberBehind, isPairLine, firstIn, secondIn, isTripleLine, firstBadOf, eachOf, linesBefore}
 use Rattle.sheet_reader.specs.Lines.{headKey, turnKey, filesKey, fileKey, wantsKey, wantKey, isTapeLine, isTurnLine, isRuleLine}
 use Rattle.sheet_reader.specs.Sheet.{longestSheet, mostSheetFiles, fileText, unless, firstSome}
-
--- Of so many lines at most, how many come before the first that is not as described (0: they all are).
-abbrev pub linesBefore : ℕ → ℕ → ℕ
-linesBefore most zero = most
-linesBefore most (suc line) = line
 
 -- The file lines that come; the text from the `wants` line on, and from the first want line on; the want lines that come (a sheet has fewer lines than
 -- bytes); and what stands behind them.

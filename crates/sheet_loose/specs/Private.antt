@@ -7,7 +7,7 @@ use lib.ListN.{length, drop}
 use lib.Dec.{ltb}
 use Rattle.refusals.specs.declared.Refusal.the-variants.{ShortRow}
 use Rattle.refusals.specs.Refusals.{isRefusal, refuseIf}
-use Rattle.text_lines.specs.Lines.{afterLines, isPairLine, firstBadOf}
+use Rattle.text_lines.specs.Lines.{afterLines, isPairLine, firstBadOf, linesBefore}
 use Rattle.sheet_reader.specs.Lines.{wantKey}
 use Rattle.sheet_reader.specs.Sheet.{mostSheetFiles, sheetTurn, saysSweep, sheetFiles, fileText}
 use Rattle.sheet_loose.specs.declared.Parts.{Parts}
@@ -15,7 +15,7 @@ use Rattle.sheet_loose.specs.declared.Top.{Top}
 use Rattle.sheet_loose.specs.declared.TopRead.{TopRead}
 use Rattle.sheet_loose.specs.declared.Block.{Block}
 use Rattle.sheet_loose.specs.declared.BelowRead.{BelowRead}
-use Rattle.sheet_loose.specs.Loose.{linesBefore, looseFiles, looseWantsText, looseWantText, looseWants, wantsSaid, priceLeftOut, firstBadLooseTop, firstBadLooseBelow}
+use Rattle.sheet_loose.specs.Loose.{looseFiles, looseWantsText, looseWantText, looseWants, wantsSaid, priceLeftOut, firstBadLooseTop, firstBadLooseBelow}
 use Rattle.sheet_loose.specs.Reading.{looseVerdict, refusedParts, looseParts}
 
 -- A text that ends a sheet stands at a position.

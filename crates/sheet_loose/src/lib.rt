@@ -2,11 +2,10 @@
 // For the mender, which sees only this contract. What the words mean stands in specs/.
 ghost use Prim.Native.Nat.{_≤_};
 ghost use mathlib.Core.Path.{_≡_};
-ghost use lib.ListN.{length, drop};
-ghost use Rattle.text_lines.specs.Lines.{firstIn, secondIn, isPairLine, isTripleLine};
+ghost use lib.ListN.{length};
+ghost use Rattle.text_lines.specs.Lines.{isPairLine, isTripleLine};
 ghost use Rattle.sheet_reader.specs.Lines.{fileKey, wantKey};
 ghost use Rattle.sheet_reader.specs.Sheet.{longestSheet, mostSheetFiles};
-ghost use Rattle.sheet_reader.specs.Private.{PairsReady, filledRow};
 ghost use Rattle.sheet_loose.specs.Reading.{refusedParts, LooseRead};
 ghost use Rattle.sheet_loose.specs.Private.{TopFound, BlockFound, WantsAt, BelowFound, PartsFound, rowsJudged};
 use refusals::Refusal;
@@ -23,9 +22,8 @@ use sheet_reader::tape_line;
 use sheet_reader::turn_line;
 use text_lines::Lines;
 use text_lines::NumberLine;
-use text_lines::PairLine;
+use text_lines::fill_pairs;
 use text_lines::number_line;
-use text_lines::pair_line;
 use text_lines::pair_lines;
 use text_lines::triple_lines;
 
@@ -252,36 +250,11 @@ fn judge_rows(parts: Parts, wanted: usize, counts: usize) -> Parts
     parts
 }
 
-// The files and the counts of want lines already judged, into the first entries of two rows.
-fn fill(sheet: &[u8], at: usize, lines: u64, wanted: &mut [u64], counts: &mut [u64])
-    requires { ⌜ PairsReady wantKey (now sheet) at lines (now wanted) (now counts) ⌝ }
-    ensures { λ _. ⌜ now (wanted .exit) ≡ filledRow (firstIn wantKey) (drop at (now (sheet .entry))) lines (now (wanted .entry)) ⌝ }
-    ensures { λ _. ⌜ now (counts .exit) ≡ filledRow (secondIn wantKey) (drop at (now (sheet .entry))) lines (now (counts .entry)) ⌝ }
-{
-    let mut next = at;
-    let mut i: usize = 0;
-    let most = lines as usize;
-    while i < most {
-        let PairLine::Both {
-            first,
-            second,
-            next: after,
-        } = pair_line(sheet, next, b"want=")
-        else {
-            return;
-        };
-        wanted[i] = first;
-        counts[i] = second;
-        next = after;
-        i += 1;
-    }
-}
-
 // The parts of a sheet, and its want lines in the first entries of two rows.
 pub fn read_loose(sheet: &[u8], wanted: &mut [u64], counts: &mut [u64]) -> Parts
     ensures { λ r. ⌜ LooseRead (now (sheet .entry)) (now (wanted .entry)) (now (counts .entry)) r (now (wanted .exit)) (now (counts .exit)) ⌝ }
 {
     let parts = judge_rows(read_parts(sheet), wanted.len(), counts.len());
-    fill(sheet, parts.body, parts.wants, wanted, counts);
+    fill_pairs(sheet, parts.body, b"want=", parts.wants, wanted, counts);
     parts
 }

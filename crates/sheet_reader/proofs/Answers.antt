@@ -15,13 +15,14 @@ use Rattle.refusals.proofs.Verdicts.{all-accept, accepts-if}
 use Rattle.runs.proofs.Search.{or-false-both}
 use Rattle.sheet_reader.specs.declared.Reading.{Reading}
 use Rattle.sheet_reader.specs.declared.reader.Judged.{Judged}
-use Rattle.text_lines.specs.Lines.{afterLines, isPairLine, firstIn, secondIn, isTripleLine, middleIn, thirdIn, firstBadOf, eachOf}
+use Rattle.text_lines.specs.Lines.{afterLines, isPairLine, firstIn, secondIn, isTripleLine, middleIn, thirdIn, firstBadOf, eachOf, filledRow}
 use Rattle.sheet_reader.specs.Lines.{fileKey, wantKey}
 use Rattle.sheet_reader.specs.Sheet.{sheetName}
 use Rattle.sheet_reader.specs.Reading.{ruleVerdict, readVerdict, readAnswer, readRow, RunRows, runRows, SheetRead, readName, readFrom, placeOn, shortPairRows, shortTripleRows}
 use Rattle.sheet_reader.specs.Found.{NamePart}
-use Rattle.sheet_reader.specs.Private.{JudgedGood, JudgedFound, PairsReady, TriplesReady, filledRow, linesFilled, readingOf}
-use Rattle.sheet_reader.proofs.Rows.{length-each}
+use Rattle.sheet_reader.specs.Private.{JudgedGood, JudgedFound, TriplesReady, ruledOf, filesVerdict, linesFilled, readingOf}
+use Rattle.text_lines.specs.Found.{PairsRead}
+use Rattle.text_lines.proofs.Filling.{length-each, PairsReady, pairs-read}
 
 -- Two pairs of rows judged one after the other are judged together.
 both-judged : (w : Verdict) (a b : Bool) → firstOf (firstOf (w ∷ refuseIf a ShortRow ∷ []) ∷ refuseIf b ShortRow ∷ []) ≡ firstOf (w ∷ refuseIf (a || b) ShortRow ∷ [])
@@ -68,11 +69,20 @@ row-read v count n n-is value values row said = go (isRefusal (v .refusal)) refl
     go true e = let none : n ≡ 0 = n-is ∙ rw e in rw (e, none)
     go false e = let all : n ≡ count = n-is ∙ rw e in rw (e, all, said e, length-each value count)
 
--- k is the verdict with 19, u after the files' rows of starts and lengths, t after that of aggregates, v after all; m and n are how many lines are filled.
-module _ (sheet : List ℕ) (judged : Judged) (found : JudgedFound sheet judged) (starts lengths aggregates numbers counts : List ℕ) (k u t v : Verdict)
-    (k-is : k ≡ firstOf (judged .verdict ∷ refuseAt (cond (judged .top .sweep) 4 0) RetiredRule ∷ []))
-    (u-is : u ≡ firstOf (k ∷ refuseIf (shortPairRows (judged .top .files) starts lengths) ShortRow ∷ []))
-    (t-is : t ≡ firstOf (u ∷ refuseIf (ltb (length aggregates) (judged .top .files)) ShortRow ∷ []))
+-- The rows of files are judged after the rule: k is the verdict with 19, u after starts and lengths, t after aggregates.
+pub files-judged : (judged : Judged) (starts lengths aggregates : ℕ) (k u t : Verdict) → k ≡ ruledOf judged
+    → u ≡ firstOf (k ∷ refuseIf (ltb starts (judged .top .files) || ltb lengths (judged .top .files)) ShortRow ∷ [])
+    → t ≡ firstOf (u ∷ refuseIf (ltb aggregates (judged .top .files)) ShortRow ∷ []) → t ≡ filesVerdict judged starts lengths aggregates
+files-judged judged starts lengths aggregates k u t k-is u-is t-is =
+    let short = ltb starts (judged .top .files) || ltb lengths (judged .top .files) in
+    let many = ltb aggregates (judged .top .files) in
+    t-is ∙ ap (λ x. firstOf (x ∷ refuseIf many ShortRow ∷ [])) u-is
+    ∙ both-judged k short many
+    ∙ ap (λ x. firstOf (x ∷ refuseIf (short || many) ShortRow ∷ [])) k-is
+
+-- t is the verdict after the files' rows, v after all; m and n are how many lines are filled.
+module _ (sheet : List ℕ) (judged : Judged) (found : JudgedFound sheet judged) (starts lengths aggregates numbers counts : List ℕ) (t v : Verdict)
+    (t-is : t ≡ filesVerdict judged (length starts) (length lengths) (length aggregates))
     (v-is : v ≡ firstOf (t ∷ refuseIf (shortPairRows (judged .wants) numbers counts) ShortRow ∷ [])) where
   abbrev short-files : Bool
   short-files = shortTripleRows (judged .top .files) starts lengths aggregates
@@ -80,20 +90,14 @@ module _ (sheet : List ℕ) (judged : Judged) (found : JudgedFound sheet judged)
   abbrev short-wants : Bool
   short-wants = shortPairRows (judged .wants) numbers counts
 
-  files-judged : t ≡ firstOf (k ∷ refuseIf short-files ShortRow ∷ [])
-  files-judged =
-      t-is ∙ ap (λ x. firstOf (x ∷ refuseIf (ltb (length aggregates) (judged .top .files)) ShortRow ∷ [])) u-is
-      ∙ both-judged k (shortPairRows (judged .top .files) starts lengths) (ltb (length aggregates) (judged .top .files))
-
   abbrev retired : Verdict
   retired = refuseAt (cond (judged .top .sweep) 4 0) RetiredRule
 
   read-verdict : v ≡ readVerdict sheet starts lengths aggregates numbers counts
   unfolding readVerdict ruleVerdict
   read-verdict =
-      v-is ∙ ap (λ x. firstOf (x ∷ refuseIf short-wants ShortRow ∷ [])) files-judged
-      ∙ both-judged k short-files short-wants
-      ∙ ap (λ x. firstOf (x ∷ refuseIf (short-files || short-wants) ShortRow ∷ [])) k-is
+      v-is ∙ ap (λ x. firstOf (x ∷ refuseIf short-wants ShortRow ∷ [])) t-is
+      ∙ both-judged (ruledOf judged) short-files short-wants
       ∙ in-turn (judged .verdict) retired (refuseIf (short-files || short-wants) ShortRow ∷ [])
       ∙ go (isRefusal (judged .verdict .refusal)) refl
     where
@@ -108,13 +112,13 @@ module _ (sheet : List ℕ) (judged : Judged) (found : JudgedFound sheet judged)
         let all = all-accept (t ∷ refuseIf short-wants ShortRow ∷ []) (rw (← v-is) e) in
         (all .0, accepts-if short-wants ShortRow refl (all .1 .0))
 
-    files-pass : (isRefusal (k .refusal) ≡ false) × (short-files ≡ false)
+    files-pass : (isRefusal (ruledOf judged .refusal) ≡ false) × (short-files ≡ false)
     files-pass =
-        let all = all-accept (k ∷ refuseIf short-files ShortRow ∷ []) (rw (← files-judged) (wants-pass .0)) in
+        let all = all-accept (ruledOf judged ∷ refuseIf short-files ShortRow ∷ []) (rw (← t-is) (wants-pass .0)) in
         (all .0, accepts-if short-files ShortRow refl (all .1 .0))
 
     parts : JudgedGood sheet judged
-    parts = found .out (all-accept (judged .verdict ∷ retired ∷ []) (rw (← k-is) (files-pass .0)) .0)
+    parts = found .out (all-accept (judged .verdict ∷ retired ∷ []) (files-pass .0) .0)
 
     -- Each row has room for its lines.
     wants-room : (ltb (length numbers) (judged .wants) ≡ false) × (ltb (length counts) (judged .wants) ≡ false)
@@ -138,10 +142,9 @@ module _ (sheet : List ℕ) (judged : Judged) (found : JudgedFound sheet judged)
         }
 
     module _ (n : ℕ) (n-is : n ≡ linesFilled v (judged .wants)) where
-      pub wants-ready : PairsReady wantKey sheet (judged .at) n numbers counts
+      wants-ready : PairsReady wantKey sheet (judged .at) n numbers counts
       wants-ready =
           record {
-            within = found .want-at;
             none = lines-ready v (judged .wants) n n-is (isPairLine wantKey) (drop (judged .at) sheet) (λ e. rw (parts e .below .count, parts e .below .rest) (parts e .below .wanted));
             room = row-ready v (judged .wants) n n-is numbers (λ e. wants-room e .0);
             space = row-ready v (judged .wants) n n-is counts (λ e. wants-room e .1);
@@ -158,15 +161,13 @@ module _ (sheet : List ℕ) (judged : Judged) (found : JudgedFound sheet judged)
       abbrev file-lines : List ℕ
       file-lines = drop (judged .top .next) sheet
 
-      abbrev want-lines : List ℕ
-      want-lines = drop (judged .at) sheet
-
       pub sheet-read : (r : Reading) (starts′ lengths′ aggregates′ numbers′ counts′ : List ℕ) → r ≡ readingOf v (judged .top) (judged .wants)
           → (starts′ ≡ filledRow (firstIn fileKey) file-lines m starts) × ((lengths′ ≡ filledRow (middleIn fileKey) file-lines m lengths) × (aggregates′ ≡ filledRow (thirdIn fileKey) file-lines m aggregates))
-          → (numbers′ ≡ filledRow (firstIn wantKey) want-lines n numbers) × (counts′ ≡ filledRow (secondIn wantKey) want-lines n counts)
+          → PairsRead wantKey sheet (judged .at) n numbers counts numbers′ counts′
           → SheetRead sheet (runRows starts lengths aggregates numbers counts) r (runRows starts′ lengths′ aggregates′ numbers′ counts′)
       unfolding readAnswer
-      sheet-read r starts′ lengths′ aggregates′ numbers′ counts′ r-is files wants =
+      sheet-read r starts′ lengths′ aggregates′ numbers′ counts′ r-is files filled =
+          let wants = pairs-read wantKey sheet (judged .at) n numbers counts wants-ready numbers′ counts′ filled in
           record {
             answer = rw (← read-verdict) (r-is ∙ answer-read);
             starts = rw (← read-verdict) (files .0 ∙ row-read v (judged .top .files) m m-is _ _ starts (λ e. rw (parts e .upper .files, parts e .upper .rest)));

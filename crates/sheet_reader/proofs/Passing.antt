@@ -20,6 +20,7 @@ use Rattle.text_lines.proofs.Determined.{place-determined}
 use Rattle.text_lines.proofs.Passing.{unkeyed, unkeyed-line, value-at, line-passed, some-text, no-text, no-number, number-is}
 use Rattle.sheet_reader.specs.Lines.{tapeKey, turnKey, ruleKey, leastText, sweepText, isTapeLine, isCountLine, isTurnLine, turnWith, emptyTurn, turnIn, isRuleLine, namesSweep}
 use Rattle.sheet_reader.specs.Found.{NamePart, NameLineFound, RuleLineFound}
+use Rattle.sheet_reader.specs.Private.{leastLine}
 
 -- `turn=` with a number, or with nothing.
 module _ (sheet : List ℕ) (at : ℕ) (r : Keyed) (found : ValueFound turnKey sheet at r) (from end : ℕ) (e : r ≡ Keyed.Text from end) where
@@ -58,18 +59,28 @@ module _ (sheet : List ℕ) (at : ℕ) (r : Keyed) (found : ValueFound ruleKey s
   rule-line-sweep f =
       (line-passed ruleKey sheet at r found from end e isRuleLine (rw (sweep-is ∙ f, rule-begun)), rw (rule-begun, sweep-is ∙ f))
 
-  module _ (l : Bool) (leasts : l ≡ isText leastText (take (end - from) (drop from sheet))) where
+  abbrev rule : List ℕ
+  rule = take (end - from) (drop from sheet)
+
+  module _ (l : Bool) (leasts : l ≡ isText leastText rule) where
     least-is : isText leastText (valueText ruleKey (lineOf (drop at sheet))) ≡ l
     least-is = ap (isText leastText) (sym (value-at ruleKey sheet at r found from end e .value)) ∙ sym leasts
 
-    pub rule-line-least : s ≡ false → l ≡ true → Passed isRuleLine sheet at (end + 1) × (false ≡ namesSweep (lineOf (drop at sheet)))
+    rule-line-least : s ≡ false → l ≡ true → Passed isRuleLine sheet at (end + 1) × (false ≡ namesSweep (lineOf (drop at sheet)))
     unfolding isRuleLine namesSweep
     rule-line-least f g =
         (line-passed ruleKey sheet at r found from end e isRuleLine (rw (sweep-is ∙ f, least-is ∙ g, rule-begun)), rw (rule-begun, sweep-is ∙ f))
 
-    pub rule-line-bad : s ≡ false → l ≡ false → isRuleLine (lineOf (drop at sheet)) ≡ false
+    rule-line-bad : s ≡ false → l ≡ false → isRuleLine (lineOf (drop at sheet)) ≡ false
     unfolding isRuleLine
     rule-line-bad f g = rw (sweep-is ∙ f, least-is ∙ g, and-false)
+
+  pub rule-line-other : s ≡ false → (q : RuleLine) → q ≡ leastLine rule end → RuleLineFound sheet at q
+  rule-line-other f q q-is = go (isText leastText rule) refl
+    where
+      go : (l : Bool) → isText leastText rule ≡ l → RuleLineFound sheet at q
+      go true g = rw (q-is, g) (rule-line-least (isText leastText rule) refl f g)
+      go false g = rw (q-is, g) (rule-line-bad (isText leastText rule) refl f g)
 
 -- A line without its key is not as described.
 pub unkeyed-turn : (text : List ℕ) → (has lineFeed text && startsWith turnKey (lineOf text)) ≡ false → isTurnLine (lineOf text) ≡ false

@@ -1,19 +1,22 @@
 -- What the functions that read parts of a sheet find, by cases of their answers. No public contract cites this file.
 use Prim.Native.Nat.{ℕ, _+_, _-_, _≤_, _<_}
 use mathlib.Core.Path.{_≡_}
-use mathlib.Core.Bool.{false, cond}
-use mathlib.Core.List.{List, _++_}
+use mathlib.Core.Bool.{false, cond, _||_}
+use mathlib.Core.List.{List, [], _∷_}
 use lib.ListN.{length, drop}
-use Rattle.refusals.specs.declared.Refusal.the-variants.{Accepted}
+use lib.Dec.{ltb}
+use Rattle.refusals.specs.declared.Refusal.the-variants.{Accepted, ShortRow, RetiredRule}
 use Rattle.refusals.specs.declared.Verdict.{Verdict}
-use Rattle.refusals.specs.Refusals.{isRefusal}
+use Rattle.refusals.specs.Refusals.{isRefusal, refuseIf, refuseAt, firstOf}
 use Rattle.sheet_reader.specs.declared.Reading.{Reading}
+use Rattle.sheet_reader.specs.declared.RuleLine.{RuleLine}
 use Rattle.sheet_reader.specs.declared.reader.Top.{Top}
 use Rattle.sheet_reader.specs.declared.reader.TopRead.{TopRead}
 use Rattle.sheet_reader.specs.declared.reader.BelowRead.{BelowRead}
 use Rattle.sheet_reader.specs.declared.reader.Judged.{Judged}
-use Rattle.text_lines.specs.Lines.{lineAfter, isPairLine, isTripleLine, firstBadOf, eachOf}
-use Rattle.sheet_reader.specs.Lines.{fileKey, wantKey}
+use Rattle.text_bytes.specs.Text.{isText}
+use Rattle.text_lines.specs.Lines.{isPairLine, isTripleLine, firstBadOf}
+use Rattle.sheet_reader.specs.Lines.{fileKey, wantKey, leastText}
 use Rattle.sheet_reader.specs.Found.{NamePart}
 use Rattle.sheet_reader.specs.Sheet.{mostSheetFiles, sheetHead, sheetTurn, saysSweep, sheetFiles, fileText, wantsText, sheetWants, wantText, firstBadTop, firstBadBelow}
 use Rattle.sheet_reader.specs.Reading.{sheetVerdict, refusedReading}
@@ -87,13 +90,7 @@ pub record JudgedFound (sheet : List ℕ) (judged : Judged) : Type 0 where
   pub want-at : judged .at ≤ length sheet
   pub out : isRefusal (judged .verdict .refusal) ≡ false → JudgedGood sheet judged
 
--- Lines of pairs, or of three numbers, that are all as described, and rows with room for them.
-pub record PairsReady (key sheet : List ℕ) (at count : ℕ) (firsts seconds : List ℕ) : Type 0 where
-  pub within : at ≤ length sheet
-  pub none : firstBadOf (isPairLine key) count (drop at sheet) ≡ 0
-  pub room : count ≤ length firsts
-  pub space : count ≤ length seconds
-
+-- Lines of three numbers that are all as described, and rows with room for them.
 pub record TriplesReady (key sheet : List ℕ) (at count : ℕ) (firsts seconds thirds : List ℕ) : Type 0 where
   pub within : at ≤ length sheet
   pub none : firstBadOf (isTripleLine key) count (drop at sheet) ≡ 0
@@ -101,9 +98,20 @@ pub record TriplesReady (key sheet : List ℕ) (at count : ℕ) (firsts seconds 
   pub space : count ≤ length seconds
   pub more : count ≤ length thirds
 
--- A row with a value of each line in its first entries.
-abbrev pub filledRow : (List ℕ → ℕ) → List ℕ → ℕ → List ℕ → List ℕ
-filledRow value text count row = eachOf (λ i. value (lineAfter i text)) count ++ drop count row
+-- What is judged of a sheet and rows of files of these lengths: 12 and 11, then 19, then 8.
+abbrev pub ruledOf : Judged → Verdict
+ruledOf judged = firstOf (judged .verdict ∷ refuseAt (cond (judged .top .sweep) 4 0) RetiredRule ∷ [])
+
+abbrev pub filesVerdict : Judged → ℕ → ℕ → ℕ → Verdict
+filesVerdict judged starts lengths aggregates =
+    firstOf
+    (ruledOf judged
+    ∷ refuseIf ((ltb starts (judged .top .files) || ltb lengths (judged .top .files)) || ltb aggregates (judged .top .files)) ShortRow
+    ∷ [])
+
+-- What a line that ends so says of the rule, where it does not name the retired one.
+abbrev pub leastLine : List ℕ → ℕ → RuleLine
+leastLine rule end = cond (isText leastText rule) (RuleLine.Value false (end + 1)) RuleLine.Bad
 
 -- How many lines are filled, and what is answered, for a verdict.
 abbrev pub linesFilled : Verdict → ℕ → ℕ

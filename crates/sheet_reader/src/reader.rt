@@ -7,8 +7,8 @@ ghost use lib.Dec.{ltb};
 ghost use Rattle.refusals.specs.declared.Refusal.the-variants.{ShortRow, RetiredRule};
 ghost use Rattle.refusals.specs.Refusals.{refuseIf, refuseAt, firstOf};
 ghost use Rattle.sheet_reader.specs.Reading.{sheetVerdict, runRows, SheetRead, readName, readFrom, placeOn};
-ghost use Rattle.text_lines.specs.Lines.{firstIn, secondIn, middleIn, thirdIn};
-ghost use Rattle.sheet_reader.specs.Private.{TopFound, FilesAt, WantsAt, BelowFound, Unread, JudgedFound, PairsReady, TriplesReady, filledRow, linesFilled, readingOf};
+ghost use Rattle.text_lines.specs.Lines.{firstIn, middleIn, thirdIn, filledRow};
+ghost use Rattle.sheet_reader.specs.Private.{TopFound, FilesAt, WantsAt, BelowFound, Unread, JudgedFound, TriplesReady, filesVerdict, linesFilled, readingOf};
 use crate::LONGEST_SHEET;
 use crate::MOST_SHEET_FILES;
 use crate::NameLine;
@@ -25,10 +25,9 @@ use refusals::refuse_if;
 use refusals::refused;
 use text_lines::Lines;
 use text_lines::NumberLine;
-use text_lines::PairLine;
 use text_lines::TripleLine;
+use text_lines::fill_pairs;
 use text_lines::number_line;
-use text_lines::pair_line;
 use text_lines::pair_lines;
 use text_lines::triple_line;
 use text_lines::triple_lines;
@@ -167,39 +166,7 @@ fn judge_sheet(sheet: &[u8]) -> Judged
     }
 }
 
-// The pairs of lines already judged, into the first entries of two rows.
-fn fill_pair(
-    sheet: &[u8],
-    at: usize,
-    key: &[u8],
-    count: u64,
-    firsts: &mut [u64],
-    seconds: &mut [u64],
-)
-    requires { ⌜ PairsReady (now key) (now sheet) at count (now firsts) (now seconds) ⌝ }
-    ensures { λ _. ⌜ now (firsts .exit) ≡ filledRow (firstIn (now (key .entry))) (drop at (now (sheet .entry))) count (now (firsts .entry)) ⌝ }
-    ensures { λ _. ⌜ now (seconds .exit) ≡ filledRow (secondIn (now (key .entry))) (drop at (now (sheet .entry))) count (now (seconds .entry)) ⌝ }
-{
-    let mut next = at;
-    let mut i: usize = 0;
-    let most = count as usize;
-    while i < most {
-        let PairLine::Both {
-            first,
-            second,
-            next: after,
-        } = pair_line(sheet, next, key)
-        else {
-            return;
-        };
-        firsts[i] = first;
-        seconds[i] = second;
-        next = after;
-        i += 1;
-    }
-}
-
-// The same with three numbers and three rows.
+// The numbers of lines already judged, into the first entries of three rows.
 fn fill_triple(
     sheet: &[u8],
     at: usize,
@@ -271,6 +238,16 @@ fn judge_pair(before: Verdict, count: u64, firsts: usize, seconds: usize) -> Ver
     refuse_if((seconds as u64) < count, Refusal::ShortRow)
 }
 
+// 19, then 8 for rows of files of these lengths, unless what was judged before refuses.
+fn judge_files(judged: Judged, starts: usize, lengths: usize, aggregates: usize) -> Verdict
+    ensures { λ r. ⌜ r ≡ filesVerdict judged starts lengths aggregates ⌝ }
+{
+    let top = judged.top;
+    let ruled = judge_rule(judged.verdict, top.sweep);
+    let paired = judge_pair(ruled, top.files, starts, lengths);
+    judge_row(paired, top.files, aggregates)
+}
+
 // How many lines go into the rows: none on a refusal.
 fn to_fill(verdict: Verdict, lines: u64) -> u64
     ensures { λ r. ⌜ r ≡ linesFilled verdict lines ⌝ }
@@ -317,9 +294,7 @@ pub fn read_sheet(
 {
     let judged = judge_sheet(sheet);
     let top = judged.top;
-    let ruled = judge_rule(judged.verdict, top.sweep);
-    let paired = judge_pair(ruled, top.files, starts.len(), lengths.len());
-    let so_far = judge_row(paired, top.files, aggregates.len());
+    let so_far = judge_files(judged, starts.len(), lengths.len(), aggregates.len());
     let verdict = judge_pair(so_far, judged.wants, numbers.len(), counts.len());
     let file_lines = to_fill(verdict, top.files);
     let want_lines = to_fill(verdict, judged.wants);
@@ -332,7 +307,7 @@ pub fn read_sheet(
         lengths,
         aggregates,
     );
-    fill_pair(sheet, judged.at, b"want=", want_lines, numbers, counts);
+    fill_pairs(sheet, judged.at, b"want=", want_lines, numbers, counts);
     reading_of(verdict, top, judged.wants)
 }
 

@@ -1,13 +1,13 @@
 -- What the run sheet writer answers and leaves in the row, step by step.
 use Prim.Native.Nat.{ℕ, _+_, _≤_, _<_}
 use mathlib.Core.Path.{_≡_, refl, ap, sym, _∙_}
-use mathlib.Core.Bool.{Bool, true, false, not, _||_, true≢false}
+use mathlib.Core.Bool.{Bool, true, false, cond, not, _||_, true≢false}
 use mathlib.Core.List.{List, [], _∷_, _++_}
 use native.Mathlib.Omega.{arith}
 use lib.ListN.{length, take, drop, take-append-drop}
 use lib.Seq.{take-length, length-take-le}
 use lib.Dec.{ltb, leb}
-use borrow.Author.Tests.{lt-ltb, le-ltb, leb-true, ltb-false, not-false}
+use borrow.Author.Tests.{lt-ltb, le-ltb, leb-true, ltb-true, ltb-false, not-false}
 use Rattle.refusals.specs.declared.Refusal.the-variants.{BadName, ShortRow}
 use Rattle.refusals.specs.declared.Verdict.{Verdict}
 use Rattle.refusals.specs.Refusals.{isRefusal, refuseIf, firstOf}
@@ -39,7 +39,7 @@ module _ (text row : List ℕ) (n : ℕ) (row′ : List ℕ) (m : ℕ) (put : Pu
   unfolding writtenAnswer rowVerdict
   handed-answer = r-is ∙ ap (λ x. writtenOf x (length text)) v-is
 
-  pub none-handed : length row < length text → n ≡ 0 → Handed (rowVerdict text row) text row r row′
+  none-handed : length row < length text → n ≡ 0 → Handed (rowVerdict text row) text row r row′
   unfolding writtenRow rowVerdict
   none-handed short none =
       let w = bytes-put (omega arith) (omega arith) in
@@ -47,7 +47,7 @@ module _ (text row : List ℕ) (n : ℕ) (row′ : List ℕ) (m : ℕ) (put : Pu
       let same : row′ ≡ row = rw front at (w .later) in
       record { answer = handed-answer; left = rw (lt-ltb (length row) (length text) short) same }
 
-  pub all-handed : length text ≤ length row → n ≡ length text → Handed (rowVerdict text row) text row r row′
+  all-handed : length text ≤ length row → n ≡ length text → Handed (rowVerdict text row) text row r row′
   unfolding writtenRow rowVerdict
   all-handed long all =
       let w = bytes-put (omega arith) (omega arith) in
@@ -58,6 +58,21 @@ module _ (text row : List ℕ) (n : ℕ) (row′ : List ℕ) (m : ℕ) (put : Pu
         answer = handed-answer;
         left = rw (le-ltb (length row) (length text) long, size, ← w .later) (sym (take-append-drop m row′) ∙ ap (λ t. t ++ drop m row′) bytes);
       }
+
+  pub handed : n ≡ cond (ltb (length row) (length text)) 0 (length text) → Handed (rowVerdict text row) text row r row′
+  handed is = go (ltb (length row) (length text)) refl
+    where
+      go : (b : Bool) → ltb (length row) (length text) ≡ b → Handed (rowVerdict text row) text row r row′
+      go true e = none-handed (ltb-true (length row) (length text) e) (is ∙ rw e)
+      go false e = all-handed (ltb-false (length row) (length text) e) (is ∙ rw e)
+
+-- As many bytes as go into a row are there.
+pub fitting-in : (n text row : ℕ) → n ≡ cond (ltb row text) 0 text → n ≤ text
+fitting-in n text row is = go (ltb row text) refl
+  where
+    go : (b : Bool) → ltb row text ≡ b → n ≤ text
+    go true e = let none : n ≡ 0 = is ∙ rw e in omega arith
+    go false e = let all : n ≡ text = is ∙ rw e in omega arith
 
 -- The first bytes of a page are the text put there.
 pub part-length : (page text : List ℕ) (most : ℕ) (page′ : List ℕ) (n : ℕ) → Wrote page 0 text most page′ n → n ≡ length (take n page′)

@@ -10,7 +10,7 @@ use Rattle.text_lines.specs.declared.PairLine.{PairLine}
 use Rattle.text_lines.specs.declared.TripleLine.{TripleLine}
 use Rattle.text_lines.specs.declared.Lines.{Lines}
 use Rattle.text_bytes.specs.Text.{lineFeed, has, behind, startsWith}
-use Rattle.text_lines.specs.Lines.{lineOf, afterLines, valueText, isPairLine, firstIn, secondIn, isTripleLine, middleIn, thirdIn, firstBadOf}
+use Rattle.text_lines.specs.Lines.{lineOf, afterLines, valueText, isPairLine, firstIn, secondIn, isTripleLine, middleIn, thirdIn, firstBadOf, filledRow, pairsFilled}
 
 -- A line that has its LF and begins with a key: where its value starts and its LF stands.
 pub record ValueAt (key text : List ℕ) (at from end : ℕ) : Type 0 where
@@ -69,3 +69,8 @@ pub record LineBad (test : List ℕ → Bool) (text : List ℕ) (at count line :
 abbrev pub LinesFound : (List ℕ → Bool) → List ℕ → ℕ → ℕ → Lines → Type 0
 LinesFound test text at count (Lines.End next) = LinesPassed test text at count next
 LinesFound test text at count (Lines.Bad line) = LineBad test text at count line
+
+-- Two rows afterwards: the pairs of the lines that go into them, then the later entries as they were.
+pub record PairsRead (key text : List ℕ) (at count : ℕ) (firsts seconds firsts′ seconds′ : List ℕ) : Type 0 where
+  pub left : firsts′ ≡ filledRow (firstIn key) (drop at text) (pairsFilled key (drop at text) count firsts seconds) firsts
+  pub right : seconds′ ≡ filledRow (secondIn key) (drop at text) (pairsFilled key (drop at text) count firsts seconds) seconds

@@ -1,5 +1,5 @@
 -- The lines of a text, and what each kind of line must be. A line is the text before its LF.
-use Prim.Native.Nat.{ℕ, suc, zero}
+use Prim.Native.Nat.{ℕ, suc, zero, min}
 use mathlib.Core.Bool.{Bool, cond, not, _&&_}
 use mathlib.Core.List.{List, [], _∷_, _++_}
 use lib.ListN.{length, drop}
@@ -66,3 +66,21 @@ firstBadOf test count text = firstWhere (λ i. not (test (lineAfter i text))) co
 unfoldable pub eachOf : (ℕ → ℕ) → ℕ → List ℕ
 eachOf value zero = []
 eachOf value (suc n) = eachOf value n ++ (value n ∷ [])
+
+-- Of so many lines at most, how many come before the first that is not as described (0: they all are).
+abbrev pub linesBefore : ℕ → ℕ → ℕ
+linesBefore most zero = most
+linesBefore most (suc line) = line
+
+-- A row with a value of each of so many lines in its first entries.
+abbrev pub filledRow : (List ℕ → ℕ) → List ℕ → ℕ → List ℕ → List ℕ
+filledRow value text count row = eachOf (λ i. value (lineAfter i text)) count ++ drop count row
+
+-- How many of so many lines two rows have entries for.
+abbrev pub heldIn : ℕ → List ℕ → List ℕ → ℕ
+heldIn count firsts seconds = min count (min (length firsts) (length seconds))
+
+-- How many of them go into the rows: those before the first that is no pair.
+unfoldable pub pairsFilled : List ℕ → List ℕ → ℕ → List ℕ → List ℕ → ℕ
+pairsFilled key text count firsts seconds =
+    linesBefore (heldIn count firsts seconds) (firstBadOf (isPairLine key) (heldIn count firsts seconds) text)

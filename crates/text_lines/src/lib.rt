@@ -1,12 +1,15 @@
-// text_lines: readers of single lines: a key and what stands behind it, a number, two numbers, three, and so many lines of one kind.
+// text_lines: readers of single lines: a key and what stands behind it, a number, two numbers, three, and so many lines of one kind; pairs into two rows.
 // For the readers of sheets, which see only these contracts. What the words mean stands in specs/. Each takes a text and the position at
 // which the line starts, and answers its value and where the next line starts; a position behind the text's end, or a line without its
 // LF, is answered as a bad line.
 ghost use mathlib.Core.Path.{_≡_};
-ghost use Prim.Native.Nat.{_≤_};
+ghost use Prim.Native.Nat.{_+_, _≤_, _<_, min};
 ghost use lib.ListN.{length, drop};
+ghost use Rattle.text_bytes.specs.Text.{lineFeed};
+ghost use Rattle.text_bytes.specs.Found.{FoundIn};
+ghost use Rattle.text_lines.specs.declared.NumberLine.the-variants.{Value};
 ghost use Rattle.text_lines.specs.Lines.{isNumberLine, numberBehind, isPairLine, isTripleLine};
-ghost use Rattle.text_lines.specs.Found.{ValueFound, NumberLineFound, PairLineFound, TripleLineFound, LinesFound};
+ghost use Rattle.text_lines.specs.Found.{ValueFound, NumberLineFound, PairLineFound, TripleLineFound, LinesFound, PairsRead};
 ghost use Rattle.text_lines.specs.Private.{PairFound, TripleFound};
 use text_bytes::Found;
 use text_bytes::Number;
@@ -60,13 +63,20 @@ enum Triple {
     Bad,
 }
 
+// Where the first line of a text ends.
+fn line_end(text: &[u8]) -> Found
+    ensures { λ r. ⌜ FoundIn lineFeed (now (text .entry)) r ⌝ }
+{
+    find(text, b'\n')
+}
+
 pub fn find_value(text: &[u8], at: usize, key: &[u8]) -> Keyed
     ensures { λ r. ⌜ ValueFound (now (key .entry)) (now (text .entry)) at r ⌝ }
 {
     if text.len() < at {
         return Keyed::Bad;
     }
-    let Found::At(length) = find(&text[at..], b'\n') else {
+    let Found::At(length) = line_end(&text[at..]) else {
         return Keyed::Bad;
     };
     let end = at + length;
@@ -80,6 +90,17 @@ pub fn find_value(text: &[u8], at: usize, key: &[u8]) -> Keyed
     }
 }
 
+// The next line starts behind the LF.
+fn number_ending(number: u64, end: usize) -> NumberLine
+    requires { ⌜ end < 18446744073709551615 ⌝ }
+    ensures { λ r. ⌜ r ≡ Value number (end + 1) ⌝ }
+{
+    NumberLine::Value {
+        number,
+        next: end + 1,
+    }
+}
+
 pub fn number_line(text: &[u8], at: usize, key: &[u8]) -> NumberLine
     ensures { λ r. ⌜ NumberLineFound (isNumberLine (now (key .entry))) (numberBehind (now (key .entry))) (now (text .entry)) at r ⌝ }
 {
@@ -89,10 +110,7 @@ pub fn number_line(text: &[u8], at: usize, key: &[u8]) -> NumberLine
     let Number::Value(number) = read_number(&text[from..end]) else {
         return NumberLine::Bad;
     };
-    NumberLine::Value {
-        number,
-        next: end + 1,
-    }
+    number_ending(number, end)
 }
 
 // Two numbers with a comma between them.
@@ -157,6 +175,45 @@ pub fn pair_lines(text: &[u8], at: usize, key: &[u8], count: u64) -> Lines
         i += 1;
     }
     Lines::End(next)
+}
+
+fn lesser(a: u64, b: u64) -> u64
+    ensures { λ r. ⌜ r ≡ min a b ⌝ }
+{
+    if a < b {
+        return a;
+    }
+    b
+}
+
+// The pairs of so many lines into the first entries of two rows: up to the first line that is no pair, and to the end of the shorter row.
+pub fn fill_pairs(
+    text: &[u8],
+    at: usize,
+    key: &[u8],
+    count: u64,
+    firsts: &mut [u64],
+    seconds: &mut [u64],
+)
+    ensures { λ _. ⌜ PairsRead (now (key .entry)) (now (text .entry)) at count (now (firsts .entry)) (now (seconds .entry)) (now (firsts .exit)) (now (seconds .exit)) ⌝ }
+{
+    let most = lesser(count, lesser(firsts.len() as u64, seconds.len() as u64)) as usize;
+    let mut here = position(text, at);
+    let mut i: usize = 0;
+    while i < most {
+        let PairLine::Both {
+            first,
+            second,
+            next: after,
+        } = pair_line(text, here, key)
+        else {
+            return;
+        };
+        firsts[i] = first;
+        seconds[i] = second;
+        here = after;
+        i += 1;
+    }
 }
 
 // Three numbers with two commas between them.

@@ -1,7 +1,7 @@
 -- `sheet_loose::read_loose` meets its contract: the parts, and the rows that filling leaves.
 -- Assumes nothing.
 use borrow.Author.Needs.{needs}
-use Rattle.sheet_loose.proofs.Answers.{rows-ready, loose-read}
+use Rattle.sheet_loose.proofs.Answers.{loose-read}
 use Rattle.sheet_loose.proofs.read_loose.Statement.{statement}
 use Rattle.sheet_loose.proofs.read_loose.Tie as tie
 
@@ -11,8 +11,11 @@ read-parts-requires c κs = search needs
 judge-rows-requires : tie.Need-judge-rows-requires
 judge-rows-requires c κs = search needs
 
-fill-requires : tie.Need-fill-requires
-fill-requires c κs = rows-ready _ _ _ _ (c .before .before .before .read-parts .ensures) _ (c .before .before .judge-rows .ensures)
+slice-aggregate-fill-pairs : tie.Need-slice-aggregate-fill-pairs
+slice-aggregate-fill-pairs c = search needs
+
+fill-pairs-requires : tie.Need-fill-pairs-requires
+fill-pairs-requires c κs = search needs
 
 same-length : tie.Need-same-length
 same-length c = search needs
@@ -21,7 +24,10 @@ same-length-2 : tie.Need-same-length-2
 same-length-2 c = search needs
 
 returns : tie.Need-returns
-returns c = loose-read _ _ _ _ (c .before .before .before .before .before .before .before .before .read-parts .ensures) _ (c .before .before .before .before .before .before .before .judge-rows .ensures) _ _ (c .before .before .before .before .fill .ensures .0) (c .before .before .before .before .fill .ensures .1)
+returns c =
+    let f = c .before .before .before .before in
+    let j = f .before .before .before .before in
+    loose-read _ _ _ _ (j .before .read-parts .ensures) _ (j .judge-rows .ensures) _ _ (f .fill-pairs .ensures)
 
 pub read-loose-spec : {M : Type 1} → statement M
 read-loose-spec =
@@ -29,7 +35,8 @@ read-loose-spec =
     (tie.spec
     read-parts-requires
     judge-rows-requires
-    fill-requires
+    slice-aggregate-fill-pairs
+    fill-pairs-requires
     same-length
     same-length-2
     returns)

@@ -9,17 +9,17 @@ use Rattle.text_lines.proofs.find_value.Tie as tie
 returns : tie.Need-returns
 returns c = line-behind _ _ _ (c .if1 .taken)
 
-sub-find : tie.Need-sub-find
-sub-find c = search needs
+sub-line-end : tie.Need-sub-line-end
+sub-line-end c = search needs
 
-part-find-start : tie.Need-part-find-start
-part-find-start c = search needs
+part-line-end-start : tie.Need-part-line-end-start
+part-line-end-start c = search needs
 
-part-find-end : tie.Need-part-find-end
-part-find-end c = search needs
+part-line-end-end : tie.Need-part-line-end-end
+part-line-end-end c = search needs
 
-find-requires : tie.Need-find-requires
-find-requires c κs = search needs
+line-end-requires : tie.Need-line-end-requires
+line-end-requires c κs = search needs
 
 enum-known-length : tie.Need-enum-known-length
 enum-known-length c = search needs
@@ -30,12 +30,12 @@ enum-told c = search needs
 returns-2 : tie.Need-returns-2
 returns-2 c =
     let a = c .before .before .before .before .before .before .before .args in
-    line-missing (a .key .now) (a .text .now) (a .at) (c .before .before .before .before .if1 .left) _ (c .before .before .find .ensures) (c .enum-told .given .1)
+    line-missing (a .key .now) (a .text .now) (a .at) (c .before .before .before .before .if1 .left) _ (c .before .before .line-end .ensures) (c .enum-told .given .1)
 
 add-end : tie.Need-add-end
 add-end c =
     let a = c .before .before .before .before .before .before .before .before .args in
-    omega (arith, line-within (a .key .now) (a .text .now) (a .at) (c .before .before .before .before .before .if1 .left) _ (c .before .before .before .find .ensures) _ (c .before .length .given .1))
+    omega (arith, line-within (a .key .now) (a .text .now) (a .at) (c .before .before .before .before .before .if1 .left) _ (c .before .before .before .line-end .ensures) _ (c .before .length .given .1))
 
 sub-starts : tie.Need-sub-starts
 sub-starts c = search needs
@@ -46,7 +46,7 @@ part-starts-start c = search needs
 part-starts-end : tie.Need-part-starts-end
 part-starts-end c =
     let a = c .before .before .before .before .before .before .before .before .args in
-    omega (arith, line-within (a .key .now) (a .text .now) (a .at) (c .before .before .before .before .before .if1 .left) _ (c .before .before .before .find .ensures) _ (c .before .length .given .1))
+    omega (arith, line-within (a .key .now) (a .text .now) (a .at) (c .before .before .before .before .before .if1 .left) _ (c .before .before .before .line-end .ensures) _ (c .before .length .given .1))
 
 starts-requires : tie.Need-starts-requires
 starts-requires c κs = search needs
@@ -55,29 +55,29 @@ add-t18 : tie.Need-add-t18
 add-t18 c =
     let c3 = c .before .before .before in
     let a = c3 .before .before .before .before .before .before .before .before .args in
-    let v = line-keyed (a .key .now) (a .text .now) (a .at) (c3 .before .before .before .before .before .if1 .left) _ (c3 .before .before .before .find .ensures) _ (c3 .before .length .given .1) _ (c .before .starts .ensures) (c .if2 .taken) in omega (arith, v .ordered, v .within)
+    let v = line-keyed (a .key .now) (a .text .now) (a .at) (c3 .before .before .before .before .before .if1 .left) _ (c3 .before .before .before .line-end .ensures) _ (c3 .before .length .given .1) _ (c .before .starts .ensures) (c .if2 .taken) in omega (arith, v .ordered, v .within)
 
 returns-3 : tie.Need-returns-3
 returns-3 c =
     let c3 = c .before .before .before in
     let a = c3 .before .before .before .before .before .before .before .before .args in
-    line-keyed (a .key .now) (a .text .now) (a .at) (c3 .before .before .before .before .before .if1 .left) _ (c3 .before .before .before .find .ensures) _ (c3 .before .length .given .1) _ (c .before .starts .ensures) (c .if2 .taken)
+    line-keyed (a .key .now) (a .text .now) (a .at) (c3 .before .before .before .before .before .if1 .left) _ (c3 .before .before .before .line-end .ensures) _ (c3 .before .length .given .1) _ (c .before .starts .ensures) (c .if2 .taken)
 
 returns-4 : tie.Need-returns-4
 returns-4 c =
     let c3 = c .before .before .before in
     let a = c3 .before .before .before .before .before .before .before .before .args in
-    line-unkeyed (a .key .now) (a .text .now) (a .at) (c3 .before .before .before .before .before .if1 .left) _ (c3 .before .before .before .find .ensures) _ (c3 .before .length .given .1) _ (c .before .starts .ensures) (c .if2 .left)
+    line-unkeyed (a .key .now) (a .text .now) (a .at) (c3 .before .before .before .before .before .if1 .left) _ (c3 .before .before .before .line-end .ensures) _ (c3 .before .length .given .1) _ (c .before .starts .ensures) (c .if2 .left)
 
 pub find-value-spec : {M : Type 1} → statement M
 find-value-spec =
     tie.close
     (tie.spec
     returns
-    sub-find
-    part-find-start
-    part-find-end
-    find-requires
+    sub-line-end
+    part-line-end-start
+    part-line-end-end
+    line-end-requires
     enum-known-length
     enum-told
     returns-2

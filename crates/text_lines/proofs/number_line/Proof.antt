@@ -39,11 +39,11 @@ enum-told-2 c = search needs
 returns-2 : tie.Need-returns-2
 returns-2 c = number-line-bad _ _ _ _ (c .before .before .before .before .before .before .before .find-value .ensures) _ _ (c .before .before .before .before .before .from .given .1) _ (c .before .before .read-number .ensures) (c .enum-told2 .given .1)
 
-add-t10 : tie.Need-add-t10
-add-t10 c = let v = value-at _ _ _ _ (c .before .before .before .before .before .before .before .before .find-value .ensures) _ _ (c .before .before .before .before .before .before .from .given .1) in omega (arith, v .within)
+number-ending-requires : tie.Need-number-ending-requires
+number-ending-requires c κs = let v = value-at _ _ _ _ (c .before .before .before .before .before .before .before .before .find-value .ensures) _ _ (c .before .before .before .before .before .before .from .given .1) in omega (arith, v .within)
 
 returns-3 : tie.Need-returns-3
-returns-3 c = number-line-good _ _ _ _ (c .before .before .before .before .before .before .before .before .find-value .ensures) _ _ (c .before .before .before .before .before .before .from .given .1) _ (c .before .before .before .read-number .ensures) _ (c .before .number .given .1)
+returns-3 c = rw (c .number-ending .ensures) (number-line-good _ _ _ _ (c .before .before .before .before .before .before .before .before .before .find-value .ensures) _ _ (c .before .before .before .before .before .before .before .from .given .1) _ (c .before .before .before .before .read-number .ensures) _ (c .before .before .number .given .1))
 
 pub number-line-spec : {M : Type 1} → statement M
 number-line-spec =
@@ -60,5 +60,5 @@ number-line-spec =
     enum-known-number
     enum-told-2
     returns-2
-    add-t10
+    number-ending-requires
     returns-3)

@@ -23,11 +23,7 @@ abbrev at-start : tie.After-count-reads → tie.Start
 at-start c = c .before .before .before .before .before
 
 -- The reads left of stop c.
-<<<<<<< HEAD
-left-is : (c : tie.After-count-reads) → c .count-reads .result ≡ readsUpTo (c .before .before .before .before .before .args .reads .now) (c .before .before .before .before .before .args .c)
-=======
-left-is : (c : tie.After-count-reads) → c .count-reads .result ≡ readsIn (at-start c .args .reads .now) (at-start c .args .c)
->>>>>>> a208d60683cd509f40e20e13cd4780a04355844c
+left-is : (c : tie.After-count-reads) → c .count-reads .result ≡ readsUpTo (at-start c .args .reads .now) (at-start c .args .c)
 left-is c =
     let z = at-start c in
     c .count-reads .ensures ∙ reads-counted (z .args .reads .now) (z .args .c) (omega (arith, z .pre .0 .inside, z .pre .0 .laid .even-reads, z .pre .1)) (z .pre .0 .laid .few)

@@ -3,7 +3,7 @@
 use native.Mathlib.Omega.{arith}
 use Rattle.sheet_reader.specs.Lines.{ruleKey}
 use Rattle.text_lines.proofs.Passing.{unkeyed, value-at}
-use Rattle.sheet_reader.proofs.Passing.{unkeyed-rule, rule-line-sweep, rule-line-least, rule-line-bad}
+use Rattle.sheet_reader.proofs.Passing.{unkeyed-rule, rule-line-sweep, rule-line-other}
 use borrow.Author.Needs.{needs}
 use Rattle.sheet_reader.proofs.top.rule_line.Statement.{statement}
 use Rattle.sheet_reader.proofs.top.rule_line.Tie as tie
@@ -38,35 +38,41 @@ slice-aggregate-same c = search needs
 same-requires : tie.Need-same-requires
 same-requires c κs = search needs
 
-add-t18 : tie.Need-add-t18
-add-t18 c = let v = value-at ruleKey _ _ _ (c .before .before .before .before .before .before .before .find-value .ensures) _ _ (c .before .before .before .before .before .from .given .1) in omega (arith, v .within)
+add-t17 : tie.Need-add-t17
+add-t17 c =
+    let k = c .before .before .before .before .before in
+    let v = value-at ruleKey _ _ _ (k .before .before .find-value .ensures) _ _ (k .from .given .1) in omega (arith, v .within)
 
 returns-2 : tie.Need-returns-2
-returns-2 c = rule-line-sweep _ _ _ (c .before .before .before .before .before .before .before .find-value .ensures) _ _ (c .before .before .before .before .before .from .given .1) _ (c .before .same .ensures) (c .if1 .taken)
+returns-2 c =
+    let k = c .before .before .before .before .before in
+    rule-line-sweep _ _ _ (k .before .before .find-value .ensures) _ _ (k .from .given .1) _ (c .before .same .ensures) (c .if1 .taken)
 
-sub-same-2 : tie.Need-sub-same-2
-sub-same-2 c = value-at ruleKey _ _ _ (c .before .before .before .before .before .before .before .find-value .ensures) _ _ (c .before .before .before .before .before .from .given .1) .ordered
+sub-least-line : tie.Need-sub-least-line
+sub-least-line c =
+    let k = c .before .before .before .before .before in
+    value-at ruleKey _ _ _ (k .before .before .find-value .ensures) _ _ (k .from .given .1) .ordered
 
-part-same-start-2 : tie.Need-part-same-start-2
-part-same-start-2 c = value-at ruleKey _ _ _ (c .before .before .before .before .before .before .before .find-value .ensures) _ _ (c .before .before .before .before .before .from .given .1) .ordered
+part-least-line-start : tie.Need-part-least-line-start
+part-least-line-start c =
+    let k = c .before .before .before .before .before in
+    value-at ruleKey _ _ _ (k .before .before .find-value .ensures) _ _ (k .from .given .1) .ordered
 
-part-same-end-2 : tie.Need-part-same-end-2
-part-same-end-2 c = let v = value-at ruleKey _ _ _ (c .before .before .before .before .before .before .before .find-value .ensures) _ _ (c .before .before .before .before .before .from .given .1) in omega (arith, v .within)
+part-least-line-end : tie.Need-part-least-line-end
+part-least-line-end c =
+    let k = c .before .before .before .before .before in
+    let v = value-at ruleKey _ _ _ (k .before .before .find-value .ensures) _ _ (k .from .given .1) in omega (arith, v .within)
 
-slice-aggregate-same-2 : tie.Need-slice-aggregate-same-2
-slice-aggregate-same-2 c = search needs
-
-same-requires-2 : tie.Need-same-requires-2
-same-requires-2 c κs = search needs
-
-add-t25 : tie.Need-add-t25
-add-t25 c = let v = value-at ruleKey _ _ _ (c .before .before .before .before .before .before .before .before .before .before .before .find-value .ensures) _ _ (c .before .before .before .before .before .before .before .before .before .from .given .1) in omega (arith, v .within)
+least-line-requires : tie.Need-least-line-requires
+least-line-requires c κs =
+    let k = c .before .before .before .before .before .before in
+    let v = value-at ruleKey _ _ _ (k .before .before .find-value .ensures) _ _ (k .from .given .1) in omega (arith, v .within)
 
 returns-3 : tie.Need-returns-3
-returns-3 c = rule-line-least _ _ _ (c .before .before .before .before .before .before .before .before .before .before .before .find-value .ensures) _ _ (c .before .before .before .before .before .before .before .before .before .from .given .1) _ (c .before .before .before .before .before .same .ensures) _ (c .before .same2 .ensures) (c .before .before .before .before .if1 .left) (c .if2 .taken)
-
-returns-4 : tie.Need-returns-4
-returns-4 c = rule-line-bad _ _ _ (c .before .before .before .before .before .before .before .before .before .before .before .find-value .ensures) _ _ (c .before .before .before .before .before .before .before .before .before .from .given .1) _ (c .before .before .before .before .before .same .ensures) _ (c .before .same2 .ensures) (c .before .before .before .before .if1 .left) (c .if2 .left)
+returns-3 c =
+    let k = c .before .before .before .before .before .before .before in
+    let s = c .before .before .before in
+    rule-line-other _ _ _ (k .before .before .find-value .ensures) _ _ (k .from .given .1) _ (s .same .ensures) (c .before .before .if1 .left) _ (c .least-line .ensures)
 
 pub rule-line-spec : {M : Type 1} → statement M
 rule-line-spec =
@@ -82,13 +88,10 @@ rule-line-spec =
     part-same-end
     slice-aggregate-same
     same-requires
-    add-t18
+    add-t17
     returns-2
-    sub-same-2
-    part-same-start-2
-    part-same-end-2
-    slice-aggregate-same-2
-    same-requires-2
-    add-t25
-    returns-3
-    returns-4)
+    sub-least-line
+    part-least-line-start
+    part-least-line-end
+    least-line-requires
+    returns-3)

@@ -35,14 +35,20 @@ part-is-name-end c = let v = value-at tapeKey _ 0 _ (c .before .before .before .
 is-name-requires : tie.Need-is-name-requires
 is-name-requires c κs = search needs
 
-add-t14 : tie.Need-add-t14
-add-t14 c = let v = value-at tapeKey _ 0 _ (c .before .before .before .before .before .before .find-value .ensures) _ _ (c .before .before .before .before .from .given .1) in omega (arith, v .within)
+name-ending-requires : tie.Need-name-ending-requires
+name-ending-requires c κs =
+    let k = c .before .before .before .before in
+    let v = value-at tapeKey _ 0 _ (k .before .before .find-value .ensures) _ _ (k .from .given .1) in omega (arith, v .within)
 
 returns-2 : tie.Need-returns-2
-returns-2 c = tape-line-good _ _ (c .before .before .before .before .before .before .find-value .ensures) _ _ (c .before .before .before .before .from .given .1) _ (c .before .is-name .ensures) (c .if1 .taken)
+returns-2 c =
+    let k = c .before .before .before .before .before in
+    rw (c .name-ending .ensures) (tape-line-good _ _ (k .before .before .find-value .ensures) _ _ (k .from .given .1) _ (c .before .before .is-name .ensures) (c .before .if1 .taken))
 
 returns-3 : tie.Need-returns-3
-returns-3 c = tape-line-bad _ _ (c .before .before .before .before .before .before .find-value .ensures) _ _ (c .before .before .before .before .from .given .1) _ (c .before .is-name .ensures) (c .if1 .left)
+returns-3 c =
+    let k = c .before .before .before .before in
+    tape-line-bad _ _ (k .before .before .find-value .ensures) _ _ (k .from .given .1) _ (c .before .is-name .ensures) (c .if1 .left)
 
 pub tape-line-spec : {M : Type 1} → statement M
 tape-line-spec =
@@ -57,6 +63,6 @@ tape-line-spec =
     part-is-name-start
     part-is-name-end
     is-name-requires
-    add-t14
+    name-ending-requires
     returns-2
     returns-3)

@@ -23,11 +23,15 @@ enum-told c = search needs
 returns : tie.Need-returns
 returns c = unkeyed-turn _ (unkeyed turnKey _ _ _ (c .before .before .find-value .ensures) (c .enum-told .given .1))
 
-add-t11 : tie.Need-add-t11
-add-t11 c = let v = value-at turnKey _ _ _ (c .before .before .before .before .find-value .ensures) _ _ (c .before .before .from .given .1) in omega (arith, v .within)
+empty-price-requires : tie.Need-empty-price-requires
+empty-price-requires c κs =
+    let k = c .before .before in
+    let v = value-at turnKey _ _ _ (k .before .before .find-value .ensures) _ _ (k .from .given .1) in omega (arith, v .within)
 
 returns-2 : tie.Need-returns-2
-returns-2 c = turn-line-empty _ _ _ (c .before .before .before .before .find-value .ensures) _ _ (c .before .before .from .given .1) (c .if1 .taken)
+returns-2 c =
+    let k = c .before .before .before in
+    rw (c .empty-price .ensures) (turn-line-empty _ _ _ (k .before .before .find-value .ensures) _ _ (k .from .given .1) (c .before .if1 .taken))
 
 sub-read-number : tie.Need-sub-read-number
 sub-read-number c = value-at turnKey _ _ _ (c .before .before .before .before .find-value .ensures) _ _ (c .before .before .from .given .1) .ordered
@@ -50,8 +54,8 @@ enum-told-2 c = search needs
 returns-3 : tie.Need-returns-3
 returns-3 c = turn-line-bad _ _ _ (c .before .before .before .before .before .before .before .before .find-value .ensures) _ _ (c .before .before .before .before .before .before .from .given .1) (c .before .before .before .before .if1 .left) _ (c .before .before .read-number .ensures) (c .enum-told2 .given .1)
 
-add-t14 : tie.Need-add-t14
-add-t14 c = let v = value-at turnKey _ _ _ (c .before .before .before .before .before .before .before .before .before .find-value .ensures) _ _ (c .before .before .before .before .before .before .before .from .given .1) in omega (arith, v .within)
+add-t13 : tie.Need-add-t13
+add-t13 c = let v = value-at turnKey _ _ _ (c .before .before .before .before .before .before .before .before .before .find-value .ensures) _ _ (c .before .before .before .before .before .before .before .from .given .1) in omega (arith, v .within)
 
 returns-4 : tie.Need-returns-4
 returns-4 c = turn-line-good _ _ _ (c .before .before .before .before .before .before .before .before .before .find-value .ensures) _ _ (c .before .before .before .before .before .before .before .from .given .1) (c .before .before .before .before .before .if1 .left) _ (c .before .before .before .read-number .ensures) _ (c .before .number .given .1)
@@ -65,7 +69,7 @@ turn-line-spec =
     enum-known-from
     enum-told
     returns
-    add-t11
+    empty-price-requires
     returns-2
     sub-read-number
     part-read-number-start
@@ -74,5 +78,5 @@ turn-line-spec =
     enum-known-number
     enum-told-2
     returns-3
-    add-t14
+    add-t13
     returns-4)

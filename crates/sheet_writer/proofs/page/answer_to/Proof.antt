@@ -5,14 +5,17 @@ use borrow.Author.Needs.{needs}
 use Rattle.sheet_writer.proofs.page.answer_to.Statement.{statement}
 use Rattle.sheet_writer.proofs.page.answer_to.Tie as tie
 
+bytes-of-requires : tie.Need-bytes-of-requires
+bytes-of-requires c κs = search needs
+
 refused-requires : tie.Need-refused-requires
 refused-requires c κs = search needs
 
 returns : tie.Need-returns
-returns c = rw (sym (c .before .refused .ensures) ∙ c .if1 .taken)
+returns c = rw (c .before .before .bytes-of .ensures, sym (c .before .refused .ensures) ∙ c .if1 .taken)
 
 returns-2 : tie.Need-returns-2
-returns-2 c = rw (sym (c .before .refused .ensures) ∙ c .if1 .left)
+returns-2 c = rw (c .before .before .bytes-of .ensures, sym (c .before .refused .ensures) ∙ c .if1 .left)
 
 pub answer-to-spec : {M : Type 1} → statement M
-answer-to-spec = tie.close (tie.spec refused-requires returns returns-2)
+answer-to-spec = tie.close (tie.spec bytes-of-requires refused-requires returns returns-2)

@@ -1,7 +1,8 @@
 -- `sheet_writer::page::judge_name` meets its contract: what was judged before, then 13.
 -- Assumes nothing.
-use mathlib.Core.Path.{refl, ap, sym, _∙_}
+use mathlib.Core.Path.{refl, sym, _∙_}
 use mathlib.Core.Bool.{not}
+use Rattle.text_bytes.specs.Text.{isName}
 use Rattle.refusals.specs.declared.Refusal.the-variants.{BadName}
 use Rattle.refusals.proofs.Verdicts.{last-if}
 use borrow.Author.Needs.{needs}
@@ -20,14 +21,11 @@ refuse-if-requires c κs = search needs
 returns-2 : tie.Need-returns-2
 returns-2 c = rw (sym (c .before .before .before .refused .ensures) ∙ c .before .before .if1 .left, c .before .if2 .taken) (rw (c .before .if2 .taken) at (c .refuse-if .ensures))
 
-is-name-requires : tie.Need-is-name-requires
-is-name-requires c κs = search needs
-
-refuse-if-requires-2 : tie.Need-refuse-if-requires-2
-refuse-if-requires-2 c κs = search needs
+judge-letters-requires : tie.Need-judge-letters-requires
+judge-letters-requires c κs = search needs
 
 returns-3 : tie.Need-returns-3
-returns-3 c = rw (sym (c .before .before .before .before .refused .ensures) ∙ c .before .before .before .if1 .left, c .before .before .if2 .left) (last-if BadName refl (c .refuse-if2 .ensures) (ap not (c .before .is-name .ensures)))
+returns-3 c = rw (sym (c .before .before .before .refused .ensures) ∙ c .before .before .if1 .left, c .before .if2 .left) (last-if {b = not (isName (c .before .before .before .before .before .args .name .now))} BadName refl (c .judge-letters .ensures) refl)
 
 pub judge-name-spec : {M : Type 1} → statement M
 judge-name-spec =
@@ -37,6 +35,5 @@ judge-name-spec =
     returns
     refuse-if-requires
     returns-2
-    is-name-requires
-    refuse-if-requires-2
+    judge-letters-requires
     returns-3)

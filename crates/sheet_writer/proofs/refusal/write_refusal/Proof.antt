@@ -2,6 +2,7 @@
 -- Assumes nothing.
 use mathlib.Core.Path.{refl}
 use native.Mathlib.Omega.{arith}
+use Rattle.refusals.specs.declared.Verdict.{Verdict}
 use Rattle.sheet_writer.proofs.Refusals.{wrote-refusal}
 use Rattle.sheet_writer.proofs.Sheets.{part-length, page-handed}
 use borrow.Author.Needs.{needs}
@@ -20,28 +21,26 @@ slice-aggregate-put-number-line-2 c = search needs
 put-number-line-requires : tie.Need-put-number-line-requires
 put-number-line-requires c κs = search needs
 
-slice-aggregate-put-number-line-3 : tie.Need-slice-aggregate-put-number-line-3
-slice-aggregate-put-number-line-3 c = search needs
+slice-aggregate-put-place : tie.Need-slice-aggregate-put-place
+slice-aggregate-put-place c = search needs
 
-slice-aggregate-put-number-line-4 : tie.Need-slice-aggregate-put-number-line-4
-slice-aggregate-put-number-line-4 c = search needs
+put-place-requires : tie.Need-put-place-requires
+put-place-requires c κs = search needs
 
-put-number-line-requires-2 : tie.Need-put-number-line-requires-2
-put-number-line-requires-2 c κs = search needs
+-- The verdict, from where its number stands on the page.
+abbrev told : tie.After-put-number-line → Verdict
+told k = k .before .before .before .before .before .args .verdict
 
 array-share-prefix-page : tie.Need-array-share-prefix-page
 array-share-prefix-page c =
-    let c5 = c .before .before .before .before .before in
-    let v = c5 .before .before .before .before .before .args .verdict in
-    let w = wrote-refusal v _ (c5 .before .before .before .number .ensures) _ (omega arith) _ _ _ _ (c5 .put-number-line .ensures) (c .before .put-number-line2 .ensures) in
+    let k = c .before .before .before .before in
+    let w = wrote-refusal (told k) _ (k .before .before .before .number .ensures) _ (omega arith) _ _ _ _ (k .put-number-line .ensures) (c .before .put-place .ensures) in
     omega (arith, w .within)
 
 slice-aggregate-hand-out : tie.Need-slice-aggregate-hand-out
 slice-aggregate-hand-out c =
-    let c2 = c .before .before in
-    let c6 = c2 .before .before .before .before in
-    let v = c6 .before .before .before .before .before .args .verdict in
-    part-length _ _ _ _ _ (wrote-refusal v _ (c6 .before .before .before .number .ensures) _ (omega arith) _ _ _ _ (c6 .put-number-line .ensures) (c2 .put-number-line2 .ensures))
+    let k = c .before .before .before .before .before in
+    part-length _ _ _ _ _ (wrote-refusal (told k) _ (k .before .before .before .number .ensures) _ (omega arith) _ _ _ _ (k .put-number-line .ensures) (c .before .before .put-place .ensures))
 
 hand-out-requires : tie.Need-hand-out-requires
 hand-out-requires c κs = search needs
@@ -51,10 +50,9 @@ same-length c = search needs
 
 returns : tie.Need-returns
 returns c =
-    let c6 = c .before .before .before .before .before .before in
-    let c10 = c6 .before .before .before .before in
-    let v = c10 .before .before .before .before .before .args .verdict in
-    page-handed _ _ _ _ _ (wrote-refusal v _ (c10 .before .before .before .number .ensures) _ (omega arith) _ _ _ _ (c10 .put-number-line .ensures) (c6 .put-number-line2 .ensures)) _ _ refl _ _ (c .before .before .hand-out .ensures)
+    let p = c .before .before .before .before .before .before in
+    let k = p .before .before .before in
+    page-handed _ _ _ _ _ (wrote-refusal (told k) _ (k .before .before .before .number .ensures) _ (omega arith) _ _ _ _ (k .put-number-line .ensures) (p .put-place .ensures)) _ _ refl _ _ (c .before .before .hand-out .ensures)
 
 pub write-refusal-spec : {M : Type 1} → statement M
 write-refusal-spec =
@@ -64,9 +62,8 @@ write-refusal-spec =
     slice-aggregate-put-number-line
     slice-aggregate-put-number-line-2
     put-number-line-requires
-    slice-aggregate-put-number-line-3
-    slice-aggregate-put-number-line-4
-    put-number-line-requires-2
+    slice-aggregate-put-place
+    put-place-requires
     array-share-prefix-page
     slice-aggregate-hand-out
     hand-out-requires
