@@ -1,11 +1,15 @@
 -- What the reader answers where it is lent rows of zeros with room for every sheet.
-use Prim.Native.Nat.{ℕ, zero, suc, _-_, _≤_}
+use Prim.Native.Nat.{ℕ, zero, suc, _-_, _≤_, min}
 use mathlib.Core.Path.{_≡_, refl, sym, ap, _∙_}
 use mathlib.Core.Bool.{Bool, true, false}
 use mathlib.Core.List.{List, [], _∷_, _++_}
+use mathlib.Core.Logic.{by-cases}
 use native.Mathlib.Omega.{arith}
+use native.Mathlib.Nat.{le-refl}
+use native.Mathlib.Decide.{decLe}
 use native.Mathlib.Numerals.{unary-clauses}
-use lib.ListN.{length, drop, replicate, length-replicate}
+use lib.ListN.{length, take, drop, replicate, length-replicate}
+use lib.Seq.{take-all}
 use borrow.Author.Tests.{le-ltb}
 use Rattle.refusals.specs.declared.Refusal.the-variants.{Accepted}
 use Rattle.refusals.specs.declared.Verdict.{Verdict}
@@ -19,6 +23,7 @@ use Rattle.sheet_reader.proofs.Rows.{length-each}
 use Rattle.sheet_reader.proofs.Good.{few-files, few-wants}
 use Rattle.sheet_runs.specs.declared.SheetRun.{SheetRun}
 use Rattle.sheet_runs.specs.SheetRuns.{earlyVerdict, filledTo, inRows, runRead}
+use Rattle.sheet_runs.specs.Private.{saidBy}
 
 -- What is left of a row of zeros.
 drop-zeros : (n m : ℕ) → drop {A = ℕ} n (zeros m) ≡ zeros (m - n)
@@ -33,10 +38,6 @@ filled-rest values room = ap (λ l. values ++ l) (drop-zeros (length values) roo
 -- The rows that are lent.
 abbrev pub lent : ℕ → ℕ → RunRows
 lent big small = runRows (zeros big) (zeros big) (zeros big) (zeros small) (zeros small)
-
--- The verdict in a reader's answer.
-abbrev saidBy : Reading → Verdict
-saidBy read = record { refusal = read .refusal; place = read .place }
 
 -- The run by value, field by field.
 abbrev held : Verdict → ℕ → ℕ → ℕ → ℕ → List ℕ → List ℕ → List ℕ → List ℕ → List ℕ → SheetRun
@@ -79,9 +80,9 @@ module _ (sheet : List ℕ) where
     unfolding readRow
     row-filled e values row′ room is = (rw (verdict-said, e) at is) ∙ filled-rest values room
 
-    pub run-read : held (saidBy r) (r .files) (r .wants) (r .head) (r .turn) (rows .starts) (rows .lengths) (rows .aggregates) (rows .numbers) (rows .counts) ≡ runRead sheet
+    pub run-read : (v : Verdict) → v ≡ saidBy r → held v (r .files) (r .wants) (r .head) (r .turn) (rows .starts) (rows .lengths) (rows .aggregates) (rows .numbers) (rows .counts) ≡ runRead sheet
     unfolding runRead readAnswer sheetRun
-    run-read = go (refuses (earlyVerdict sheet)) refl
+    run-read v v-is = rw v-is (go (refuses (earlyVerdict sheet)) refl)
       where
         go : (b : Bool) → refuses (earlyVerdict sheet) ≡ b
             → held (saidBy r) (r .files) (r .wants) (r .head) (r .turn) (rows .starts) (rows .lengths) (rows .aggregates) (rows .numbers) (rows .counts) ≡ runRead sheet
@@ -95,3 +96,11 @@ module _ (sheet : List ℕ) where
             rw e
             (same (ap saidBy is ∙ sym (passes e)) (ap (λ x. x .files) is ∙ sym (length-each _ (sheetFiles sheet))) (ap (λ x. x .wants) is ∙ sym (length-each _ (sheetWants sheet))) (ap (λ x. x .head) is) (ap (λ x. x .turn) is)
             (row-filled e _ _ 256 (read .starts)) (row-filled e _ _ 256 (read .lengths)) (row-filled e _ _ 256 (read .aggregates)) (row-filled e _ _ 64 (read .numbers)) (row-filled e _ _ 64 (read .counts)))
+
+-- The first entries of a row, as far as it goes.
+module _ (row : List ℕ) (n end : ℕ) (is : end ≡ min n (length row)) where
+  pub in-row : end ≤ length row
+  in-row = omega (arith, is)
+
+  pub first-entries : take end row ≡ take n row
+  first-entries = by-cases (decLe n (length row)) (λ h. let e : end ≡ n = omega (arith, is) in rw e) (λ h. let e : end ≡ length row = omega (arith, is) in rw e (take-all (length row) row (le-refl (length row)) ∙ sym (take-all n row (omega arith))))

@@ -1,2 +1,3 @@
 -- What the run of a sheet is by value, above what is said of sheets.
 pub mod SheetRuns
+pub mod Private

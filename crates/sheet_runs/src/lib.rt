@@ -1,8 +1,11 @@
 // sheet_runs: the run of a sheet by value. For whoever goes from a sheet to an answer: the reader's rows are lent here and nowhere above.
 ghost use mathlib.Core.Path.{_≡_};
+ghost use Prim.Native.Nat.{min};
 ghost use lib.ListN.{take};
 ghost use Rattle.sheet_runs.specs.SheetRuns.{runRead};
+ghost use Rattle.sheet_runs.specs.Private.{saidBy};
 use refusals::Verdict;
+use sheet_reader::Reading;
 
 // What the reader says of a sheet, and the run that it read: so many entries of each row, and zeros behind them.
 pub struct SheetRun {
@@ -18,16 +21,34 @@ pub struct SheetRun {
     pub counts: [u64; 64],
 }
 
+// The lesser of a number and a length.
+fn within(n: u64, length: usize) -> usize
+    ensures { λ r. ⌜ r ≡ min n length ⌝ }
+{
+    let end = n as usize;
+    if end < length {
+        return end;
+    }
+    length
+}
+
 // The first n entries of a row, or the row where it has fewer.
 pub fn entries(row: &[u64], n: u64) -> &[u64]
     ensures { λ r. ⌜ now r ≡ take n (now (row .entry)) ⌝ }
     ensures { λ r. ⌜ r .ptr ≡ row .entry .ptr ⌝ }
 {
-    let end = n as usize;
-    if end <= row.len() {
-        return &row[..end];
+    let end = within(n, row.len());
+    &row[..end]
+}
+
+fn said_by(read: Reading) -> Verdict
+    ensures { λ r. ⌜ r ≡ saidBy read ⌝ }
+{
+    let refusal = read.refusal;
+    Verdict {
+        refusal,
+        place: read.place,
     }
-    row
 }
 
 // The rows suffice for every sheet that the reader accepts.
@@ -47,13 +68,8 @@ pub fn read_run(sheet: &[u8]) -> SheetRun
         &mut numbers,
         &mut counts,
     );
-    let refusal = read.refusal;
-    let verdict = Verdict {
-        refusal,
-        place: read.place,
-    };
     SheetRun {
-        verdict,
+        verdict: said_by(read),
         files: read.files,
         wants: read.wants,
         head: read.head,

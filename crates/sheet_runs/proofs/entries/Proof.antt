@@ -1,20 +1,24 @@
 -- `sheet_runs::entries` meets its contract: a row of fewer entries is all of its first n.
 -- Assumes nothing.
 use mathlib.Core.Path.{sym, refl}
-use native.Mathlib.Nat.{le-of-lt}
-use lib.Seq.{length-take-le, take-all}
+use lib.Seq.{length-take-le}
+use Rattle.sheet_runs.proofs.Filling.{in-row, first-entries}
 use borrow.Author.Needs.{needs}
 use Rattle.sheet_runs.proofs.entries.Statement.{statement}
 use Rattle.sheet_runs.proofs.entries.Tie as tie
 
+-- What was handed in.
+abbrev start : tie.After-within → tie.Start
+start w = w .before .before
+
+within-requires : tie.Need-within-requires
+within-requires c κs = search needs
+
 slice-aggregate-result : tie.Need-slice-aggregate-result
-slice-aggregate-result c = sym (length-take-le _ _ (c .before .if1 .taken))
+slice-aggregate-result c = let w = c .before in let a = start w .args in sym (length-take-le _ _ (in-row (a .row .now) (a .n) _ (w .within .ensures)))
 
 returns : tie.Need-returns
-returns c = search needs
-
-returns-2 : tie.Need-returns-2
-returns-2 c = (sym (take-all _ _ (le-of-lt (c .if1 .left))), refl)
+returns c = let w = c .before in let a = start w .args in (first-entries (a .row .now) (a .n) _ (w .within .ensures), refl)
 
 pub entries-spec : {M : Type 1} → statement M
-entries-spec = tie.close (tie.spec slice-aggregate-result returns returns-2)
+entries-spec = tie.close (tie.spec within-requires slice-aggregate-result returns)

@@ -23,12 +23,15 @@ slice-aggregate-read-sheet-5 c = search needs
 read-sheet-requires : tie.Need-read-sheet-requires
 read-sheet-requires c κs = search needs
 
+said-by-requires : tie.Need-said-by-requires
+said-by-requires c κs = search needs
+
 -- From the last step back to the reading.
-abbrev reading : tie.After-counts2 → tie.After-read-sheet
-reading c = c .before .before .before .before .before
+abbrev reading : tie.After-said-by → tie.After-read-sheet
+reading c = c .before .before .before .before .before .before
 
 returns : tie.Need-returns
-returns c = run-read _ (reading c .read-sheet .result) _ (reading c .read-sheet .ensures)
+returns c = run-read _ (reading c .read-sheet .result) _ (reading c .read-sheet .ensures) (c .said-by .result) (c .said-by .ensures)
 
 pub read-run-spec : {M : Type 1} → statement M
 read-run-spec =
@@ -40,4 +43,5 @@ read-run-spec =
     slice-aggregate-read-sheet-4
     slice-aggregate-read-sheet-5
     read-sheet-requires
+    said-by-requires
     returns)
