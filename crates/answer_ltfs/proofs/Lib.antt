@@ -9,3 +9,4 @@ pub mod Tallies
 pub mod Neighbours
 pub mod Laid
 pub mod Promise
+pub mod Framing
