@@ -10,3 +10,4 @@ pub mod Neighbours
 pub mod Laid
 pub mod Promise
 pub mod Framing
+pub mod Apart

@@ -2,5 +2,6 @@
 pub mod Index
 pub mod TapeTable
 pub mod Input
+pub mod Framed
 pub mod Promises
 pub mod Private
