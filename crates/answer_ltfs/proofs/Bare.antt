@@ -1,14 +1,11 @@
 -- The loops over elements: bytes between them do not count, and each element left brings the reader to what follows it.
 use Prim.Native.Nat.{ℕ, _≤_, _<_}
 use mathlib.Core.Path.{_≡_, refl, ap, sym, _∙_}
-use mathlib.Core.Bool.{Bool, true, false}
-use mathlib.Core.List.{List, [], _∷_, _++_, map, append-nil}
+use mathlib.Core.Bool.{true, false}
+use mathlib.Core.List.{List, [], _∷_, _++_, map}
 use native.Mathlib.Omega.{arith}
 use lib.ListN.{length}
-use lib.Dec.{eqb}
-use borrow.Author.Tests.{eqb-true}
-use Rattle.text_bytes.specs.Text.{isText, startsWith}
-use Rattle.text_bytes.proofs.Bytes.{and-true-both}
+use Rattle.text_bytes.specs.Text.{isText}
 use Rattle.tape_markup.specs.declared.Place.{Place}
 use Rattle.answer_ltfs.specs.declared.values.Chars.{Chars}
 use Rattle.answer_ltfs.specs.declared.values.Field.{Field}
@@ -16,9 +13,8 @@ use Rattle.tape_markup.specs.Markup.{Open, Close, Char}
 use Rattle.tape_markup.specs.Tree.{Forest, none, char, element, innermost, enclosing}
 use Rattle.answer_ltfs.specs.Index.{flattened, charsOf, insides, under, valuesAt, Level, filesIn}
 use Rattle.tape_markup.specs.Places.{part, PlaceIn, tokensAt, Begins, placeAt, Passes}
-use Rattle.answer_ltfs.specs.Private.Parts.{framesAt, inside, Left, bare, ElementMet, NoElement, noChars, withByte, charsFrom, firstField, fieldNamed, fieldFrom}
+use Rattle.answer_ltfs.specs.Private.Parts.{framesAt, inside, Left, bare, ElementMet, NoElement, NamedAt, NoneNamed, noChars, withByte, charsFrom, firstField, fieldFrom, fieldAt}
 use Rattle.tape_markup.proofs.Meets.{begins-fewer}
-use Rattle.tape_markup.proofs.Names.{text-named}
 use Rattle.answer_ltfs.proofs.Frames.{frames-first, frames-past}
 
 -- Bytes before the first element hold no element.
@@ -34,14 +30,6 @@ files-bare none level = refl
 files-bare (char b rest) level = files-bare rest level
 files-bare (element name held rest) level = refl
 
-pub under-bare : (name : List ℕ) (path : List (List ℕ)) (f : Forest) → under (name ∷ path) (bare f) ≡ under (name ∷ path) f
-unfolding under
-under-bare name path f = ap (λ (l : List Forest). flattened (map (under path) l)) (insides-bare name f)
-
-pub values-bare : (name : List ℕ) (path : List (List ℕ)) (f : Forest) → valuesAt (name ∷ path) (bare f) ≡ valuesAt (name ∷ path) f
-unfolding valuesAt
-values-bare name path f = ap (map charsOf) (under-bare name path f)
-
 -- A reader somewhere in the element around a place.
 pub record Within (text : List ℕ) (place here : Place) : Type 0 where
   pub within : PlaceIn text here
@@ -51,40 +39,57 @@ pub record Within (text : List ℕ) (place here : Place) : Type 0 where
 pub within-none : (text : List ℕ) (place : Place) → PlaceIn text place → Within text place place
 within-none text place p = record { within = p; outer = refl; fewer = omega arith }
 
-module _ (text : List ℕ) (place here : Place) (w : Within text place here) where
-  -- An element met and left.
-  pub within-more : (from to : ℕ) (next after : Place) → ElementMet text here from to next → Left text next after → Within text place after
-  within-more from to next after m l =
-      let f = w .fewer in
-      let g = m .fewer in
-      let h = l .fewer in
-      record {
-        within = l .within;
-        outer = ap enclosing (l .outer) ∙ sym (m .outer) ∙ w .outer;
-        fewer = omega arith;
-      }
+-- Looking for an element of a name: those passed over are not of it.
+pub record Sought (name text : List ℕ) (place here : Place) : Type 0 where
+  pub around : Within text place here
+  pub same : insides name (inside text here) ≡ insides name (inside text place)
 
-  -- No element is left: the reader is past the end.
-  pub within-left : (next : Place) → NoElement text here next → Left text place next
-  within-left next n =
-      let f = w .fewer in
+pub sought-none : (name text : List ℕ) (place : Place) → PlaceIn text place → Sought name text place place
+sought-none name text place p = record { around = within-none text place p; same = refl }
+
+module _ (name text : List ℕ) (place here : Place) (s : Sought name text place here) where
+  pub sought-over : (next : Place) → NoElement text here next → NoneNamed text place name next
+  unfolding insides
+  sought-over next n =
+      let f = s .around .fewer in
       let g = n .left .fewer in
       record {
-        outer = n .left .outer ∙ w .outer;
-        within = n .left .within;
-        fewer = omega arith;
+        none = sym (s .same) ∙ sym (insides-bare name (inside text here)) ∙ ap (insides name) (n .none);
+        left = record { outer = n .left .outer ∙ s .around .outer; within = n .left .within; fewer = omega arith };
       }
 
--- What an element met and left says of the place before it, and that fewer tokens are left.
-module _ (text : List ℕ) (here : Place) (from to : ℕ) (next after : Place) (m : ElementMet text here from to next) (l : Left text next after) where
-  pub met-here : bare (inside text here) ≡ element (part from to text) (inside text next) (inside text after)
-  met-here = m .here ∙ ap (λ (f : Forest). element (part from to text) (inside text next) f) (ap innermost (sym (l .outer)))
+  module _ (from to : ℕ) (next : Place) (m : ElementMet text here from to next) where
+    pub sought-here : isText name (part from to text) ≡ true → NamedAt text place name next
+    unfolding insides
+    sought-here e =
+        let f = s .around .fewer in
+        let g = m .fewer in
+        record {
+          within = m .within;
+          here = sym (s .same) ∙ sym (insides-bare name (inside text here)) ∙ ap (insides name) (m .here) ∙ (rw e);
+          outer = sym (s .around .outer) ∙ m .outer;
+          fewer = omega arith;
+        }
 
-  pub met-less : length (tokensAt text after) < length (tokensAt text here)
-  met-less =
-      let g = m .fewer in
-      let h = l .fewer in
-      omega arith
+    module _ (after : Place) (l : Left text next after) where
+      pub sought-later : isText name (part from to text) ≡ false → Sought name text place after
+      unfolding insides
+      sought-later e =
+          let f = s .around .fewer in
+          let g = m .fewer in
+          let h = l .fewer in
+          let other : insides name (bare (inside text here)) ≡ insides name (inside text after) =
+          ap (insides name) (m .here) ∙ (rw e) ∙ ap (λ (k : List Forest). insides name (innermost k)) (sym (l .outer)) in
+          record {
+            around = record { within = l .within; outer = ap enclosing (l .outer) ∙ sym (m .outer) ∙ s .around .outer; fewer = omega arith };
+            same = sym other ∙ insides-bare name (inside text here) ∙ s .same;
+          }
+
+      pub sought-less : length (tokensAt text after) < length (tokensAt text here)
+      sought-less =
+          let g = m .fewer in
+          let h = l .fewer in
+          omega arith
 
 -- Reading the bytes of a value: those left make, with what is known, what the whole makes.
 pub record CharsLeft (text : List ℕ) (place : Place) (chars : Chars) (here : Place) : Type 0 where
@@ -157,119 +162,99 @@ module _ (text : List ℕ) (place : Place) (chars : Chars) (here : Place) (p : C
         record { outer = sym (ap enclosing f) ∙ p .around .outer; within = m .within; fewer = omega arith },
       )
 
--- Reading the elements of an element one by one: `whole` says what they all add to what is known.
-pub record Reads {A : Type 0} (whole : A → Forest → A) : Type 0 where
-  pub skips : (known : A) (f : Forest) → whole known (bare f) ≡ whole known f
-  pub over : (known : A) → whole known none ≡ known
+-- Reading the elements of a name one by one: each makes a step from what is known.
+unfoldable pub folded : {A : Type 0} → (A → Forest → A) → A → List Forest → A
+folded step known [] = known
+folded step known (f ∷ more) = folded step (step known f) more
 
--- Those left add to what is known what the whole adds to what was known.
-pub record ReadTo {A : Type 0} (whole : A → Forest → A) (text : List ℕ) (place : Place) (start known : A) (here : Place) : Type 0 where
+-- Those left make of what is known what all make of what was known.
+pub record ReadTo {A : Type 0} (step : A → Forest → A) (name text : List ℕ) (place : Place) (start known : A) (here : Place) : Type 0 where
   pub around : Within text place here
-  pub same : whole known (inside text here) ≡ whole start (inside text place)
+  pub same : folded step known (insides name (inside text here)) ≡ folded step start (insides name (inside text place))
 
-pub read-none : {A : Type 0} (whole : A → Forest → A) (text : List ℕ) (place : Place) (start : A) → PlaceIn text place → ReadTo whole text place start start place
-read-none whole text place start p = record { around = within-none text place p; same = refl }
+pub read-none : {A : Type 0} (step : A → Forest → A) (name text : List ℕ) (place : Place) (start : A) → PlaceIn text place → ReadTo step name text place start start place
+read-none step name text place start p = record { around = within-none text place p; same = refl }
 
-module _ {A : Type 0} (whole : A → Forest → A) (r : Reads whole) (text : List ℕ) (place : Place) (start known : A) (here : Place) (p : ReadTo whole text place start known here) where
-  pub read-more : (from to : ℕ) (next after : Place) (later : A) → ElementMet text here from to next → Left text next after → whole known (element (part from to text) (inside text next) (inside text after)) ≡ whole later (inside text after) → ReadTo whole text place start later after
-  read-more from to next after later m l e =
+module _ {A : Type 0} (step : A → Forest → A) (name text : List ℕ) (place : Place) (start known : A) (here : Place) (p : ReadTo step name text place start known here) where
+  pub read-more : (next after : Place) (later : A) → NamedAt text here name next → Left text next after → later ≡ step known (inside text next) → ReadTo step name text place start later after
+  unfolding folded
+  read-more next after later m l e =
+      let f = p .around .fewer in
+      let g = m .fewer in
+      let h = l .fewer in
+      let rest : insides name (inside text here) ≡ inside text next ∷ insides name (inside text after) =
+      m .here ∙ ap (λ (k : List Forest). inside text next ∷ insides name (innermost k)) (sym (l .outer)) in
       record {
-        around = within-more text place here (p .around) from to next after m l;
-        same = sym e ∙ sym (ap (whole known) (met-here text here from to next after m l)) ∙ r .skips known (inside text here) ∙ p .same;
+        around = record { within = l .within; outer = ap enclosing (l .outer) ∙ sym (m .outer) ∙ p .around .outer; fewer = omega arith };
+        same = ap (λ (k : A). folded step k (insides name (inside text after))) e ∙ sym (ap (folded step known) rest) ∙ p .same;
       }
 
-  pub read-over : (next : Place) → NoElement text here next → (known ≡ whole start (inside text place)) × Left text place next
-  read-over next n = (
-    sym (r .over known) ∙ sym (ap (whole known) (n .none)) ∙ r .skips known (inside text here) ∙ p .same,
-    within-left text place here (p .around) next n,
-  )
+  pub read-over : (next : Place) → NoneNamed text here name next → (known ≡ folded step start (insides name (inside text place))) × Left text place next
+  unfolding folded
+  read-over next n =
+      let f = p .around .fewer in
+      let g = n .left .fewer in (
+        sym (ap (folded step known) (n .none)) ∙ p .same,
+        record { outer = n .left .outer ∙ p .around .outer; within = n .left .within; fewer = omega arith },
+      )
 
--- What the elements of a path hold, element by element.
-module _ (wanted : List ℕ) (path : List (List ℕ)) (name : List ℕ) (held rest : Forest) where
-  pub under-named : isText wanted name ≡ true → under (wanted ∷ path) (element name held rest) ≡ under path held ++ under (wanted ∷ path) rest
-  unfolding under insides flattened
-  under-named e = rw e
+pub read-less : (name text : List ℕ) (here next after : Place) → NamedAt text here name next → Left text next after → length (tokensAt text after) < length (tokensAt text here)
+read-less name text here next after m l =
+    let g = m .fewer in
+    let h = l .fewer in
+    omega arith
 
-  pub under-other : isText wanted name ≡ false → under (wanted ∷ path) (element name held rest) ≡ under (wanted ∷ path) rest
-  unfolding under insides
-  under-other e = rw e
+-- Fields joined: the first counts, and one that is bad spoils all.
+first-joined : (a b c : Field) → firstField (firstField a b) c ≡ firstField a (firstField b c)
+first-joined Field.Missing b c = refl
+first-joined Field.Bad b c = refl
+first-joined (Field.Value n) Field.Missing c = refl
+first-joined (Field.Value n) Field.Bad c = refl
+first-joined (Field.Value n) (Field.Value m) Field.Missing = refl
+first-joined (Field.Value n) (Field.Value m) (Field.Value k) = refl
+first-joined (Field.Value n) (Field.Value m) Field.Bad = refl
 
-  pub insides-named : isText wanted name ≡ true → insides wanted (element name held rest) ≡ held ∷ insides wanted rest
-  unfolding insides
-  insides-named e = rw e
+first-last : (a : Field) → firstField a Field.Missing ≡ a
+first-last Field.Missing = refl
+first-last (Field.Value n) = refl
+first-last Field.Bad = refl
 
-  pub insides-other : isText wanted name ≡ false → insides wanted (element name held rest) ≡ insides wanted rest
-  unfolding insides
-  insides-other e = rw e
+module _ (form : List ℕ → Field) where
+  -- Values behind a field that is known.
+  from-known : (known field : Field) (values : List (List ℕ)) → firstField known (fieldFrom form field values) ≡ fieldFrom form (firstField known field) values
+  unfolding fieldFrom
+  from-known known field [] = refl
+  from-known known field (v ∷ values) = from-known known (firstField field (form v)) values ∙ ap (λ (k : Field). fieldFrom form k values) (sym (first-joined known field (form v)))
 
-pub under-none : (wanted : List ℕ) (path : List (List ℕ)) → under (wanted ∷ path) none ≡ []
-unfolding under insides flattened
-under-none wanted path = refl
+  fields-append : (field : Field) (a b : List (List ℕ)) → fieldFrom form field (a ++ b) ≡ fieldFrom form (fieldFrom form field a) b
+  unfolding fieldFrom
+  fields-append field [] b = refl
+  fields-append field (value ∷ a) b = fields-append (firstField field (form value)) a b
 
 chars-append : (a b : List Forest) → map charsOf (a ++ b) ≡ map charsOf a ++ map charsOf b
 chars-append [] b = refl
 chars-append (f ∷ a) b = ap (λ (l : List (List ℕ)). charsOf f ∷ l) (chars-append a b)
 
--- The values at the end of a path, likewise.
-module _ (wanted : List ℕ) (path : List (List ℕ)) (name : List ℕ) (held rest : Forest) where
-  pub values-named : isText wanted name ≡ true → valuesAt (wanted ∷ path) (element name held rest) ≡ valuesAt path held ++ valuesAt (wanted ∷ path) rest
-  unfolding valuesAt
-  values-named e = ap (map charsOf) (under-named wanted path name held rest e) ∙ chars-append (under path held) (under (wanted ∷ path) rest)
+-- What an element says at the end of a path, joined to what is known.
+abbrev pub fieldStep : (List ℕ → Field) → List (List ℕ) → Field → Forest → Field
+fieldStep form path known held = firstField known (fieldAt form path held)
 
-  pub values-other : isText wanted name ≡ false → valuesAt (wanted ∷ path) (element name held rest) ≡ valuesAt (wanted ∷ path) rest
-  unfolding valuesAt
-  values-other e = ap (map charsOf) (under-other wanted path name held rest e)
+-- The elements of a name one by one: what is said at the end of the path that begins with it.
+module _ (form : List ℕ → Field) (path : List (List ℕ)) where
+  all-said : (known : Field) (l : List Forest) → folded (fieldStep form path) known l ≡ fieldFrom form known (map charsOf (flattened (map (under path) l)))
+  unfolding folded flattened fieldFrom fieldAt valuesAt
+  all-said known [] = refl
+  all-said known (f ∷ l) =
+      all-said (fieldStep form path known f) l
+      ∙ ap (λ (k : Field). fieldFrom form k (map charsOf (flattened (map (under path) l)))) (from-known form known Field.Missing (map charsOf (under path f)) ∙ ap (λ (k : Field). fieldFrom form k (map charsOf (under path f))) (first-last known))
+      ∙ sym (fields-append form known (map charsOf (under path f)) (map charsOf (flattened (map (under path) l))))
+      ∙ ap (fieldFrom form known) (sym (chars-append (under path f) (flattened (map (under path) l))))
 
-pub values-none : (wanted : List ℕ) (path : List (List ℕ)) → valuesAt (wanted ∷ path) none ≡ []
-unfolding valuesAt
-values-none wanted path = ap (map charsOf) (under-none wanted path)
+  pub field-said : (name : List ℕ) (held : Forest) → folded (fieldStep form path) Field.Missing (insides name held) ≡ fieldAt form (name ∷ path) held
+  unfolding fieldAt valuesAt under
+  field-said name held = all-said Field.Missing (insides name held)
 
-module _ (wanted : List ℕ) (path : List (List ℕ)) (name : List ℕ) (held rest : Forest) where
-  pub values-one : isText wanted name ≡ true → valuesAt (wanted ∷ path) (element name held none) ≡ valuesAt path held
-  values-one e = values-named wanted path name held none e ∙ ap (λ (l : List (List ℕ)). valuesAt path held ++ l) (values-none wanted path) ∙ append-nil (valuesAt path held)
-
-  pub values-no : isText wanted name ≡ false → valuesAt (wanted ∷ path) (element name held none) ≡ []
-  values-no e = values-other wanted path name held none e ∙ values-none wanted path
-
-  -- An element and what follows it.
-  pub values-split : valuesAt (wanted ∷ path) (element name held rest) ≡ valuesAt (wanted ∷ path) (element name held none) ++ valuesAt (wanted ∷ path) rest
-  values-split = by-test (isText wanted name) refl
-    where
-      by-test : (t : Bool) → isText wanted name ≡ t → valuesAt (wanted ∷ path) (element name held rest) ≡ valuesAt (wanted ∷ path) (element name held none) ++ valuesAt (wanted ∷ path) rest
-      by-test true e = values-named wanted path name held rest e ∙ ap (λ (l : List (List ℕ)). l ++ valuesAt (wanted ∷ path) rest) (sym (values-one e))
-      by-test false e = values-other wanted path name held rest e ∙ ap (λ (l : List (List ℕ)). l ++ valuesAt (wanted ∷ path) rest) (sym (values-no e))
-
-pub other-name : (wanted other text : List ℕ) → isText wanted text ≡ true → isText other wanted ≡ false → isText other text ≡ false
-other-name wanted other text e d = rw (text-named wanted text e) d
-
--- What the values of a name add to a field.
-pub fields-append : (form : List ℕ → Field) (field : Field) (a b : List (List ℕ)) → fieldFrom form field (a ++ b) ≡ fieldFrom form (fieldFrom form field a) b
-unfolding fieldFrom
-fields-append form field [] b = refl
-fields-append form field (value ∷ a) b = fields-append form (firstField field (form value)) a b
-
-module _ (form : List ℕ → Field) (field : Field) (wanted name : List ℕ) (held rest : Forest) where
-  pub field-named : isText wanted name ≡ true → fieldFrom form field (valuesAt (wanted ∷ []) (element name held none)) ≡ firstField field (form (charsOf held))
-  unfolding fieldFrom valuesAt under
-  field-named e = ap (fieldFrom form field) (values-one wanted [] name held none e)
-
-  pub field-other : (path : List (List ℕ)) → isText wanted name ≡ false → fieldFrom form field (valuesAt (wanted ∷ path) (element name held none)) ≡ field
-  unfolding fieldFrom
-  field-other path e = ap (fieldFrom form field) (values-no wanted path name held none e)
-
-  -- Whatever its name is.
-  pub field-told : (met later : Field) → met ≡ form (charsOf held) → later ≡ fieldNamed wanted name field met → later ≡ fieldFrom form field (valuesAt (wanted ∷ []) (element name held none))
-  field-told met later m l = by-test (isText wanted name) refl
-    where
-      by-test : (t : Bool) → isText wanted name ≡ t → later ≡ fieldFrom form field (valuesAt (wanted ∷ []) (element name held none))
-      by-test true e = (rw e at l) ∙ ap (firstField field) m ∙ sym (field-named e)
-      by-test false e = (rw e at l) ∙ sym (field-other [] e)
-
-  pub field-split : (path : List (List ℕ)) → fieldFrom form field (valuesAt (wanted ∷ path) (element name held rest)) ≡ fieldFrom form (fieldFrom form field (valuesAt (wanted ∷ path) (element name held none))) (valuesAt (wanted ∷ path) rest)
-  field-split path =
-      ap (fieldFrom form field) (values-split wanted path name held rest)
-      ∙ fields-append form field (valuesAt (wanted ∷ path) (element name held none)) (valuesAt (wanted ∷ path) rest)
-
-  pub field-over : (path : List (List ℕ)) → fieldFrom form field (valuesAt (wanted ∷ path) none) ≡ field
-  unfolding fieldFrom
-  field-over path = ap (fieldFrom form field) (values-none wanted path)
+-- An element's own value.
+pub value-said : (form : List ℕ → Field) (held : Forest) → fieldAt form [] held ≡ form (charsOf held)
+unfolding fieldAt valuesAt under fieldFrom
+value-said form held = refl

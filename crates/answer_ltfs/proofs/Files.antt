@@ -9,70 +9,28 @@ use lib.ListN.{length}
 use borrow.Author.Tests.{eq-eqb, ne-eqb}
 use Rattle.text_bytes.specs.Text.{isText}
 use Rattle.tape_markup.specs.declared.Place.{Place}
-use Rattle.answer_ltfs.specs.declared.values.Field.{Field}
-use Rattle.answer_ltfs.specs.declared.index.Extent.{Extent}
 use Rattle.tape_ranges.specs.declared.File.{File}
 use Rattle.answer_ltfs.specs.declared.index.Walk.{Walk}
 use Rattle.answer_ltfs.specs.declared.index.Use.{Use}
 use Rattle.tape_markup.specs.Tree.{Forest, none, element, innermost, enclosing, treeOf}
-use Rattle.answer_ltfs.specs.Index.{flattened, isNone, charsOf, insides, under, valuesAt, partitionName, startBlockName, byteOffsetName, byteCountName, indexName, directoryName, contentsName, extentInfoName, extentName}
+use Rattle.answer_ltfs.specs.Index.{flattened, isNone, insides, under, indexName, directoryName, contentsName, extentInfoName, extentName}
 use Rattle.answer_ltfs.specs.Index.{Level, outside, inDirectory, inContents, Role, holds, file, other, roleOf, extentsOf, filesOfRole, filesIn}
 use Rattle.tape_markup.specs.Places.{part, PlaceIn, tokensAt}
-use Rattle.answer_ltfs.specs.Private.Parts.{framesAt, inside, Left, bare, ElementMet, NoElement, numberField, letterField, fieldNamed, fieldFrom, extentFrom, withExtentPart, extentOf, withExtent, withExtents, fileOf}
+use Rattle.answer_ltfs.specs.Private.Parts.{framesAt, inside, Left, ElementMet, NoElement, NamedAt, NoneNamed, extentOf, withExtent, withExtents, fileOf}
 use Rattle.answer_ltfs.specs.Private.Parts.{levelAt, enterIf, RoleFound, filesUnder, filesLeft, WalkIn, FileMet}
-use Rattle.answer_ltfs.proofs.Bare.{Reads, insides-bare, files-bare, under-bare, values-bare, under-named, under-other, under-none, insides-named, insides-other, field-told, field-split, field-over, met-here}
-
--- An extent by its four fields.
-abbrev extentSaying : Field → Field → Field → Field → Extent
-extentSaying partition block offset count = record { partition = partition; block = block; offset = offset; count = count }
-
--- The elements in an `extent` element.
-pub reads-extent : Reads extentFrom
-unfolding extentFrom
-reads-extent = record { skips = skips; over = over }
-  where
-    skips : (known : Extent) (f : Forest) → extentFrom known (bare f) ≡ extentFrom known f
-    skips known f = rw (values-bare partitionName [] f, values-bare startBlockName [] f, values-bare byteOffsetName [] f, values-bare byteCountName [] f)
-
-    over : (known : Extent) → extentFrom known none ≡ known
-    over known =
-        let p = field-over letterField (known .partition) partitionName [] none none [] in
-        let b = field-over numberField (known .block) startBlockName [] none none [] in
-        let o = field-over numberField (known .offset) byteOffsetName [] none none [] in
-        let c = field-over numberField (known .count) byteCountName [] none none [] in
-        rw (p, b, o, c)
-
-module _ (extent : Extent) (name : List ℕ) (held : Forest) where
-  pub extent-more : (rest : Forest) (later : Extent) → later ≡ withExtentPart extent name held → extentFrom extent (element name held rest) ≡ extentFrom later rest
-  unfolding extentFrom
-  extent-more rest later e =
-      let p = field-split letterField (extent .partition) partitionName name held rest [] in
-      let b = field-split numberField (extent .block) startBlockName name held rest [] in
-      let o = field-split numberField (extent .offset) byteOffsetName name held rest [] in
-      let c = field-split numberField (extent .count) byteCountName name held rest [] in
-      rw (e, p, b, o, c)
-
-  pub extent-part : (letter number partition block offset count : Field) → letter ≡ letterField (charsOf held) → number ≡ numberField (charsOf held)
-      → partition ≡ fieldNamed partitionName name (extent .partition) letter
-      → block ≡ fieldNamed startBlockName name (extent .block) number
-      → offset ≡ fieldNamed byteOffsetName name (extent .offset) number
-      → count ≡ fieldNamed byteCountName name (extent .count) number
-      → extentSaying partition block offset count ≡ withExtentPart extent name held
-  unfolding extentFrom
-  extent-part letter number partition block offset count l n p b o c =
-      rw (
-        ← field-told letterField (extent .partition) partitionName name held none letter partition l p,
-        ← field-told numberField (extent .block) startBlockName name held none number block n b,
-        ← field-told numberField (extent .offset) byteOffsetName name held none number offset n o,
-        ← field-told numberField (extent .count) byteCountName name held none number count n c,
-      )
+use Rattle.answer_ltfs.proofs.Bare.{files-bare, folded}
 
 -- The extents in an `extentinfo` element, and in a file.
-unfoldable pub infoExtents : File → Forest → File
-infoExtents f held = withExtents f (insides extentName held)
+abbrev pub extentStep : File → Forest → File
+extentStep f held = withExtent f (extentOf held)
 
-unfoldable pub fileExtents : File → Forest → File
-fileExtents f held = withExtents f (extentsOf held)
+abbrev pub infoStep : File → Forest → File
+infoStep f held = withExtents f (insides extentName held)
+
+pub extents-read : (f : File) (l : List Forest) → folded extentStep f l ≡ withExtents f l
+unfolding folded withExtents
+extents-read f [] = refl
+extents-read f (extent ∷ l) = extents-read (extentStep f extent) l
 
 extents-append : (f : File) (a b : List Forest) → withExtents f (a ++ b) ≡ withExtents (withExtents f a) b
 unfolding withExtents
@@ -84,83 +42,26 @@ unfolding flattened under
 joined-ones [] = refl
 joined-ones (f ∷ l) = ap (λ (k : List Forest). f ∷ k) (joined-ones l)
 
-under-one : (wanted : List ℕ) (f : Forest) → under (wanted ∷ []) f ≡ insides wanted f
-unfolding under
-under-one wanted f = joined-ones (insides wanted f)
+infos-read : (f : File) (l : List Forest) → folded infoStep f l ≡ withExtents f (flattened (map (under (extentName ∷ [])) l))
+unfolding folded withExtents flattened under
+infos-read f [] = refl
+infos-read f (info ∷ l) =
+    infos-read (infoStep f info) l
+    ∙ sym (extents-append f (insides extentName info) (flattened (map (under (extentName ∷ [])) l)))
+    ∙ ap (λ (k : List Forest). withExtents f (k ++ flattened (map (under (extentName ∷ [])) l))) (sym (joined-ones (insides extentName info)))
 
-pub reads-extents : Reads infoExtents
-unfolding infoExtents insides withExtents
-reads-extents = record { skips = λ known f. ap (withExtents known) (insides-bare extentName f); over = λ known. refl }
+pub file-read : (f : File) (held : Forest) → folded infoStep f (insides extentInfoName held) ≡ withExtents f (extentsOf held)
+unfolding extentsOf under
+file-read f held = infos-read f (insides extentInfoName held)
 
-pub reads-file : Reads fileExtents
-unfolding fileExtents extentsOf withExtents
-reads-file =
-    record {
-      skips = λ known f. ap (withExtents known) (under-bare extentInfoName (extentName ∷ []) f);
-      over = λ known. ap (withExtents known) (under-none extentInfoName (extentName ∷ []));
-    }
-
-module _ (f : File) (name : List ℕ) (held rest : Forest) where
-  pub extents-named : (extent : Extent) (later : File) → isText extentName name ≡ true → extent ≡ extentOf held → later ≡ withExtent f extent → infoExtents f (element name held rest) ≡ infoExtents later rest
-  unfolding infoExtents withExtents
-  extents-named extent later e x l =
-      ap (withExtents f) (insides-named extentName [] name held rest e)
-      ∙ ap (λ (k : File). withExtents k (insides extentName rest)) (ap (withExtent f) (sym x) ∙ sym l)
-
-  pub extents-other : isText extentName name ≡ false → infoExtents f (element name held rest) ≡ infoExtents f rest
-  unfolding infoExtents
-  extents-other e = ap (withExtents f) (insides-other extentName [] name held rest e)
-
-  pub file-named : (later : File) → isText extentInfoName name ≡ true → later ≡ infoExtents f held → fileExtents f (element name held rest) ≡ fileExtents later rest
-  unfolding infoExtents fileExtents extentsOf
-  file-named later e l =
-      ap (withExtents f) (under-named extentInfoName (extentName ∷ []) name held rest e)
-      ∙ extents-append f (under (extentName ∷ []) held) (under (extentInfoName ∷ extentName ∷ []) rest)
-      ∙ ap (λ (k : File). withExtents k (under (extentInfoName ∷ extentName ∷ []) rest)) (ap (withExtents f) (under-one extentName held) ∙ sym l)
-
-  pub file-other : isText extentInfoName name ≡ false → fileExtents f (element name held rest) ≡ fileExtents f rest
-  unfolding fileExtents extentsOf
-  file-other e = ap (withExtents f) (under-other extentInfoName (extentName ∷ []) name held rest e)
-
-pub info-extents : (f : File) (held : Forest) → infoExtents f held ≡ withExtents f (insides extentName held)
-unfolding infoExtents
-info-extents f held = refl
-
-pub file-extents : (f : File) (held : Forest) → fileExtents f held ≡ withExtents f (extentsOf held)
-unfolding fileExtents
-file-extents f held = refl
-
--- Looking for an outermost `ltfsindex`: none was passed, so those left decide.
-pub record IndexSought (text : List ℕ) (here : Place) : Type 0 where
-  pub within : PlaceIn text here
-  pub same : insides indexName (inside text here) ≡ insides indexName (treeOf text)
-
-pub index-start : (text : List ℕ) → IndexSought text (Place.Text 0)
+-- Whether there is an outermost `ltfsindex`.
+pub index-found : (text : List ℕ) (next : Place) → NamedAt text (Place.Text 0) indexName next → true ≡ not (isNone (insides indexName (treeOf text)))
 unfolding framesAt tokensAt treeOf
-index-start text = record { within = omega arith; same = refl }
+index-found text next m = rw (m .here)
 
-module _ (text : List ℕ) (here : Place) (p : IndexSought text here) where
-  pub index-nowhere : (next : Place) → NoElement text here next → false ≡ not (isNone (insides indexName (treeOf text)))
-  unfolding insides
-  index-nowhere next n =
-      let e : insides indexName (treeOf text) ≡ [] = sym (p .same) ∙ sym (insides-bare indexName (inside text here)) ∙ ap (insides indexName) (n .none) in
-      sym (ap (λ (l : List Forest). not (isNone l)) e)
-
-  pub index-here : (from to : ℕ) (next : Place) → ElementMet text here from to next → isText indexName (part from to text) ≡ true → true ≡ not (isNone (insides indexName (treeOf text)))
-  index-here from to next m e =
-      let l = insides-named indexName [] (part from to text) (inside text next) (innermost (enclosing (framesAt text next))) e in
-      sym (ap (λ (l : List Forest). not (isNone l)) (sym (p .same) ∙ sym (insides-bare indexName (inside text here)) ∙ ap (insides indexName) (m .here) ∙ l))
-
-  pub index-later : (from to : ℕ) (next after : Place) → ElementMet text here from to next → Left text next after → isText indexName (part from to text) ≡ false → IndexSought text after
-  index-later from to next after m l e =
-      record {
-        within = l .within;
-        same =
-            sym (insides-other indexName [] (part from to text) (inside text next) (inside text after) e)
-            ∙ sym (ap (insides indexName) (met-here text here from to next after m l))
-            ∙ insides-bare indexName (inside text here)
-            ∙ p .same;
-      }
+pub index-nowhere : (text : List ℕ) (next : Place) → NoneNamed text (Place.Text 0) indexName next → false ≡ not (isNone (insides indexName (treeOf text)))
+unfolding framesAt tokensAt treeOf
+index-nowhere text next n = rw (n .none)
 
 -- What a name means so deep: directories and contents take turns.
 even-level : (depth : ℕ) → (depth ≡ 0 → ⊥) → (depth ≡ 1 → ⊥) → depth % 2 ≡ 0 → levelAt depth ≡ inDirectory

@@ -11,7 +11,7 @@ use borrow.Author.Tests.{ltb-false, le-ltb, ne-eqb, not-false}
 use Rattle.refusals.specs.declared.Refusal.the-variants.{BadName, BadText, ManyExtents, Overlap, FarFile, ShortRow}
 use Rattle.refusals.specs.declared.Verdict.{Verdict}
 use Rattle.refusals.specs.Refusals.{accepted, refuseIf, firstOf}
-use Rattle.refusals.proofs.Verdicts.{refuses, all-accept, accepts-if}
+use Rattle.refusals.proofs.Verdicts.{refuses, last-if, all-accept, accepts-if}
 use Rattle.runs.specs.Run.{Run, runOf}
 use Rattle.runs.specs.Alone.{aloneOf, zeros}
 use Rattle.runs.specs.Judging.{judgeOf}
@@ -23,6 +23,7 @@ use Rattle.sheet_writer.specs.Writing.{topText, sheetText, rowVerdict, writeVer
 use Rattle.sheet_writer.proofs.Sheets.{first-row}
 use Rattle.answer_ltfs.specs.declared.Report.{Report}
 use Rattle.tape_ranges.specs.declared.Tally.{Tally}
+use Rattle.answer_ltfs.specs.declared.label.Label.{Label}
 use Rattle.tape_markup.specs.Tree.{Forest, isBalanced, treeOf}
 use Rattle.answer_ltfs.specs.Index.{every, some, isNone, insides, areGood, isPartition, letterOf, indexName, blockSizes, dataPartitions, isGoodLabel, blockSizeOf, dataPartitionOf, isGoodExtent, indexFiles, isGoodIndex}
 use Rattle.tape_ranges.specs.Ranges.{Range}
@@ -199,6 +200,12 @@ module _ (name : List ℕ) (size partition : ℕ) (files : List (List Forest)) (
           accepts-if (tally .far) FarFile refl (a .1 .1 .0),
           accepts-if (neighbourOverlap (rangesFrom (take (tally .kept) starts) (take (tally .kept) lengths))) Overlap refl (a .1 .1 .1 .0),
         )
+
+-- 20 for the texts themselves, from five tests of them.
+pub texts-judged : (label index : List ℕ) (read : Label) (a b s p i : Bool) → a ≡ isBalanced label → b ≡ isBalanced index → s ≡ isValue (read .size) → p ≡ isValue (read .partition)
+    → i ≡ not (isNone (insides indexName (treeOf index))) → (v : Verdict) → v ≡ refuseIf (not (a && b && (s && p) && i)) BadText → v ≡ firstOf (refuseIf (not (textsRead label index read)) BadText ∷ [])
+texts-judged label index read a b s p i a-is b-is s-is p-is i-is v v-is =
+    last-if {x = not (a && b && (s && p) && i)} {b = not (textsRead label index read)} BadText refl v-is (rw (a-is, b-is, s-is, p-is, i-is))
 
 -- A label that was read is good where its fields are values, and then says the same.
 pub label-size : (label : Forest) → isValue ((labelOf label) .size) ≡ areGood isNumber (blockSizes label)

@@ -9,3 +9,5 @@ pub mod Tallies
 pub mod Neighbours
 pub mod Laid
 pub mod Promise
+pub mod Framing
+pub mod Apart

@@ -1,25 +1,29 @@
 -- What is promised of the sheet of a tape: no file is lost, and where nothing is refused the sheet reads back.
-use Prim.Native.Nat.{_+_}
-use mathlib.Core.Path.{_≡_, refl, ap, _∙_}
+use Prim.Native.Nat.{ℕ, _+_, _≤_}
+use mathlib.Core.Path.{_≡_, refl, ap, sym, _∙_}
 use mathlib.Core.Bool.{Bool, true, false, cond, not, _&&_}
 use mathlib.Core.List.{List, [], _∷_}
 use native.Mathlib.Omega.{arith}
 use lib.ListN.{length, length-map}
-use lib.Dec.{eqb}
-use borrow.Author.Tests.{not-false}
-use Rattle.refusals.specs.declared.Refusal.the-variants.{BadName, BadText, ManyExtents, Overlap, FarFile}
-use Rattle.refusals.specs.Refusals.{refuseIf}
+use lib.Dec.{eqb, ltb}
+use borrow.Author.Tests.{not-false, le-ltb, ltb-false}
+use Rattle.refusals.specs.declared.Refusal.the-variants.{BadName, BadText, ManyExtents, Overlap, FarFile, LongSheet, BadLine}
+use Rattle.refusals.specs.declared.Verdict.{Verdict}
+use Rattle.refusals.specs.Refusals.{refuseIf, refuseAt, firstOf}
 use Rattle.runs.specs.Run.{Run}
 use Rattle.runs.specs.Alone.{zeros}
 use Rattle.runs.specs.Judging.{judgeOf}
-use Rattle.refusals.proofs.Verdicts.{all-accept, accepts-if}
+use Rattle.refusals.proofs.Verdicts.{refuses, none-refuses, all-accept, accepts-if}
 use Rattle.text_bytes.specs.Text.{isName}
+use Rattle.sheet_reader.specs.Sheet.{longestSheet, firstBadLine}
+use Rattle.sheet_reader.specs.Reading.{sheetVerdict}
 use Rattle.sheet_writer.specs.Writing.{rowVerdict}
 use Rattle.sheet_writer.proofs.RoundTrip.{round-trip}
+use Rattle.sheet_writer.proofs.Sheets.{front-refuses, front-passes}
 use Rattle.tape_markup.specs.Tree.{Forest, treeOf}
 use Rattle.answer_ltfs.specs.Index.{some, blockSizeOf, dataPartitionOf, partitionOf, indexFiles}
-use Rattle.answer_ltfs.specs.TapeTable.{firstExtent, inSeveral, isEmptyFile, liesElsewhere, isAccepted, howMany, only, rangeOf, rangesOf, areFar, someOverlap, runOfTable, rangesIn, tapeTable, areGoodTexts, ltfsSheet, ltfsVerdict, ltfsReport}
-use Rattle.answer_ltfs.specs.Promises.{NoFileIsLost, AnswerCountsAll, SheetReadsBack}
+use Rattle.answer_ltfs.specs.TapeTable.{firstExtent, inSeveral, isEmptyFile, liesElsewhere, isAccepted, howMany, only, rangeOf, rangesOf, areFar, someOverlap, runOfTable, rangesIn, tapeTable, areGoodTexts, ltfsSheet, ltfsVerdict, tapeVerdict, ltfsReport}
+use Rattle.answer_ltfs.specs.Promises.{NoFileIsLost, AnswerCountsAll, SheetReadsBack, RowSuffices}
 use Rattle.answer_ltfs.proofs.Order.{oneIf, counted-cons, counted-none, length-kept}
 use Rattle.answer_ltfs.proofs.Laid.{table-passes, table-few}
 
@@ -96,3 +100,45 @@ sheet-reads-back name label index row e =
       turn = ap (λ (r : Run). r .turn) (back .same-run);
       judged = ap judgeOf (back .same-run) ∙ judged;
     }
+
+-- The checks before 8.
+module _ (name label index : List ℕ) where
+  abbrev pub tape-checks : List Verdict
+  tape-checks =
+      refuseIf (not (isName name)) BadName
+      ∷ refuseIf (not (areGoodTexts label index)) BadText
+      ∷ refuseIf (some inSeveral (indexFiles (treeOf index))) ManyExtents
+      ∷ refuseIf (areFar (rangesIn label index)) FarFile
+      ∷ refuseIf (someOverlap (tapeTable label index)) Overlap
+      ∷ []
+
+  abbrev sheet : List ℕ
+  sheet = ltfsSheet name label index
+
+  -- The sheet itself is a row that holds it.
+  own-row : refuses (tapeVerdict name label index) ≡ false → refuses (ltfsVerdict name label index sheet) ≡ false
+  unfolding tapeVerdict ltfsVerdict rowVerdict
+  own-row e =
+      ap refuses (front-passes tape-checks (rowVerdict sheet sheet ∷ []) e) ∙ (rw (le-ltb (length sheet) (length sheet) (omega arith)))
+
+  pub sheet-within : refuses (tapeVerdict name label index) ≡ false → length sheet ≤ longestSheet
+  unfolding sheetVerdict
+  sheet-within e =
+      let back = sheet-reads-back name label index sheet (own-row e) in
+      let all = all-accept (refuseIf (ltb longestSheet (length sheet)) LongSheet ∷ refuseAt (firstBadLine sheet) BadLine ∷ []) (ap refuses (back .reads)) in
+      ltb-false longestSheet (length sheet) (accepts-if (ltb longestSheet (length sheet)) LongSheet refl (all .0))
+
+pub row-suffices : RowSuffices
+unfolding tapeVerdict ltfsVerdict rowVerdict
+row-suffices name label index row fits = by-test (refuses (tapeVerdict name label index)) refl
+  where
+    last : List Verdict
+    last = rowVerdict (ltfsSheet name label index) row ∷ []
+
+    by-test : (b : Bool) → refuses (tapeVerdict name label index) ≡ b → ltfsVerdict name label index row ≡ tapeVerdict name label index
+    by-test true e = front-refuses (tape-checks name label index) last e
+    by-test false e =
+        let l : length (ltfsSheet name label index) ≤ longestSheet = sheet-within name label index e in
+        front-passes (tape-checks name label index) last e
+        ∙ (rw (le-ltb (length row) (length (ltfsSheet name label index)) (omega arith)))
+        ∙ sym (none-refuses (tape-checks name label index) e)

@@ -5,7 +5,7 @@ ghost use Prim.Native.Nat.{_≤_};
 ghost use lib.ListN.{length};
 ghost use Rattle.text_bytes.specs.Text.{isText};
 ghost use Rattle.tape_markup.specs.Places.{part, PlaceIn};
-ghost use Rattle.answer_ltfs.specs.Private.Parts.{Left, ChildMet};
+ghost use Rattle.answer_ltfs.specs.Private.Parts.{Left, ChildMet, NamedMet};
 use tape_markup::Place;
 use tape_markup::Step;
 use tape_markup::step_from;
@@ -13,6 +13,12 @@ use tape_markup::step_from;
 // An element with its name and where its inside begins; or none is left, and the reader is past the end.
 pub(crate) enum Child {
     Element { from: usize, to: usize, next: Place },
+    Done(Place),
+}
+
+// Where the inside of an element of a name begins; or none is left, and the reader is past the end.
+pub(crate) enum Named {
+    At(Place),
     Done(Place),
 }
 
@@ -70,6 +76,26 @@ pub(crate) fn leave(text: &[u8], place: Place) -> Place
                 }
                 depth -= 1;
                 here = next;
+            }
+        }
+    }
+}
+
+// The next element of a name. Those of other names are passed over.
+pub(crate) fn next_named(text: &[u8], place: Place, name: &[u8]) -> Named
+    requires { ⌜ PlaceIn (now text) place ⌝ }
+    ensures { λ r. ⌜ NamedMet (now (name .entry)) (now (text .entry)) place r ⌝ }
+{
+    let mut here = place;
+    loop {
+        let child = next_child(text, here);
+        match child {
+            Child::Done(next) => return Named::Done(next),
+            Child::Element { from, to, next } => {
+                if is_named(text, from, to, name) {
+                    return Named::At(next);
+                }
+                here = leave(text, next);
             }
         }
     }

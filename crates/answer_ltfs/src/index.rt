@@ -1,19 +1,20 @@
 // The index: its files one by one, in the order met, each by its extents.
 ghost use mathlib.Core.Path.{_≡_};
-ghost use mathlib.Core.Bool.{not, _&&_};
+ghost use mathlib.Core.Bool.{not};
 ghost use Prim.Native.Nat.{suc};
 ghost use Rattle.tape_markup.specs.Tree.{treeOf};
 ghost use Rattle.answer_ltfs.specs.Index.{isNone, insides, indexName, extentName, extentsOf, roleOf, inContents, inDirectory};
 ghost use Rattle.tape_markup.specs.Places.{part, PlaceIn, NameIn};
-ghost use Rattle.answer_ltfs.specs.Private.Parts.{Left, inside, withExtentPart, extentOf, withExtent, withExtents, fileOf, extentIsGood, levelAt, enterIf, RoleFound, NextFound, WalkIn};
+ghost use Rattle.answer_ltfs.specs.Private.Parts.{Left, inside, extentOf, withExtent, withExtents, fileOf, extentIsGood, levelAt, enterIf, RoleFound, NextFound, WalkIn};
 use crate::elements::Child;
+use crate::elements::Named;
 use crate::elements::is_named;
 use crate::elements::leave;
 use crate::elements::next_child;
+use crate::elements::next_named;
 use crate::values::Field;
-use crate::values::field_named;
 use crate::values::is_value;
-use crate::values::read_value;
+use crate::values::read_field;
 use crate::values::value_in;
 use tape_markup::Place;
 use tape_ranges::File;
@@ -53,60 +54,27 @@ enum Use {
     Skip,
 }
 
-// One element in an `extent` element: it counts for the field of its name.
-fn read_extent_part(text: &[u8], from: usize, to: usize, place: Place, extent: Extent) -> ExtentRead
-    requires { ⌜ PlaceIn (now text) place ⌝ }
-    requires { ⌜ NameIn (now text) from to ⌝ }
-    ensures { λ r. ⌜ (r .extent ≡ withExtentPart extent (part from to (now (text .entry))) (inside (now (text .entry)) place)) × Left (now (text .entry)) place (r .next) ⌝ }
-{
-    let read = read_value(text, place);
-    let letter = read.letter;
-    let number = read.number;
-    let next = read.next;
-    let partition = extent.partition;
-    let block = extent.block;
-    let offset = extent.offset;
-    let count = extent.count;
-    let extent = Extent {
-        partition: field_named(text, from, to, b"partition", partition, letter),
-        block: field_named(text, from, to, b"startblock", block, number),
-        offset: field_named(text, from, to, b"byteoffset", offset, number),
-        count: field_named(text, from, to, b"bytecount", count, number),
-    };
-    ExtentRead { extent, next }
-}
-
+// The extent that an `extent` element says.
 fn read_extent(text: &[u8], place: Place) -> ExtentRead
     requires { ⌜ PlaceIn (now text) place ⌝ }
     ensures { λ r. ⌜ (r .extent ≡ extentOf (inside (now (text .entry)) place)) × Left (now (text .entry)) place (r .next) ⌝ }
 {
-    let mut extent = Extent {
-        partition: Field::Missing,
-        block: Field::Missing,
-        offset: Field::Missing,
-        count: Field::Missing,
+    let partitions = read_field(text, place, b"partition");
+    let blocks = read_field(text, place, b"startblock");
+    let offsets = read_field(text, place, b"byteoffset");
+    let counts = read_field(text, place, b"bytecount");
+    let partition = partitions.letter;
+    let block = blocks.number;
+    let offset = offsets.number;
+    let count = counts.number;
+    let next = counts.next;
+    let extent = Extent {
+        partition,
+        block,
+        offset,
+        count,
     };
-    let mut here = place;
-    loop {
-        let child = next_child(text, here);
-        match child {
-            Child::Done(next) => return ExtentRead { extent, next },
-            Child::Element { from, to, next } => {
-                let read = read_extent_part(text, from, to, next, extent);
-                extent = read.extent;
-                here = read.next;
-            }
-        }
-    }
-}
-
-pub(crate) fn both(one: bool, another: bool) -> bool
-    ensures { λ r. ⌜ r ≡ (one && another) ⌝ }
-{
-    if one {
-        return another;
-    }
-    false
+    ExtentRead { extent, next }
 }
 
 fn extent_is_good(extent: Extent) -> bool
@@ -116,15 +84,14 @@ fn extent_is_good(extent: Extent) -> bool
     let block = extent.block;
     let offset = extent.offset;
     let count = extent.count;
-    let three = both(both(is_value(partition), is_value(block)), is_value(offset));
-    both(three, is_value(count))
+    is_value(partition) & is_value(block) & is_value(offset) & is_value(count)
 }
 
 // A file with one more extent.
 fn with_extent(file: File, extent: Extent) -> File
     ensures { λ r. ⌜ r ≡ withExtent file extent ⌝ }
 {
-    let good = both(file.good, extent_is_good(extent));
+    let good = file.good & extent_is_good(extent);
     if file.some {
         return File {
             some: true,
@@ -159,18 +126,14 @@ fn read_extents(text: &[u8], place: Place, file: File) -> FileRead
     let mut file = file;
     let mut here = place;
     loop {
-        let child = next_child(text, here);
-        match child {
-            Child::Done(next) => return FileRead { file, next },
-            Child::Element { from, to, next } => {
-                if is_named(text, from, to, b"extent") {
-                    let read = read_extent(text, next);
-                    let extent = read.extent;
-                    file = with_extent(file, extent);
-                    here = read.next;
-                } else {
-                    here = leave(text, next);
-                }
+        let met = next_named(text, here, b"extent");
+        match met {
+            Named::Done(next) => return FileRead { file, next },
+            Named::At(inner) => {
+                let read = read_extent(text, inner);
+                let extent = read.extent;
+                file = with_extent(file, extent);
+                here = read.next;
             }
         }
     }
@@ -191,17 +154,13 @@ fn read_file(text: &[u8], place: Place) -> FileRead
     };
     let mut here = place;
     loop {
-        let child = next_child(text, here);
-        match child {
-            Child::Done(next) => return FileRead { file, next },
-            Child::Element { from, to, next } => {
-                if is_named(text, from, to, b"extentinfo") {
-                    let read = read_extents(text, next, file);
-                    file = read.file;
-                    here = read.next;
-                } else {
-                    here = leave(text, next);
-                }
+        let met = next_named(text, here, b"extentinfo");
+        match met {
+            Named::Done(next) => return FileRead { file, next },
+            Named::At(inner) => {
+                let read = read_extents(text, inner, file);
+                file = read.file;
+                here = read.next;
             }
         }
     }
@@ -289,17 +248,9 @@ pub(crate) fn next_file(text: &[u8], walk: Walk) -> NextFile
 pub(crate) fn has_index(text: &[u8]) -> bool
     ensures { λ r. ⌜ r ≡ not (isNone (insides indexName (treeOf (now (text .entry))))) ⌝ }
 {
-    let mut here = Place::Text(0);
-    loop {
-        let child = next_child(text, here);
-        match child {
-            Child::Done(_) => return false,
-            Child::Element { from, to, next } => {
-                if is_named(text, from, to, b"ltfsindex") {
-                    return true;
-                }
-                here = leave(text, next);
-            }
-        }
+    let met = next_named(text, Place::Text(0), b"ltfsindex");
+    match met {
+        Named::At(_) => true,
+        Named::Done(_) => false,
     }
 }

@@ -12,9 +12,8 @@ ghost use Rattle.tape_markup.specs.Tree.{treeOf};
 ghost use Rattle.answer_ltfs.specs.Index.{indexFiles};
 ghost use Rattle.answer_ltfs.specs.TapeTable.{lastEnd, refusedReport, ltfsVerdict, ltfsReport, ltfsRow};
 ghost use Rattle.tape_ranges.specs.Ranges.{rangesFrom};
-ghost use Rattle.answer_ltfs.specs.Private.Tallies.{TableRows, EndsFit, textsRead, textChecks, fileChecks, reportOf, tableReport, tableRow};
+ghost use Rattle.answer_ltfs.specs.Private.Tallies.{TableRows, EndsFit, textChecks, fileChecks, reportOf, tableReport, tableRow};
 use crate::Report;
-use crate::index::both;
 use crate::index::has_index;
 use crate::label::Label;
 use crate::label::read_label;
@@ -31,7 +30,7 @@ use tape_ranges::Tally;
 use tape_ranges::neighbours_overlap;
 
 // The answer of a refusal: its kind and place, and every other number 0.
-fn refusal_of(v: Verdict) -> Report
+pub(crate) fn refusal_of(v: Verdict) -> Report
     ensures { λ r. ⌜ r ≡ refusedReport v ⌝ }
 {
     let refusal = v.refusal;
@@ -105,17 +104,23 @@ fn judge_files(tally: Tally, starts: &[u64], lengths: &[u64]) -> Verdict
     requires { ⌜ TableRows (now starts) (now lengths) ⌝ }
     ensures { λ r. ⌜ r ≡ firstOf (fileChecks tally (now (starts .entry)) (now (lengths .entry))) ⌝ }
 {
-    let values = refuse_if(!tally.good, Refusal::BadText);
-    if refused(values) {
-        return values;
+    if !tally.good {
+        return Verdict {
+            refusal: Refusal::BadText,
+            place: 0,
+        };
     }
-    let several = refuse_if(tally.several, Refusal::ManyExtents);
-    if refused(several) {
-        return several;
+    if tally.several {
+        return Verdict {
+            refusal: Refusal::ManyExtents,
+            place: 0,
+        };
     }
-    let far = refuse_if(tally.far, Refusal::FarFile);
-    if refused(far) {
-        return far;
+    if tally.far {
+        return Verdict {
+            refusal: Refusal::FarFile,
+            place: 0,
+        };
     }
     let kept = tally.kept;
     refuse_if(
@@ -143,26 +148,22 @@ fn lay_out(name: &[u8], size: u64, partition: u64, index: &[u8], out: &mut [u8])
     report_of(written, tally)
 }
 
-// Whether both texts are balanced, the label has its two values, and the index its root.
-fn texts_are_good(label: &[u8], index: &[u8], read: Label) -> bool
-    ensures { λ r. ⌜ r ≡ textsRead (now (label .entry)) (now (index .entry)) read ⌝ }
-{
-    let size = read.size;
-    let partition = read.partition;
-    let balanced = both(is_balanced(label), is_balanced(index));
-    let values = both(is_value(size), is_value(partition));
-    both(both(balanced, values), has_index(index))
-}
-
-// The name and the two texts: 13 and 20.
+// The name and the two texts: 13, and 20 for a text that is not balanced, a value of the label that is missing or bad, an index without its root.
 fn judge_texts(name: &[u8], label: &[u8], index: &[u8], read: Label) -> Verdict
     ensures { λ r. ⌜ r ≡ firstOf (textChecks (now (name .entry)) (now (label .entry)) (now (index .entry)) read) ⌝ }
 {
-    let named = refuse_if(!text_bytes::is_name(name), Refusal::BadName);
-    if refused(named) {
-        return named;
+    if !text_bytes::is_name(name) {
+        return Verdict {
+            refusal: Refusal::BadName,
+            place: 0,
+        };
     }
-    refuse_if(!texts_are_good(label, index, read), Refusal::BadText)
+    let size = read.size;
+    let partition = read.partition;
+    let balanced = is_balanced(label) & is_balanced(index);
+    let values = is_value(size) & is_value(partition);
+    let good = balanced & values & has_index(index);
+    refuse_if(!good, Refusal::BadText)
 }
 
 // The sheet of a tape's files in the first bytes of a row, and a report of those left out.

@@ -1,13 +1,14 @@
 // Values: the bytes that stand directly in an element, as a number or as a partition's letter. Markup between them is passed over.
 ghost use mathlib.Core.Path.{_≡_};
-ghost use mathlib.Core.List.{List};
+ghost use mathlib.Core.List.{List, [], _∷_};
 ghost use mathlib.Core.Bool.{cond, _&&_};
 ghost use Prim.Native.Nat.{ℕ, _+_, _-_, _*_};
 ghost use Rattle.answer_ltfs.specs.Index.{charsOf};
-ghost use Rattle.tape_markup.specs.Places.{part, NameIn, PlaceIn};
-ghost use Rattle.answer_ltfs.specs.Private.Parts.{Left, inside, withByte, charsFrom, noChars, numberField, letterField, firstField, fieldNamed, isValue, valueIn, mayFollow, grows, digitOf, GrownTo};
-use crate::elements::is_named;
+ghost use Rattle.tape_markup.specs.Places.{PlaceIn};
+ghost use Rattle.answer_ltfs.specs.Private.Parts.{Left, inside, withByte, charsFrom, noChars, numberField, letterField, firstField, fieldAt, isValue, valueIn, mayFollow, grows, digitOf, GrownTo};
+use crate::elements::Named;
 use crate::elements::leave;
+use crate::elements::next_named;
 use tape_markup::Place;
 use tape_markup::Step;
 use tape_markup::step_from;
@@ -47,7 +48,7 @@ pub(crate) struct ValueRead {
 }
 
 // The second of two fields counts only where the first is missing, but is judged all the same.
-fn first_field(field: Field, later: Field) -> Field
+pub(crate) fn first_field(field: Field, later: Field) -> Field
     ensures { λ r. ⌜ r ≡ firstField field later ⌝ }
 {
     match field {
@@ -224,7 +225,7 @@ fn letter_in(chars: Chars) -> Field
 }
 
 // The value of the element that the reader stands in.
-pub(crate) fn read_value(text: &[u8], place: Place) -> ValueRead
+fn read_value(text: &[u8], place: Place) -> ValueRead
     requires { ⌜ PlaceIn (now text) place ⌝ }
     ensures { λ r. ⌜ (r .letter ≡ letterField (charsOf (inside (now (text .entry)) place))) × (r .number ≡ numberField (charsOf (inside (now (text .entry)) place))) × Left (now (text .entry)) place (r .next) ⌝ }
 {
@@ -240,20 +241,32 @@ pub(crate) fn read_value(text: &[u8], place: Place) -> ValueRead
     }
 }
 
-// A field with what an element says that has been met, if it is of that name.
-pub(crate) fn field_named(
-    text: &[u8],
-    from: usize,
-    to: usize,
-    name: &[u8],
-    field: Field,
-    met: Field,
-) -> Field
-    requires { ⌜ NameIn (now text) from to ⌝ }
-    ensures { λ r. ⌜ r ≡ fieldNamed (now (name .entry)) (part from to (now (text .entry))) field met ⌝ }
+// What the elements of a name say, all together.
+pub(crate) fn read_field(text: &[u8], place: Place, name: &[u8]) -> ValueRead
+    requires { ⌜ PlaceIn (now text) place ⌝ }
+    ensures { λ r. ⌜ (r .letter ≡ fieldAt letterField (now (name .entry) ∷ []) (inside (now (text .entry)) place)) × (r .number ≡ fieldAt numberField (now (name .entry) ∷ []) (inside (now (text .entry)) place)) × Left (now (text .entry)) place (r .next) ⌝ }
 {
-    if is_named(text, from, to, name) {
-        return first_field(field, met);
+    let mut letter = Field::Missing;
+    let mut number = Field::Missing;
+    let mut here = place;
+    loop {
+        let met = next_named(text, here, name);
+        match met {
+            Named::Done(next) => {
+                return ValueRead {
+                    letter,
+                    number,
+                    next,
+                };
+            }
+            Named::At(inner) => {
+                let read = read_value(text, inner);
+                let met_letter = read.letter;
+                let met_number = read.number;
+                letter = first_field(letter, met_letter);
+                number = first_field(number, met_number);
+                here = read.next;
+            }
+        }
     }
-    field
 }

@@ -9,6 +9,7 @@ use lib.Dec.{eqb, ltb}
 use Rattle.text_bytes.specs.Text.{isText, isNumber, valueOf, isDigit}
 use Rattle.tape_markup.specs.declared.Place.{Place}
 use Rattle.answer_ltfs.specs.declared.elements.Child.{Child}
+use Rattle.answer_ltfs.specs.declared.elements.Named.{Named}
 use Rattle.answer_ltfs.specs.declared.values.Field.{Field}
 use Rattle.answer_ltfs.specs.declared.values.Chars.{Chars}
 use Rattle.answer_ltfs.specs.declared.values.Grown.{Grown}
@@ -20,7 +21,7 @@ use Rattle.answer_ltfs.specs.declared.index.NextFile.{NextFile}
 use Rattle.answer_ltfs.specs.declared.index.Use.{Use}
 use Rattle.tape_markup.specs.Places.{part, NameIn, PlaceIn, tokensAt}
 use Rattle.tape_markup.specs.Tree.{Forest, none, char, element, innermost, enclosing, frames}
-use Rattle.answer_ltfs.specs.Index.{some, valuesAt, valuesIn, isPartition, letterOf, blockSizeName, partitionsName, dataName, blockSizes, dataPartitions, partitionName, startBlockName, byteOffsetName, byteCountName, Level, outside, inIndex, inDirectory, inContents, Role, holds, file, other, filesIn}
+use Rattle.answer_ltfs.specs.Index.{insides, valuesAt, isPartition, letterOf, blockSizes, dataPartitions, partitionName, startBlockName, byteOffsetName, byteCountName, Level, outside, inIndex, inDirectory, inContents, Role, holds, file, other, filesIn}
 
 -- What is left from a place on: in the element around it, and outwards.
 unfoldable pub framesAt : List ℕ → Place → List Forest
@@ -55,6 +56,21 @@ pub record NoElement (text : List ℕ) (place next : Place) : Type 0 where
 abbrev pub ChildMet : List ℕ → Place → Child → Type 0
 ChildMet text place (Child.Element from to next) = ElementMet text place from to next
 ChildMet text place (Child.Done next) = NoElement text place next
+
+-- An element of a name, met behind others that were passed over; or there is none.
+pub record NamedAt (text : List ℕ) (place : Place) (name : List ℕ) (next : Place) : Type 0 where
+  pub within : PlaceIn text next
+  pub here : insides name (inside text place) ≡ inside text next ∷ insides name (innermost (enclosing (framesAt text next)))
+  pub outer : enclosing (framesAt text place) ≡ enclosing (enclosing (framesAt text next))
+  pub fewer : length (tokensAt text next) < length (tokensAt text place)
+
+pub record NoneNamed (text : List ℕ) (place : Place) (name : List ℕ) (next : Place) : Type 0 where
+  pub none : insides name (inside text place) ≡ []
+  pub left : Left text place next
+
+abbrev pub NamedMet : List ℕ → List ℕ → Place → Named → Type 0
+NamedMet name text place (Named.At next) = NamedAt text place name next
+NamedMet name text place (Named.Done next) = NoneNamed text place name next
 
 -- The bytes of a value, one by one.
 abbrev pub noChars : Chars
@@ -102,13 +118,13 @@ firstField (Field.Value n) Field.Missing = Field.Value n
 firstField (Field.Value n) (Field.Value m) = Field.Value n
 firstField (Field.Value n) Field.Bad = Field.Bad
 
--- A field with what an element of a name says, where it has that name.
-abbrev pub fieldNamed : List ℕ → List ℕ → Field → Field → Field
-fieldNamed wanted name field met = cond (isText wanted name) (firstField field met) field
-
 unfoldable pub fieldFrom : (List ℕ → Field) → Field → List (List ℕ) → Field
 fieldFrom form field [] = field
 fieldFrom form field (value ∷ values) = fieldFrom form (firstField field (form value)) values
+
+-- What the values at the end of a path say.
+unfoldable pub fieldAt : (List ℕ → Field) → List (List ℕ) → Forest → Field
+fieldAt form path held = fieldFrom form Field.Missing (valuesAt path held)
 
 abbrev pub isValue : Field → Bool
 isValue Field.Missing = false
@@ -120,20 +136,7 @@ valueIn Field.Missing = 0
 valueIn (Field.Value n) = n
 valueIn Field.Bad = 0
 
--- What a `partitions` element, a `ltfslabel` element and a whole label add to what is known.
-unfoldable pub withPartitions : Field → Forest → Field
-withPartitions partition held = fieldFrom letterField partition (valuesAt (dataName ∷ []) held)
-
-unfoldable pub withLabel : Label → Forest → Label
-withLabel label held =
-    record {
-      size = fieldFrom numberField (label .size) (valuesAt (blockSizeName ∷ []) held);
-      partition = fieldFrom letterField (label .partition) (valuesAt (partitionsName ∷ dataName ∷ []) held);
-    }
-
-abbrev pub withLabelPart : Label → List ℕ → Forest → Label
-withLabelPart label name held = withLabel label (element name held none)
-
+-- What a whole label says.
 unfoldable pub labelOf : Forest → Label
 labelOf label =
     record {
@@ -141,24 +144,15 @@ labelOf label =
       partition = fieldFrom letterField Field.Missing (dataPartitions label);
     }
 
--- What an `extent` element adds to what is known.
-unfoldable pub extentFrom : Extent → Forest → Extent
-extentFrom extent held =
+-- What an `extent` element says.
+unfoldable pub extentOf : Forest → Extent
+extentOf held =
     record {
-      partition = fieldFrom letterField (extent .partition) (valuesIn partitionName held);
-      block = fieldFrom numberField (extent .block) (valuesIn startBlockName held);
-      offset = fieldFrom numberField (extent .offset) (valuesIn byteOffsetName held);
-      count = fieldFrom numberField (extent .count) (valuesIn byteCountName held);
+      partition = fieldAt letterField (partitionName ∷ []) held;
+      block = fieldAt numberField (startBlockName ∷ []) held;
+      offset = fieldAt numberField (byteOffsetName ∷ []) held;
+      count = fieldAt numberField (byteCountName ∷ []) held;
     }
-
-abbrev pub withExtentPart : Extent → List ℕ → Forest → Extent
-withExtentPart extent name held = extentFrom extent (element name held none)
-
-abbrev pub noExtent : Extent
-noExtent = record { partition = Field.Missing; block = Field.Missing; offset = Field.Missing; count = Field.Missing }
-
-abbrev pub extentOf : Forest → Extent
-extentOf held = extentFrom noExtent held
 
 unfoldable pub extentIsGood : Extent → Bool
 extentIsGood extent =

@@ -1,26 +1,33 @@
--- `answer_ltfs::label::read_label` meets its contract: the elements left add to what is known what all add.
+-- `answer_ltfs::label::read_label` meets its contract: the elements left say, with what is known, what all say.
 -- Assumes nothing.
-use mathlib.Core.Path.{sym, _∙_}
+use borrow.Author.Needs.{needs}
+use mathlib.Core.Path.{ap, _∙_}
+use mathlib.Core.List.{[], _∷_}
+use native.Mathlib.Omega.{arith}
 use lib.ListN.{length}
 use Rattle.tape_markup.specs.Places.{tokensAt}
-use Rattle.answer_ltfs.proofs.Bare.{ReadTo, read-none, read-more, read-over, met-less}
-use Rattle.answer_ltfs.proofs.Labels.{labelFrom, label-whole, reads-labels, labels-named, labels-other}
-use borrow.Author.Needs.{needs}
-use native.Mathlib.Omega.{arith}
+use Rattle.answer_ltfs.specs.Index.{labelName, blockSizeName, partitionsName, dataName}
+use Rattle.answer_ltfs.specs.Private.Parts.{numberField, letterField, firstField}
+use Rattle.answer_ltfs.proofs.Bare.{ReadTo, read-none, read-more, read-over, read-less, fieldStep}
+use Rattle.answer_ltfs.proofs.Labels.{label-whole}
 use Rattle.answer_ltfs.proofs.label.read_label.Statement.{statement}
 use Rattle.answer_ltfs.proofs.label.read_label.Tie as tie
 
 abbrev Inv-loop : tie.InvT-loop
-Inv-loop text label₀ here₀ t9 label here = ReadTo labelFrom text here₀ label₀ label here
+Inv-loop text size₀ partition₀ here₀ t11 t12 size partition here =
+    ReadTo (fieldStep numberField (blockSizeName ∷ [])) labelName text here₀ size₀ size here × ReadTo (fieldStep letterField (partitionsName ∷ dataName ∷ [])) labelName text here₀ partition₀ partition here
 
 abbrev μ-loop : tie.MeasureT-loop
-μ-loop text label₀ here₀ t9 label here = length (tokensAt text here)
+μ-loop text size₀ partition₀ here₀ t11 t12 size partition here = length (tokensAt text here)
 
 loop-holds : tie.Need-loop-holds Inv-loop μ-loop
-loop-holds c = read-none labelFrom _ _ _ (omega arith)
+loop-holds c = (read-none (fieldStep numberField (blockSizeName ∷ [])) _ _ _ _ (omega arith), read-none (fieldStep letterField (partitionsName ∷ dataName ∷ [])) _ _ _ _ (omega arith))
 
-next-child-requires : tie.Need-next-child-requires Inv-loop μ-loop
-next-child-requires c κs = c .loop .inv .around .within
+slice-aggregate-next-named : tie.Need-slice-aggregate-next-named Inv-loop μ-loop
+slice-aggregate-next-named c = search needs
+
+next-named-requires : tie.Need-next-named-requires Inv-loop μ-loop
+next-named-requires c κs = c .before .loop .inv .0 .around .within
 
 enum-told : tie.Need-enum-told Inv-loop μ-loop
 enum-told c = search needs
@@ -28,72 +35,46 @@ enum-told c = search needs
 returns : tie.Need-returns Inv-loop μ-loop
 returns c =
     let c2 = c .before .before in
-    let c3 = c2 .before in
-    let m = rw (c .enum-told .given .1) at (c2 .next-child .ensures) in
-    read-over labelFrom reads-labels _ _ _ _ _ (c3 .loop .inv) _ m .0 ∙ label-whole _
-
-enum-known-child : tie.Need-enum-known-child Inv-loop μ-loop
-enum-known-child c = search needs
-
-slice-aggregate-is-named : tie.Need-slice-aggregate-is-named Inv-loop μ-loop
-slice-aggregate-is-named c = search needs
-
-is-named-requires : tie.Need-is-named-requires Inv-loop μ-loop
-is-named-requires c κs =
-    let c2 = c .before .before in
     let c4 = c2 .before .before in
-    let m = rw (c2 .child .given .1) at (c4 .next-child .ensures) in
-    (m .name .ordered, m .name .within)
+    let m = rw (c .enum-told .given .1) at (c2 .next-named .ensures) in
+    label-whole _ _ _ (read-over (fieldStep numberField (blockSizeName ∷ [])) _ _ _ _ _ _ (c4 .loop .inv .0) _ m .0) (read-over (fieldStep letterField (partitionsName ∷ dataName ∷ [])) _ _ _ _ _ _ (c4 .loop .inv .1) _ m .0)
 
-read-label-inside-requires : tie.Need-read-label-inside-requires Inv-loop μ-loop
-read-label-inside-requires c κs =
-    let c4 = c .before .before .before .before in
-    let c6 = c4 .before .before in
-    let m = rw (c4 .child .given .1) at (c6 .next-child .ensures) in
-    m .within
+enum-known-met : tie.Need-enum-known-met Inv-loop μ-loop
+enum-known-met c = search needs
+
+slice-aggregate-read-field : tie.Need-slice-aggregate-read-field Inv-loop μ-loop
+slice-aggregate-read-field c = search needs
+
+read-field-requires : tie.Need-read-field-requires Inv-loop μ-loop
+read-field-requires c κs = let c2 = c .before .before in let m = rw (c2 .met .given .1) at (c2 .before .before .next-named .ensures) in m .within
+
+read-partitions-requires : tie.Need-read-partitions-requires Inv-loop μ-loop
+read-partitions-requires c κs = let c3 = c .before .before .before in let m = rw (c3 .met .given .1) at (c3 .before .before .next-named .ensures) in m .within
+
+first-field-requires : tie.Need-first-field-requires Inv-loop μ-loop
+first-field-requires c κs = search needs
+
+first-field-requires-2 : tie.Need-first-field-requires-2 Inv-loop μ-loop
+first-field-requires-2 c κs = search needs
 
 loop-less : tie.Need-loop-less Inv-loop μ-loop
 loop-less c =
-    let c1 = c .before in
-    let c6 = c1 .before .before .before .before .before in
-    let c8 = c6 .before .before in
-    let m = rw (c6 .child .given .1) at (c8 .next-child .ensures) in
-    met-less _ _ _ _ _ _ m (c1 .read-label-inside .ensures .1)
+    let c2 = c .before .before in
+    let c6 = c2 .before .before .before .before in
+    read-less _ _ _ _ _ (rw (c6 .met .given .1) at (c6 .before .before .next-named .ensures)) (c2 .read-partitions .ensures .1)
 
 loop-again : tie.Need-loop-again Inv-loop μ-loop
 loop-again c =
-    let c1 = c .before in
-    let c2 = c1 .before in
+    let c2 = c .before .before in
     let c3 = c2 .before in
     let c6 = c3 .before .before .before in
     let c8 = c6 .before .before in
-    let c9 = c8 .before in
-    let m = rw (c6 .child .given .1) at (c8 .next-child .ensures) in
-    read-more labelFrom reads-labels _ _ _ _ _ (c9 .loop .inv) _ _ _ _ _ m (c1 .read-label-inside .ensures .1) (labels-named _ _ _ _ _ (sym (c3 .is-named .ensures) ∙ c2 .if1 .taken) (c1 .read-label-inside .ensures .0))
-
-leave-requires : tie.Need-leave-requires Inv-loop μ-loop
-leave-requires c κs =
-    let c4 = c .before .before .before .before in
-    let c6 = c4 .before .before in
-    let m = rw (c4 .child .given .1) at (c6 .next-child .ensures) in
-    m .within
-
-loop-less-2 : tie.Need-loop-less-2 Inv-loop μ-loop
-loop-less-2 c =
-    let c5 = c .before .before .before .before .before in
-    let c7 = c5 .before .before in
-    let m = rw (c5 .child .given .1) at (c7 .next-child .ensures) in
-    met-less _ _ _ _ _ _ m (c .leave .ensures)
-
-loop-again-2 : tie.Need-loop-again-2 Inv-loop μ-loop
-loop-again-2 c =
-    let c1 = c .before in
-    let c2 = c1 .before in
-    let c5 = c2 .before .before .before in
-    let c7 = c5 .before .before in
-    let c8 = c7 .before in
-    let m = rw (c5 .child .given .1) at (c7 .next-child .ensures) in
-    read-more labelFrom reads-labels _ _ _ _ _ (c8 .loop .inv) _ _ _ _ _ m (c .leave .ensures) (labels-other _ _ _ _ (sym (c2 .is-named .ensures) ∙ c1 .if1 .left))
+    let c10 = c8 .before .before in
+    let m = rw (c6 .met .given .1) at (c8 .next-named .ensures) in
+    let left = c2 .read-partitions .ensures .1 in (
+      read-more (fieldStep numberField (blockSizeName ∷ [])) _ _ _ _ _ _ (c10 .loop .inv .0) _ _ _ m left (c .before .first-field .ensures ∙ ap (firstField (c10 .loop .size)) (c3 .read-field .ensures .1)),
+      read-more (fieldStep letterField (partitionsName ∷ dataName ∷ [])) _ _ _ _ _ _ (c10 .loop .inv .1) _ _ _ m left (c .first-field2 .ensures ∙ ap (firstField (c10 .loop .partition)) (c2 .read-partitions .ensures .0)),
+    )
 
 pub read-label-spec : {M : Type 1} → statement M
 read-label-spec =
@@ -102,15 +83,15 @@ read-label-spec =
     Inv-loop
     μ-loop
     loop-holds
-    next-child-requires
+    slice-aggregate-next-named
+    next-named-requires
     enum-told
     returns
-    enum-known-child
-    slice-aggregate-is-named
-    is-named-requires
-    read-label-inside-requires
+    enum-known-met
+    slice-aggregate-read-field
+    read-field-requires
+    read-partitions-requires
+    first-field-requires
+    first-field-requires-2
     loop-less
-    loop-again
-    leave-requires
-    loop-less-2
-    loop-again-2)
+    loop-again)
