@@ -4,8 +4,12 @@ ghost use Prim.Native.Nat.{_<_};
 use libc::STDOUT_FILENO;
 use refusals::Verdict;
 use refusals::refused;
-use sheet_runs::entries;
+use sheet_writer::Written;
 use text_inputs::front;
+
+const STARTS: [u64; 6] = [0, 10, 20, 30, 40, 50];
+
+const NUMBERS: [u64; 6] = [1, 2, 3, 4, 5, 6];
 
 // The next number in a row of numbers below 2^31 - 1.
 fn next(number: u64) -> u64 {
@@ -29,40 +33,61 @@ fn mixed(text: &[u8], before: u64) -> u64 {
     sum
 }
 
+// The first n entries of a list's row.
+fn entries(row: &[u64], n: usize) -> &[u64] {
+    let start: usize = 0;
+    if n <= row.len() {
+        return &row[start..n];
+    }
+    row
+}
+
+// Six numbers from 1 on, each up to the same, drawn by one.
+fn six(number: u64, most: u64) -> [u64; 6]
+    requires { ⌜ 0 < most ⌝ }
+{
+    let mut row = [0u64; 6];
+    let mut rest = number;
+    let mut i: usize = 0;
+    while i < 6 {
+        row[i] = std::num::wrapping_add_u64(rest % most, 1);
+        rest = rest / most;
+        i += 1;
+    }
+    row
+}
+
+// How many bytes of a row are the answer: those of the sheet, or of the lines of its refusal.
+fn answered(sheet: Written, out: &mut [u8]) -> u64 {
+    let refusal = sheet.refusal;
+    let verdict = Verdict {
+        refusal,
+        place: sheet.place,
+    };
+    if refused(verdict) {
+        return sheet_writer::write_refusal(verdict, out).bytes;
+    }
+    sheet.bytes
+}
+
 // Six wanted files, in every fourth run two of them in one aggregate, and up to three detours: drawn by three numbers.
 fn show(a: u64, b: u64, c: u64, before: u64) -> u64 {
-    let starts = [0u64, 10, 20, 30, 40, 50];
-    let lengths = [
-        1 + a % 8,
-        1 + a / 8 % 8,
-        1 + a / 64 % 8,
-        1 + a / 512 % 8,
-        1 + a / 4096 % 8,
-        1 + a / 32768 % 8,
-    ];
+    let lengths = six(a, 8);
+    let counts = six(b, 4);
     let together = a / 262144 % 4 / 3;
     let aggregates = [0u64, 0, together, together, 0, 0];
-    let numbers = [1u64, 2, 3, 4, 5, 6];
-    let counts = [
-        1 + b % 4,
-        1 + b / 4 % 4,
-        1 + b / 16 % 4,
-        1 + b / 64 % 4,
-        1 + b / 256 % 4,
-        1 + b / 1024 % 4,
-    ];
     let first = 5 + c % 2;
     let second = 3 + c / 2 % 2;
     let froms = [first, second, 2];
     let tos = [first + c / 4 % 2, second + c / 8 % 4, 2 + c / 32 % 5];
-    let n = c / 256 % 4;
+    let n = (c / 256 % 4) as usize;
     let mut out = [0u8; 4492];
     let sheet = sheet_figures::write_figures(
         b"D",
-        &starts,
+        &STARTS,
         &lengths,
         &aggregates,
-        &numbers,
+        &NUMBERS,
         &counts,
         60 + b / 4096 % 16,
         b / 65536 % 8,
@@ -70,16 +95,8 @@ fn show(a: u64, b: u64, c: u64, before: u64) -> u64 {
         entries(&tos, n),
         &mut out,
     );
-    let refusal = sheet.refusal;
-    let verdict = Verdict {
-        refusal,
-        place: sheet.place,
-    };
-    if refused(verdict) {
-        let lines = sheet_writer::write_refusal(verdict, &mut out);
-        return mixed(front(&out, lines.bytes), before);
-    }
-    mixed(front(&out, sheet.bytes), before)
+    let bytes = answered(sheet, &mut out);
+    mixed(front(&out, bytes), before)
 }
 
 // Fifty lists, from a number on.
