@@ -8,8 +8,10 @@ use Rattle.refusals.specs.Refusals.{isRefusal}
 use Rattle.runs.specs.Run.{Run, stopsOf}
 use Rattle.least.proofs.LeastList.{least-unique}
 use Rattle.answer_plan.specs.Recall.{bytesPut, rowPut}
+use Rattle.text_inputs.specs.declared.Framed.{Framed}
 use Rattle.answer_check.specs.Pricing.{RowHolds, SheetPriced}
 use Rattle.answer_check.specs.Checking.{checkText, VerdictOf, AnswersCheck, Checked, SheetChecked}
+use Rattle.answer_check.specs.Inputs.{framedInput, AnsweredIn, InputPriced, InputChecked}
 
 -- One text in a row.
 pub held-once : (text text′ row : List ℕ) → text ≡ text′ → (n n′ : ℕ) (row′ row″ : List ℕ) → RowHolds text row n row′ → RowHolds text′ row n′ row″ → (n ≡ n′) × (row′ ≡ row″)
@@ -34,3 +36,16 @@ module _ (v : Verdict) (name : List ℕ) (run : Run) (plan froms tos : List ℕ)
 pub check-determined : (sheet plan row : List ℕ) (n n′ : ℕ) (row′ row″ : List ℕ) → SheetChecked sheet plan row n row′ → SheetChecked sheet plan row n′ row″ → (n ≡ n′) × (row′ ≡ row″)
 check-determined sheet plan row n n′ row′ row″ p q =
     held-once (p .text) (q .text) row (answer-once _ _ _ _ _ _ (p .text) (q .text) (p .answers) (q .answers)) n n′ row′ row″ (p .holds) (q .holds)
+
+-- Where the answer to two texts is determined, so is that to an input of both.
+module _ (Answers : List ℕ → List ℕ → List ℕ → ℕ → List ℕ → Type 0)
+    (once : (a b row : List ℕ) (n n′ : ℕ) (row′ row″ : List ℕ) → Answers a b row n row′ → Answers a b row n′ row″ → (n ≡ n′) × (row′ ≡ row″)) (input : List ℕ) where
+  answered-once : (f : Framed) (row : List ℕ) (n n′ : ℕ) (row′ row″ : List ℕ) → AnsweredIn Answers input f row n row′ → AnsweredIn Answers input f row n′ row″ → (n ≡ n′) × (row′ ≡ row″)
+  answered-once (Framed.Sheet from to) row n n′ row′ row″ p q = once _ _ row n n′ row′ row″ p q
+  answered-once Framed.Bad row n n′ row′ row″ p q = held-once _ _ row refl n n′ row′ row″ p q
+
+pub price-input-determined : (input row : List ℕ) (n n′ : ℕ) (row′ row″ : List ℕ) → InputPriced input row n row′ → InputPriced input row n′ row″ → (n ≡ n′) × (row′ ≡ row″)
+price-input-determined input row n n′ row′ row″ p q = answered-once SheetPriced price-determined input (framedInput input) row n n′ row′ row″ p q
+
+pub check-input-determined : (input row : List ℕ) (n n′ : ℕ) (row′ row″ : List ℕ) → InputChecked input row n row′ → InputChecked input row n′ row″ → (n ≡ n′) × (row′ ≡ row″)
+check-input-determined input row n n′ row′ row″ p q = answered-once SheetChecked check-determined input (framedInput input) row n n′ row′ row″ p q

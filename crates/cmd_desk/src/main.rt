@@ -6,6 +6,7 @@ use answer_desk::Day;
 use libc::STDOUT_FILENO;
 use refusals::Refusal;
 use refusals::Verdict;
+use sheet_runs::entries;
 use text_lines::NumberLine;
 
 // A day, and whether it goes on.
@@ -14,19 +15,9 @@ struct Step {
     goes_on: bool,
 }
 
-// The first n entries of a row, or the row where it has fewer.
-fn entries(row: &[u64], n: u64) -> &[u64] {
-    let start: usize = 0;
-    let end = n as usize;
-    if end <= row.len() {
-        return &row[start..end];
-    }
-    row
-}
-
-fn print_refusal(refusal: Refusal, place: u64) {
+fn print_refusal(verdict: Verdict) {
     let mut out = [0u8; 56];
-    let lines = sheet_writer::write_refusal(Verdict { refusal, place }, &mut out);
+    let lines = sheet_writer::write_refusal(verdict, &mut out);
     io::write_all(STDOUT_FILENO, text_inputs::front(&out, lines.bytes));
 }
 
@@ -63,15 +54,9 @@ fn answer_line(
 
 // One event, by its number: its answer, and the day afterwards. No line that is as described is longer than 68 bytes: `file=`, three numbers of 20
 // digits, two commas and the LF.
-fn take_event(
-    day: Day,
-    place: u64,
-    starts: &[u64],
-    lengths: &[u64],
-    aggregates: &[u64],
-    room: &mut [u64],
-) -> Step {
+fn take_event(day: Day, place: u64, starts: &[u64], lengths: &[u64], aggregates: &[u64]) -> Step {
     let mut line = [0u8; 68];
+    let mut room = [0u64; 65600];
     let mut out = [0u8; 2677];
     let n = text_inputs::read_line(&mut line);
     if n == 0 {
@@ -81,9 +66,21 @@ fn take_event(
             goes_on: false,
         };
     }
-    let answered = answer_line(day, &line, n, starts, lengths, aggregates, room, &mut out);
+    let answered = answer_line(
+        day,
+        &line,
+        n,
+        starts,
+        lengths,
+        aggregates,
+        &mut room,
+        &mut out,
+    );
     if !answered.described {
-        print_refusal(Refusal::BadLine, place);
+        print_refusal(Verdict {
+            refusal: Refusal::BadLine,
+            place,
+        });
     }
     let written = answered.written;
     io::write_all(STDOUT_FILENO, text_inputs::front(&out, written.bytes));
@@ -95,7 +92,7 @@ fn take_event(
 }
 
 // The events of a day at one tape, counted from 1.
-fn hold_day(starts: &[u64], lengths: &[u64], aggregates: &[u64], room: &mut [u64]) {
+fn hold_day(starts: &[u64], lengths: &[u64], aggregates: &[u64]) {
     let mut turn = Step {
         day: answer_desk::morning(),
         goes_on: true,
@@ -107,38 +104,34 @@ fn hold_day(starts: &[u64], lengths: &[u64], aggregates: &[u64], room: &mut [u64
         }
         place += 1;
         let day = turn.day;
-        turn = take_event(day, place, starts, lengths, aggregates, room);
+        turn = take_event(day, place, starts, lengths, aggregates);
     }
 }
 
 // A sheet: its refusal, or the day at its tape.
 fn open_desk(sheet: &[u8]) {
-    let mut starts = [0u64; 256];
-    let mut lengths = [0u64; 256];
-    let mut aggregates = [0u64; 256];
-    let mut numbers = [0u64; 64];
-    let mut counts = [0u64; 64];
-    let read = sheet_reader::read_sheet(
-        sheet,
-        &mut starts,
-        &mut lengths,
-        &mut aggregates,
-        &mut numbers,
-        &mut counts,
-    );
-    let kind = read.refusal;
-    if refusals::number(kind) != 0 {
-        print_refusal(kind, read.place);
+    let run = sheet_runs::read_run(sheet);
+    let verdict = run.verdict;
+    if refusals::refused(verdict) {
+        print_refusal(verdict);
         return;
     }
-    let files = read.files;
-    let mut room = [0u64; 65600];
+    let starts = run.starts;
+    let lengths = run.lengths;
+    let aggregates = run.aggregates;
     hold_day(
-        entries(&starts, files),
-        entries(&lengths, files),
-        entries(&aggregates, files),
-        &mut room,
+        entries(&starts, run.files),
+        entries(&lengths, run.files),
+        entries(&aggregates, run.files),
     );
+}
+
+// 25, with the first line.
+fn refuse_input() {
+    print_refusal(Verdict {
+        refusal: Refusal::BadSheetCount,
+        place: 1,
+    });
 }
 
 // A sheet of so many bytes, of which one more than a sheet may have is kept.
@@ -146,7 +139,7 @@ fn take_sheet(bytes: u64) {
     let mut sheet = [0u8; 16385];
     let got = text_inputs::read_bytes(&mut sheet, bytes);
     if got.all != bytes {
-        print_refusal(Refusal::BadSheetCount, 1);
+        refuse_input();
         return;
     }
     open_desk(text_inputs::front(&sheet, got.kept));
@@ -161,7 +154,7 @@ fn main() {
     let mut line = [0u8; 68];
     let n = text_inputs::read_line(&mut line);
     let NumberLine::Value { number, next: _ } = count_in(&line, n) else {
-        print_refusal(Refusal::BadSheetCount, 1);
+        refuse_input();
         return;
     };
     take_sheet(number);

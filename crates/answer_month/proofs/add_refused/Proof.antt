@@ -41,7 +41,7 @@ returns c =
     let e = c .before in
     let t = e .before in
     let g = t .before .before in
-    rw (c .either2 .ensures, e .either .ensures, t .too-large2 .ensures, t .before .too-large .ensures, g .grow2 .ensures, g .before .grow .ensures) refl
+    rw (c .either2 .ensures, e .either .ensures, t .too-large2 .ensures, t .before .too-large .ensures, g .grow2 .ensures, g .before .grow .ensures)
 
 pub add-refused-spec : {M : Type 1} → statement M
 add-refused-spec =

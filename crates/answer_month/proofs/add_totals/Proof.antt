@@ -27,7 +27,7 @@ returns : tie.Need-returns
 unfolding withTotals
 returns c =
     let g = c .before in
-    rw (c .over-totals .ensures, g .grow5 .ensures, g .before .grow4 .ensures, g .before .before .grow3 .ensures, g .before .before .before .grow2 .ensures, g .before .before .before .before .grow .ensures) refl
+    rw (c .over-totals .ensures, g .grow5 .ensures, g .before .grow4 .ensures, g .before .before .grow3 .ensures, g .before .before .before .grow2 .ensures, g .before .before .before .before .grow .ensures)
 
 pub add-totals-spec : {M : Type 1} → statement M
 add-totals-spec =

@@ -1,17 +1,15 @@
 -- `cmd_desk::hold_day` ends: the events are counted.
 -- Assumes nothing.
-use Prim.Native.Nat.{_-_}
-use mathlib.Core.Path.{_≡_}
-use lib.ListN.{length}
+use Prim.Native.Nat.{_-_, _≤_}
 use borrow.Author.Needs.{needs}
 use Rattle.cmd_desk.proofs.hold_day.Statement.{statement}
 use Rattle.cmd_desk.proofs.hold_day.Tie as tie
 
 abbrev Inv-loop : tie.InvT-loop
-Inv-loop starts lengths aggregates room₀ turn₀ place₀ room turn place = length room ≡ length room₀
+Inv-loop starts lengths aggregates turn₀ place₀ turn place = place ≤ 18446744073709551615
 
 abbrev μ-loop : tie.MeasureT-loop
-μ-loop starts lengths aggregates room₀ turn₀ place₀ room turn place = 18446744073709551615 - place
+μ-loop starts lengths aggregates turn₀ place₀ turn place = 18446744073709551615 - place
 
 morning-requires : tie.Need-morning-requires Inv-loop μ-loop
 morning-requires c κs = search needs
@@ -31,14 +29,8 @@ loop-less c = search needs
 loop-again : tie.Need-loop-again Inv-loop μ-loop
 loop-again c = search needs
 
-same-length : tie.Need-same-length Inv-loop μ-loop
-same-length c = search needs
-
 returns : tie.Need-returns Inv-loop μ-loop
 returns c = search needs
-
-same-length-2 : tie.Need-same-length-2 Inv-loop μ-loop
-same-length-2 c = search needs
 
 returns-2 : tie.Need-returns-2 Inv-loop μ-loop
 returns-2 c = search needs
@@ -55,7 +47,5 @@ hold-day-spec =
     take-event-requires
     loop-less
     loop-again
-    same-length
     returns
-    same-length-2
     returns-2)
