@@ -1,5 +1,5 @@
-/* Measures the planner and the pricer through the C boundary, beside two table programs in C (plain.c and paper.c), in
- * one process and on the same runs, and prints one table. Every sum is compared, and the planner's list with plain.c's.
+/* Measures the planner and the pricer through the C boundary, beside two table programs in C (table.c and paper.c), in
+ * one process and on the same runs, and prints one table. Every sum is compared, and the planner's list with table.c's.
  *
  * bench/run.sh [--quick | --slow SECONDS] builds and runs it     --quick: each size once, to see that all agree; its times
  * say little     --slow: in place of the table, a search for runs that take the planner long (slow.c) */
@@ -138,7 +138,7 @@ static void aggregate_worst(struct request *q)
 static uint64_t *room;                      /* shared by all engines */
 static uint64_t from[VIOLSTREAM_MAX_WANTS], to[VIOLSTREAM_MAX_WANTS], times[VIOLSTREAM_MAX_WANTS];
 static uint64_t legs[VIOLSTREAM_MAX_WANTS], sums[VIOLSTREAM_SUMS];
-static struct stop_list plain_list;
+static struct stop_list table_list;
 
 static uint64_t by_boundary(const struct request *q)
 {
@@ -152,9 +152,9 @@ static uint64_t by_boundary(const struct request *q)
     return sums[VIOLSTREAM_SUM];
 }
 
-static uint64_t by_plain(const struct request *q)
+static uint64_t by_table(const struct request *q)
 {
-    return plain_least(&q->stops, room, &plain_list);
+    return table_least(&q->stops, room, &table_list);
 }
 
 static uint64_t by_paper(const struct request *q)
@@ -174,9 +174,9 @@ static uint64_t by_clearing(const struct request *q)
     return room[0];
 }
 
-enum engine { BOUNDARY, PLAIN, PAPER, PAPER_ROWS, CLEARING, ENGINES };
+enum engine { BOUNDARY, TABLE, PAPER, PAPER_ROWS, CLEARING, ENGINES };
 static uint64_t (*const engines[ENGINES])(const struct request *) = {
-    by_boundary, by_plain, by_paper, by_paper_rows, by_clearing,
+    by_boundary, by_table, by_paper, by_paper_rows, by_clearing,
 };
 
 static double time_once(enum engine e, const struct request *q, uint64_t *sum)
@@ -191,11 +191,11 @@ static double time_once(enum engine e, const struct request *q, uint64_t *sum)
 
 static void compare_lists(const struct request *q)
 {
-    if (sums[VIOLSTREAM_DETOURS] != plain_list.length)
-        fail("the planner's list and plain C's differ in length", q->stops.k, q->stops.reads);
-    for (size_t i = 0; i < plain_list.length; i++)
-        if (from[i] != q->names[plain_list.start[i]] || to[i] != q->names[plain_list.end[i]])
-            fail("the planner's list and plain C's differ", q->stops.k, q->stops.reads);
+    if (sums[VIOLSTREAM_DETOURS] != table_list.length)
+        fail("the planner's list and table.c's differ in length", q->stops.k, q->stops.reads);
+    for (size_t i = 0; i < table_list.length; i++)
+        if (from[i] != q->names[table_list.start[i]] || to[i] != q->names[table_list.end[i]])
+            fail("the planner's list and table.c's differ", q->stops.k, q->stops.reads);
 }
 
 /* All engines in turn, several times; the best time of each. */
@@ -210,7 +210,7 @@ static void time_all(const struct request *q, double best[ENGINES])
             double taken = time_once((enum engine)e, q, &sum[e]);
             best[e] = turn == 0 || taken < best[e] ? taken : best[e];
         }
-        if (sum[BOUNDARY] != sum[PLAIN] || sum[PAPER] != sum[PLAIN] || sum[PAPER_ROWS] != sum[PLAIN])
+        if (sum[BOUNDARY] != sum[TABLE] || sum[PAPER] != sum[TABLE] || sum[PAPER_ROWS] != sum[TABLE])
             fail("the sums differ", q->stops.k, q->stops.reads);
         compare_lists(q);
     }
@@ -227,8 +227,8 @@ static void print_size(const struct request *q, const char *where)
     double best[ENGINES];
     time_all(q, best);
     printf("%6zu %6" PRIu64 "  %-9s | %8.3f  %8.3f  %8.3f     %8.3f  %8.3f | %10.2f | %5.2f  %5.2f  %11.2f\n", q->wants,
-           q->stops.reads, where, best[BOUNDARY], best[PLAIN], best[PAPER], best[PAPER_ROWS], best[CLEARING],
-           best[BOUNDARY] / best[PLAIN], same_job(best, PLAIN), same_job(best, PAPER), same_job(best, PAPER_ROWS));
+           q->stops.reads, where, best[BOUNDARY], best[TABLE], best[PAPER], best[PAPER_ROWS], best[CLEARING],
+           best[BOUNDARY] / best[TABLE], same_job(best, TABLE), same_job(best, PAPER), same_job(best, PAPER_ROWS));
     fflush(stdout);
 }
 
@@ -265,7 +265,7 @@ static void print_sizes(struct request *q)
     static const size_t wants[] = {8, 16, 32, 64};
     static const uint64_t reads[] = {64, 256, 1024};
     printf("                         |                                                    | boundary / | boundary / with clearing\n"
-           " wants  reads  most at   | boundary     plain     paper  paper, rows  clearing |      plain | plain  paper  paper, rows\n");
+           " wants  reads  most at   | boundary     table     paper  paper, rows  clearing |      table | table  paper  paper, rows\n");
     for (size_t i = 0; i < sizeof wants / sizeof *wants; i++)
         for (size_t j = 0; j < sizeof reads / sizeof *reads; j++) {
             make_request(q, wants[i], reads[j], 2 * wants[i]);
@@ -433,14 +433,14 @@ int main(int argc, char **argv)
         fail("no memory for the room", VIOLSTREAM_MAX_WANTS, VIOLSTREAM_MAX_READS);
     if (slow) {
         if (!search_slow(strtod(argv[2], NULL), 1, room))
-            fail("the planner refuses or differs from plain C", VIOLSTREAM_MAX_WANTS, VIOLSTREAM_MAX_READS);
+            fail("the planner refuses or differs from table.c", VIOLSTREAM_MAX_WANTS, VIOLSTREAM_MAX_READS);
         free(room);
         return 0;
     }
     printf("Milliseconds, the best of %s, one core, C compiled with %s.\n"
            "One buffer serves all: before every timed call, outside the clock, it is filled with a pattern other than zero.\n"
            "No buffer is cleared first. boundary: violstream_plan, which judges, plans, prices and clears its room at the end.\n"
-           "plain: table and list. paper: document 000's cells one by one. paper, rows: the same with n_skip innermost.\n"
+           "table: table.c, which makes table and list. paper: document 000's cells one by one. paper, rows: the same with n_skip innermost.\n"
            "None of these clears its table. clearing: that alone. with clearing: a program's time and that of clearing together.\n"
            "n by m: as no file, all files in aggregates of m, which make n stops of the wants; the table programs take the stops.\n"
            "halving: each file half as long as the one to its left, and most reads at the rightmost; the slowest shape found.\n\n",

@@ -136,10 +136,10 @@ static bool same_list(const struct stop_list *list)
     return true;
 }
 
-/* The best of a few; -1 where the planner refuses or differs from plain.c, which is asked where `plain` is given. */
-static double time_of(const struct stops *p, uint64_t *room, double *plain)
+/* The best of a few; -1 where the planner refuses or differs from table.c, which is asked where `table` is given. */
+static double time_of(const struct stops *p, uint64_t *room, double *table)
 {
-    double best = -1, plain_best = -1;
+    double best = -1, table_best = -1;
     for (int turn = 0; turn < TURNS; turn++) {
         struct stop_list list;
         double began = processor_milliseconds();
@@ -147,16 +147,16 @@ static double time_of(const struct stops *p, uint64_t *room, double *plain)
             return -1;
         double planned = processor_milliseconds();
         best = turn == 0 || planned - began < best ? planned - began : best;
-        if (plain == NULL)
+        if (table == NULL)
             continue;
-        uint64_t sum = plain_least(p, room, &list);
+        uint64_t sum = table_least(p, room, &list);
         double taken = processor_milliseconds() - planned;
-        plain_best = turn == 0 || taken < plain_best ? taken : plain_best;
+        table_best = turn == 0 || taken < table_best ? taken : table_best;
         if (sum != sums[VIOLSTREAM_SUM] || !same_list(&list))
             return -1;
     }
-    if (plain != NULL)
-        *plain = plain_best;
+    if (table != NULL)
+        *table = table_best;
     return best;
 }
 
@@ -173,7 +173,7 @@ bool search_slow(double seconds, uint64_t seed, uint64_t *room)
 {
     struct shape here, there;
     struct stops p, slowest;
-    double slow_here = 0, slow = -1, plain;
+    double slow_here = 0, slow = -1, table;
     size_t tried = 0;
     state = 88172645463325252u ^ seed * 0x9e3779b97f4a7c15u;
     for (double began = processor_milliseconds(); processor_milliseconds() - began < 1e3 * seconds; tried++) {
@@ -196,12 +196,12 @@ bool search_slow(double seconds, uint64_t seed, uint64_t *room)
         if (taken > slow) {
             slow = taken;
             slowest = p;
-            if (time_of(&p, room, &plain) < 0)
+            if (time_of(&p, room, &table) < 0)
                 return false;
         }
     }
-    slow = time_of(&slowest, room, &plain);
-    printf("%zu shapes tried. The slowest takes the planner %.2f ms, plain C %.2f ms without clearing.\n", tried, slow, plain);
+    slow = time_of(&slowest, room, &table);
+    printf("%zu shapes tried. The slowest takes the planner %.2f ms, table.c %.2f ms without clearing.\n", tried, slow, table);
     print_run(&slowest);
     return slow >= 0;
 }

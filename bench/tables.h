@@ -24,8 +24,8 @@ struct stop_list {
 
 /* `table` has k * k * (reads + 1) words, of any content; each leaves it as it falls out. */
 
-/* plain.c: the planner's own recurrence, and the list read off the table. */
-uint64_t plain_least(const struct stops *stops, uint64_t *table, struct stop_list *list);
+/* table.c: the planner's own recurrence, and the list read off the table. */
+uint64_t table_least(const struct stops *stops, uint64_t *table, struct stop_list *list);
 
 /* paper.c: the cells of document 000, section 4.3, one cell after the other as the formula is written. */
 uint64_t paper_least(const struct stops *stops, uint64_t *table);

@@ -4,8 +4,8 @@
  * Two calls. violstream_price says what a list of detours costs; violstream_plan finds the best list. Both work on
  * 64-bit numbers and on rows that the caller lends. They allocate nothing and keep nothing between calls, so several
  * threads can call at once, each with rows of its own. Whatever the run, violstream_price takes at most 1,024 bytes of
- * stack beside its arguments and violstream_plan at most 6 KB; a plan at the limits takes a few milliseconds, at most some tens. C99
- * or later, or C++. Link with libviolstream.a (x86-64, beside the C library alone):
+ * stack beside its arguments and violstream_plan at most 6,144; a plan at the limits takes a few milliseconds, at most some
+ * tens. C99 or later, or C++. Link with libviolstream.a (x86-64), which needs the C library and nothing else:
  *
  *   cc example.c $(pkg-config --cflags --libs violstream)
  *
@@ -22,15 +22,17 @@
  *   An aggregate is read as a whole, from the start of its first file to the end of its last, the gaps between them
  *   included.
  *   A want is a file number and how many reads of that file are waiting; wants stand in rising file number.
- *   A want of a file that lies in an aggregate is a want of the aggregate, also where none of its other files is
- *   wanted. A stop is what is wanted so: an aggregate, or a file in none. Wants of files of one aggregate are one stop,
- *   and their reads add up; its name is the number of the aggregate's first file, wanted or not. With 0 everywhere in
- *   `aggregates` each want is a stop by itself.
+ *   A want of a file that lies in an aggregate is a want of the whole aggregate. What is wanted is called a stop: an
+ *   aggregate, or a file that lies in none. Wants of files of one aggregate are one stop, and their reads add up; its
+ *   name is the number of the aggregate's first file, wanted or not. With 0 everywhere in `aggregates` each want is a
+ *   stop by itself.
  *   The head starts at `head`, at or right of the end of the rightmost stop, set to move left, at clock 0.
- *   Each turn of the head, the first among them, costs `turn`. A stop is read by the first rightward run that
+ *   Each turn of the head costs `turn`, the first one too. A stop is read by the first rightward run that
  *   starts at or left of its start and ends at or right of its end; its time is the clock when the head reaches
- *   its end in that run. That is the time of every want of the stop, and of all their reads. The sum of a run is the
- *   total, over wants, of reads times time.
+ *   its end in that run. Every want of the stop, and each of its reads, has that time. The sum of a run is the total,
+ *   over wants, of reads times time.
+ *   Not modelled: several tracks (a tape that winds in serpentines is planned as if it were one line), speeds that
+ *   change, writing, and wants that arrive during a run.
  *
  * DETOURS
  *
@@ -138,9 +140,9 @@
 /*
  * The words of room that violstream_plan needs for that many stops and that many reads of all wants together. There are
  * no more stops than wants, so the number of wants will do for `stops`.
- * A constant when its arguments are; it takes `stops` twice. For a run at the limits it is 4,198,400 words (33,587,200
- * bytes); VIOLSTREAM_ROOM_MOST words do for every run that is accepted. With numbers past the limits it may wrap: check
- * them first, or lend VIOLSTREAM_ROOM_MOST words.
+ * It is a constant when its arguments are, and evaluates `stops` twice. For a run at the limits it is 4,198,400 words
+ * (33,587,200 bytes), which is VIOLSTREAM_ROOM_MOST: so many words do for every run that is accepted. With numbers past
+ * the limits it may wrap: check them first, or lend VIOLSTREAM_ROOM_MOST words.
  */
 #define VIOLSTREAM_ROOM_WORDS(stops, reads) \
     (VIOLSTREAM_AS(size_t, stops) * VIOLSTREAM_AS(size_t, stops) * (VIOLSTREAM_AS(size_t, reads) + 1))
@@ -150,7 +152,7 @@
 extern "C" {
 #endif
 
-/* What to plan by: the one value of `rule`. What a plain sweep costs, violstream_price says of the empty list. */
+/* What to plan by: the one value of `rule`. What a sweep without detours costs, violstream_price says of the empty list. */
 enum violstream_rule {
     VIOLSTREAM_LEAST = 1 /* the well-formed list of smallest sum, the first of those with that sum */
 };
@@ -275,9 +277,9 @@ uint64_t violstream_plan(const uint64_t *starts, size_t starts_len,
                          uint64_t *room, size_t room_len);
 
 /*
- * The same two calls with their parameters by name. There is nothing behind them but the functions above: a length that two
- * rows share is handed on for each of them. Set every member that a call takes; sums alone is for the answer only. Where no
- * file lies in an aggregate, `aggregates` is a row of zeros, as long as the others.
+ * The same two calls with their parameters by name. They only call the functions above, and hand a length that two rows
+ * share on for each of them. Set every member that a call takes, but for `sums`, which is filled by the call. Where no file
+ * lies in an aggregate, `aggregates` is a row of zeros, as long as the others.
  */
 struct violstream_run {
     const uint64_t *starts, *lengths, *aggregates; /* the tape: `files` words each */

@@ -198,7 +198,7 @@ installed() {
 
 bench() {
     step "bench" env CC="$cc" "$here/bench/run.sh" --quick "$archive" > "$out/bench.log"
-    printf 'bench: planner, plain.c and paper.c give the same sums\n'
+    printf 'bench: planner, table.c and paper.c give the same sums\n'
 }
 
 # Every shell script, those that others read among them.
@@ -272,6 +272,7 @@ run python/desk_rows
 run python/pricer_rows
 run python/reading
 run python/edits
+run python/pages
 run python/command
 
 [ "$tests_run" -gt 0 ] || fail "no test is called $only"

@@ -1,14 +1,14 @@
-/* How much of the stack violstream_price takes, with all that it calls: at the limits, for the empty list, for the longest
- * and the deepest list, and for every refusal. Fails where a call takes more than MOST bytes, or does not give the result
- * that its case is there for. For violstream_plan the figure is printed and not judged.
+/* How much of the stack violstream_price and violstream_plan take, with all that they call: at the limits, for the empty list,
+ * for the longest and the deepest list, and for every refusal. Fails where a call takes more bytes than violstream.h says, or
+ * does not give the result that its case is there for.
  *
  * A figure is what a call writes on a stack painted before (bench/stack.c), less what the same call writes if it reaches a
  * function that does nothing. So it holds the return address, which is added again, and every word below it. It does not
  * hold the caller's frame, to which the arguments beyond the sixth belong (x86-64: sixteen words for violstream_price,
  * nineteen for violstream_plan).
  *
- * make -C tests/c stack      (Makefile beside this file says against what)
- * target/tests/stack [MOST]  exit status: 0 none above MOST (default 1,024), 1 some, or a wrong result */
+ * make -C tests/c stack               (Makefile beside this file says against what)
+ * target/tests/stack [PRICE [PLAN]]   the bytes allowed (default 1,024 and 6,144); exit status: 0 none above, 1 some, or a wrong result */
 #include <inttypes.h>
 #include <stdbool.h>
 #include <stdio.h>
@@ -16,7 +16,8 @@
 #include <violstream.h>
 #include "stack.h"
 
-enum { FILES = VIOLSTREAM_MAX_FILES, WANTS = VIOLSTREAM_MAX_WANTS, MOST = 1024 };
+/* The last two are the bytes that violstream.h allows each function. */
+enum { FILES = VIOLSTREAM_MAX_FILES, WANTS = VIOLSTREAM_MAX_WANTS, PRICE_MOST = 1024, PLAN_MOST = 6144 };
 
 static _Noreturn void fail(const char *why, const char *what)
 {
@@ -41,7 +42,8 @@ static struct {
     ROW(times, WANTS);
     ROW(legs, WANTS);
     ROW(sums, VIOLSTREAM_SUMS);
-    uint64_t head, turn, result;
+    uint64_t head, turn, rule, result;
+    size_t room_len;
 } call;
 static uint64_t *room;
 
@@ -58,8 +60,7 @@ static void call_price(void)
 static void call_plan(void)
 {
     call.result = plan(LEND(starts), LEND(lengths), LEND(aggregates), LEND(numbers), LEND(counts), call.head, call.turn,
-                       VIOLSTREAM_LEAST, LEND(from), LEND(to), LEND(times), LEND(legs), LEND(sums), room,
-                       VIOLSTREAM_ROOM_MOST);
+                       call.rule, LEND(from), LEND(to), LEND(times), LEND(legs), LEND(sums), room, call.room_len);
 }
 
 /* In the place of either function. It looks at no argument, the caller clears them away; compiled with -O2 it writes no word. */
@@ -118,6 +119,8 @@ static void at_the_limits(void)
     call.sums_len = VIOLSTREAM_SUMS;
     call.head = VIOLSTREAM_MAX_POSITION;
     call.turn = VIOLSTREAM_MAX_TURN;
+    call.rule = VIOLSTREAM_LEAST;
+    call.room_len = VIOLSTREAM_ROOM_MOST;
 }
 
 static void no_wants(void)
@@ -207,6 +210,8 @@ static void last_again(void) { nested(); call.to[WANTS / 2 - 1] = call.to[WANTS 
 static void last_not_falling(void) { apart(); call.from[WANTS - 2] = call.to[WANTS - 2] = call.from[WANTS - 3]; }
 static void times_short(void) { apart(); call.times_len--; }
 static void legs_short(void) { apart(); call.legs_len--; }
+static void rule_zero(void) { call.rule = 0; }
+static void room_short(void) { call.room_len--; }
 
 #define AT(number, place) ((number) + UINT64_C(256) * (place))
 
@@ -251,46 +256,65 @@ static const struct {
     {"10: the last entry ends where one inside it does", last_again, AT(VIOLSTREAM_BAD_ENTRY, WANTS / 2)},
     {"8: a time too few", times_short, VIOLSTREAM_SHORT_ROW},
     {"8: a leg too few", legs_short, VIOLSTREAM_SHORT_ROW},
+    {"14: a rule that is none", rule_zero, VIOLSTREAM_BAD_RULE},
+    {"9: a word of room too few", room_short, VIOLSTREAM_SHORT_ROOM},
 };
 
 enum { CASES = sizeof cases / sizeof *cases };
 
-/* A case by itself, or with a row of sums that is too short: then whatever is not refused before is refused with 8. */
-static size_t case_bytes(size_t i, bool short_sums)
+/* Of a list that is handed in a plan knows nothing, and of rule and room a price. */
+static bool is_tried(size_t i, bool planned)
+{
+    enum violstream_refusal number = violstream_number(cases[i].result);
+    return planned ? number != VIOLSTREAM_BAD_ENTRY : number != VIOLSTREAM_BAD_RULE && number != VIOLSTREAM_SHORT_ROOM;
+}
+
+/* A case by itself, or with a row of sums that is too short: then whatever is not refused before that is refused with 8. */
+static size_t case_bytes(size_t i, bool short_sums, bool planned)
 {
     at_the_limits();
     cases[i].change();
     call.sums_len -= short_sums;
-    size_t bytes = price_bytes();
-    if (call.result != (short_sums && cases[i].result == 0 ? VIOLSTREAM_SHORT_ROW : cases[i].result))
+    if (planned)
+        call.from_len = call.to_len = WANTS - 1;
+    size_t bytes = planned ? plan_bytes() : price_bytes();
+    bool not_before = cases[i].result == 0 || cases[i].result == VIOLSTREAM_SHORT_ROOM;
+    if (call.result != (short_sums && not_before ? VIOLSTREAM_SHORT_ROW : cases[i].result))
         fail("not the result that the case is there for", cases[i].what);
     return bytes;
 }
 
-int main(int argc, char **argv)
+/* Every case of a function: prints the most that a call takes, and fails where that is above the bar. */
+static void judge(const char *function, bool planned, size_t bar)
 {
-    size_t bar = argc > 1 ? strtoul(argv[1], NULL, 10) : MOST, largest = 0;
+    size_t largest = 0, calls = 0;
     const char *where = "", *how = "";
     for (size_t i = 0; i < 2 * CASES; i++) {
-        size_t bytes = case_bytes(i / 2, i % 2);
+        if (!is_tried(i / 2, planned))
+            continue;
+        size_t bytes = case_bytes(i / 2, i % 2, planned);
+        calls++;
         if (bytes > largest) {
             largest = bytes;
             where = cases[i / 2].what;
             how = i % 2 ? ", sums too short" : "";
         }
     }
+    printf("stack.c: %s takes at most %zu bytes of stack in %zu calls (first so: %s%s), allowed are %zu\n", function, largest, calls,
+           where, how, bar);
+    if (largest > bar) {
+        fflush(stdout);
+        fail("too much of the stack", function);
+    }
+}
+
+int main(int argc, char **argv)
+{
     room = calloc(VIOLSTREAM_ROOM_MOST, sizeof *room);
     if (room == NULL)
         fail("no memory", "room");
-    at_the_limits();
-    call.from_len = call.to_len = WANTS - 1;
-    size_t planned = plan_bytes();
-    if (call.result != 0)
-        fail("refused", "a plan at the limits");
+    judge("violstream_price", false, argc > 1 ? strtoul(argv[1], NULL, 10) : PRICE_MOST);
+    judge("violstream_plan", true, argc > 2 ? strtoul(argv[2], NULL, 10) : PLAN_MOST);
     free(room);
-    printf("stack.c: violstream_price takes at most %zu bytes of stack in %d calls (first so: %s%s), allowed are %zu; "
-           "violstream_plan takes %zu\n", largest, 2 * CASES, where, how, bar, planned);
-    if (largest > bar)
-        fail("violstream_price takes too much of the stack", where);
     return 0;
 }

@@ -170,7 +170,7 @@ def explained(at):
 
 
 def rewriting(at):
-    """An old sheet comes back with turn=0 where nothing stood; any other as it is. Files, statuses and words as for plan."""
+    """An old sheet comes back with turn=0 for an empty turn=; any other as it is. Files, statuses and words as for plan."""
     old, new = changed(3, b"turn="), changed(3, b"turn=0")
     at.write("old.run", old)
     at.must("./violstream rewrite old.run", 0, new, silent=True)
@@ -506,36 +506,38 @@ def blocks(name):
 
 
 def transcripts(at):
-    """The examples of README, OPERATOR and AUDIT, as pasted, print what stands below them."""
-    tried = 0
-    for block in [*blocks("docs/OPERATOR.md"), *blocks("docs/AUDIT.md")]:
-        lines, must = [], []
-        for line in block + ["$ "]:
-            if not line.startswith("$ "):
-                must.append(line)
-            elif must:
-                if lines:
-                    out, said, _ = at.shell("\n".join(lines))
-                    printed = out.decode() + (said if not out.startswith(b"refused") else "")
-                    tried += 1
-                    if printed != "\n".join(must) + "\n":
-                        raise Wrong(f"OPERATOR.md or AUDIT.md: {lines} prints {printed!r}, and the document has {must}")
-                lines, must = [], []
-            if line.startswith("$ "):
-                lines.append(line[2:])
-    if tried < 13:
-        raise Wrong(f"OPERATOR.md and AUDIT.md have only {tried} examples that can be tried")
+    """The examples of README, OPERATOR, REFUSALS and AUDIT, as pasted, print what stands below them."""
+    for page, least in (("docs/OPERATOR.md", 13), ("docs/REFUSALS.md", 21), ("docs/AUDIT.md", 1)):
+        tried = sum(example(at, page, block) for block in blocks(page))
+        if tried < least:
+            raise Wrong(f"{page} has only {tried} examples that can be tried, and needs {least}")
     readme = list(blocks("README.md"))
     at.must("\n".join(readme[0]), 0, ("\n".join(readme[1]) + "\n").encode(), silent=True)
-    said = [block[0] for block in readme if block[0].startswith("violstream: ")]
+    said = [block[0] for block in blocks("docs/REFUSALS.md") if block[0].startswith("violstream: ")]
+    if len(said) != 2:
+        raise Wrong(f"docs/REFUSALS.md shows {len(said)} refusals in words, and not two")
+    at.must("./violstream plan", 3, refusal(2, 3), said[:1], data=changed(8, b"file=13,30,0"))
     at.write("VX0041.run", changed(6, b"file=10;4"))
-    at.must("./violstream plan VX0041.run", 3, refusal(11, 6), said)
-    ltfs = [block[0] for block in readme if block[0].startswith("./violstream ltfs")]
-    at.must(ltfs[0], 0, SHEET, [REPORT])
-    shown = [block[0] for block in blocks("docs/OPERATOR.md") if block[0].startswith("violstream: ")]
-    at.must("./violstream plan", 3, refusal(2, 3), shown, data=changed(8, b"file=13,30,0"))
-    if len(said) != 1 or len(shown) != 1:
-        raise Wrong("README or OPERATOR does not show a refusal in words")
+    at.must("./violstream plan VX0041.run", 3, refusal(11, 6), said[1:])
+
+
+def example(at, page, block):
+    """Runs the lines of a block that begin with `$ ` and compares what they print with the lines below them; how often it did."""
+    tried, lines, must = 0, [], []
+    for line in block + ["$ "]:
+        if not line.startswith("$ "):
+            must.append(line)
+        elif must:
+            if lines:
+                out, said, _ = at.shell("\n".join(lines))
+                printed = out.decode() + (said if not out.startswith(b"refused") else "")
+                tried += 1
+                if printed != "\n".join(must) + "\n":
+                    raise Wrong(f"{page}: {lines} prints {printed!r}, and the page has {must}")
+            lines, must = [], []
+        if line.startswith("$ "):
+            lines.append(line[2:])
+    return tried
 
 
 def manual(at):

@@ -37,7 +37,7 @@ def answer(sheet):
 
 
 def meaning(sheet, empty):
-    """What a reader to whom nothing means `empty` answers, a refusal included."""
+    """What a reader to whom an empty `turn=` means `empty` answers, a refusal included."""
     try:
         return read(sheet, empty)
     except Refused as refusal:
@@ -45,7 +45,7 @@ def meaning(sheet, empty):
 
 
 def compare_meaning(sheet, rewritten):
-    """Whatever nothing means to its reader, the new sheet is the old one to a reader to whom it meant 0."""
+    """Whatever an empty `turn=` means to its reader, the new sheet is the old one to a reader to whom it meant 0."""
     if described(rewritten)[3] != described(sheet)[3]:
         sys.exit(f"rewrite.py: the rule of\n{sheet!r}\nis another in\n{rewritten!r}")
     old = meaning(sheet, 0)

@@ -29,7 +29,7 @@ def rows(sheet, line, at, key, numbers, count):
 
 
 def described(sheet, empty=12000):
-    """What stands on the lines of a sheet, where nothing after `turn=` means `empty`; 12 and 11 alone."""
+    """What stands on the lines of a sheet, where an empty `turn=` means `empty`; 12 and 11 alone."""
     if len(sheet) > 16384:
         raise Refused(12)
     (name,), at = field(sheet, 1, 0, rb"tape=([A-Z0-9]{1,16})")

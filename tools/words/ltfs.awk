@@ -33,7 +33,7 @@ function size(bytes) {
 }
 
 # A text with its control characters shown.
-function plain(text) {
+function shown(text) {
     gsub(/\n/, "\\n", text)
     gsub(/\r/, "\\r", text)
     gsub(/\t/, "\\t", text)
@@ -98,7 +98,7 @@ function token(piece) {
     else if (quote_is_open(piece))
         hold(piece)
     else
-        fault_here(plain("<" piece) " is no tag")
+        fault_here(shown("<" piece) " is no tag")
 }
 
 # Declarations hold others in brackets.
@@ -141,7 +141,7 @@ function start_tag(tag, rest, name) {
     match(tag, "^" name_form)
     name = substr(tag, 1, RLENGTH)
     if (depth == 32)
-        return fault_here("<" plain_name(name) "> stands inside 32 others, which is too deep")
+        return fault_here("<" shown_name(name) "> stands inside 32 others, which is too deep")
     open[++depth] = name
     opened[depth] = line
     above_path[depth] = path
@@ -156,14 +156,14 @@ function start_tag(tag, rest, name) {
 
 function end_tag(piece, name) {
     if (!match(piece, end_form))
-        return fault_here(plain("<" piece) " is no tag")
+        return fault_here(shown("<" piece) " is no tag")
     rest_of = substr(piece, RLENGTH + 1)
     name = substr(piece, 2, RLENGTH - 2)
     sub(/[ \t\r\n]+$/, "", name)
     if (depth == 0)
-        return fault_here("</" plain_name(name) "> closes nothing")
+        return fault_here("</" shown_name(name) "> closes nothing")
     if (open[depth] != name)
-        return fault_here("</" plain_name(name) "> closes <" plain_name(open[depth]) ">, which was opened in line " opened[depth])
+        return fault_here("</" shown_name(name) "> closes <" shown_name(open[depth]) ">, which was opened in line " opened[depth])
     close_element(rest_of)
 }
 
@@ -174,8 +174,8 @@ function close_element(rest) {
     add_chars(rest)
 }
 
-function plain_name(name) {
-    name = plain(name)
+function shown_name(name) {
+    name = shown(name)
     return substr(name, 2, length(name) - 2)
 }
 
@@ -184,9 +184,9 @@ function finish() {
     if (waiting != "")
         fault("the text ends before a " waiting)
     else if (held != "")
-        fault("the text ends inside " plain("<" held))
+        fault("the text ends inside " shown("<" held))
     else if (depth > 0)
-        fault("<" plain_name(open[depth]) "> of line " opened[depth] " is not closed")
+        fault("<" shown_name(open[depth]) "> of line " opened[depth] " is not closed")
     if (part == "label") {
         label_needs("/ltfslabel/blocksize")
         label_needs("/ltfslabel/partitions/data")
@@ -248,12 +248,12 @@ function must_be_number(what, text, whose, words) {
     if (is_number(text))
         return
     words = text ~ /^[ \t\r\n]|[ \t\r\n]$/ ? "there is a blank in it" : number_fault(text)
-    fault_here(what " " plain(text) whose " is no number below 2^64 in digits alone" (words == "" ? "" : ": " words))
+    fault_here(what " " shown(text) whose " is no number below 2^64 in digits alone" (words == "" ? "" : ": " words))
 }
 
 function must_be_letter(what, text, whose) {
     if (text !~ /^[a-z]$/)
-        fault_here(what " " plain(text) whose " is not one letter a to z")
+        fault_here(what " " shown(text) whose " is not one letter a to z")
 }
 
 function extent_value(key, text) {
@@ -279,7 +279,7 @@ function extent_is_over(i) {
 }
 
 function called(file) {
-    return "file " (file in name_of ? plain(name_of[file]) : "without a name") " (line " file_line[file] ")"
+    return "file " (file in name_of ? shown(name_of[file]) : "without a name") " (line " file_line[file] ")"
 }
 
 # ---- 21 to 23: the files as a whole ----

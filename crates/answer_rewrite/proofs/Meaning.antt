@@ -105,7 +105,7 @@ module _ (a b c rest : List ℕ) (flat-a : has lineFeed a ≡ false) (flat-b : h
   line-third : lineAfter 2 (threeLines a b c rest) ≡ c
   line-third = ap lineOf after-second ∙ first-line c rest flat-c
 
--- `turn=` and `turn=0` are both as described; the one is the price that nothing means, the other 0.
+-- `turn=` and `turn=0` are both as described; the one means the price of an empty `turn=`, the other 0.
 abbrev zeroLine : List ℕ
 zeroLine = turnKey ++ (code "0" ∷ [])
 

@@ -17,7 +17,7 @@ use Rattle.sheet_reader.specs.Reading.{sheetVerdict}
 use Rattle.sheet_writer.specs.declared.Written.{Written}
 use Rattle.sheet_writer.specs.Writing.{rowVerdict, Handed}
 
--- Nothing stands after `turn=`: the third line is the key alone.
+-- An empty `turn=`: the third line is the key alone.
 unfoldable pub priceIsEmpty : List ℕ → Bool
 priceIsEmpty sheet = isText turnKey (lineAfter 2 sheet)
 

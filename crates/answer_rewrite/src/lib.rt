@@ -1,4 +1,4 @@
-// answer_rewrite: an old run sheet rewritten so that it goes on meaning what it meant when nothing after `turn=` was 0.
+// answer_rewrite: an old run sheet rewritten so that it goes on meaning what it meant when an empty `turn=` was 0.
 // For the program, which reads, calls this and writes. The sheet's lines are judged as the reader judges them; neither the rule that it names nor
 // the run that it holds is.
 ghost use Prim.Native.Nat.{_≤_, _<_};

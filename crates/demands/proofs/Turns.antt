@@ -35,7 +35,7 @@ use Rattle.demands.proofs.Lines.{line-read, number-flat, nothing-no-num
 use Rattle.demands.proofs.Sheets.{same-rows, told}
 use Rattle.demands.proofs.WriteRead.{written-passes}
 
--- The third line, where nothing stands after `turn=` and where a number does.
+-- The third line: an empty `turn=`, or one with a number.
 module _ (sheet : List ℕ) where
   empty-line : EmptyPrice sheet → lineAfter 2 sheet ≡ turnKey
   unfolding has

@@ -2,13 +2,11 @@
 // are copied back. The walks of the functions over the row are derived by tools/derive.py; after a change of their text they are derived again.
 ghost use mathlib.Core.Path.{_≡_};
 ghost use Prim.Native.Nat.{min};
-ghost use lib.ListN.{length, replicate};
+ghost use lib.ListN.{replicate};
 ghost use Rattle.planner.specs.Rows.{rowsBefore, rowsAfter};
 ghost use Rattle.desk_tickets.specs.WaitingTable.{noTicket};
-ghost use Rattle.desk_tickets.specs.Filings.{fileRow};
-ghost use Rattle.desk_tickets.specs.Withdrawals.{withdrawRow};
 ghost use Rattle.desk_boardings.specs.Boardings.{tapeAt};
-ghost use Rattle.desk_rows.specs.Desk.{tableIn, withTable, BoardsLent};
+ghost use Rattle.desk_rows.specs.Desk.{tableIn, withTable, filedFrom, rowFiled, withdrawnFrom, rowWithdrawn, BoardsLent};
 use desk_boardings::Boarded;
 use desk_boardings::Boarding;
 use desk_tickets::Filed;
@@ -67,8 +65,8 @@ fn copy_in(ts: &mut [Ticket], row: [Ticket; 32])
 
 // A ticket filed in a lent row of records.
 pub fn file(ts: &mut [Ticket], filing: Filing) -> Filed
-    ensures { λ r. ⌜ r ≡ fileRow (length (now (ts .entry))) (tableIn (now (ts .entry))) filing .filed ⌝ }
-    ensures { λ _. ⌜ now (ts .exit) ≡ withTable (fileRow (length (now (ts .entry))) (tableIn (now (ts .entry))) filing .row) (now (ts .entry)) ⌝ }
+    ensures { λ r. ⌜ r ≡ filedFrom (now (ts .entry)) filing ⌝ }
+    ensures { λ _. ⌜ now (ts .exit) ≡ rowFiled (now (ts .entry)) filing ⌝ }
 {
     let len = ts.len();
     let row = copy_out(&ts[..]);
@@ -80,8 +78,8 @@ pub fn file(ts: &mut [Ticket], filing: Filing) -> Filed
 
 // A ticket withdrawn from a lent row of records.
 pub fn withdraw(ts: &mut [Ticket], withdrawal: Withdrawal) -> Withdrawn
-    ensures { λ r. ⌜ r ≡ withdrawRow (length (now (ts .entry))) (tableIn (now (ts .entry))) withdrawal .withdrawn ⌝ }
-    ensures { λ _. ⌜ now (ts .exit) ≡ withTable (withdrawRow (length (now (ts .entry))) (tableIn (now (ts .entry))) withdrawal .row) (now (ts .entry)) ⌝ }
+    ensures { λ r. ⌜ r ≡ withdrawnFrom (now (ts .entry)) withdrawal ⌝ }
+    ensures { λ _. ⌜ now (ts .exit) ≡ rowWithdrawn (now (ts .entry)) withdrawal ⌝ }
 {
     let len = ts.len();
     let row = copy_out(&ts[..]);

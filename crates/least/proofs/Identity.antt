@@ -13,7 +13,7 @@ use Rattle.least.proofs.Times.{Spaced, starts-rise, legTime-exact, plan
 use Rattle.least.proofs.Ties.{over-none}
 use Rattle.least.specs.Recurrence.{Plan, empty, skip, detour, trip, W, early}
 
--- The algebra, over plain numbers.
+-- The algebra, over numbers alone.
 leg-shift : (c t t′ y y′ l u : ℕ) → t + l ≡ y + u → t′ + l ≡ y′ + u → c * t′ + y * c ≡ c * t + y′ * c
 leg-shift c t t′ y y′ l u h h′ = let e : t′ + y ≡ t + y′ = omega arith in omega (arith, ap (λ (x : ℕ). c * x) e)
 

@@ -231,7 +231,7 @@ told-withdrawn len row w r e =
     ⊎-elim (λ t. ap (λ x. isRefusal (x .withdrawn .verdict .refusal)) (sym (e ∙ not-withdrawn-so len row w t))) (λ p. ap (λ x. isRefusal (x .withdrawn .verdict .refusal)) (sym (e ∙ withdrawn-so len row w p)))
     (true-or-false (refuses (withdrawVerdict len row w)))
 
-accepted-filing : {len : ℕ} {k next : Kept} {f : Filing} {r : FiledRow} → r .filed .verdict .refusal ≡ Accepted → Fits k (filing len f r) next → IsOffice (f .office) × (r .filed .number ≡ numberFor f)
+pub accepted-filing : {len : ℕ} {k next : Kept} {f : Filing} {r : FiledRow} → r .filed .verdict .refusal ≡ Accepted → Fits k (filing len f r) next → IsOffice (f .office) × (r .filed .number ≡ numberFor f)
 accepted-filing accepts (files {len} {k} {f} {r} l e) =
     let passes = told len (k .row) f r e ∙ ap isRefusal accepts in
     (office-is (f .office) (range-office f (file-accepted len (k .row) f passes .ranged)), ap (λ x. x .filed .number) (e ∙ filed-so len (k .row) f passes))
@@ -243,7 +243,7 @@ filed-behind len k next f r table fits accepts =
     let joins : joining (f .office) (filing len f r) ≡ ticketOf f ∷ [] = rw (ap isRefusal accepts, eq-eqb (f .office) (f .office) refl) in
     (s .0 .queue ∙ ap (λ ts. waiting (f .office) (k .row) ++ ts) joins, a .1)
 
-refused-changes : {k next : Kept} {c : Call} → Fits k c next → isRefusal (answered c) ≡ true → (next .row ≡ k .row) × (next .lasts ≡ k .lasts)
+pub refused-changes : {k next : Kept} {c : Call} → Fits k c next → isRefusal (answered c) ≡ true → (next .row ≡ k .row) × (next .lasts ≡ k .lasts)
 refused-changes (files {len} {k} {f} {r} l e) t =
     let is = e ∙ not-filed-so len (k .row) f (told len (k .row) f r e ∙ t) in
     (ap (λ x. x .row) is, ap (λ x. x .filed .lasts) is ∙ l)

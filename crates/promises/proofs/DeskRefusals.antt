@@ -52,7 +52,7 @@ tells-ticket office last t =
 tells-follows : (a t : Ticket) → Tells (follows a t) (Follows a t)
 tells-follows a t = tells-both (not (isEmptyPlace a)) (ltb (a .number) (t .number)) (tells-not (isEmptyPlace a) (tells-empty a)) (tells-below (a .number) (t .number))
 
-tells-bad : (l : Lasts) (row : List Ticket) (i : ℕ) → Tells (badRecord l row i) (RecordIsBad l row i)
+pub tells-bad : (l : Lasts) (row : List Ticket) (i : ℕ) → Tells (badRecord l row i) (RecordIsBad l row i)
 tells-bad l row i =
     let t = getD row i noTicket in
     let u = getD row (i - 1) noTicket in
@@ -172,7 +172,7 @@ module _ (len : ℕ) (row : List Ticket) (w : Withdrawal) where
   waiting-back : (p : ℕ) → WithdrawalApplies len row w NotWaiting p → (p ≡ 0) × (IsWaiting (w .office) (w .number) row → ⊥)
   waiting-back p (not-waiting n) = (refl, n)
 
-  tells-waiting : Tells (isWaiting (w .office) (w .number) row) (IsWaiting (w .office) (w .number) row)
+  pub tells-waiting : Tells (isWaiting (w .office) (w .number) row) (IsWaiting (w .office) (w .number) row)
   tells-waiting =
       tells-both (upTo offices (w .office)) (hasNumber (w .number) (waiting (w .office) row)) (tells-within offices (w .office)) (tells-among (w .number) (waiting (w .office) row))
 
@@ -188,7 +188,7 @@ module _ (len : ℕ) (row : List Ticket) (w : Withdrawal) where
       (λ b. finds-first (WithdrawalApplies len row w) [] refl (decides-reworded waiting-there waiting-back (decides-if (not (isWaiting (w .office) (w .number) row)) NotWaiting (tells-not (isWaiting (w .office) (w .number) row) tells-waiting)))
       (λ c. finds-none (WithdrawalApplies len row w)))))
 
-  withdrawn-verdict : withdrawRow len row w .withdrawn .verdict ≡ withdrawVerdict len row w
+  pub withdrawn-verdict : withdrawRow len row w .withdrawn .verdict ≡ withdrawVerdict len row w
   withdrawn-verdict =
       ⊎-elim (λ e. ap (λ x. x .withdrawn .verdict) (not-withdrawn-so len row w e)) (λ e. ap (λ x. x .withdrawn .verdict) (withdrawn-so len row w e))
       (true-or-false (refuses (withdrawVerdict len row w)))

@@ -8,6 +8,7 @@ pub mod DeskWants
 pub mod DeskLines
 pub mod DeskRows
 pub mod DeskTape
+pub mod DeskWhole
 pub mod DeskCases
 pub mod Gathered
 pub mod Copied

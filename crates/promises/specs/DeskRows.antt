@@ -11,12 +11,10 @@ use Rattle.desk_tickets.specs.declared.Filing.{Filing}
 use Rattle.desk_tickets.specs.declared.Filed.{Filed}
 use Rattle.desk_tickets.specs.declared.Withdrawal.{Withdrawal}
 use Rattle.desk_tickets.specs.declared.Withdrawn.{Withdrawn}
-use Rattle.desk_tickets.specs.Filings.{fileRow}
-use Rattle.desk_tickets.specs.Withdrawals.{withdrawRow}
 use Rattle.desk_boardings.specs.declared.Boarding.{Boarding}
 use Rattle.desk_boardings.specs.declared.Boarded.{Boarded}
 use Rattle.desk_boardings.specs.Boardings.{Tape}
-use Rattle.desk_rows.specs.Desk.{tableIn, withTable, BoardsLent}
+use Rattle.desk_rows.specs.Desk.{tableIn, filedFrom, rowFiled, withdrawnFrom, rowWithdrawn, BoardsLent}
 use Rattle.promises.specs.Desk.{Kept, Call, filing, withdrawal, boarding, Day}
 
 -- A call on a lent row that fits the contract of `desk_rows`: the row and the last numbers go in, the next ones come back. The call that it is: what was handed in,
@@ -24,13 +22,13 @@ use Rattle.promises.specs.Desk.{Kept, Call, filing, withdrawal, boarding
 pub data LentFits : List Ticket → Lasts → Call → List Ticket → Lasts → Type 0 where
   lent-filing : {ts exit : List Ticket} {l : Lasts} {f : Filing} {r : Filed}
       → f .lasts ≡ l
-      → r ≡ fileRow (length ts) (tableIn ts) f .filed
-      → exit ≡ withTable (fileRow (length ts) (tableIn ts) f .row) ts
+      → r ≡ filedFrom ts f
+      → exit ≡ rowFiled ts f
       → LentFits ts l (filing (length ts) f (record { filed = r; row = tableIn exit })) exit (r .lasts)
   lent-withdrawal : {ts exit : List Ticket} {l : Lasts} {w : Withdrawal} {r : Withdrawn}
       → w .lasts ≡ l
-      → r ≡ withdrawRow (length ts) (tableIn ts) w .withdrawn
-      → exit ≡ withTable (withdrawRow (length ts) (tableIn ts) w .row) ts
+      → r ≡ withdrawnFrom ts w
+      → exit ≡ rowWithdrawn ts w
       → LentFits ts l (withdrawal (length ts) w (record { withdrawn = r; row = tableIn exit })) exit (r .lasts)
   lent-boarding : {ts exit : List Ticket} {l : Lasts} {tape : Tape} {b : Boarding} {before after : Rows} {r : Boarded}
       → b .lasts ≡ l

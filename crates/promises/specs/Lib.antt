@@ -4,6 +4,7 @@ pub mod DeskRefusals
 pub mod DeskWants
 pub mod DeskLines
 pub mod DeskRows
+pub mod DeskWhole
 pub mod DeskCases
 pub mod Mends
 pub mod Months

@@ -31,7 +31,7 @@ looseWants sheet = linesBefore longestSheet (firstBadOf (isPairLine wantKey) lon
 unfoldable pub looseEnd : List ℕ → List ℕ
 looseEnd sheet = afterLines (looseWants sheet) (looseWantText sheet)
 
--- What `wants=` says, and whether nothing stands after `turn=`.
+-- What `wants=` says, and whether `turn=` is empty.
 unfoldable pub wantsSaid : List ℕ → ℕ
 wantsSaid sheet = numberBehind wantsKey (lineOf (looseWantsText sheet))
 

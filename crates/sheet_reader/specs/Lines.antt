@@ -45,11 +45,11 @@ isTapeLine line = startsWith tapeKey line && isName (valueText tapeKey line)
 unfoldable pub isCountLine : List ℕ → ℕ → List ℕ → Bool
 isCountLine key most line = isNumberLine key line && leb (numberBehind key line) most
 
--- `turn=` and a number, or nothing after it.
+-- `turn=` and a number, or an empty `turn=`.
 unfoldable pub isTurnLine : List ℕ → Bool
 isTurnLine line = startsWith turnKey line && (isEmpty (valueText turnKey line) || isNumber (valueText turnKey line))
 
--- The price on such a line, where nothing after `turn=` means the price e; and what nothing means: the drives' own price.
+-- The price on such a line, where an empty `turn=` means the price e; and what it means: the drives' own price.
 unfoldable pub turnWith : ℕ → List ℕ → ℕ
 turnWith e line = cond (isEmpty (valueText turnKey line)) e (numberBehind turnKey line)
 

@@ -16,7 +16,7 @@ pub const LONGEST_SHEET: usize = 16384;
 
 pub const MOST_SHEET_FILES: u64 = 256;
 
-// `turn=` with nothing after it means the drives' own price.
+// An empty `turn=` means the drives' own price.
 pub const EMPTY_TURN: u64 = 12000;
 
 // What the first line holds: where the name ends, and where the next line starts.

@@ -131,7 +131,7 @@ sum-length : (a b c d e f g h : List ℕ) → length a ≤ 22 → length b ≤ 2
     → length (a ++ b ++ c ++ d ++ e ++ f ++ g ++ h) ≤ 16384
 sum-length a b c d e f g h la lb lc ld le lf lg lh = simp length-append (omega arith)
 
--- The lines that are not plain number lines.
+-- The lines that have not one number alone.
 name-back : (key name : List ℕ) → isName name ≡ true → (startsWith key (key ++ name) && isName (valueText key (key ++ name))) ≡ true
 name-back key name e = rw (key-begins key name, key-value key name, e)
 

@@ -215,7 +215,7 @@ module _ (text : List ℕ) (at : ℕ) where
         | no n ↦ rw (← step-byte text at l n) (record { first = tokens-byte l n; within = omega arith })
       ]
 
--- Plain bytes, one at a time; behind the last of them `]]>` is passed over.
+-- The bytes of a CDATA section, one at a time; behind the last of them `]]>` is passed over.
 plain-meets : (text : List ℕ) (at end : ℕ) → PlaceIn text (Place.Plain at end) → StepMet (tokensAt text (Place.Plain at end)) text at (stepAt text (Place.Plain at end))
 unfolding tokensAt stepAt
 plain-meets text at end w = elim (decLt (at + 3) end) [ yes l ↦ byte l | no l ↦ over l ]

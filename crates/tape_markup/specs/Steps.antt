@@ -23,7 +23,7 @@ abbrev pub textStep : ℕ → List ℕ → Step
 textStep at [] = Step.End
 textStep at (b ∷ text) = cond (eqb b (code "<")) (pieceStep at (pieceOf text)) (Step.Byte b (Place.Text (at + 1)))
 
--- The plain bytes of a CDATA section stand before its `]]>`, which is passed over.
+-- The bytes of a CDATA section stand before its `]]>`, which is passed over.
 unfoldable pub stepAt : List ℕ → Place → Step
 stepAt text (Place.Text at) = textStep at (drop at text)
 stepAt text (Place.Plain at end) =

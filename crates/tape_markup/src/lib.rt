@@ -11,7 +11,7 @@ pub use tokens::step_from;
 // The elements that may be open at once, the outermost among them.
 pub const MOST_OPEN: usize = 32;
 
-// Where a reader stands: outside of markup; in the plain bytes of a CDATA section, which ends, with its `]]>`, at a position;
+// Where a reader stands: outside of markup; in the bytes of a CDATA section, which ends, with its `]]>`, at a position;
 // or behind an element by itself, whose end tag with its name is still to be met.
 pub enum Place {
     Text(usize),

@@ -1,4 +1,4 @@
-/* A plain table program for the planner's recurrence, written without regard to proofs.
+/* A table program in C for the planner's recurrence, written without regard to proofs.
  *
  * Cell (a, b, s) is the smallest cost, above what no movement can avoid, of the stops a+1 .. b when a leg that starts at
  * stop a and passes b is still to come and s reads right of b are skipped. The last stop b is skipped, or a detour (c, b)
@@ -123,7 +123,7 @@ static uint64_t unavoidable(const struct stops *p)
     return sum;
 }
 
-uint64_t plain_least(const struct stops *stops, uint64_t *table, struct stop_list *list)
+uint64_t table_least(const struct stops *stops, uint64_t *table, struct stop_list *list)
 {
     struct table t = {.stops = stops, .cells = table};
     list->length = 0;
