@@ -174,9 +174,17 @@ module _ (r : Run) where
       none-refuses (firstOf (tableChecks (r .starts) (r .lengths) (r .aggregates)) ∷ firstOf (wantsChecks (length (r .starts)) (r .numbers) (r .counts)) ∷ firstOf (headChecks (r .turn) (r .head) (rightEnd (stopsOf r))) ∷ []) e
 
   -- The same of its table of files alone, with 1 and 2.
-  pub table-judged : ((p : ℕ) → RunApplies r FileRows p → ⊥) → ((p : ℕ) → RunApplies r BadFile p → ⊥) → refuses (firstOf (tableChecks (r .starts) (r .lengths) (r .aggregates))) ≡ false
-  table-judged rows files =
-      none-found (RunApplies r) (firstOf (tableChecks (r .starts) (r .lengths) (r .aggregates)))
-      (table-finds r (RunApplies r) (λ k p h. h) (λ k p l h. h) [] [] (λ a. finds-none (RunApplies r)))
-      (refl, (refl, tt))
-      (⊎-elim (λ h. rows (h .0) (h .1)) (⊎-elim (λ h. files (h .0) (h .1)) (λ s. s)))
+  abbrev table : Verdict
+  table = firstOf (tableChecks (r .starts) (r .lengths) (r .aggregates))
+
+  table-found : Finds (RunApplies r) (FileRows ∷ BadFile ∷ []) (firstOf (table ∷ []))
+  table-found = table-finds r (RunApplies r) (λ k p h. h) (λ k p l h. h) [] [] (λ a. finds-none (RunApplies r))
+
+  pub table-judged : ((p : ℕ) → RunApplies r FileRows p → ⊥) → ((p : ℕ) → RunApplies r BadFile p → ⊥) → refuses table ≡ false
+  table-judged rows files = none-found (RunApplies r) table table-found (refl, (refl, tt)) (⊎-elim (λ h. rows (h .0) (h .1)) (⊎-elim (λ h. files (h .0) (h .1)) (λ s. s)))
+
+  pub judged-table : refuses table ≡ false → ((p : ℕ) → RunApplies r FileRows p → ⊥) × ((p : ℕ) → RunApplies r BadFile p → ⊥)
+  judged-table e =
+      let found : Finds (RunApplies r) (FileRows ∷ BadFile ∷ []) accepted = rw (first-passes table [] e) at table-found in
+      let none : SomeApplies (RunApplies r) (FileRows ∷ BadFile ∷ []) → ⊥ = λ s. refused-iff (RunApplies r) found (refl, (refl, tt)) .1 s refl in
+      (λ p h. none (inl (p, h)), λ p h. none (inr (inl (p, h))))

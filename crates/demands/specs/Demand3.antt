@@ -1,4 +1,4 @@
--- Demand 3: no movement of a head that serves at least these reads, at no lower turn price and from no further left, beats the sum that we report.
+-- Demand 3: no movement that serves at least these reads, at no lower turn price, from no further left, has a smaller sum than we report.
 use Prim.Native.Nat.{ℕ, _≤_}
 use mathlib.Core.Path.{_≡_}
 use mathlib.Core.List.{List}

@@ -1,6 +1,6 @@
--- The request on empty turn prices (L3): an empty `turn=` means the drives' own price. An old sheet is rewritten byte for byte with a 0 there, and
--- then means to every reader what it meant to one that takes an empty price for 0. Demands 2 and 3 speak of a run's price: for a run that was read
--- from a sheet it is the number that the reader gives by this rule.
+-- The request on empty turn prices (L3): an empty `turn=` means the drives' own price. An old sheet is rewritten with a 0 there, byte for byte the same
+-- elsewhere. Whatever an empty `turn=` means to a reader, it reads the new sheet as the old one was read when that was 0. Demands 2 and 3 speak of a
+-- run's price: for a run that was read from a sheet it is the number that the reader gives by this rule.
 use Prim.Native.Nat.{ℕ, _≤_, _<_}
 use Prim.Native.Char.{code}
 use mathlib.Core.Path.{_≡_}
@@ -20,7 +20,7 @@ use Rattle.answer_rewrite.specs.Rewriting.{rewritten, SheetRewritten}
 use Rattle.demands.specs.RefusalTable.{FirstBad, FirstThatApplies}
 use Rattle.demands.specs.Lines.{Stands, Number, LineIsBad, linesDue}
 
--- Behind two lines stands `turn=` with nothing after it, or with a number.
+-- Behind two lines stands an empty `turn=`, or one with a number.
 abbrev pub EmptyPrice : List ℕ → Type 0
 EmptyPrice sheet = Stands turnKey (λ text. text ≡ []) sheet 2
 

@@ -1,3 +1,3 @@
-// promises: what the requests L6, L7, L11 and L13 promise, and what the commands price and check tell, as theorems over the definitions of the
-// crates below, by conditions of their own. The other requests stand in the crate demands.
+// promises: what the requests on offices, mending and months promise (L6, L7, L11, L13), and `price` and `check`, each by conditions of its own, as
+// theorems over the definitions of the crates below.
 // Statements in specs/, one short file each; their proofs in proofs/. No code.
