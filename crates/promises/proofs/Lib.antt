@@ -25,5 +25,6 @@ pub mod MonthNames
 pub mod MonthInput
 pub mod MonthReads
 pub mod MonthOrder
+pub mod MonthLongest
 mod Differs
 pub mod Checks

@@ -157,7 +157,7 @@ module _ {xs ys : List Outcome} (p : Reordered xs ys) (m m′ : Month) (f : Mont
             tape = λ z. l .tape ∙ sym (l′ .tape ∙ ap (λ r. r .tape) e);
           }
 
-sheets-length : {xs ys : List (List ℕ)} → Reordered xs ys → length xs ≡ length ys
+pub sheets-length : {xs ys : List (List ℕ)} → Reordered xs ys → length xs ≡ length ys
 sheets-length same = refl
 sheets-length (behind-first p) = ap suc (sheets-length p)
 sheets-length swapped = refl

@@ -8,4 +8,5 @@ pub mod DeskWhole
 pub mod DeskCases
 pub mod Mends
 pub mod Months
+pub mod MonthLongest
 pub mod Checks
