@@ -4,10 +4,14 @@ use mathlib.Core.Path.{_≡_, refl, sym, ap, _∙_}
 use mathlib.Core.Bool.{Bool, true, false}
 use mathlib.Core.List.{List, map}
 use Rattle.refusals.specs.declared.Verdict.{Verdict}
-use Rattle.refusals.specs.Refusals.{isRefusal}
+use Rattle.refusals.specs.Refusals.{isRefusal, accepted}
 use Rattle.runs.specs.Run.{Run, stopsOf}
 use Rattle.least.proofs.LeastList.{least-unique}
+use Rattle.sheet_runs.specs.declared.SheetRun.{SheetRun}
+use Rattle.sheet_writer.proofs.Sheets.{handed-determined}
 use Rattle.sheet_writer.specs.PlanSheet.{planText}
+use Rattle.answer_plan.specs.declared.PlannedList.{PlannedList}
+use Rattle.answer_plan.specs.PlannedLists.{inList, ListedUnder, ListWritten}
 use Rattle.answer_plan.specs.Recall.{PlanOf, AnswersRun, Recalled, SheetRecalled, bytesPut, rowPut}
 
 module _ (v : Verdict) (name : List ℕ) (run : Run) where
@@ -33,3 +37,24 @@ module _ (v : Verdict) (name : List ℕ) (run : Run) where
 -- Two results that fit the contract are equal.
 pub recall-determined : (sheet row : List ℕ) (n n′ : ℕ) (row′ row″ : List ℕ) → SheetRecalled sheet row n row′ → SheetRecalled sheet row n′ row″ → (n ≡ n′) × (row′ ≡ row″)
 recall-determined sheet row n n′ row′ row″ p q = recalled-once _ _ _ row n n′ row′ row″ p q
+
+-- So are two lists by value under one verdict, and what is written of one.
+pub list-once : (v : Verdict) (run : Run) (l l′ : PlannedList) → ListedUnder v run l → ListedUnder v run l′ → l ≡ l′
+list-once v run l l′ p q = go (isRefusal (v .refusal)) refl
+  where
+    go : (b : Bool) → isRefusal (v .refusal) ≡ b → l ≡ l′
+    go true e = p .refused e ∙ sym (q .refused e)
+    go false e =
+        let a = p .planned e in
+        let b = q .planned e in
+        a .says ∙ ap (inList accepted) (least-unique (run .turn) (run .head) (stopsOf run) (a .list) (b .list) (a .least) (b .least)) ∙ sym (b .says)
+
+pub written-once : (sheet : List ℕ) (r : SheetRun) (l : PlannedList) (row : List ℕ) (n n′ : ℕ) (row′ row″ : List ℕ) → ListWritten sheet r l row n row′ → ListWritten sheet r l row n′ row″ → (n ≡ n′) × (row′ ≡ row″)
+written-once sheet r l row n n′ row′ row″ p q = go (isRefusal (l .verdict .refusal)) refl
+  where
+    joined : (p .text ≡ q .text) × (row′ ≡ row″) → (n ≡ n′) × (row′ ≡ row″)
+    joined e = (p .bytes ∙ ap (λ x. x .bytes) (e .0) ∙ sym (q .bytes), e .1)
+
+    go : (b : Bool) → isRefusal (l .verdict .refusal) ≡ b → (n ≡ n′) × (row′ ≡ row″)
+    go true e = joined (handed-determined _ _ _ _ _ _ _ (p .refused e) (q .refused e))
+    go false e = joined (handed-determined _ _ _ _ _ _ _ (p .planned e) (q .planned e))

@@ -1,10 +1,10 @@
 -- What the planner leaves in the program's rows: nothing where it refuses, else the least list; and a text that is handed out.
-use Prim.Native.Nat.{ℕ, _≤_, _-_}
+use Prim.Native.Nat.{ℕ, _-_}
 use mathlib.Core.Path.{_≡_, refl, sym, ap, _∙_, subst}
 use mathlib.Core.Bool.{Bool, true, false, true≢false}
 use mathlib.Core.List.{List, [], _∷_, _++_, map}
 use native.Mathlib.Omega.{arith}
-use lib.ListN.{length, take, drop}
+use lib.ListN.{length, drop}
 use lib.Dec.{ltb}
 use borrow.Author.Tests.{le-ltb}
 use Rattle.refusals.specs.declared.Refusal.the-variants.{ShortRow, ShortRoom}
@@ -21,7 +21,7 @@ use Rattle.walk.specs.declared.Answer.{Answer}
 use Rattle.walk.specs.Price.{refusalAnswer, pricedAnswer}
 use Rattle.planner.specs.Plan.{Plans, Planned, planVerdict}
 use Rattle.planner.specs.Rows.{Rows, rowsOf}
-use Rattle.engine_stops.proofs.Halves.{half-long, front, holds-front}
+use Rattle.engine_stops.proofs.Halves.{half-long}
 use Rattle.sheet_runs.specs.declared.SheetRun.{SheetRun}
 use Rattle.sheet_runs.specs.SheetRuns.{filledTo, runHeld}
 use Rattle.sheet_runs.proofs.Filling.{filled-rest}
@@ -92,29 +92,6 @@ module _ (run : Run) (rows : Rows) (lent : Lent rows) where
 
       pub accepts : refuses (firstOf (runChecks run)) ≡ false
       accepts = ap refuses (sym run-verdict) ∙ verdict-says ∙ passed
-
-      n-is : a .detours ≡ length (planned .list)
-      unfolding pricedAnswer
-      n-is = ap (λ x. x .detours) (planned .says)
-
-      froms-are : after .froms ≡ map (λ d. d .from) (planned .list) ++ drop (length (planned .list)) (rows .froms)
-      froms-are = ap (λ x. x .froms) (planned .rows)
-
-      tos-are : after .tos ≡ map (λ d. d .to) (planned .list) ++ drop (length (planned .list)) (rows .tos)
-      tos-are = ap (λ x. x .tos) (planned .rows)
-
-      -- So many entries are in both rows.
-      pub in-froms : a .detours ≤ length (after .froms)
-      in-froms = holds-front (λ d. d .from) (planned .list) (a .detours) (rows .froms) (after .froms) n-is froms-are
-
-      pub in-tos : a .detours ≤ length (after .tos)
-      in-tos = holds-front (λ d. d .to) (planned .list) (a .detours) (rows .tos) (after .tos) n-is tos-are
-
-      pub listed-froms : take (a .detours) (after .froms) ≡ map (λ d. d .from) (planned .list)
-      listed-froms = front (λ d. d .from) (planned .list) (a .detours) (rows .froms) (after .froms) n-is froms-are
-
-      pub listed-tos : take (a .detours) (after .tos) ≡ map (λ d. d .to) (planned .list)
-      listed-tos = front (λ d. d .to) (planned .list) (a .detours) (rows .tos) (after .tos) n-is tos-are
 
 -- A list in a row that was zeros.
 pub listed-in : (f : Detour → ℕ) (list : List Detour) (row row′ : List ℕ) → row ≡ zeros 63 → row′ ≡ map f list ++ drop (length list) row → row′ ≡ filledTo 63 (map f list)
