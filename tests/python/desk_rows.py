@@ -5,7 +5,7 @@ with what desk.py works out.
 usage: tests/python/desk_rows.py
 
 The prover does not cover a function that lends a slice of structs, so no program of the repository can call these three. This one is made in a
-temporary folder, from the text of check_desk with three functions replaced, and is run without a proof by `rt try`: on the interpreter, compiled at -O0
+temporary folder, from the text of check_desk with three calls replaced, and is run without a proof by `rt try`: on the interpreter, compiled at -O0
 and at -O3, and with the compiler's assumptions checked. The lent row has 40 places, or what the event draws; records that are not lent, or stand past
 the 32nd, are looked at after each call.
 """
@@ -58,35 +58,31 @@ fn taken_up(row: [Ticket; 40], before: [Ticket; 32], len: usize) -> [Ticket; 32]
 }
 
 """
-FILED = """{
-    let mut row = laid(table);
+FILED = """    let mut row = laid(table);
     let filed = desk_rows::file(&mut row[..len], filing);
-    let after = taken_up(row, table, len);
-    FiledRow { filed, row: after }
-}
+    let taken = taken_up(row, table, len);
+    let done = desk_tickets::FiledRow { filed, row: taken };
 """
-WITHDRAWN = """{
-    let mut row = laid(table);
+WITHDRAWN = """    let mut row = laid(table);
     let withdrawn = desk_rows::withdraw(&mut row[..len], withdrawal);
-    let after = taken_up(row, table, len);
-    WithdrawnRow { withdrawn, row: after }
-}
+    let taken = taken_up(row, table, len);
+    let done = desk_tickets::WithdrawnRow { withdrawn, row: taken };
 """
 BOARDED = """    let mut row = laid(table);
     let boarded = desk_rows::board(
         &mut row[..len],
         boarding,
-        &starts,
-        &lengths,
-        &aggregates,
-        froms,
-        tos,
-        times,
-        legs,
-        room,
+        &STARTS,
+        &LENGTHS,
+        &AGGREGATES,
+        &mut froms,
+        &mut tos,
+        &mut times,
+        &mut legs[..n],
+        &mut room[..w],
     );
-    let after = taken_up(row, table, len);
-    BoardedRow { boarded, row: after }
+    let taken = taken_up(row, table, len);
+    let done = BoardedRow { boarded, row: taken };
 """
 
 
@@ -99,11 +95,11 @@ def replaced(text, old, new, flags=0):
 
 def lending(text):
     """The text of check_desk over a lent row."""
-    text = replaced(text, r"\{\n    desk_tickets::file_in\(len, table, filing\)\n\}\n", FILED)
-    text = replaced(text, r"\{\n    desk_tickets::withdraw_in\(len, table, withdrawal\)\n\}\n", WITHDRAWN)
-    text = replaced(text, r"    desk_boardings::board_in\(\n.*?\n    \)\n", BOARDED, re.S)
+    text = replaced(text, r"    let done = desk_tickets::file_in\(len, table, filing\);\n", FILED)
+    text = replaced(text, r"    let done = desk_tickets::withdraw_in\(len, table, withdrawal\);\n", WITHDRAWN)
+    text = replaced(text, r"    let done = desk_boardings::board_in\(\n.*?\n    \);\n", BOARDED, re.S)
     text = replaced(text, rf"first < {desk.EVENTS} ", f"first < {EVENTS} ")
-    return replaced(text, r"\n// A filing in a row", LENT + "// A filing in a row")
+    return replaced(text, r"\n// A table with one record changed", LENT + "// A table with one record changed")
 
 
 def main():

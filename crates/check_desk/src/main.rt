@@ -3,12 +3,10 @@
 // beside it in stdout; tests/python/desk.py draws the same day and works it out from the requests' sentences.
 use desk_boardings::BoardedRow;
 use desk_boardings::Boarding;
-use desk_tickets::FiledRow;
 use desk_tickets::Filing;
 use desk_tickets::Lasts;
 use desk_tickets::Ticket;
 use desk_tickets::Withdrawal;
-use desk_tickets::WithdrawnRow;
 use libc::STDOUT_FILENO;
 use refusals::number;
 
@@ -123,45 +121,6 @@ fn mixed_table(before: u64, table: [Ticket; 32]) -> u64 {
     sum
 }
 
-// A filing in a row of records of this length that begins with the table.
-fn filed(len: usize, table: [Ticket; 32], filing: Filing) -> FiledRow {
-    desk_tickets::file_in(len, table, filing)
-}
-
-// A withdrawal from such a row.
-fn withdrawn(len: usize, table: [Ticket; 32], withdrawal: Withdrawal) -> WithdrawnRow {
-    desk_tickets::withdraw_in(len, table, withdrawal)
-}
-
-// A boarding from such a row, for one tape table.
-fn boarded(
-    len: usize,
-    table: [Ticket; 32],
-    boarding: Boarding,
-    froms: &mut [u64],
-    tos: &mut [u64],
-    times: &mut [u64],
-    legs: &mut [u64],
-    room: &mut [u64],
-) -> BoardedRow {
-    let starts = STARTS;
-    let lengths = LENGTHS;
-    let aggregates = AGGREGATES;
-    desk_boardings::board_in(
-        len,
-        table,
-        boarding,
-        &starts,
-        &lengths,
-        &aggregates,
-        froms,
-        tos,
-        times,
-        legs,
-        room,
-    )
-}
-
 // A table with one record changed.
 fn damaged(table: [Ticket; 32], a: u64, b: u64) -> [Ticket; 32] {
     let mut other = table;
@@ -191,7 +150,7 @@ fn filing_of(i: u64, a: u64, b: u64, lasts: Lasts) -> Filing {
 
 fn file(day: Day, len: usize, filing: Filing) -> Day {
     let table = day.table;
-    let done = filed(len, table, filing);
+    let done = desk_tickets::file_in(len, table, filing);
     let answer = done.filed;
     let verdict = answer.verdict;
     let kind = verdict.refusal;
@@ -218,7 +177,7 @@ fn withdrawal_of(a: u64, b: u64, lasts: Lasts) -> Withdrawal {
 
 fn withdraw(day: Day, len: usize, withdrawal: Withdrawal) -> Day {
     let table = day.table;
-    let done = withdrawn(len, table, withdrawal);
+    let done = desk_tickets::withdraw_in(len, table, withdrawal);
     let answer = done.withdrawn;
     let verdict = answer.verdict;
     let kind = verdict.refusal;
@@ -261,10 +220,13 @@ fn board(day: Day, len: usize, boarding: Boarding, entries: usize, words: usize)
     let table = day.table;
     let n = entries % 9;
     let w = words % 65601;
-    let done = boarded(
+    let done = desk_boardings::board_in(
         len,
         table,
         boarding,
+        &STARTS,
+        &LENGTHS,
+        &AGGREGATES,
         &mut froms,
         &mut tos,
         &mut times,

@@ -6,29 +6,38 @@ use borrow.Author.Needs.{needs}
 use Rattle.check_desk.proofs.board.Statement.{statement}
 use Rattle.check_desk.proofs.board.Tie as tie
 
-slice-aggregate-boarded : tie.Need-slice-aggregate-boarded
-slice-aggregate-boarded c = search needs
+slice-aggregate-board-in : tie.Need-slice-aggregate-board-in
+slice-aggregate-board-in c = search needs
 
-slice-aggregate-boarded-2 : tie.Need-slice-aggregate-boarded-2
-slice-aggregate-boarded-2 c = search needs
+slice-aggregate-board-in-2 : tie.Need-slice-aggregate-board-in-2
+slice-aggregate-board-in-2 c = search needs
 
-slice-aggregate-boarded-3 : tie.Need-slice-aggregate-boarded-3
-slice-aggregate-boarded-3 c = search needs
+slice-aggregate-board-in-3 : tie.Need-slice-aggregate-board-in-3
+slice-aggregate-board-in-3 c = search needs
+
+slice-aggregate-board-in-4 : tie.Need-slice-aggregate-board-in-4
+slice-aggregate-board-in-4 c = search needs
+
+slice-aggregate-board-in-5 : tie.Need-slice-aggregate-board-in-5
+slice-aggregate-board-in-5 c = search needs
+
+slice-aggregate-board-in-6 : tie.Need-slice-aggregate-board-in-6
+slice-aggregate-board-in-6 c = search needs
 
 array-borrow-prefix-legs : tie.Need-array-borrow-prefix-legs
 array-borrow-prefix-legs c = search needs
 
-slice-aggregate-boarded-4 : tie.Need-slice-aggregate-boarded-4
-slice-aggregate-boarded-4 c = sym (length-take-le _ _ (array-borrow-prefix-legs (c .before)))
+slice-aggregate-board-in-7 : tie.Need-slice-aggregate-board-in-7
+slice-aggregate-board-in-7 c = sym (length-take-le _ _ (array-borrow-prefix-legs (c .before)))
 
 array-borrow-prefix-room : tie.Need-array-borrow-prefix-room
 array-borrow-prefix-room c = search needs
 
-slice-aggregate-boarded-5 : tie.Need-slice-aggregate-boarded-5
-slice-aggregate-boarded-5 c = sym (length-take-le _ _ (array-borrow-prefix-room (c .before)))
+slice-aggregate-board-in-8 : tie.Need-slice-aggregate-board-in-8
+slice-aggregate-board-in-8 c = sym (length-take-le _ _ (array-borrow-prefix-room (c .before)))
 
-boarded-requires : tie.Need-boarded-requires
-boarded-requires c κs = search needs
+board-in-requires : tie.Need-board-in-requires
+board-in-requires c κs = search needs
 
 mixed-boarding-requires : tie.Need-mixed-boarding-requires
 mixed-boarding-requires c κs = search needs
@@ -73,14 +82,17 @@ pub board-spec : {M : Type 1} → statement M
 board-spec =
     tie.close
     (tie.spec
-    slice-aggregate-boarded
-    slice-aggregate-boarded-2
-    slice-aggregate-boarded-3
+    slice-aggregate-board-in
+    slice-aggregate-board-in-2
+    slice-aggregate-board-in-3
+    slice-aggregate-board-in-4
+    slice-aggregate-board-in-5
+    slice-aggregate-board-in-6
     array-borrow-prefix-legs
-    slice-aggregate-boarded-4
+    slice-aggregate-board-in-7
     array-borrow-prefix-room
-    slice-aggregate-boarded-5
-    boarded-requires
+    slice-aggregate-board-in-8
+    board-in-requires
     mixed-boarding-requires
     mixed-row-requires
     mixed-row-requires-2
