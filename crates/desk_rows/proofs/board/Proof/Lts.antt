@@ -81,7 +81,7 @@ abbrev pub r : RK 9
 r = rVal record { ty = Declared.row Boarded.the-type; one = refl; val = Laws'4.val Boarded.the-type Laws.the-laws; tells = Laws'4.tells Boarded.the-type Laws.the-laws; still = Laws'4.still Boarded.the-type Laws.the-copy yes; row = whole (Declared.row Boarded.the-type); rd = λ x. x; mk = λ x. x } λ M 𝓤 H A W. record { copies = Laws'4.copy Boarded.the-type Laws.the-copy 𝓤 H A W; lawful = Laws'4.lawful Boarded.the-type Laws.the-laws 𝓤 H A W; makes = Laws'4.makes Boarded.the-type Laws.the-plain 𝓤 H A; in-mem = mem-whole 𝓤 H A W (Declared.row Boarded.the-type); of-mem = whole-mem 𝓤 H A W (Declared.row Boarded.the-type) }
 
 abbrev pub xs : List.List Ty
-xs = tyInt w64 ∷ tyArray (tyStruct (116 ∷ 105 ∷ 99 ∷ 107 ∷ 101 ∷ 116 ∷ 115 ∷ 58 ∷ 58 ∷ 84 ∷ 105 ∷ 99 ∷ 107 ∷ 101 ∷ 116 ∷ []) (tcons (tyInt w64) (tcons (tyInt w64) (tcons (tyInt w64) (tcons (tyInt w64) tnil))))) 32 ∷ tyStruct (98 ∷ 111 ∷ 97 ∷ 114 ∷ 100 ∷ 105 ∷ 110 ∷ 103 ∷ 115 ∷ 58 ∷ 58 ∷ 66 ∷ 111 ∷ 97 ∷ 114 ∷ 100 ∷ 101 ∷ 100 ∷ 82 ∷ 111 ∷ 119 ∷ []) (tcons (tyStruct (98 ∷ 111 ∷ 97 ∷ 114 ∷ 100 ∷ 105 ∷ 110 ∷ 103 ∷ 115 ∷ 58 ∷ 58 ∷ 66 ∷ 111 ∷ 97 ∷ 114 ∷ 100 ∷ 101 ∷ 100 ∷ []) (tcons (tyStruct (119 ∷ 97 ∷ 108 ∷ 107 ∷ 58 ∷ 58 ∷ 65 ∷ 110 ∷ 115 ∷ 119 ∷ 101 ∷ 114 ∷ []) (tcons (tyEnum (114 ∷ 101 ∷ 102 ∷ 117 ∷ 115 ∷ 97 ∷ 108 ∷ 115 ∷ 58 ∷ 58 ∷ 82 ∷ 101 ∷ 102 ∷ 117 ∷ 115 ∷ 97 ∷ 108 ∷ []) (ttcons tnil (ttcons tnil (ttcons tnil (ttcons tnil (ttcons tnil (ttcons tnil (ttcons tnil (ttcons tnil (ttcons tnil (ttcons tnil (ttcons tnil (ttcons tnil (ttcons tnil (ttcons tnil (ttcons tnil (ttcons tnil (ttcons tnil (ttcons tnil (ttcons tnil (ttcons tnil (ttcons tnil (ttcons tnil (ttcons tnil (ttcons tnil (ttcons tnil (ttcons tnil (ttcons tnil ttnil)))))))))))))))))))))))))))) (tcons (tyInt w64) (tcons (tyInt w64) (tcons (tyInt w64) (tcons (tyInt w64) (tcons (tyInt w64) tnil))))))) (tcons (tyStruct (98 ∷ 111 ∷ 97 ∷ 114 ∷ 100 ∷ 105 ∷ 110 ∷ 103 ∷ 115 ∷ 58 ∷ 58 ∷ 84 ∷ 97 ∷ 107 ∷ 101 ∷ 110 ∷ []) (tcons (tyInt w64) (tcons (tyInt w64) tnil))) (tcons (tyStruct (98 ∷ 111 ∷ 97 ∷ 114 ∷ 100 ∷ 105 ∷ 110 ∷ 103 ∷ 115 ∷ 58 ∷ 58 ∷ 87 ∷ 97 ∷ 110 ∷ 116 ∷ 115 ∷ []) (tcons (tyInt w64) (tcons (tyArray (tyInt w64) 8) (tcons (tyArray (tyInt w64) 8) tnil)))) (tcons (tyStruct (116 ∷ 105 ∷ 99 ∷ 107 ∷ 101 ∷ 116 ∷ 115 ∷ 58 ∷ 58 ∷ 76 ∷ 97 ∷ 115 ∷ 116 ∷ 115 ∷ []) (tcons (tyInt w64) (tcons (tyInt w64) tnil))) tnil))))) (tcons (tyArray (tyStruct (116 ∷ 105 ∷ 99 ∷ 107 ∷ 101 ∷ 116 ∷ 115 ∷ 58 ∷ 58 ∷ 84 ∷ 105 ∷ 99 ∷ 107 ∷ 101 ∷ 116 ∷ []) (tcons (tyInt w64) (tcons (tyInt w64) (tcons (tyInt w64) (tcons (tyInt w64) tnil))))) 32) tnil)) ∷ tyArray (tyStruct (116 ∷ 105 ∷ 99 ∷ 107 ∷ 101 ∷ 116 ∷ 115 ∷ 58 ∷ 58 ∷ 84 ∷ 105 ∷ 99 ∷ 107 ∷ 101 ∷ 116 ∷ []) (tcons (tyInt w64) (tcons (tyInt w64) (tcons (tyInt w64) (tcons (tyInt w64) tnil))))) 32 ∷ tyRef erased imm (pointee (the-row .written)) ∷ tyStruct (38 ∷ 91 ∷ 93 ∷ []) (tcons (tyRef erased imm (pointee (the-row .written))) (tcons (tyInt w64) tnil)) ∷ tyRef erased mut (tyInt w64) ∷ tyStruct (38 ∷ 91 ∷ 93 ∷ []) (tcons (tyRef erased mut (tyInt w64)) (tcons (tyInt w64) tnil)) ∷ tyRef erased mut (tyInt w64) ∷ tyStruct (38 ∷ 91 ∷ 93 ∷ []) (tcons (tyRef erased mut (tyInt w64)) (tcons (tyInt w64) tnil)) ∷ tyRef erased mut (tyInt w64) ∷ tyStruct (38 ∷ 91 ∷ 93 ∷ []) (tcons (tyRef erased mut (tyInt w64)) (tcons (tyInt w64) tnil)) ∷ tyRef erased mut (tyInt w64) ∷ tyStruct (38 ∷ 91 ∷ 93 ∷ []) (tcons (tyRef erased mut (tyInt w64)) (tcons (tyInt w64) tnil)) ∷ tyRef erased mut (tyInt w64) ∷ tyStruct (38 ∷ 91 ∷ 93 ∷ []) (tcons (tyRef erased mut (tyInt w64)) (tcons (tyInt w64) tnil)) ∷ tyUnit ∷ tyRef erased mut (pointee (the-row .written)) ∷ tyStruct (38 ∷ 91 ∷ 93 ∷ []) (tcons (tyRef erased mut (pointee (the-row .written))) (tcons (tyInt w64) tnil)) ∷ []
+xs = tyInt w64 ∷ tyArray (tyStruct (100 ∷ 101 ∷ 115 ∷ 107 ∷ 95 ∷ 116 ∷ 105 ∷ 99 ∷ 107 ∷ 101 ∷ 116 ∷ 115 ∷ 58 ∷ 58 ∷ 84 ∷ 105 ∷ 99 ∷ 107 ∷ 101 ∷ 116 ∷ []) (tcons (tyInt w64) (tcons (tyInt w64) (tcons (tyInt w64) (tcons (tyInt w64) tnil))))) 32 ∷ tyStruct (100 ∷ 101 ∷ 115 ∷ 107 ∷ 95 ∷ 98 ∷ 111 ∷ 97 ∷ 114 ∷ 100 ∷ 105 ∷ 110 ∷ 103 ∷ 115 ∷ 58 ∷ 58 ∷ 66 ∷ 111 ∷ 97 ∷ 114 ∷ 100 ∷ 101 ∷ 100 ∷ 82 ∷ 111 ∷ 119 ∷ []) (tcons (tyStruct (100 ∷ 101 ∷ 115 ∷ 107 ∷ 95 ∷ 98 ∷ 111 ∷ 97 ∷ 114 ∷ 100 ∷ 105 ∷ 110 ∷ 103 ∷ 115 ∷ 58 ∷ 58 ∷ 66 ∷ 111 ∷ 97 ∷ 114 ∷ 100 ∷ 101 ∷ 100 ∷ []) (tcons (tyStruct (119 ∷ 97 ∷ 108 ∷ 107 ∷ 58 ∷ 58 ∷ 65 ∷ 110 ∷ 115 ∷ 119 ∷ 101 ∷ 114 ∷ []) (tcons (tyEnum (114 ∷ 101 ∷ 102 ∷ 117 ∷ 115 ∷ 97 ∷ 108 ∷ 115 ∷ 58 ∷ 58 ∷ 82 ∷ 101 ∷ 102 ∷ 117 ∷ 115 ∷ 97 ∷ 108 ∷ []) (ttcons tnil (ttcons tnil (ttcons tnil (ttcons tnil (ttcons tnil (ttcons tnil (ttcons tnil (ttcons tnil (ttcons tnil (ttcons tnil (ttcons tnil (ttcons tnil (ttcons tnil (ttcons tnil (ttcons tnil (ttcons tnil (ttcons tnil (ttcons tnil (ttcons tnil (ttcons tnil (ttcons tnil (ttcons tnil (ttcons tnil (ttcons tnil (ttcons tnil (ttcons tnil (ttcons tnil ttnil)))))))))))))))))))))))))))) (tcons (tyInt w64) (tcons (tyInt w64) (tcons (tyInt w64) (tcons (tyInt w64) (tcons (tyInt w64) tnil))))))) (tcons (tyStruct (100 ∷ 101 ∷ 115 ∷ 107 ∷ 95 ∷ 98 ∷ 111 ∷ 97 ∷ 114 ∷ 100 ∷ 105 ∷ 110 ∷ 103 ∷ 115 ∷ 58 ∷ 58 ∷ 84 ∷ 97 ∷ 107 ∷ 101 ∷ 110 ∷ []) (tcons (tyInt w64) (tcons (tyInt w64) tnil))) (tcons (tyStruct (100 ∷ 101 ∷ 115 ∷ 107 ∷ 95 ∷ 98 ∷ 111 ∷ 97 ∷ 114 ∷ 100 ∷ 105 ∷ 110 ∷ 103 ∷ 115 ∷ 58 ∷ 58 ∷ 87 ∷ 97 ∷ 110 ∷ 116 ∷ 115 ∷ []) (tcons (tyInt w64) (tcons (tyArray (tyInt w64) 8) (tcons (tyArray (tyInt w64) 8) tnil)))) (tcons (tyStruct (100 ∷ 101 ∷ 115 ∷ 107 ∷ 95 ∷ 116 ∷ 105 ∷ 99 ∷ 107 ∷ 101 ∷ 116 ∷ 115 ∷ 58 ∷ 58 ∷ 76 ∷ 97 ∷ 115 ∷ 116 ∷ 115 ∷ []) (tcons (tyInt w64) (tcons (tyInt w64) tnil))) tnil))))) (tcons (tyArray (tyStruct (100 ∷ 101 ∷ 115 ∷ 107 ∷ 95 ∷ 116 ∷ 105 ∷ 99 ∷ 107 ∷ 101 ∷ 116 ∷ 115 ∷ 58 ∷ 58 ∷ 84 ∷ 105 ∷ 99 ∷ 107 ∷ 101 ∷ 116 ∷ []) (tcons (tyInt w64) (tcons (tyInt w64) (tcons (tyInt w64) (tcons (tyInt w64) tnil))))) 32) tnil)) ∷ tyArray (tyStruct (100 ∷ 101 ∷ 115 ∷ 107 ∷ 95 ∷ 116 ∷ 105 ∷ 99 ∷ 107 ∷ 101 ∷ 116 ∷ 115 ∷ 58 ∷ 58 ∷ 84 ∷ 105 ∷ 99 ∷ 107 ∷ 101 ∷ 116 ∷ []) (tcons (tyInt w64) (tcons (tyInt w64) (tcons (tyInt w64) (tcons (tyInt w64) tnil))))) 32 ∷ tyRef erased imm (pointee (the-row .written)) ∷ tyStruct (38 ∷ 91 ∷ 93 ∷ []) (tcons (tyRef erased imm (pointee (the-row .written))) (tcons (tyInt w64) tnil)) ∷ tyRef erased mut (tyInt w64) ∷ tyStruct (38 ∷ 91 ∷ 93 ∷ []) (tcons (tyRef erased mut (tyInt w64)) (tcons (tyInt w64) tnil)) ∷ tyRef erased mut (tyInt w64) ∷ tyStruct (38 ∷ 91 ∷ 93 ∷ []) (tcons (tyRef erased mut (tyInt w64)) (tcons (tyInt w64) tnil)) ∷ tyRef erased mut (tyInt w64) ∷ tyStruct (38 ∷ 91 ∷ 93 ∷ []) (tcons (tyRef erased mut (tyInt w64)) (tcons (tyInt w64) tnil)) ∷ tyRef erased mut (tyInt w64) ∷ tyStruct (38 ∷ 91 ∷ 93 ∷ []) (tcons (tyRef erased mut (tyInt w64)) (tcons (tyInt w64) tnil)) ∷ tyRef erased mut (tyInt w64) ∷ tyStruct (38 ∷ 91 ∷ 93 ∷ []) (tcons (tyRef erased mut (tyInt w64)) (tcons (tyInt w64) tnil)) ∷ tyUnit ∷ tyRef erased mut (pointee (the-row .written)) ∷ tyStruct (38 ∷ 91 ∷ 93 ∷ []) (tcons (tyRef erased mut (pointee (the-row .written))) (tcons (tyInt w64) tnil)) ∷ []
 
 abbrev pub m : ℕ
 m = 7
@@ -237,13 +237,13 @@ abbrev pub Claims : Type 1
 Claims = In 1 ps·0 × Out 1 ps·0 r·0 × In 8 ps·1 × Out 8 ps·1 r·1 × In 1 ps·2 × Out 1 ps·2 r·2
 
 abbrev pub t0 : List.List Entry
-t0 = (0, any-gone (tyStruct (98 ∷ 111 ∷ 97 ∷ 114 ∷ 100 ∷ 105 ∷ 110 ∷ 103 ∷ 115 ∷ 58 ∷ 58 ∷ 66 ∷ 111 ∷ 97 ∷ 114 ∷ 100 ∷ 101 ∷ 100 ∷ []) (tcons (tyStruct (119 ∷ 97 ∷ 108 ∷ 107 ∷ 58 ∷ 58 ∷ 65 ∷ 110 ∷ 115 ∷ 119 ∷ 101 ∷ 114 ∷ []) (tcons (tyEnum (114 ∷ 101 ∷ 102 ∷ 117 ∷ 115 ∷ 97 ∷ 108 ∷ 115 ∷ 58 ∷ 58 ∷ 82 ∷ 101 ∷ 102 ∷ 117 ∷ 115 ∷ 97 ∷ 108 ∷ []) (ttcons tnil (ttcons tnil (ttcons tnil (ttcons tnil (ttcons tnil (ttcons tnil (ttcons tnil (ttcons tnil (ttcons tnil (ttcons tnil (ttcons tnil (ttcons tnil (ttcons tnil (ttcons tnil (ttcons tnil (ttcons tnil (ttcons tnil (ttcons tnil (ttcons tnil (ttcons tnil (ttcons tnil (ttcons tnil (ttcons tnil (ttcons tnil (ttcons tnil (ttcons tnil (ttcons tnil ttnil)))))))))))))))))))))))))))) (tcons (tyInt w64) (tcons (tyInt w64) (tcons (tyInt w64) (tcons (tyInt w64) (tcons (tyInt w64) tnil))))))) (tcons (tyStruct (98 ∷ 111 ∷ 97 ∷ 114 ∷ 100 ∷ 105 ∷ 110 ∷ 103 ∷ 115 ∷ 58 ∷ 58 ∷ 84 ∷ 97 ∷ 107 ∷ 101 ∷ 110 ∷ []) (tcons (tyInt w64) (tcons (tyInt w64) tnil))) (tcons (tyStruct (98 ∷ 111 ∷ 97 ∷ 114 ∷ 100 ∷ 105 ∷ 110 ∷ 103 ∷ 115 ∷ 58 ∷ 58 ∷ 87 ∷ 97 ∷ 110 ∷ 116 ∷ 115 ∷ []) (tcons (tyInt w64) (tcons (tyArray (tyInt w64) 8) (tcons (tyArray (tyInt w64) 8) tnil)))) (tcons (tyStruct (116 ∷ 105 ∷ 99 ∷ 107 ∷ 101 ∷ 116 ∷ 115 ∷ 58 ∷ 58 ∷ 76 ∷ 97 ∷ 115 ∷ 116 ∷ 115 ∷ []) (tcons (tyInt w64) (tcons (tyInt w64) tnil))) tnil)))))) ∷ (1, mslice the-row (tyRef (named 0) mut (pointee (the-row .written))) 0) ∷ (2, whole (Declared.row Boarding.the-type)) ∷ (3, sslice (rtF (fInt w64)) (tyRef (named 1) imm (tyInt w64)) 1) ∷ (4, sslice (rtF (fInt w64)) (tyRef (named 2) imm (tyInt w64)) 2) ∷ (5, sslice (rtF (fInt w64)) (tyRef (named 3) imm (tyInt w64)) 3) ∷ (6, mslice (rtF (fInt w64)) (tyRef (named 4) mut (tyInt w64)) 4) ∷ (7, mslice (rtF (fInt w64)) (tyRef (named 5) mut (tyInt w64)) 5) ∷ (8, mslice (rtF (fInt w64)) (tyRef (named 6) mut (tyInt w64)) 6) ∷ (9, mslice (rtF (fInt w64)) (tyRef (named 7) mut (tyInt w64)) 7) ∷ (10, mslice (rtF (fInt w64)) (tyRef (named 8) mut (tyInt w64)) 8) ∷ (11, any-gone (tyInt w64)) ∷ (12, any-gone (tyArray (tyStruct (116 ∷ 105 ∷ 99 ∷ 107 ∷ 101 ∷ 116 ∷ 115 ∷ 58 ∷ 58 ∷ 84 ∷ 105 ∷ 99 ∷ 107 ∷ 101 ∷ 116 ∷ []) (tcons (tyInt w64) (tcons (tyInt w64) (tcons (tyInt w64) (tcons (tyInt w64) tnil))))) 32)) ∷ (13, any-gone (tyStruct (98 ∷ 111 ∷ 97 ∷ 114 ∷ 100 ∷ 105 ∷ 110 ∷ 103 ∷ 115 ∷ 58 ∷ 58 ∷ 66 ∷ 111 ∷ 97 ∷ 114 ∷ 100 ∷ 101 ∷ 100 ∷ 82 ∷ 111 ∷ 119 ∷ []) (tcons (tyStruct (98 ∷ 111 ∷ 97 ∷ 114 ∷ 100 ∷ 105 ∷ 110 ∷ 103 ∷ 115 ∷ 58 ∷ 58 ∷ 66 ∷ 111 ∷ 97 ∷ 114 ∷ 100 ∷ 101 ∷ 100 ∷ []) (tcons (tyStruct (119 ∷ 97 ∷ 108 ∷ 107 ∷ 58 ∷ 58 ∷ 65 ∷ 110 ∷ 115 ∷ 119 ∷ 101 ∷ 114 ∷ []) (tcons (tyEnum (114 ∷ 101 ∷ 102 ∷ 117 ∷ 115 ∷ 97 ∷ 108 ∷ 115 ∷ 58 ∷ 58 ∷ 82 ∷ 101 ∷ 102 ∷ 117 ∷ 115 ∷ 97 ∷ 108 ∷ []) (ttcons tnil (ttcons tnil (ttcons tnil (ttcons tnil (ttcons tnil (ttcons tnil (ttcons tnil (ttcons tnil (ttcons tnil (ttcons tnil (ttcons tnil (ttcons tnil (ttcons tnil (ttcons tnil (ttcons tnil (ttcons tnil (ttcons tnil (ttcons tnil (ttcons tnil (ttcons tnil (ttcons tnil (ttcons tnil (ttcons tnil (ttcons tnil (ttcons tnil (ttcons tnil (ttcons tnil ttnil)))))))))))))))))))))))))))) (tcons (tyInt w64) (tcons (tyInt w64) (tcons (tyInt w64) (tcons (tyInt w64) (tcons (tyInt w64) tnil))))))) (tcons (tyStruct (98 ∷ 111 ∷ 97 ∷ 114 ∷ 100 ∷ 105 ∷ 110 ∷ 103 ∷ 115 ∷ 58 ∷ 58 ∷ 84 ∷ 97 ∷ 107 ∷ 101 ∷ 110 ∷ []) (tcons (tyInt w64) (tcons (tyInt w64) tnil))) (tcons (tyStruct (98 ∷ 111 ∷ 97 ∷ 114 ∷ 100 ∷ 105 ∷ 110 ∷ 103 ∷ 115 ∷ 58 ∷ 58 ∷ 87 ∷ 97 ∷ 110 ∷ 116 ∷ 115 ∷ []) (tcons (tyInt w64) (tcons (tyArray (tyInt w64) 8) (tcons (tyArray (tyInt w64) 8) tnil)))) (tcons (tyStruct (116 ∷ 105 ∷ 99 ∷ 107 ∷ 101 ∷ 116 ∷ 115 ∷ 58 ∷ 58 ∷ 76 ∷ 97 ∷ 115 ∷ 116 ∷ 115 ∷ []) (tcons (tyInt w64) (tcons (tyInt w64) tnil))) tnil))))) (tcons (tyArray (tyStruct (116 ∷ 105 ∷ 99 ∷ 107 ∷ 101 ∷ 116 ∷ 115 ∷ 58 ∷ 58 ∷ 84 ∷ 105 ∷ 99 ∷ 107 ∷ 101 ∷ 116 ∷ []) (tcons (tyInt w64) (tcons (tyInt w64) (tcons (tyInt w64) (tcons (tyInt w64) tnil))))) 32) tnil)))) ∷ (14, any-gone (tyArray (tyStruct (116 ∷ 105 ∷ 99 ∷ 107 ∷ 101 ∷ 116 ∷ 115 ∷ 58 ∷ 58 ∷ 84 ∷ 105 ∷ 99 ∷ 107 ∷ 101 ∷ 116 ∷ []) (tcons (tyInt w64) (tcons (tyInt w64) (tcons (tyInt w64) (tcons (tyInt w64) tnil))))) 32)) ∷ (15, any-gone (tyRef erased imm (pointee (the-row .written)))) ∷ []
+t0 = (0, any-gone (tyStruct (100 ∷ 101 ∷ 115 ∷ 107 ∷ 95 ∷ 98 ∷ 111 ∷ 97 ∷ 114 ∷ 100 ∷ 105 ∷ 110 ∷ 103 ∷ 115 ∷ 58 ∷ 58 ∷ 66 ∷ 111 ∷ 97 ∷ 114 ∷ 100 ∷ 101 ∷ 100 ∷ []) (tcons (tyStruct (119 ∷ 97 ∷ 108 ∷ 107 ∷ 58 ∷ 58 ∷ 65 ∷ 110 ∷ 115 ∷ 119 ∷ 101 ∷ 114 ∷ []) (tcons (tyEnum (114 ∷ 101 ∷ 102 ∷ 117 ∷ 115 ∷ 97 ∷ 108 ∷ 115 ∷ 58 ∷ 58 ∷ 82 ∷ 101 ∷ 102 ∷ 117 ∷ 115 ∷ 97 ∷ 108 ∷ []) (ttcons tnil (ttcons tnil (ttcons tnil (ttcons tnil (ttcons tnil (ttcons tnil (ttcons tnil (ttcons tnil (ttcons tnil (ttcons tnil (ttcons tnil (ttcons tnil (ttcons tnil (ttcons tnil (ttcons tnil (ttcons tnil (ttcons tnil (ttcons tnil (ttcons tnil (ttcons tnil (ttcons tnil (ttcons tnil (ttcons tnil (ttcons tnil (ttcons tnil (ttcons tnil (ttcons tnil ttnil)))))))))))))))))))))))))))) (tcons (tyInt w64) (tcons (tyInt w64) (tcons (tyInt w64) (tcons (tyInt w64) (tcons (tyInt w64) tnil))))))) (tcons (tyStruct (100 ∷ 101 ∷ 115 ∷ 107 ∷ 95 ∷ 98 ∷ 111 ∷ 97 ∷ 114 ∷ 100 ∷ 105 ∷ 110 ∷ 103 ∷ 115 ∷ 58 ∷ 58 ∷ 84 ∷ 97 ∷ 107 ∷ 101 ∷ 110 ∷ []) (tcons (tyInt w64) (tcons (tyInt w64) tnil))) (tcons (tyStruct (100 ∷ 101 ∷ 115 ∷ 107 ∷ 95 ∷ 98 ∷ 111 ∷ 97 ∷ 114 ∷ 100 ∷ 105 ∷ 110 ∷ 103 ∷ 115 ∷ 58 ∷ 58 ∷ 87 ∷ 97 ∷ 110 ∷ 116 ∷ 115 ∷ []) (tcons (tyInt w64) (tcons (tyArray (tyInt w64) 8) (tcons (tyArray (tyInt w64) 8) tnil)))) (tcons (tyStruct (100 ∷ 101 ∷ 115 ∷ 107 ∷ 95 ∷ 116 ∷ 105 ∷ 99 ∷ 107 ∷ 101 ∷ 116 ∷ 115 ∷ 58 ∷ 58 ∷ 76 ∷ 97 ∷ 115 ∷ 116 ∷ 115 ∷ []) (tcons (tyInt w64) (tcons (tyInt w64) tnil))) tnil)))))) ∷ (1, mslice the-row (tyRef (named 0) mut (pointee (the-row .written))) 0) ∷ (2, whole (Declared.row Boarding.the-type)) ∷ (3, sslice (rtF (fInt w64)) (tyRef (named 1) imm (tyInt w64)) 1) ∷ (4, sslice (rtF (fInt w64)) (tyRef (named 2) imm (tyInt w64)) 2) ∷ (5, sslice (rtF (fInt w64)) (tyRef (named 3) imm (tyInt w64)) 3) ∷ (6, mslice (rtF (fInt w64)) (tyRef (named 4) mut (tyInt w64)) 4) ∷ (7, mslice (rtF (fInt w64)) (tyRef (named 5) mut (tyInt w64)) 5) ∷ (8, mslice (rtF (fInt w64)) (tyRef (named 6) mut (tyInt w64)) 6) ∷ (9, mslice (rtF (fInt w64)) (tyRef (named 7) mut (tyInt w64)) 7) ∷ (10, mslice (rtF (fInt w64)) (tyRef (named 8) mut (tyInt w64)) 8) ∷ (11, any-gone (tyInt w64)) ∷ (12, any-gone (tyArray (tyStruct (100 ∷ 101 ∷ 115 ∷ 107 ∷ 95 ∷ 116 ∷ 105 ∷ 99 ∷ 107 ∷ 101 ∷ 116 ∷ 115 ∷ 58 ∷ 58 ∷ 84 ∷ 105 ∷ 99 ∷ 107 ∷ 101 ∷ 116 ∷ []) (tcons (tyInt w64) (tcons (tyInt w64) (tcons (tyInt w64) (tcons (tyInt w64) tnil))))) 32)) ∷ (13, any-gone (tyStruct (100 ∷ 101 ∷ 115 ∷ 107 ∷ 95 ∷ 98 ∷ 111 ∷ 97 ∷ 114 ∷ 100 ∷ 105 ∷ 110 ∷ 103 ∷ 115 ∷ 58 ∷ 58 ∷ 66 ∷ 111 ∷ 97 ∷ 114 ∷ 100 ∷ 101 ∷ 100 ∷ 82 ∷ 111 ∷ 119 ∷ []) (tcons (tyStruct (100 ∷ 101 ∷ 115 ∷ 107 ∷ 95 ∷ 98 ∷ 111 ∷ 97 ∷ 114 ∷ 100 ∷ 105 ∷ 110 ∷ 103 ∷ 115 ∷ 58 ∷ 58 ∷ 66 ∷ 111 ∷ 97 ∷ 114 ∷ 100 ∷ 101 ∷ 100 ∷ []) (tcons (tyStruct (119 ∷ 97 ∷ 108 ∷ 107 ∷ 58 ∷ 58 ∷ 65 ∷ 110 ∷ 115 ∷ 119 ∷ 101 ∷ 114 ∷ []) (tcons (tyEnum (114 ∷ 101 ∷ 102 ∷ 117 ∷ 115 ∷ 97 ∷ 108 ∷ 115 ∷ 58 ∷ 58 ∷ 82 ∷ 101 ∷ 102 ∷ 117 ∷ 115 ∷ 97 ∷ 108 ∷ []) (ttcons tnil (ttcons tnil (ttcons tnil (ttcons tnil (ttcons tnil (ttcons tnil (ttcons tnil (ttcons tnil (ttcons tnil (ttcons tnil (ttcons tnil (ttcons tnil (ttcons tnil (ttcons tnil (ttcons tnil (ttcons tnil (ttcons tnil (ttcons tnil (ttcons tnil (ttcons tnil (ttcons tnil (ttcons tnil (ttcons tnil (ttcons tnil (ttcons tnil (ttcons tnil (ttcons tnil ttnil)))))))))))))))))))))))))))) (tcons (tyInt w64) (tcons (tyInt w64) (tcons (tyInt w64) (tcons (tyInt w64) (tcons (tyInt w64) tnil))))))) (tcons (tyStruct (100 ∷ 101 ∷ 115 ∷ 107 ∷ 95 ∷ 98 ∷ 111 ∷ 97 ∷ 114 ∷ 100 ∷ 105 ∷ 110 ∷ 103 ∷ 115 ∷ 58 ∷ 58 ∷ 84 ∷ 97 ∷ 107 ∷ 101 ∷ 110 ∷ []) (tcons (tyInt w64) (tcons (tyInt w64) tnil))) (tcons (tyStruct (100 ∷ 101 ∷ 115 ∷ 107 ∷ 95 ∷ 98 ∷ 111 ∷ 97 ∷ 114 ∷ 100 ∷ 105 ∷ 110 ∷ 103 ∷ 115 ∷ 58 ∷ 58 ∷ 87 ∷ 97 ∷ 110 ∷ 116 ∷ 115 ∷ []) (tcons (tyInt w64) (tcons (tyArray (tyInt w64) 8) (tcons (tyArray (tyInt w64) 8) tnil)))) (tcons (tyStruct (100 ∷ 101 ∷ 115 ∷ 107 ∷ 95 ∷ 116 ∷ 105 ∷ 99 ∷ 107 ∷ 101 ∷ 116 ∷ 115 ∷ 58 ∷ 58 ∷ 76 ∷ 97 ∷ 115 ∷ 116 ∷ 115 ∷ []) (tcons (tyInt w64) (tcons (tyInt w64) tnil))) tnil))))) (tcons (tyArray (tyStruct (100 ∷ 101 ∷ 115 ∷ 107 ∷ 95 ∷ 116 ∷ 105 ∷ 99 ∷ 107 ∷ 101 ∷ 116 ∷ 115 ∷ 58 ∷ 58 ∷ 84 ∷ 105 ∷ 99 ∷ 107 ∷ 101 ∷ 116 ∷ []) (tcons (tyInt w64) (tcons (tyInt w64) (tcons (tyInt w64) (tcons (tyInt w64) tnil))))) 32) tnil)))) ∷ (14, any-gone (tyArray (tyStruct (100 ∷ 101 ∷ 115 ∷ 107 ∷ 95 ∷ 116 ∷ 105 ∷ 99 ∷ 107 ∷ 101 ∷ 116 ∷ 115 ∷ 58 ∷ 58 ∷ 84 ∷ 105 ∷ 99 ∷ 107 ∷ 101 ∷ 116 ∷ []) (tcons (tyInt w64) (tcons (tyInt w64) (tcons (tyInt w64) (tcons (tyInt w64) tnil))))) 32)) ∷ (15, any-gone (tyRef erased imm (pointee (the-row .written)))) ∷ []
 
 abbrev pub t1 : List.List Entry
 t1 = (16, any-gone (tyStruct (38 ∷ 91 ∷ 93 ∷ []) (tcons (tyRef erased imm (pointee (the-row .written))) (tcons (tyInt w64) tnil)))) ∷ (17, any-gone (tyRef erased mut (tyInt w64))) ∷ (18, any-gone (tyStruct (38 ∷ 91 ∷ 93 ∷ []) (tcons (tyRef erased mut (tyInt w64)) (tcons (tyInt w64) tnil)))) ∷ (19, any-gone (tyRef erased mut (tyInt w64))) ∷ (20, any-gone (tyStruct (38 ∷ 91 ∷ 93 ∷ []) (tcons (tyRef erased mut (tyInt w64)) (tcons (tyInt w64) tnil)))) ∷ (21, any-gone (tyRef erased mut (tyInt w64))) ∷ (22, any-gone (tyStruct (38 ∷ 91 ∷ 93 ∷ []) (tcons (tyRef erased mut (tyInt w64)) (tcons (tyInt w64) tnil)))) ∷ (23, any-gone (tyRef erased mut (tyInt w64))) ∷ (24, any-gone (tyStruct (38 ∷ 91 ∷ 93 ∷ []) (tcons (tyRef erased mut (tyInt w64)) (tcons (tyInt w64) tnil)))) ∷ (25, any-gone (tyRef erased mut (tyInt w64))) ∷ (26, any-gone (tyStruct (38 ∷ 91 ∷ 93 ∷ []) (tcons (tyRef erased mut (tyInt w64)) (tcons (tyInt w64) tnil)))) ∷ (27, any-gone tyUnit) ∷ (28, any-gone (tyRef erased mut (pointee (the-row .written)))) ∷ (29, any-gone (tyStruct (38 ∷ 91 ∷ 93 ∷ []) (tcons (tyRef erased mut (pointee (the-row .written))) (tcons (tyInt w64) tnil)))) ∷ []
 
 abbrev pub t2 : List.List Entry
-t2 = setRow 2 (2, any-gone (tyStruct (98 ∷ 111 ∷ 97 ∷ 114 ∷ 100 ∷ 105 ∷ 110 ∷ 103 ∷ 115 ∷ 58 ∷ 58 ∷ 66 ∷ 111 ∷ 97 ∷ 114 ∷ 100 ∷ 105 ∷ 110 ∷ 103 ∷ []) (tcons (tyInt w64) (tcons (tyInt w64) (tcons (tyStruct (116 ∷ 105 ∷ 99 ∷ 107 ∷ 101 ∷ 116 ∷ 115 ∷ 58 ∷ 58 ∷ 76 ∷ 97 ∷ 115 ∷ 116 ∷ 115 ∷ []) (tcons (tyInt w64) (tcons (tyInt w64) tnil))) tnil))))) (setRow 0 (0, whole (Declared.row Boarded.the-type)) t0)
+t2 = setRow 2 (2, any-gone (tyStruct (100 ∷ 101 ∷ 115 ∷ 107 ∷ 95 ∷ 98 ∷ 111 ∷ 97 ∷ 114 ∷ 100 ∷ 105 ∷ 110 ∷ 103 ∷ 115 ∷ 58 ∷ 58 ∷ 66 ∷ 111 ∷ 97 ∷ 114 ∷ 100 ∷ 105 ∷ 110 ∷ 103 ∷ []) (tcons (tyInt w64) (tcons (tyInt w64) (tcons (tyStruct (100 ∷ 101 ∷ 115 ∷ 107 ∷ 95 ∷ 116 ∷ 105 ∷ 99 ∷ 107 ∷ 101 ∷ 116 ∷ 115 ∷ 58 ∷ 58 ∷ 76 ∷ 97 ∷ 115 ∷ 116 ∷ 115 ∷ []) (tcons (tyInt w64) (tcons (tyInt w64) tnil))) tnil))))) (setRow 0 (0, whole (Declared.row Boarded.the-type)) t0)
 
 abbrev pub t3 : List.List Entry
 t3 = setRow 11 (11, sc-here (sInt w64)) t0
@@ -315,10 +315,10 @@ abbrev pub t25 : List.List Entry
 t25 = (16, any-gone (tyStruct (38 ∷ 91 ∷ 93 ∷ []) (tcons (tyRef erased imm (pointee (the-row .written))) (tcons (tyInt w64) tnil)))) ∷ (17, any-gone (tyRef erased mut (tyInt w64))) ∷ (18, msleft (rtF (fInt w64)) (tyRef erased mut (tyInt w64))) ∷ (19, any-gone (tyRef erased mut (tyInt w64))) ∷ (20, msleft (rtF (fInt w64)) (tyRef erased mut (tyInt w64))) ∷ (21, any-gone (tyRef erased mut (tyInt w64))) ∷ (22, msleft (rtF (fInt w64)) (tyRef erased mut (tyInt w64))) ∷ (23, any-gone (tyRef erased mut (tyInt w64))) ∷ (24, msleft (rtF (fInt w64)) (tyRef erased mut (tyInt w64))) ∷ (25, any-gone (tyRef erased mut (tyInt w64))) ∷ (26, msleft (rtF (fInt w64)) (tyRef erased mut (tyInt w64))) ∷ (27, any-gone tyUnit) ∷ (28, any-gone (tyRef erased mut (pointee (the-row .written)))) ∷ (29, any-gone (tyStruct (38 ∷ 91 ∷ 93 ∷ []) (tcons (tyRef erased mut (pointee (the-row .written))) (tcons (tyInt w64) tnil)))) ∷ []
 
 abbrev pub t26 : List.List Entry
-t26 = setRow 2 (2, any-gone (tyStruct (98 ∷ 111 ∷ 97 ∷ 114 ∷ 100 ∷ 105 ∷ 110 ∷ 103 ∷ 115 ∷ 58 ∷ 58 ∷ 66 ∷ 111 ∷ 97 ∷ 114 ∷ 100 ∷ 105 ∷ 110 ∷ 103 ∷ []) (tcons (tyInt w64) (tcons (tyInt w64) (tcons (tyStruct (116 ∷ 105 ∷ 99 ∷ 107 ∷ 101 ∷ 116 ∷ 115 ∷ 58 ∷ 58 ∷ 76 ∷ 97 ∷ 115 ∷ 116 ∷ 115 ∷ []) (tcons (tyInt w64) (tcons (tyInt w64) tnil))) tnil))))) t24
+t26 = setRow 2 (2, any-gone (tyStruct (100 ∷ 101 ∷ 115 ∷ 107 ∷ 95 ∷ 98 ∷ 111 ∷ 97 ∷ 114 ∷ 100 ∷ 105 ∷ 110 ∷ 103 ∷ 115 ∷ 58 ∷ 58 ∷ 66 ∷ 111 ∷ 97 ∷ 114 ∷ 100 ∷ 105 ∷ 110 ∷ 103 ∷ []) (tcons (tyInt w64) (tcons (tyInt w64) (tcons (tyStruct (100 ∷ 101 ∷ 115 ∷ 107 ∷ 95 ∷ 116 ∷ 105 ∷ 99 ∷ 107 ∷ 101 ∷ 116 ∷ 115 ∷ 58 ∷ 58 ∷ 76 ∷ 97 ∷ 115 ∷ 116 ∷ 115 ∷ []) (tcons (tyInt w64) (tcons (tyInt w64) tnil))) tnil))))) t24
 
 abbrev pub t27 : List.List Entry
-t27 = setRow 12 (12, any-gone (tyArray (tyStruct (116 ∷ 105 ∷ 99 ∷ 107 ∷ 101 ∷ 116 ∷ 115 ∷ 58 ∷ 58 ∷ 84 ∷ 105 ∷ 99 ∷ 107 ∷ 101 ∷ 116 ∷ []) (tcons (tyInt w64) (tcons (tyInt w64) (tcons (tyInt w64) (tcons (tyInt w64) tnil))))) 32)) t26
+t27 = setRow 12 (12, any-gone (tyArray (tyStruct (100 ∷ 101 ∷ 115 ∷ 107 ∷ 95 ∷ 116 ∷ 105 ∷ 99 ∷ 107 ∷ 101 ∷ 116 ∷ 115 ∷ 58 ∷ 58 ∷ 84 ∷ 105 ∷ 99 ∷ 107 ∷ 101 ∷ 116 ∷ []) (tcons (tyInt w64) (tcons (tyInt w64) (tcons (tyInt w64) (tcons (tyInt w64) tnil))))) 32)) t26
 
 abbrev pub t28 : List.List Entry
 t28 = setRow 6 (6, mslice (rtF (fInt w64)) (tyRef (named 4) mut (tyInt w64)) 4) t27
@@ -559,7 +559,7 @@ module _ (claims· : Claims) where
   s11 = λ bs. k-sl-aggregate the-row (asShr the-row) T12 15 16 9 (tyRef erased imm (pointee (the-row .written))) (tyRef erased imm (pointee (the-row .written))) (λ x. x) (oFld 1 (field 1 ∷ []) (tyInt w64) 8 λ v. lenV (v .0))
 
   abbrev s12 : (bs : List.List ℕ) → Both T13 T14
-  s12 = λ bs. callB ps·0 r·0 (claims· .0) (claims· .1) T13 (record { pos = 16; ty = tyRef erased imm (pointee (the-row .written)); ref = λ x. x }, tt) 12 (9 ∷ []) (tyArray (tyStruct (116 ∷ 105 ∷ 99 ∷ 107 ∷ 101 ∷ 116 ∷ 115 ∷ 58 ∷ 58 ∷ 84 ∷ 105 ∷ 99 ∷ 107 ∷ 101 ∷ 116 ∷ []) (tcons (tyInt w64) (tcons (tyInt w64) (tcons (tyInt w64) (tcons (tyInt w64) tnil))))) 32)
+  s12 = λ bs. callB ps·0 r·0 (claims· .0) (claims· .1) T13 (record { pos = 16; ty = tyRef erased imm (pointee (the-row .written)); ref = λ x. x }, tt) 12 (9 ∷ []) (tyArray (tyStruct (100 ∷ 101 ∷ 115 ∷ 107 ∷ 95 ∷ 116 ∷ 105 ∷ 99 ∷ 107 ∷ 101 ∷ 116 ∷ 115 ∷ 58 ∷ 58 ∷ 84 ∷ 105 ∷ 99 ∷ 107 ∷ 101 ∷ 116 ∷ []) (tcons (tyInt w64) (tcons (tyInt w64) (tcons (tyInt w64) (tcons (tyInt w64) tnil))))) 32)
 
   abbrev s13 : (bs : List.List ℕ) → Mo T14 → Mo T15
   s13 = λ bs. n-room T14 16 (tyStruct (38 ∷ 91 ∷ 93 ∷ []) (tcons (tyRef erased imm (pointee (the-row .written))) (tcons (tyInt w64) tnil)))
@@ -598,13 +598,13 @@ module _ (claims· : Claims) where
   s31 = λ bs. k-sl-aggregate (rtF (fInt w64)) (asMut (rtF (fInt w64))) T32 25 26 14 (tyRef erased mut (tyInt w64)) (tyRef erased mut (tyInt w64)) (λ x. x) (oFld 10 (field 1 ∷ []) (tyInt w64) 8 λ v. lenV (v .0))
 
   abbrev s32 : (bs : List.List ℕ) → Both T33 T34
-  s32 = λ bs. callB ps·1 r·1 (claims· .2) (claims· .3) T33 (vAt 11 λ x. x, (record { pos = 12; st = []; d = 0; at = λ x. x }, (record { pos = 2; st = []; d = 0; at = λ x. x }, (record { pos = 3; ty = tyRef (named 1) imm (tyInt w64); ref = λ x. x }, (record { pos = 4; ty = tyRef (named 2) imm (tyInt w64); ref = λ x. x }, (record { pos = 5; ty = tyRef (named 3) imm (tyInt w64); ref = λ x. x }, (record { pos = 18; ty = tyRef erased mut (tyInt w64); ref = λ x. x }, (record { pos = 20; ty = tyRef erased mut (tyInt w64); ref = λ x. x }, (record { pos = 22; ty = tyRef erased mut (tyInt w64); ref = λ x. x }, (record { pos = 24; ty = tyRef erased mut (tyInt w64); ref = λ x. x }, (record { pos = 26; ty = tyRef erased mut (tyInt w64); ref = λ x. x }, tt))))))))))) 13 (1 ∷ 2 ∷ 3 ∷ 10 ∷ 11 ∷ 12 ∷ 13 ∷ 14 ∷ []) (tyStruct (98 ∷ 111 ∷ 97 ∷ 114 ∷ 100 ∷ 105 ∷ 110 ∷ 103 ∷ 115 ∷ 58 ∷ 58 ∷ 66 ∷ 111 ∷ 97 ∷ 114 ∷ 100 ∷ 101 ∷ 100 ∷ 82 ∷ 111 ∷ 119 ∷ []) (tcons (tyStruct (98 ∷ 111 ∷ 97 ∷ 114 ∷ 100 ∷ 105 ∷ 110 ∷ 103 ∷ 115 ∷ 58 ∷ 58 ∷ 66 ∷ 111 ∷ 97 ∷ 114 ∷ 100 ∷ 101 ∷ 100 ∷ []) (tcons (tyStruct (119 ∷ 97 ∷ 108 ∷ 107 ∷ 58 ∷ 58 ∷ 65 ∷ 110 ∷ 115 ∷ 119 ∷ 101 ∷ 114 ∷ []) (tcons (tyEnum (114 ∷ 101 ∷ 102 ∷ 117 ∷ 115 ∷ 97 ∷ 108 ∷ 115 ∷ 58 ∷ 58 ∷ 82 ∷ 101 ∷ 102 ∷ 117 ∷ 115 ∷ 97 ∷ 108 ∷ []) (ttcons tnil (ttcons tnil (ttcons tnil (ttcons tnil (ttcons tnil (ttcons tnil (ttcons tnil (ttcons tnil (ttcons tnil (ttcons tnil (ttcons tnil (ttcons tnil (ttcons tnil (ttcons tnil (ttcons tnil (ttcons tnil (ttcons tnil (ttcons tnil (ttcons tnil (ttcons tnil (ttcons tnil (ttcons tnil (ttcons tnil (ttcons tnil (ttcons tnil (ttcons tnil (ttcons tnil ttnil)))))))))))))))))))))))))))) (tcons (tyInt w64) (tcons (tyInt w64) (tcons (tyInt w64) (tcons (tyInt w64) (tcons (tyInt w64) tnil))))))) (tcons (tyStruct (98 ∷ 111 ∷ 97 ∷ 114 ∷ 100 ∷ 105 ∷ 110 ∷ 103 ∷ 115 ∷ 58 ∷ 58 ∷ 84 ∷ 97 ∷ 107 ∷ 101 ∷ 110 ∷ []) (tcons (tyInt w64) (tcons (tyInt w64) tnil))) (tcons (tyStruct (98 ∷ 111 ∷ 97 ∷ 114 ∷ 100 ∷ 105 ∷ 110 ∷ 103 ∷ 115 ∷ 58 ∷ 58 ∷ 87 ∷ 97 ∷ 110 ∷ 116 ∷ 115 ∷ []) (tcons (tyInt w64) (tcons (tyArray (tyInt w64) 8) (tcons (tyArray (tyInt w64) 8) tnil)))) (tcons (tyStruct (116 ∷ 105 ∷ 99 ∷ 107 ∷ 101 ∷ 116 ∷ 115 ∷ 58 ∷ 58 ∷ 76 ∷ 97 ∷ 115 ∷ 116 ∷ 115 ∷ []) (tcons (tyInt w64) (tcons (tyInt w64) tnil))) tnil))))) (tcons (tyArray (tyStruct (116 ∷ 105 ∷ 99 ∷ 107 ∷ 101 ∷ 116 ∷ 115 ∷ 58 ∷ 58 ∷ 84 ∷ 105 ∷ 99 ∷ 107 ∷ 101 ∷ 116 ∷ []) (tcons (tyInt w64) (tcons (tyInt w64) (tcons (tyInt w64) (tcons (tyInt w64) tnil))))) 32) tnil)))
+  s32 = λ bs. callB ps·1 r·1 (claims· .2) (claims· .3) T33 (vAt 11 λ x. x, (record { pos = 12; st = []; d = 0; at = λ x. x }, (record { pos = 2; st = []; d = 0; at = λ x. x }, (record { pos = 3; ty = tyRef (named 1) imm (tyInt w64); ref = λ x. x }, (record { pos = 4; ty = tyRef (named 2) imm (tyInt w64); ref = λ x. x }, (record { pos = 5; ty = tyRef (named 3) imm (tyInt w64); ref = λ x. x }, (record { pos = 18; ty = tyRef erased mut (tyInt w64); ref = λ x. x }, (record { pos = 20; ty = tyRef erased mut (tyInt w64); ref = λ x. x }, (record { pos = 22; ty = tyRef erased mut (tyInt w64); ref = λ x. x }, (record { pos = 24; ty = tyRef erased mut (tyInt w64); ref = λ x. x }, (record { pos = 26; ty = tyRef erased mut (tyInt w64); ref = λ x. x }, tt))))))))))) 13 (1 ∷ 2 ∷ 3 ∷ 10 ∷ 11 ∷ 12 ∷ 13 ∷ 14 ∷ []) (tyStruct (100 ∷ 101 ∷ 115 ∷ 107 ∷ 95 ∷ 98 ∷ 111 ∷ 97 ∷ 114 ∷ 100 ∷ 105 ∷ 110 ∷ 103 ∷ 115 ∷ 58 ∷ 58 ∷ 66 ∷ 111 ∷ 97 ∷ 114 ∷ 100 ∷ 101 ∷ 100 ∷ 82 ∷ 111 ∷ 119 ∷ []) (tcons (tyStruct (100 ∷ 101 ∷ 115 ∷ 107 ∷ 95 ∷ 98 ∷ 111 ∷ 97 ∷ 114 ∷ 100 ∷ 105 ∷ 110 ∷ 103 ∷ 115 ∷ 58 ∷ 58 ∷ 66 ∷ 111 ∷ 97 ∷ 114 ∷ 100 ∷ 101 ∷ 100 ∷ []) (tcons (tyStruct (119 ∷ 97 ∷ 108 ∷ 107 ∷ 58 ∷ 58 ∷ 65 ∷ 110 ∷ 115 ∷ 119 ∷ 101 ∷ 114 ∷ []) (tcons (tyEnum (114 ∷ 101 ∷ 102 ∷ 117 ∷ 115 ∷ 97 ∷ 108 ∷ 115 ∷ 58 ∷ 58 ∷ 82 ∷ 101 ∷ 102 ∷ 117 ∷ 115 ∷ 97 ∷ 108 ∷ []) (ttcons tnil (ttcons tnil (ttcons tnil (ttcons tnil (ttcons tnil (ttcons tnil (ttcons tnil (ttcons tnil (ttcons tnil (ttcons tnil (ttcons tnil (ttcons tnil (ttcons tnil (ttcons tnil (ttcons tnil (ttcons tnil (ttcons tnil (ttcons tnil (ttcons tnil (ttcons tnil (ttcons tnil (ttcons tnil (ttcons tnil (ttcons tnil (ttcons tnil (ttcons tnil (ttcons tnil ttnil)))))))))))))))))))))))))))) (tcons (tyInt w64) (tcons (tyInt w64) (tcons (tyInt w64) (tcons (tyInt w64) (tcons (tyInt w64) tnil))))))) (tcons (tyStruct (100 ∷ 101 ∷ 115 ∷ 107 ∷ 95 ∷ 98 ∷ 111 ∷ 97 ∷ 114 ∷ 100 ∷ 105 ∷ 110 ∷ 103 ∷ 115 ∷ 58 ∷ 58 ∷ 84 ∷ 97 ∷ 107 ∷ 101 ∷ 110 ∷ []) (tcons (tyInt w64) (tcons (tyInt w64) tnil))) (tcons (tyStruct (100 ∷ 101 ∷ 115 ∷ 107 ∷ 95 ∷ 98 ∷ 111 ∷ 97 ∷ 114 ∷ 100 ∷ 105 ∷ 110 ∷ 103 ∷ 115 ∷ 58 ∷ 58 ∷ 87 ∷ 97 ∷ 110 ∷ 116 ∷ 115 ∷ []) (tcons (tyInt w64) (tcons (tyArray (tyInt w64) 8) (tcons (tyArray (tyInt w64) 8) tnil)))) (tcons (tyStruct (100 ∷ 101 ∷ 115 ∷ 107 ∷ 95 ∷ 116 ∷ 105 ∷ 99 ∷ 107 ∷ 101 ∷ 116 ∷ 115 ∷ 58 ∷ 58 ∷ 76 ∷ 97 ∷ 115 ∷ 116 ∷ 115 ∷ []) (tcons (tyInt w64) (tcons (tyInt w64) tnil))) tnil))))) (tcons (tyArray (tyStruct (100 ∷ 101 ∷ 115 ∷ 107 ∷ 95 ∷ 116 ∷ 105 ∷ 99 ∷ 107 ∷ 101 ∷ 116 ∷ 115 ∷ 58 ∷ 58 ∷ 84 ∷ 105 ∷ 99 ∷ 107 ∷ 101 ∷ 116 ∷ []) (tcons (tyInt w64) (tcons (tyInt w64) (tcons (tyInt w64) (tcons (tyInt w64) tnil))))) 32) tnil)))
 
   abbrev s33 : (bs : List.List ℕ) → Mo T34 → Mo T35
-  s33 = λ bs. n-room T34 2 (tyStruct (98 ∷ 111 ∷ 97 ∷ 114 ∷ 100 ∷ 105 ∷ 110 ∷ 103 ∷ 115 ∷ 58 ∷ 58 ∷ 66 ∷ 111 ∷ 97 ∷ 114 ∷ 100 ∷ 105 ∷ 110 ∷ 103 ∷ []) (tcons (tyInt w64) (tcons (tyInt w64) (tcons (tyStruct (116 ∷ 105 ∷ 99 ∷ 107 ∷ 101 ∷ 116 ∷ 115 ∷ 58 ∷ 58 ∷ 76 ∷ 97 ∷ 115 ∷ 116 ∷ 115 ∷ []) (tcons (tyInt w64) (tcons (tyInt w64) tnil))) tnil))))
+  s33 = λ bs. n-room T34 2 (tyStruct (100 ∷ 101 ∷ 115 ∷ 107 ∷ 95 ∷ 98 ∷ 111 ∷ 97 ∷ 114 ∷ 100 ∷ 105 ∷ 110 ∷ 103 ∷ 115 ∷ 58 ∷ 58 ∷ 66 ∷ 111 ∷ 97 ∷ 114 ∷ 100 ∷ 105 ∷ 110 ∷ 103 ∷ []) (tcons (tyInt w64) (tcons (tyInt w64) (tcons (tyStruct (100 ∷ 101 ∷ 115 ∷ 107 ∷ 95 ∷ 116 ∷ 105 ∷ 99 ∷ 107 ∷ 101 ∷ 116 ∷ 115 ∷ 58 ∷ 58 ∷ 76 ∷ 97 ∷ 115 ∷ 116 ∷ 115 ∷ []) (tcons (tyInt w64) (tcons (tyInt w64) tnil))) tnil))))
 
   abbrev s34 : (bs : List.List ℕ) → Mo T35 → Mo T36
-  s34 = λ bs. n-room T35 12 (tyArray (tyStruct (116 ∷ 105 ∷ 99 ∷ 107 ∷ 101 ∷ 116 ∷ 115 ∷ 58 ∷ 58 ∷ 84 ∷ 105 ∷ 99 ∷ 107 ∷ 101 ∷ 116 ∷ []) (tcons (tyInt w64) (tcons (tyInt w64) (tcons (tyInt w64) (tcons (tyInt w64) tnil))))) 32)
+  s34 = λ bs. n-room T35 12 (tyArray (tyStruct (100 ∷ 101 ∷ 115 ∷ 107 ∷ 95 ∷ 116 ∷ 105 ∷ 99 ∷ 107 ∷ 101 ∷ 116 ∷ 115 ∷ 58 ∷ 58 ∷ 84 ∷ 105 ∷ 99 ∷ 107 ∷ 101 ∷ 116 ∷ []) (tcons (tyInt w64) (tcons (tyInt w64) (tcons (tyInt w64) (tcons (tyInt w64) tnil))))) 32)
 
   abbrev s36 : (bs : List.List ℕ) → Both T36 T38
   s36 = λ bs. k-back-sl (rtF (fInt w64)) T36 18 6 4 10 (tyRef (named 4) mut (tyInt w64)) (tyRef erased mut (tyInt w64)) off (λ x. x) λ x. x
@@ -649,7 +649,7 @@ module _ (claims· : Claims) where
   s59 = λ bs. callB ps·2 r·2 (claims· .4) (claims· .5) T60 (record { pos = 29; ty = tyRef erased mut (pointee (the-row .written)); ref = λ x. x }, (record { pos = 14; st = []; d = 0; at = λ x. x }, tt)) 27 (15 ∷ []) tyUnit
 
   abbrev s60 : (bs : List.List ℕ) → Mo T61 → Mo T62
-  s60 = λ bs. n-room T61 14 (tyArray (tyStruct (116 ∷ 105 ∷ 99 ∷ 107 ∷ 101 ∷ 116 ∷ 115 ∷ 58 ∷ 58 ∷ 84 ∷ 105 ∷ 99 ∷ 107 ∷ 101 ∷ 116 ∷ []) (tcons (tyInt w64) (tcons (tyInt w64) (tcons (tyInt w64) (tcons (tyInt w64) tnil))))) 32)
+  s60 = λ bs. n-room T61 14 (tyArray (tyStruct (100 ∷ 101 ∷ 115 ∷ 107 ∷ 95 ∷ 116 ∷ 105 ∷ 99 ∷ 107 ∷ 101 ∷ 116 ∷ 115 ∷ 58 ∷ 58 ∷ 84 ∷ 105 ∷ 99 ∷ 107 ∷ 101 ∷ 116 ∷ []) (tcons (tyInt w64) (tcons (tyInt w64) (tcons (tyInt w64) (tcons (tyInt w64) tnil))))) 32)
 
   abbrev s61 : (bs : List.List ℕ) → Mo T62 → Mo T63
   s61 = λ bs. n-room T62 27 tyUnit
@@ -664,12 +664,12 @@ module _ (claims· : Claims) where
   s66 = λ bs. n-room T67 11 (tyInt w64)
 
   abbrev s67 : (bs : List.List ℕ) → Mo T68 → Mo T69
-  s67 = λ bs. n-room T68 13 (tyStruct (98 ∷ 111 ∷ 97 ∷ 114 ∷ 100 ∷ 105 ∷ 110 ∷ 103 ∷ 115 ∷ 58 ∷ 58 ∷ 66 ∷ 111 ∷ 97 ∷ 114 ∷ 100 ∷ 101 ∷ 100 ∷ 82 ∷ 111 ∷ 119 ∷ []) (tcons (tyStruct (98 ∷ 111 ∷ 97 ∷ 114 ∷ 100 ∷ 105 ∷ 110 ∷ 103 ∷ 115 ∷ 58 ∷ 58 ∷ 66 ∷ 111 ∷ 97 ∷ 114 ∷ 100 ∷ 101 ∷ 100 ∷ []) (tcons (tyStruct (119 ∷ 97 ∷ 108 ∷ 107 ∷ 58 ∷ 58 ∷ 65 ∷ 110 ∷ 115 ∷ 119 ∷ 101 ∷ 114 ∷ []) (tcons (tyEnum (114 ∷ 101 ∷ 102 ∷ 117 ∷ 115 ∷ 97 ∷ 108 ∷ 115 ∷ 58 ∷ 58 ∷ 82 ∷ 101 ∷ 102 ∷ 117 ∷ 115 ∷ 97 ∷ 108 ∷ []) (ttcons tnil (ttcons tnil (ttcons tnil (ttcons tnil (ttcons tnil (ttcons tnil (ttcons tnil (ttcons tnil (ttcons tnil (ttcons tnil (ttcons tnil (ttcons tnil (ttcons tnil (ttcons tnil (ttcons tnil (ttcons tnil (ttcons tnil (ttcons tnil (ttcons tnil (ttcons tnil (ttcons tnil (ttcons tnil (ttcons tnil (ttcons tnil (ttcons tnil (ttcons tnil (ttcons tnil ttnil)))))))))))))))))))))))))))) (tcons (tyInt w64) (tcons (tyInt w64) (tcons (tyInt w64) (tcons (tyInt w64) (tcons (tyInt w64) tnil))))))) (tcons (tyStruct (98 ∷ 111 ∷ 97 ∷ 114 ∷ 100 ∷ 105 ∷ 110 ∷ 103 ∷ 115 ∷ 58 ∷ 58 ∷ 84 ∷ 97 ∷ 107 ∷ 101 ∷ 110 ∷ []) (tcons (tyInt w64) (tcons (tyInt w64) tnil))) (tcons (tyStruct (98 ∷ 111 ∷ 97 ∷ 114 ∷ 100 ∷ 105 ∷ 110 ∷ 103 ∷ 115 ∷ 58 ∷ 58 ∷ 87 ∷ 97 ∷ 110 ∷ 116 ∷ 115 ∷ []) (tcons (tyInt w64) (tcons (tyArray (tyInt w64) 8) (tcons (tyArray (tyInt w64) 8) tnil)))) (tcons (tyStruct (116 ∷ 105 ∷ 99 ∷ 107 ∷ 101 ∷ 116 ∷ 115 ∷ 58 ∷ 58 ∷ 76 ∷ 97 ∷ 115 ∷ 116 ∷ 115 ∷ []) (tcons (tyInt w64) (tcons (tyInt w64) tnil))) tnil))))) (tcons (tyArray (tyStruct (116 ∷ 105 ∷ 99 ∷ 107 ∷ 101 ∷ 116 ∷ 115 ∷ 58 ∷ 58 ∷ 84 ∷ 105 ∷ 99 ∷ 107 ∷ 101 ∷ 116 ∷ []) (tcons (tyInt w64) (tcons (tyInt w64) (tcons (tyInt w64) (tcons (tyInt w64) tnil))))) 32) tnil)))
+  s67 = λ bs. n-room T68 13 (tyStruct (100 ∷ 101 ∷ 115 ∷ 107 ∷ 95 ∷ 98 ∷ 111 ∷ 97 ∷ 114 ∷ 100 ∷ 105 ∷ 110 ∷ 103 ∷ 115 ∷ 58 ∷ 58 ∷ 66 ∷ 111 ∷ 97 ∷ 114 ∷ 100 ∷ 101 ∷ 100 ∷ 82 ∷ 111 ∷ 119 ∷ []) (tcons (tyStruct (100 ∷ 101 ∷ 115 ∷ 107 ∷ 95 ∷ 98 ∷ 111 ∷ 97 ∷ 114 ∷ 100 ∷ 105 ∷ 110 ∷ 103 ∷ 115 ∷ 58 ∷ 58 ∷ 66 ∷ 111 ∷ 97 ∷ 114 ∷ 100 ∷ 101 ∷ 100 ∷ []) (tcons (tyStruct (119 ∷ 97 ∷ 108 ∷ 107 ∷ 58 ∷ 58 ∷ 65 ∷ 110 ∷ 115 ∷ 119 ∷ 101 ∷ 114 ∷ []) (tcons (tyEnum (114 ∷ 101 ∷ 102 ∷ 117 ∷ 115 ∷ 97 ∷ 108 ∷ 115 ∷ 58 ∷ 58 ∷ 82 ∷ 101 ∷ 102 ∷ 117 ∷ 115 ∷ 97 ∷ 108 ∷ []) (ttcons tnil (ttcons tnil (ttcons tnil (ttcons tnil (ttcons tnil (ttcons tnil (ttcons tnil (ttcons tnil (ttcons tnil (ttcons tnil (ttcons tnil (ttcons tnil (ttcons tnil (ttcons tnil (ttcons tnil (ttcons tnil (ttcons tnil (ttcons tnil (ttcons tnil (ttcons tnil (ttcons tnil (ttcons tnil (ttcons tnil (ttcons tnil (ttcons tnil (ttcons tnil (ttcons tnil ttnil)))))))))))))))))))))))))))) (tcons (tyInt w64) (tcons (tyInt w64) (tcons (tyInt w64) (tcons (tyInt w64) (tcons (tyInt w64) tnil))))))) (tcons (tyStruct (100 ∷ 101 ∷ 115 ∷ 107 ∷ 95 ∷ 98 ∷ 111 ∷ 97 ∷ 114 ∷ 100 ∷ 105 ∷ 110 ∷ 103 ∷ 115 ∷ 58 ∷ 58 ∷ 84 ∷ 97 ∷ 107 ∷ 101 ∷ 110 ∷ []) (tcons (tyInt w64) (tcons (tyInt w64) tnil))) (tcons (tyStruct (100 ∷ 101 ∷ 115 ∷ 107 ∷ 95 ∷ 98 ∷ 111 ∷ 97 ∷ 114 ∷ 100 ∷ 105 ∷ 110 ∷ 103 ∷ 115 ∷ 58 ∷ 58 ∷ 87 ∷ 97 ∷ 110 ∷ 116 ∷ 115 ∷ []) (tcons (tyInt w64) (tcons (tyArray (tyInt w64) 8) (tcons (tyArray (tyInt w64) 8) tnil)))) (tcons (tyStruct (100 ∷ 101 ∷ 115 ∷ 107 ∷ 95 ∷ 116 ∷ 105 ∷ 99 ∷ 107 ∷ 101 ∷ 116 ∷ 115 ∷ 58 ∷ 58 ∷ 76 ∷ 97 ∷ 115 ∷ 116 ∷ 115 ∷ []) (tcons (tyInt w64) (tcons (tyInt w64) tnil))) tnil))))) (tcons (tyArray (tyStruct (100 ∷ 101 ∷ 115 ∷ 107 ∷ 95 ∷ 116 ∷ 105 ∷ 99 ∷ 107 ∷ 101 ∷ 116 ∷ 115 ∷ 58 ∷ 58 ∷ 84 ∷ 105 ∷ 99 ∷ 107 ∷ 101 ∷ 116 ∷ []) (tcons (tyInt w64) (tcons (tyInt w64) (tcons (tyInt w64) (tcons (tyInt w64) tnil))))) 32) tnil)))
 
   module _ (Pre· : (κs : Lfts 9) → Dens κs ps → Type 0) (Post· : (κs : Lfts 9) → (a : Dens κs ps) → Kinds.Plain 9 ps r κs) where
     module _ (M : Type 1) where
       abbrev pub Closed : Type 2
-      Closed = (𝓤 : URA.URA M) (H : Heap 𝓤) (A : Atoms.Atoms 𝓤) (W : Given 𝓤 H A) (𝓣 : Tables 𝓤 H) (known0 : Known 𝓤 H A W 𝓣 1 ps·0 r·0 (claims· .0) (claims· .1) "desk::copy_out") (known1 : Known 𝓤 H A W 𝓣 8 ps·1 r·1 (claims· .2) (claims· .3) "boardings::board_in") (known2 : Known 𝓤 H A W 𝓣 1 ps·2 r·2 (claims· .4) (claims· .5) "desk::copy_in") → Triple 𝓤 (WpFn 𝓤 H (𝓣 .C) (𝓣 .Λ) (fnOf 9 ps r xs m hs body)) (plainOf 𝓤 H A 9 ps r Pre· Post·)
+      Closed = (𝓤 : URA.URA M) (H : Heap 𝓤) (A : Atoms.Atoms 𝓤) (W : Given 𝓤 H A) (𝓣 : Tables 𝓤 H) (known0 : Known 𝓤 H A W 𝓣 1 ps·0 r·0 (claims· .0) (claims· .1) "desk_rows::copy_out") (known1 : Known 𝓤 H A W 𝓣 8 ps·1 r·1 (claims· .2) (claims· .3) "desk_boardings::board_in") (known2 : Known 𝓤 H A W 𝓣 1 ps·2 r·2 (claims· .4) (claims· .5) "desk_rows::copy_in") → Triple 𝓤 (WpFn 𝓤 H (𝓣 .C) (𝓣 .Λ) (fnOf 9 ps r xs m hs body)) (plainOf 𝓤 H A 9 ps r Pre· Post·)
 
     module _ where
       abbrev at0 : (bs : List.List ℕ) → TF T69 O0
@@ -884,59 +884,59 @@ module _ (claims· : Claims) where
 
       module _ {M : Type 1} (𝓤 : URA.URA M) (H : Heap 𝓤) (A : Atoms.Atoms 𝓤) (W : Given 𝓤 H A) (𝓣 : Tables 𝓤 H) where
         abbrev Knowns : Type 1
-        Knowns = Known 𝓤 H A W 𝓣 1 ps·0 r·0 (claims· .0) (claims· .1) "desk::copy_out" × Known 𝓤 H A W 𝓣 8 ps·1 r·1 (claims· .2) (claims· .3) "boardings::board_in" × Known 𝓤 H A W 𝓣 1 ps·2 r·2 (claims· .4) (claims· .5) "desk::copy_in"
+        Knowns = Known 𝓤 H A W 𝓣 1 ps·0 r·0 (claims· .0) (claims· .1) "desk_rows::copy_out" × Known 𝓤 H A W 𝓣 8 ps·1 r·1 (claims· .2) (claims· .3) "desk_boardings::board_in" × Known 𝓤 H A W 𝓣 1 ps·2 r·2 (claims· .4) (claims· .5) "desk_rows::copy_in"
 
       module _ (κs : Lfts 9) (qs : Shares 9) where
         abbrev g4 : List.List Entry
-        g4 = (0, any-gone (tyStruct (98 ∷ 111 ∷ 97 ∷ 114 ∷ 100 ∷ 105 ∷ 110 ∷ 103 ∷ 115 ∷ 58 ∷ 58 ∷ 66 ∷ 111 ∷ 97 ∷ 114 ∷ 100 ∷ 101 ∷ 100 ∷ []) (tcons (tyStruct (119 ∷ 97 ∷ 108 ∷ 107 ∷ 58 ∷ 58 ∷ 65 ∷ 110 ∷ 115 ∷ 119 ∷ 101 ∷ 114 ∷ []) (tcons (tyEnum (114 ∷ 101 ∷ 102 ∷ 117 ∷ 115 ∷ 97 ∷ 108 ∷ 115 ∷ 58 ∷ 58 ∷ 82 ∷ 101 ∷ 102 ∷ 117 ∷ 115 ∷ 97 ∷ 108 ∷ []) (ttcons tnil (ttcons tnil (ttcons tnil (ttcons tnil (ttcons tnil (ttcons tnil (ttcons tnil (ttcons tnil (ttcons tnil (ttcons tnil (ttcons tnil (ttcons tnil (ttcons tnil (ttcons tnil (ttcons tnil (ttcons tnil (ttcons tnil (ttcons tnil (ttcons tnil (ttcons tnil (ttcons tnil (ttcons tnil (ttcons tnil (ttcons tnil (ttcons tnil (ttcons tnil (ttcons tnil ttnil)))))))))))))))))))))))))))) (tcons (tyInt w64) (tcons (tyInt w64) (tcons (tyInt w64) (tcons (tyInt w64) (tcons (tyInt w64) tnil))))))) (tcons (tyStruct (98 ∷ 111 ∷ 97 ∷ 114 ∷ 100 ∷ 105 ∷ 110 ∷ 103 ∷ 115 ∷ 58 ∷ 58 ∷ 84 ∷ 97 ∷ 107 ∷ 101 ∷ 110 ∷ []) (tcons (tyInt w64) (tcons (tyInt w64) tnil))) (tcons (tyStruct (98 ∷ 111 ∷ 97 ∷ 114 ∷ 100 ∷ 105 ∷ 110 ∷ 103 ∷ 115 ∷ 58 ∷ 58 ∷ 87 ∷ 97 ∷ 110 ∷ 116 ∷ 115 ∷ []) (tcons (tyInt w64) (tcons (tyArray (tyInt w64) 8) (tcons (tyArray (tyInt w64) 8) tnil)))) (tcons (tyStruct (116 ∷ 105 ∷ 99 ∷ 107 ∷ 101 ∷ 116 ∷ 115 ∷ 58 ∷ 58 ∷ 76 ∷ 97 ∷ 115 ∷ 116 ∷ 115 ∷ []) (tcons (tyInt w64) (tcons (tyInt w64) tnil))) tnil)))))) ∷ (1, mslice-owedS the-row (tyRef (named 0) mut (pointee (the-row .written))) 0 9 (lease (κs .0) (qs .0))) ∷ (2, whole (Declared.row Boarding.the-type)) ∷ (3, sslice (rtF (fInt w64)) (tyRef (named 1) imm (tyInt w64)) 1) ∷ (4, sslice (rtF (fInt w64)) (tyRef (named 2) imm (tyInt w64)) 2) ∷ (5, sslice (rtF (fInt w64)) (tyRef (named 3) imm (tyInt w64)) 3) ∷ (6, mslice (rtF (fInt w64)) (tyRef (named 4) mut (tyInt w64)) 4) ∷ (7, mslice (rtF (fInt w64)) (tyRef (named 5) mut (tyInt w64)) 5) ∷ (8, mslice (rtF (fInt w64)) (tyRef (named 6) mut (tyInt w64)) 6) ∷ (9, mslice (rtF (fInt w64)) (tyRef (named 7) mut (tyInt w64)) 7) ∷ (10, mslice (rtF (fInt w64)) (tyRef (named 8) mut (tyInt w64)) 8) ∷ (11, sc-here (sInt w64)) ∷ (12, any-gone (tyArray (tyStruct (116 ∷ 105 ∷ 99 ∷ 107 ∷ 101 ∷ 116 ∷ 115 ∷ 58 ∷ 58 ∷ 84 ∷ 105 ∷ 99 ∷ 107 ∷ 101 ∷ 116 ∷ []) (tcons (tyInt w64) (tcons (tyInt w64) (tcons (tyInt w64) (tcons (tyInt w64) tnil))))) 32)) ∷ (13, any-gone (tyStruct (98 ∷ 111 ∷ 97 ∷ 114 ∷ 100 ∷ 105 ∷ 110 ∷ 103 ∷ 115 ∷ 58 ∷ 58 ∷ 66 ∷ 111 ∷ 97 ∷ 114 ∷ 100 ∷ 101 ∷ 100 ∷ 82 ∷ 111 ∷ 119 ∷ []) (tcons (tyStruct (98 ∷ 111 ∷ 97 ∷ 114 ∷ 100 ∷ 105 ∷ 110 ∷ 103 ∷ 115 ∷ 58 ∷ 58 ∷ 66 ∷ 111 ∷ 97 ∷ 114 ∷ 100 ∷ 101 ∷ 100 ∷ []) (tcons (tyStruct (119 ∷ 97 ∷ 108 ∷ 107 ∷ 58 ∷ 58 ∷ 65 ∷ 110 ∷ 115 ∷ 119 ∷ 101 ∷ 114 ∷ []) (tcons (tyEnum (114 ∷ 101 ∷ 102 ∷ 117 ∷ 115 ∷ 97 ∷ 108 ∷ 115 ∷ 58 ∷ 58 ∷ 82 ∷ 101 ∷ 102 ∷ 117 ∷ 115 ∷ 97 ∷ 108 ∷ []) (ttcons tnil (ttcons tnil (ttcons tnil (ttcons tnil (ttcons tnil (ttcons tnil (ttcons tnil (ttcons tnil (ttcons tnil (ttcons tnil (ttcons tnil (ttcons tnil (ttcons tnil (ttcons tnil (ttcons tnil (ttcons tnil (ttcons tnil (ttcons tnil (ttcons tnil (ttcons tnil (ttcons tnil (ttcons tnil (ttcons tnil (ttcons tnil (ttcons tnil (ttcons tnil (ttcons tnil ttnil)))))))))))))))))))))))))))) (tcons (tyInt w64) (tcons (tyInt w64) (tcons (tyInt w64) (tcons (tyInt w64) (tcons (tyInt w64) tnil))))))) (tcons (tyStruct (98 ∷ 111 ∷ 97 ∷ 114 ∷ 100 ∷ 105 ∷ 110 ∷ 103 ∷ 115 ∷ 58 ∷ 58 ∷ 84 ∷ 97 ∷ 107 ∷ 101 ∷ 110 ∷ []) (tcons (tyInt w64) (tcons (tyInt w64) tnil))) (tcons (tyStruct (98 ∷ 111 ∷ 97 ∷ 114 ∷ 100 ∷ 105 ∷ 110 ∷ 103 ∷ 115 ∷ 58 ∷ 58 ∷ 87 ∷ 97 ∷ 110 ∷ 116 ∷ 115 ∷ []) (tcons (tyInt w64) (tcons (tyArray (tyInt w64) 8) (tcons (tyArray (tyInt w64) 8) tnil)))) (tcons (tyStruct (116 ∷ 105 ∷ 99 ∷ 107 ∷ 101 ∷ 116 ∷ 115 ∷ 58 ∷ 58 ∷ 76 ∷ 97 ∷ 115 ∷ 116 ∷ 115 ∷ []) (tcons (tyInt w64) (tcons (tyInt w64) tnil))) tnil))))) (tcons (tyArray (tyStruct (116 ∷ 105 ∷ 99 ∷ 107 ∷ 101 ∷ 116 ∷ 115 ∷ 58 ∷ 58 ∷ 84 ∷ 105 ∷ 99 ∷ 107 ∷ 101 ∷ 116 ∷ []) (tcons (tyInt w64) (tcons (tyInt w64) (tcons (tyInt w64) (tcons (tyInt w64) tnil))))) 32) tnil)))) ∷ (14, any-gone (tyArray (tyStruct (116 ∷ 105 ∷ 99 ∷ 107 ∷ 101 ∷ 116 ∷ 115 ∷ 58 ∷ 58 ∷ 84 ∷ 105 ∷ 99 ∷ 107 ∷ 101 ∷ 116 ∷ []) (tcons (tyInt w64) (tcons (tyInt w64) (tcons (tyInt w64) (tcons (tyInt w64) tnil))))) 32)) ∷ (15, ssptr the-row (tyRef erased imm (pointee (the-row .written))) 9) ∷ []
+        g4 = (0, any-gone (tyStruct (100 ∷ 101 ∷ 115 ∷ 107 ∷ 95 ∷ 98 ∷ 111 ∷ 97 ∷ 114 ∷ 100 ∷ 105 ∷ 110 ∷ 103 ∷ 115 ∷ 58 ∷ 58 ∷ 66 ∷ 111 ∷ 97 ∷ 114 ∷ 100 ∷ 101 ∷ 100 ∷ []) (tcons (tyStruct (119 ∷ 97 ∷ 108 ∷ 107 ∷ 58 ∷ 58 ∷ 65 ∷ 110 ∷ 115 ∷ 119 ∷ 101 ∷ 114 ∷ []) (tcons (tyEnum (114 ∷ 101 ∷ 102 ∷ 117 ∷ 115 ∷ 97 ∷ 108 ∷ 115 ∷ 58 ∷ 58 ∷ 82 ∷ 101 ∷ 102 ∷ 117 ∷ 115 ∷ 97 ∷ 108 ∷ []) (ttcons tnil (ttcons tnil (ttcons tnil (ttcons tnil (ttcons tnil (ttcons tnil (ttcons tnil (ttcons tnil (ttcons tnil (ttcons tnil (ttcons tnil (ttcons tnil (ttcons tnil (ttcons tnil (ttcons tnil (ttcons tnil (ttcons tnil (ttcons tnil (ttcons tnil (ttcons tnil (ttcons tnil (ttcons tnil (ttcons tnil (ttcons tnil (ttcons tnil (ttcons tnil (ttcons tnil ttnil)))))))))))))))))))))))))))) (tcons (tyInt w64) (tcons (tyInt w64) (tcons (tyInt w64) (tcons (tyInt w64) (tcons (tyInt w64) tnil))))))) (tcons (tyStruct (100 ∷ 101 ∷ 115 ∷ 107 ∷ 95 ∷ 98 ∷ 111 ∷ 97 ∷ 114 ∷ 100 ∷ 105 ∷ 110 ∷ 103 ∷ 115 ∷ 58 ∷ 58 ∷ 84 ∷ 97 ∷ 107 ∷ 101 ∷ 110 ∷ []) (tcons (tyInt w64) (tcons (tyInt w64) tnil))) (tcons (tyStruct (100 ∷ 101 ∷ 115 ∷ 107 ∷ 95 ∷ 98 ∷ 111 ∷ 97 ∷ 114 ∷ 100 ∷ 105 ∷ 110 ∷ 103 ∷ 115 ∷ 58 ∷ 58 ∷ 87 ∷ 97 ∷ 110 ∷ 116 ∷ 115 ∷ []) (tcons (tyInt w64) (tcons (tyArray (tyInt w64) 8) (tcons (tyArray (tyInt w64) 8) tnil)))) (tcons (tyStruct (100 ∷ 101 ∷ 115 ∷ 107 ∷ 95 ∷ 116 ∷ 105 ∷ 99 ∷ 107 ∷ 101 ∷ 116 ∷ 115 ∷ 58 ∷ 58 ∷ 76 ∷ 97 ∷ 115 ∷ 116 ∷ 115 ∷ []) (tcons (tyInt w64) (tcons (tyInt w64) tnil))) tnil)))))) ∷ (1, mslice-owedS the-row (tyRef (named 0) mut (pointee (the-row .written))) 0 9 (lease (κs .0) (qs .0))) ∷ (2, whole (Declared.row Boarding.the-type)) ∷ (3, sslice (rtF (fInt w64)) (tyRef (named 1) imm (tyInt w64)) 1) ∷ (4, sslice (rtF (fInt w64)) (tyRef (named 2) imm (tyInt w64)) 2) ∷ (5, sslice (rtF (fInt w64)) (tyRef (named 3) imm (tyInt w64)) 3) ∷ (6, mslice (rtF (fInt w64)) (tyRef (named 4) mut (tyInt w64)) 4) ∷ (7, mslice (rtF (fInt w64)) (tyRef (named 5) mut (tyInt w64)) 5) ∷ (8, mslice (rtF (fInt w64)) (tyRef (named 6) mut (tyInt w64)) 6) ∷ (9, mslice (rtF (fInt w64)) (tyRef (named 7) mut (tyInt w64)) 7) ∷ (10, mslice (rtF (fInt w64)) (tyRef (named 8) mut (tyInt w64)) 8) ∷ (11, sc-here (sInt w64)) ∷ (12, any-gone (tyArray (tyStruct (100 ∷ 101 ∷ 115 ∷ 107 ∷ 95 ∷ 116 ∷ 105 ∷ 99 ∷ 107 ∷ 101 ∷ 116 ∷ 115 ∷ 58 ∷ 58 ∷ 84 ∷ 105 ∷ 99 ∷ 107 ∷ 101 ∷ 116 ∷ []) (tcons (tyInt w64) (tcons (tyInt w64) (tcons (tyInt w64) (tcons (tyInt w64) tnil))))) 32)) ∷ (13, any-gone (tyStruct (100 ∷ 101 ∷ 115 ∷ 107 ∷ 95 ∷ 98 ∷ 111 ∷ 97 ∷ 114 ∷ 100 ∷ 105 ∷ 110 ∷ 103 ∷ 115 ∷ 58 ∷ 58 ∷ 66 ∷ 111 ∷ 97 ∷ 114 ∷ 100 ∷ 101 ∷ 100 ∷ 82 ∷ 111 ∷ 119 ∷ []) (tcons (tyStruct (100 ∷ 101 ∷ 115 ∷ 107 ∷ 95 ∷ 98 ∷ 111 ∷ 97 ∷ 114 ∷ 100 ∷ 105 ∷ 110 ∷ 103 ∷ 115 ∷ 58 ∷ 58 ∷ 66 ∷ 111 ∷ 97 ∷ 114 ∷ 100 ∷ 101 ∷ 100 ∷ []) (tcons (tyStruct (119 ∷ 97 ∷ 108 ∷ 107 ∷ 58 ∷ 58 ∷ 65 ∷ 110 ∷ 115 ∷ 119 ∷ 101 ∷ 114 ∷ []) (tcons (tyEnum (114 ∷ 101 ∷ 102 ∷ 117 ∷ 115 ∷ 97 ∷ 108 ∷ 115 ∷ 58 ∷ 58 ∷ 82 ∷ 101 ∷ 102 ∷ 117 ∷ 115 ∷ 97 ∷ 108 ∷ []) (ttcons tnil (ttcons tnil (ttcons tnil (ttcons tnil (ttcons tnil (ttcons tnil (ttcons tnil (ttcons tnil (ttcons tnil (ttcons tnil (ttcons tnil (ttcons tnil (ttcons tnil (ttcons tnil (ttcons tnil (ttcons tnil (ttcons tnil (ttcons tnil (ttcons tnil (ttcons tnil (ttcons tnil (ttcons tnil (ttcons tnil (ttcons tnil (ttcons tnil (ttcons tnil (ttcons tnil ttnil)))))))))))))))))))))))))))) (tcons (tyInt w64) (tcons (tyInt w64) (tcons (tyInt w64) (tcons (tyInt w64) (tcons (tyInt w64) tnil))))))) (tcons (tyStruct (100 ∷ 101 ∷ 115 ∷ 107 ∷ 95 ∷ 98 ∷ 111 ∷ 97 ∷ 114 ∷ 100 ∷ 105 ∷ 110 ∷ 103 ∷ 115 ∷ 58 ∷ 58 ∷ 84 ∷ 97 ∷ 107 ∷ 101 ∷ 110 ∷ []) (tcons (tyInt w64) (tcons (tyInt w64) tnil))) (tcons (tyStruct (100 ∷ 101 ∷ 115 ∷ 107 ∷ 95 ∷ 98 ∷ 111 ∷ 97 ∷ 114 ∷ 100 ∷ 105 ∷ 110 ∷ 103 ∷ 115 ∷ 58 ∷ 58 ∷ 87 ∷ 97 ∷ 110 ∷ 116 ∷ 115 ∷ []) (tcons (tyInt w64) (tcons (tyArray (tyInt w64) 8) (tcons (tyArray (tyInt w64) 8) tnil)))) (tcons (tyStruct (100 ∷ 101 ∷ 115 ∷ 107 ∷ 95 ∷ 116 ∷ 105 ∷ 99 ∷ 107 ∷ 101 ∷ 116 ∷ 115 ∷ 58 ∷ 58 ∷ 76 ∷ 97 ∷ 115 ∷ 116 ∷ 115 ∷ []) (tcons (tyInt w64) (tcons (tyInt w64) tnil))) tnil))))) (tcons (tyArray (tyStruct (100 ∷ 101 ∷ 115 ∷ 107 ∷ 95 ∷ 116 ∷ 105 ∷ 99 ∷ 107 ∷ 101 ∷ 116 ∷ 115 ∷ 58 ∷ 58 ∷ 84 ∷ 105 ∷ 99 ∷ 107 ∷ 101 ∷ 116 ∷ []) (tcons (tyInt w64) (tcons (tyInt w64) (tcons (tyInt w64) (tcons (tyInt w64) tnil))))) 32) tnil)))) ∷ (14, any-gone (tyArray (tyStruct (100 ∷ 101 ∷ 115 ∷ 107 ∷ 95 ∷ 116 ∷ 105 ∷ 99 ∷ 107 ∷ 101 ∷ 116 ∷ 115 ∷ 58 ∷ 58 ∷ 84 ∷ 105 ∷ 99 ∷ 107 ∷ 101 ∷ 116 ∷ []) (tcons (tyInt w64) (tcons (tyInt w64) (tcons (tyInt w64) (tcons (tyInt w64) tnil))))) 32)) ∷ (15, ssptr the-row (tyRef erased imm (pointee (the-row .written))) 9) ∷ []
 
         abbrev g5 : List.List Entry
-        g5 = (0, any-gone (tyStruct (98 ∷ 111 ∷ 97 ∷ 114 ∷ 100 ∷ 105 ∷ 110 ∷ 103 ∷ 115 ∷ 58 ∷ 58 ∷ 66 ∷ 111 ∷ 97 ∷ 114 ∷ 100 ∷ 101 ∷ 100 ∷ []) (tcons (tyStruct (119 ∷ 97 ∷ 108 ∷ 107 ∷ 58 ∷ 58 ∷ 65 ∷ 110 ∷ 115 ∷ 119 ∷ 101 ∷ 114 ∷ []) (tcons (tyEnum (114 ∷ 101 ∷ 102 ∷ 117 ∷ 115 ∷ 97 ∷ 108 ∷ 115 ∷ 58 ∷ 58 ∷ 82 ∷ 101 ∷ 102 ∷ 117 ∷ 115 ∷ 97 ∷ 108 ∷ []) (ttcons tnil (ttcons tnil (ttcons tnil (ttcons tnil (ttcons tnil (ttcons tnil (ttcons tnil (ttcons tnil (ttcons tnil (ttcons tnil (ttcons tnil (ttcons tnil (ttcons tnil (ttcons tnil (ttcons tnil (ttcons tnil (ttcons tnil (ttcons tnil (ttcons tnil (ttcons tnil (ttcons tnil (ttcons tnil (ttcons tnil (ttcons tnil (ttcons tnil (ttcons tnil (ttcons tnil ttnil)))))))))))))))))))))))))))) (tcons (tyInt w64) (tcons (tyInt w64) (tcons (tyInt w64) (tcons (tyInt w64) (tcons (tyInt w64) tnil))))))) (tcons (tyStruct (98 ∷ 111 ∷ 97 ∷ 114 ∷ 100 ∷ 105 ∷ 110 ∷ 103 ∷ 115 ∷ 58 ∷ 58 ∷ 84 ∷ 97 ∷ 107 ∷ 101 ∷ 110 ∷ []) (tcons (tyInt w64) (tcons (tyInt w64) tnil))) (tcons (tyStruct (98 ∷ 111 ∷ 97 ∷ 114 ∷ 100 ∷ 105 ∷ 110 ∷ 103 ∷ 115 ∷ 58 ∷ 58 ∷ 87 ∷ 97 ∷ 110 ∷ 116 ∷ 115 ∷ []) (tcons (tyInt w64) (tcons (tyArray (tyInt w64) 8) (tcons (tyArray (tyInt w64) 8) tnil)))) (tcons (tyStruct (116 ∷ 105 ∷ 99 ∷ 107 ∷ 101 ∷ 116 ∷ 115 ∷ 58 ∷ 58 ∷ 76 ∷ 97 ∷ 115 ∷ 116 ∷ 115 ∷ []) (tcons (tyInt w64) (tcons (tyInt w64) tnil))) tnil)))))) ∷ (1, mslice-owedS the-row (tyRef (named 0) mut (pointee (the-row .written))) 0 9 (lease (κs .0) (qs .0))) ∷ (2, whole (Declared.row Boarding.the-type)) ∷ (3, sslice (rtF (fInt w64)) (tyRef (named 1) imm (tyInt w64)) 1) ∷ (4, sslice (rtF (fInt w64)) (tyRef (named 2) imm (tyInt w64)) 2) ∷ (5, sslice (rtF (fInt w64)) (tyRef (named 3) imm (tyInt w64)) 3) ∷ (6, mslice (rtF (fInt w64)) (tyRef (named 4) mut (tyInt w64)) 4) ∷ (7, mslice (rtF (fInt w64)) (tyRef (named 5) mut (tyInt w64)) 5) ∷ (8, mslice (rtF (fInt w64)) (tyRef (named 6) mut (tyInt w64)) 6) ∷ (9, mslice (rtF (fInt w64)) (tyRef (named 7) mut (tyInt w64)) 7) ∷ (10, mslice (rtF (fInt w64)) (tyRef (named 8) mut (tyInt w64)) 8) ∷ (11, sc-here (sInt w64)) ∷ (12, any-gone (tyArray (tyStruct (116 ∷ 105 ∷ 99 ∷ 107 ∷ 101 ∷ 116 ∷ 115 ∷ 58 ∷ 58 ∷ 84 ∷ 105 ∷ 99 ∷ 107 ∷ 101 ∷ 116 ∷ []) (tcons (tyInt w64) (tcons (tyInt w64) (tcons (tyInt w64) (tcons (tyInt w64) tnil))))) 32)) ∷ (13, any-gone (tyStruct (98 ∷ 111 ∷ 97 ∷ 114 ∷ 100 ∷ 105 ∷ 110 ∷ 103 ∷ 115 ∷ 58 ∷ 58 ∷ 66 ∷ 111 ∷ 97 ∷ 114 ∷ 100 ∷ 101 ∷ 100 ∷ 82 ∷ 111 ∷ 119 ∷ []) (tcons (tyStruct (98 ∷ 111 ∷ 97 ∷ 114 ∷ 100 ∷ 105 ∷ 110 ∷ 103 ∷ 115 ∷ 58 ∷ 58 ∷ 66 ∷ 111 ∷ 97 ∷ 114 ∷ 100 ∷ 101 ∷ 100 ∷ []) (tcons (tyStruct (119 ∷ 97 ∷ 108 ∷ 107 ∷ 58 ∷ 58 ∷ 65 ∷ 110 ∷ 115 ∷ 119 ∷ 101 ∷ 114 ∷ []) (tcons (tyEnum (114 ∷ 101 ∷ 102 ∷ 117 ∷ 115 ∷ 97 ∷ 108 ∷ 115 ∷ 58 ∷ 58 ∷ 82 ∷ 101 ∷ 102 ∷ 117 ∷ 115 ∷ 97 ∷ 108 ∷ []) (ttcons tnil (ttcons tnil (ttcons tnil (ttcons tnil (ttcons tnil (ttcons tnil (ttcons tnil (ttcons tnil (ttcons tnil (ttcons tnil (ttcons tnil (ttcons tnil (ttcons tnil (ttcons tnil (ttcons tnil (ttcons tnil (ttcons tnil (ttcons tnil (ttcons tnil (ttcons tnil (ttcons tnil (ttcons tnil (ttcons tnil (ttcons tnil (ttcons tnil (ttcons tnil (ttcons tnil ttnil)))))))))))))))))))))))))))) (tcons (tyInt w64) (tcons (tyInt w64) (tcons (tyInt w64) (tcons (tyInt w64) (tcons (tyInt w64) tnil))))))) (tcons (tyStruct (98 ∷ 111 ∷ 97 ∷ 114 ∷ 100 ∷ 105 ∷ 110 ∷ 103 ∷ 115 ∷ 58 ∷ 58 ∷ 84 ∷ 97 ∷ 107 ∷ 101 ∷ 110 ∷ []) (tcons (tyInt w64) (tcons (tyInt w64) tnil))) (tcons (tyStruct (98 ∷ 111 ∷ 97 ∷ 114 ∷ 100 ∷ 105 ∷ 110 ∷ 103 ∷ 115 ∷ 58 ∷ 58 ∷ 87 ∷ 97 ∷ 110 ∷ 116 ∷ 115 ∷ []) (tcons (tyInt w64) (tcons (tyArray (tyInt w64) 8) (tcons (tyArray (tyInt w64) 8) tnil)))) (tcons (tyStruct (116 ∷ 105 ∷ 99 ∷ 107 ∷ 101 ∷ 116 ∷ 115 ∷ 58 ∷ 58 ∷ 76 ∷ 97 ∷ 115 ∷ 116 ∷ 115 ∷ []) (tcons (tyInt w64) (tcons (tyInt w64) tnil))) tnil))))) (tcons (tyArray (tyStruct (116 ∷ 105 ∷ 99 ∷ 107 ∷ 101 ∷ 116 ∷ 115 ∷ 58 ∷ 58 ∷ 84 ∷ 105 ∷ 99 ∷ 107 ∷ 101 ∷ 116 ∷ []) (tcons (tyInt w64) (tcons (tyInt w64) (tcons (tyInt w64) (tcons (tyInt w64) tnil))))) 32) tnil)))) ∷ (14, any-gone (tyArray (tyStruct (116 ∷ 105 ∷ 99 ∷ 107 ∷ 101 ∷ 116 ∷ 115 ∷ 58 ∷ 58 ∷ 84 ∷ 105 ∷ 99 ∷ 107 ∷ 101 ∷ 116 ∷ []) (tcons (tyInt w64) (tcons (tyInt w64) (tcons (tyInt w64) (tcons (tyInt w64) tnil))))) 32)) ∷ (15, any-gone (tyRef erased imm (pointee (the-row .written)))) ∷ []
+        g5 = (0, any-gone (tyStruct (100 ∷ 101 ∷ 115 ∷ 107 ∷ 95 ∷ 98 ∷ 111 ∷ 97 ∷ 114 ∷ 100 ∷ 105 ∷ 110 ∷ 103 ∷ 115 ∷ 58 ∷ 58 ∷ 66 ∷ 111 ∷ 97 ∷ 114 ∷ 100 ∷ 101 ∷ 100 ∷ []) (tcons (tyStruct (119 ∷ 97 ∷ 108 ∷ 107 ∷ 58 ∷ 58 ∷ 65 ∷ 110 ∷ 115 ∷ 119 ∷ 101 ∷ 114 ∷ []) (tcons (tyEnum (114 ∷ 101 ∷ 102 ∷ 117 ∷ 115 ∷ 97 ∷ 108 ∷ 115 ∷ 58 ∷ 58 ∷ 82 ∷ 101 ∷ 102 ∷ 117 ∷ 115 ∷ 97 ∷ 108 ∷ []) (ttcons tnil (ttcons tnil (ttcons tnil (ttcons tnil (ttcons tnil (ttcons tnil (ttcons tnil (ttcons tnil (ttcons tnil (ttcons tnil (ttcons tnil (ttcons tnil (ttcons tnil (ttcons tnil (ttcons tnil (ttcons tnil (ttcons tnil (ttcons tnil (ttcons tnil (ttcons tnil (ttcons tnil (ttcons tnil (ttcons tnil (ttcons tnil (ttcons tnil (ttcons tnil (ttcons tnil ttnil)))))))))))))))))))))))))))) (tcons (tyInt w64) (tcons (tyInt w64) (tcons (tyInt w64) (tcons (tyInt w64) (tcons (tyInt w64) tnil))))))) (tcons (tyStruct (100 ∷ 101 ∷ 115 ∷ 107 ∷ 95 ∷ 98 ∷ 111 ∷ 97 ∷ 114 ∷ 100 ∷ 105 ∷ 110 ∷ 103 ∷ 115 ∷ 58 ∷ 58 ∷ 84 ∷ 97 ∷ 107 ∷ 101 ∷ 110 ∷ []) (tcons (tyInt w64) (tcons (tyInt w64) tnil))) (tcons (tyStruct (100 ∷ 101 ∷ 115 ∷ 107 ∷ 95 ∷ 98 ∷ 111 ∷ 97 ∷ 114 ∷ 100 ∷ 105 ∷ 110 ∷ 103 ∷ 115 ∷ 58 ∷ 58 ∷ 87 ∷ 97 ∷ 110 ∷ 116 ∷ 115 ∷ []) (tcons (tyInt w64) (tcons (tyArray (tyInt w64) 8) (tcons (tyArray (tyInt w64) 8) tnil)))) (tcons (tyStruct (100 ∷ 101 ∷ 115 ∷ 107 ∷ 95 ∷ 116 ∷ 105 ∷ 99 ∷ 107 ∷ 101 ∷ 116 ∷ 115 ∷ 58 ∷ 58 ∷ 76 ∷ 97 ∷ 115 ∷ 116 ∷ 115 ∷ []) (tcons (tyInt w64) (tcons (tyInt w64) tnil))) tnil)))))) ∷ (1, mslice-owedS the-row (tyRef (named 0) mut (pointee (the-row .written))) 0 9 (lease (κs .0) (qs .0))) ∷ (2, whole (Declared.row Boarding.the-type)) ∷ (3, sslice (rtF (fInt w64)) (tyRef (named 1) imm (tyInt w64)) 1) ∷ (4, sslice (rtF (fInt w64)) (tyRef (named 2) imm (tyInt w64)) 2) ∷ (5, sslice (rtF (fInt w64)) (tyRef (named 3) imm (tyInt w64)) 3) ∷ (6, mslice (rtF (fInt w64)) (tyRef (named 4) mut (tyInt w64)) 4) ∷ (7, mslice (rtF (fInt w64)) (tyRef (named 5) mut (tyInt w64)) 5) ∷ (8, mslice (rtF (fInt w64)) (tyRef (named 6) mut (tyInt w64)) 6) ∷ (9, mslice (rtF (fInt w64)) (tyRef (named 7) mut (tyInt w64)) 7) ∷ (10, mslice (rtF (fInt w64)) (tyRef (named 8) mut (tyInt w64)) 8) ∷ (11, sc-here (sInt w64)) ∷ (12, any-gone (tyArray (tyStruct (100 ∷ 101 ∷ 115 ∷ 107 ∷ 95 ∷ 116 ∷ 105 ∷ 99 ∷ 107 ∷ 101 ∷ 116 ∷ 115 ∷ 58 ∷ 58 ∷ 84 ∷ 105 ∷ 99 ∷ 107 ∷ 101 ∷ 116 ∷ []) (tcons (tyInt w64) (tcons (tyInt w64) (tcons (tyInt w64) (tcons (tyInt w64) tnil))))) 32)) ∷ (13, any-gone (tyStruct (100 ∷ 101 ∷ 115 ∷ 107 ∷ 95 ∷ 98 ∷ 111 ∷ 97 ∷ 114 ∷ 100 ∷ 105 ∷ 110 ∷ 103 ∷ 115 ∷ 58 ∷ 58 ∷ 66 ∷ 111 ∷ 97 ∷ 114 ∷ 100 ∷ 101 ∷ 100 ∷ 82 ∷ 111 ∷ 119 ∷ []) (tcons (tyStruct (100 ∷ 101 ∷ 115 ∷ 107 ∷ 95 ∷ 98 ∷ 111 ∷ 97 ∷ 114 ∷ 100 ∷ 105 ∷ 110 ∷ 103 ∷ 115 ∷ 58 ∷ 58 ∷ 66 ∷ 111 ∷ 97 ∷ 114 ∷ 100 ∷ 101 ∷ 100 ∷ []) (tcons (tyStruct (119 ∷ 97 ∷ 108 ∷ 107 ∷ 58 ∷ 58 ∷ 65 ∷ 110 ∷ 115 ∷ 119 ∷ 101 ∷ 114 ∷ []) (tcons (tyEnum (114 ∷ 101 ∷ 102 ∷ 117 ∷ 115 ∷ 97 ∷ 108 ∷ 115 ∷ 58 ∷ 58 ∷ 82 ∷ 101 ∷ 102 ∷ 117 ∷ 115 ∷ 97 ∷ 108 ∷ []) (ttcons tnil (ttcons tnil (ttcons tnil (ttcons tnil (ttcons tnil (ttcons tnil (ttcons tnil (ttcons tnil (ttcons tnil (ttcons tnil (ttcons tnil (ttcons tnil (ttcons tnil (ttcons tnil (ttcons tnil (ttcons tnil (ttcons tnil (ttcons tnil (ttcons tnil (ttcons tnil (ttcons tnil (ttcons tnil (ttcons tnil (ttcons tnil (ttcons tnil (ttcons tnil (ttcons tnil ttnil)))))))))))))))))))))))))))) (tcons (tyInt w64) (tcons (tyInt w64) (tcons (tyInt w64) (tcons (tyInt w64) (tcons (tyInt w64) tnil))))))) (tcons (tyStruct (100 ∷ 101 ∷ 115 ∷ 107 ∷ 95 ∷ 98 ∷ 111 ∷ 97 ∷ 114 ∷ 100 ∷ 105 ∷ 110 ∷ 103 ∷ 115 ∷ 58 ∷ 58 ∷ 84 ∷ 97 ∷ 107 ∷ 101 ∷ 110 ∷ []) (tcons (tyInt w64) (tcons (tyInt w64) tnil))) (tcons (tyStruct (100 ∷ 101 ∷ 115 ∷ 107 ∷ 95 ∷ 98 ∷ 111 ∷ 97 ∷ 114 ∷ 100 ∷ 105 ∷ 110 ∷ 103 ∷ 115 ∷ 58 ∷ 58 ∷ 87 ∷ 97 ∷ 110 ∷ 116 ∷ 115 ∷ []) (tcons (tyInt w64) (tcons (tyArray (tyInt w64) 8) (tcons (tyArray (tyInt w64) 8) tnil)))) (tcons (tyStruct (100 ∷ 101 ∷ 115 ∷ 107 ∷ 95 ∷ 116 ∷ 105 ∷ 99 ∷ 107 ∷ 101 ∷ 116 ∷ 115 ∷ 58 ∷ 58 ∷ 76 ∷ 97 ∷ 115 ∷ 116 ∷ 115 ∷ []) (tcons (tyInt w64) (tcons (tyInt w64) tnil))) tnil))))) (tcons (tyArray (tyStruct (100 ∷ 101 ∷ 115 ∷ 107 ∷ 95 ∷ 116 ∷ 105 ∷ 99 ∷ 107 ∷ 101 ∷ 116 ∷ 115 ∷ 58 ∷ 58 ∷ 84 ∷ 105 ∷ 99 ∷ 107 ∷ 101 ∷ 116 ∷ []) (tcons (tyInt w64) (tcons (tyInt w64) (tcons (tyInt w64) (tcons (tyInt w64) tnil))))) 32) tnil)))) ∷ (14, any-gone (tyArray (tyStruct (100 ∷ 101 ∷ 115 ∷ 107 ∷ 95 ∷ 116 ∷ 105 ∷ 99 ∷ 107 ∷ 101 ∷ 116 ∷ 115 ∷ 58 ∷ 58 ∷ 84 ∷ 105 ∷ 99 ∷ 107 ∷ 101 ∷ 116 ∷ []) (tcons (tyInt w64) (tcons (tyInt w64) (tcons (tyInt w64) (tcons (tyInt w64) tnil))))) 32)) ∷ (15, any-gone (tyRef erased imm (pointee (the-row .written)))) ∷ []
 
         abbrev g7 : List.List Entry
-        g7 = (0, any-gone (tyStruct (98 ∷ 111 ∷ 97 ∷ 114 ∷ 100 ∷ 105 ∷ 110 ∷ 103 ∷ 115 ∷ 58 ∷ 58 ∷ 66 ∷ 111 ∷ 97 ∷ 114 ∷ 100 ∷ 101 ∷ 100 ∷ []) (tcons (tyStruct (119 ∷ 97 ∷ 108 ∷ 107 ∷ 58 ∷ 58 ∷ 65 ∷ 110 ∷ 115 ∷ 119 ∷ 101 ∷ 114 ∷ []) (tcons (tyEnum (114 ∷ 101 ∷ 102 ∷ 117 ∷ 115 ∷ 97 ∷ 108 ∷ 115 ∷ 58 ∷ 58 ∷ 82 ∷ 101 ∷ 102 ∷ 117 ∷ 115 ∷ 97 ∷ 108 ∷ []) (ttcons tnil (ttcons tnil (ttcons tnil (ttcons tnil (ttcons tnil (ttcons tnil (ttcons tnil (ttcons tnil (ttcons tnil (ttcons tnil (ttcons tnil (ttcons tnil (ttcons tnil (ttcons tnil (ttcons tnil (ttcons tnil (ttcons tnil (ttcons tnil (ttcons tnil (ttcons tnil (ttcons tnil (ttcons tnil (ttcons tnil (ttcons tnil (ttcons tnil (ttcons tnil (ttcons tnil ttnil)))))))))))))))))))))))))))) (tcons (tyInt w64) (tcons (tyInt w64) (tcons (tyInt w64) (tcons (tyInt w64) (tcons (tyInt w64) tnil))))))) (tcons (tyStruct (98 ∷ 111 ∷ 97 ∷ 114 ∷ 100 ∷ 105 ∷ 110 ∷ 103 ∷ 115 ∷ 58 ∷ 58 ∷ 84 ∷ 97 ∷ 107 ∷ 101 ∷ 110 ∷ []) (tcons (tyInt w64) (tcons (tyInt w64) tnil))) (tcons (tyStruct (98 ∷ 111 ∷ 97 ∷ 114 ∷ 100 ∷ 105 ∷ 110 ∷ 103 ∷ 115 ∷ 58 ∷ 58 ∷ 87 ∷ 97 ∷ 110 ∷ 116 ∷ 115 ∷ []) (tcons (tyInt w64) (tcons (tyArray (tyInt w64) 8) (tcons (tyArray (tyInt w64) 8) tnil)))) (tcons (tyStruct (116 ∷ 105 ∷ 99 ∷ 107 ∷ 101 ∷ 116 ∷ 115 ∷ 58 ∷ 58 ∷ 76 ∷ 97 ∷ 115 ∷ 116 ∷ 115 ∷ []) (tcons (tyInt w64) (tcons (tyInt w64) tnil))) tnil)))))) ∷ (1, mslice-owedS the-row (tyRef (named 0) mut (pointee (the-row .written))) 0 9 (lease (κs .0) (qs .0))) ∷ (2, whole (Declared.row Boarding.the-type)) ∷ (3, sslice (rtF (fInt w64)) (tyRef (named 1) imm (tyInt w64)) 1) ∷ (4, sslice (rtF (fInt w64)) (tyRef (named 2) imm (tyInt w64)) 2) ∷ (5, sslice (rtF (fInt w64)) (tyRef (named 3) imm (tyInt w64)) 3) ∷ (6, mslice (rtF (fInt w64)) (tyRef (named 4) mut (tyInt w64)) 4) ∷ (7, mslice (rtF (fInt w64)) (tyRef (named 5) mut (tyInt w64)) 5) ∷ (8, mslice (rtF (fInt w64)) (tyRef (named 6) mut (tyInt w64)) 6) ∷ (9, mslice (rtF (fInt w64)) (tyRef (named 7) mut (tyInt w64)) 7) ∷ (10, mslice (rtF (fInt w64)) (tyRef (named 8) mut (tyInt w64)) 8) ∷ (11, sc-here (sInt w64)) ∷ (12, arrF (Declared.row Ticket.the-type) 32 0) ∷ (13, any-gone (tyStruct (98 ∷ 111 ∷ 97 ∷ 114 ∷ 100 ∷ 105 ∷ 110 ∷ 103 ∷ 115 ∷ 58 ∷ 58 ∷ 66 ∷ 111 ∷ 97 ∷ 114 ∷ 100 ∷ 101 ∷ 100 ∷ 82 ∷ 111 ∷ 119 ∷ []) (tcons (tyStruct (98 ∷ 111 ∷ 97 ∷ 114 ∷ 100 ∷ 105 ∷ 110 ∷ 103 ∷ 115 ∷ 58 ∷ 58 ∷ 66 ∷ 111 ∷ 97 ∷ 114 ∷ 100 ∷ 101 ∷ 100 ∷ []) (tcons (tyStruct (119 ∷ 97 ∷ 108 ∷ 107 ∷ 58 ∷ 58 ∷ 65 ∷ 110 ∷ 115 ∷ 119 ∷ 101 ∷ 114 ∷ []) (tcons (tyEnum (114 ∷ 101 ∷ 102 ∷ 117 ∷ 115 ∷ 97 ∷ 108 ∷ 115 ∷ 58 ∷ 58 ∷ 82 ∷ 101 ∷ 102 ∷ 117 ∷ 115 ∷ 97 ∷ 108 ∷ []) (ttcons tnil (ttcons tnil (ttcons tnil (ttcons tnil (ttcons tnil (ttcons tnil (ttcons tnil (ttcons tnil (ttcons tnil (ttcons tnil (ttcons tnil (ttcons tnil (ttcons tnil (ttcons tnil (ttcons tnil (ttcons tnil (ttcons tnil (ttcons tnil (ttcons tnil (ttcons tnil (ttcons tnil (ttcons tnil (ttcons tnil (ttcons tnil (ttcons tnil (ttcons tnil (ttcons tnil ttnil)))))))))))))))))))))))))))) (tcons (tyInt w64) (tcons (tyInt w64) (tcons (tyInt w64) (tcons (tyInt w64) (tcons (tyInt w64) tnil))))))) (tcons (tyStruct (98 ∷ 111 ∷ 97 ∷ 114 ∷ 100 ∷ 105 ∷ 110 ∷ 103 ∷ 115 ∷ 58 ∷ 58 ∷ 84 ∷ 97 ∷ 107 ∷ 101 ∷ 110 ∷ []) (tcons (tyInt w64) (tcons (tyInt w64) tnil))) (tcons (tyStruct (98 ∷ 111 ∷ 97 ∷ 114 ∷ 100 ∷ 105 ∷ 110 ∷ 103 ∷ 115 ∷ 58 ∷ 58 ∷ 87 ∷ 97 ∷ 110 ∷ 116 ∷ 115 ∷ []) (tcons (tyInt w64) (tcons (tyArray (tyInt w64) 8) (tcons (tyArray (tyInt w64) 8) tnil)))) (tcons (tyStruct (116 ∷ 105 ∷ 99 ∷ 107 ∷ 101 ∷ 116 ∷ 115 ∷ 58 ∷ 58 ∷ 76 ∷ 97 ∷ 115 ∷ 116 ∷ 115 ∷ []) (tcons (tyInt w64) (tcons (tyInt w64) tnil))) tnil))))) (tcons (tyArray (tyStruct (116 ∷ 105 ∷ 99 ∷ 107 ∷ 101 ∷ 116 ∷ 115 ∷ 58 ∷ 58 ∷ 84 ∷ 105 ∷ 99 ∷ 107 ∷ 101 ∷ 116 ∷ []) (tcons (tyInt w64) (tcons (tyInt w64) (tcons (tyInt w64) (tcons (tyInt w64) tnil))))) 32) tnil)))) ∷ (14, any-gone (tyArray (tyStruct (116 ∷ 105 ∷ 99 ∷ 107 ∷ 101 ∷ 116 ∷ 115 ∷ 58 ∷ 58 ∷ 84 ∷ 105 ∷ 99 ∷ 107 ∷ 101 ∷ 116 ∷ []) (tcons (tyInt w64) (tcons (tyInt w64) (tcons (tyInt w64) (tcons (tyInt w64) tnil))))) 32)) ∷ (15, any-gone (tyRef erased imm (pointee (the-row .written)))) ∷ []
+        g7 = (0, any-gone (tyStruct (100 ∷ 101 ∷ 115 ∷ 107 ∷ 95 ∷ 98 ∷ 111 ∷ 97 ∷ 114 ∷ 100 ∷ 105 ∷ 110 ∷ 103 ∷ 115 ∷ 58 ∷ 58 ∷ 66 ∷ 111 ∷ 97 ∷ 114 ∷ 100 ∷ 101 ∷ 100 ∷ []) (tcons (tyStruct (119 ∷ 97 ∷ 108 ∷ 107 ∷ 58 ∷ 58 ∷ 65 ∷ 110 ∷ 115 ∷ 119 ∷ 101 ∷ 114 ∷ []) (tcons (tyEnum (114 ∷ 101 ∷ 102 ∷ 117 ∷ 115 ∷ 97 ∷ 108 ∷ 115 ∷ 58 ∷ 58 ∷ 82 ∷ 101 ∷ 102 ∷ 117 ∷ 115 ∷ 97 ∷ 108 ∷ []) (ttcons tnil (ttcons tnil (ttcons tnil (ttcons tnil (ttcons tnil (ttcons tnil (ttcons tnil (ttcons tnil (ttcons tnil (ttcons tnil (ttcons tnil (ttcons tnil (ttcons tnil (ttcons tnil (ttcons tnil (ttcons tnil (ttcons tnil (ttcons tnil (ttcons tnil (ttcons tnil (ttcons tnil (ttcons tnil (ttcons tnil (ttcons tnil (ttcons tnil (ttcons tnil (ttcons tnil ttnil)))))))))))))))))))))))))))) (tcons (tyInt w64) (tcons (tyInt w64) (tcons (tyInt w64) (tcons (tyInt w64) (tcons (tyInt w64) tnil))))))) (tcons (tyStruct (100 ∷ 101 ∷ 115 ∷ 107 ∷ 95 ∷ 98 ∷ 111 ∷ 97 ∷ 114 ∷ 100 ∷ 105 ∷ 110 ∷ 103 ∷ 115 ∷ 58 ∷ 58 ∷ 84 ∷ 97 ∷ 107 ∷ 101 ∷ 110 ∷ []) (tcons (tyInt w64) (tcons (tyInt w64) tnil))) (tcons (tyStruct (100 ∷ 101 ∷ 115 ∷ 107 ∷ 95 ∷ 98 ∷ 111 ∷ 97 ∷ 114 ∷ 100 ∷ 105 ∷ 110 ∷ 103 ∷ 115 ∷ 58 ∷ 58 ∷ 87 ∷ 97 ∷ 110 ∷ 116 ∷ 115 ∷ []) (tcons (tyInt w64) (tcons (tyArray (tyInt w64) 8) (tcons (tyArray (tyInt w64) 8) tnil)))) (tcons (tyStruct (100 ∷ 101 ∷ 115 ∷ 107 ∷ 95 ∷ 116 ∷ 105 ∷ 99 ∷ 107 ∷ 101 ∷ 116 ∷ 115 ∷ 58 ∷ 58 ∷ 76 ∷ 97 ∷ 115 ∷ 116 ∷ 115 ∷ []) (tcons (tyInt w64) (tcons (tyInt w64) tnil))) tnil)))))) ∷ (1, mslice-owedS the-row (tyRef (named 0) mut (pointee (the-row .written))) 0 9 (lease (κs .0) (qs .0))) ∷ (2, whole (Declared.row Boarding.the-type)) ∷ (3, sslice (rtF (fInt w64)) (tyRef (named 1) imm (tyInt w64)) 1) ∷ (4, sslice (rtF (fInt w64)) (tyRef (named 2) imm (tyInt w64)) 2) ∷ (5, sslice (rtF (fInt w64)) (tyRef (named 3) imm (tyInt w64)) 3) ∷ (6, mslice (rtF (fInt w64)) (tyRef (named 4) mut (tyInt w64)) 4) ∷ (7, mslice (rtF (fInt w64)) (tyRef (named 5) mut (tyInt w64)) 5) ∷ (8, mslice (rtF (fInt w64)) (tyRef (named 6) mut (tyInt w64)) 6) ∷ (9, mslice (rtF (fInt w64)) (tyRef (named 7) mut (tyInt w64)) 7) ∷ (10, mslice (rtF (fInt w64)) (tyRef (named 8) mut (tyInt w64)) 8) ∷ (11, sc-here (sInt w64)) ∷ (12, arrF (Declared.row Ticket.the-type) 32 0) ∷ (13, any-gone (tyStruct (100 ∷ 101 ∷ 115 ∷ 107 ∷ 95 ∷ 98 ∷ 111 ∷ 97 ∷ 114 ∷ 100 ∷ 105 ∷ 110 ∷ 103 ∷ 115 ∷ 58 ∷ 58 ∷ 66 ∷ 111 ∷ 97 ∷ 114 ∷ 100 ∷ 101 ∷ 100 ∷ 82 ∷ 111 ∷ 119 ∷ []) (tcons (tyStruct (100 ∷ 101 ∷ 115 ∷ 107 ∷ 95 ∷ 98 ∷ 111 ∷ 97 ∷ 114 ∷ 100 ∷ 105 ∷ 110 ∷ 103 ∷ 115 ∷ 58 ∷ 58 ∷ 66 ∷ 111 ∷ 97 ∷ 114 ∷ 100 ∷ 101 ∷ 100 ∷ []) (tcons (tyStruct (119 ∷ 97 ∷ 108 ∷ 107 ∷ 58 ∷ 58 ∷ 65 ∷ 110 ∷ 115 ∷ 119 ∷ 101 ∷ 114 ∷ []) (tcons (tyEnum (114 ∷ 101 ∷ 102 ∷ 117 ∷ 115 ∷ 97 ∷ 108 ∷ 115 ∷ 58 ∷ 58 ∷ 82 ∷ 101 ∷ 102 ∷ 117 ∷ 115 ∷ 97 ∷ 108 ∷ []) (ttcons tnil (ttcons tnil (ttcons tnil (ttcons tnil (ttcons tnil (ttcons tnil (ttcons tnil (ttcons tnil (ttcons tnil (ttcons tnil (ttcons tnil (ttcons tnil (ttcons tnil (ttcons tnil (ttcons tnil (ttcons tnil (ttcons tnil (ttcons tnil (ttcons tnil (ttcons tnil (ttcons tnil (ttcons tnil (ttcons tnil (ttcons tnil (ttcons tnil (ttcons tnil (ttcons tnil ttnil)))))))))))))))))))))))))))) (tcons (tyInt w64) (tcons (tyInt w64) (tcons (tyInt w64) (tcons (tyInt w64) (tcons (tyInt w64) tnil))))))) (tcons (tyStruct (100 ∷ 101 ∷ 115 ∷ 107 ∷ 95 ∷ 98 ∷ 111 ∷ 97 ∷ 114 ∷ 100 ∷ 105 ∷ 110 ∷ 103 ∷ 115 ∷ 58 ∷ 58 ∷ 84 ∷ 97 ∷ 107 ∷ 101 ∷ 110 ∷ []) (tcons (tyInt w64) (tcons (tyInt w64) tnil))) (tcons (tyStruct (100 ∷ 101 ∷ 115 ∷ 107 ∷ 95 ∷ 98 ∷ 111 ∷ 97 ∷ 114 ∷ 100 ∷ 105 ∷ 110 ∷ 103 ∷ 115 ∷ 58 ∷ 58 ∷ 87 ∷ 97 ∷ 110 ∷ 116 ∷ 115 ∷ []) (tcons (tyInt w64) (tcons (tyArray (tyInt w64) 8) (tcons (tyArray (tyInt w64) 8) tnil)))) (tcons (tyStruct (100 ∷ 101 ∷ 115 ∷ 107 ∷ 95 ∷ 116 ∷ 105 ∷ 99 ∷ 107 ∷ 101 ∷ 116 ∷ 115 ∷ 58 ∷ 58 ∷ 76 ∷ 97 ∷ 115 ∷ 116 ∷ 115 ∷ []) (tcons (tyInt w64) (tcons (tyInt w64) tnil))) tnil))))) (tcons (tyArray (tyStruct (100 ∷ 101 ∷ 115 ∷ 107 ∷ 95 ∷ 116 ∷ 105 ∷ 99 ∷ 107 ∷ 101 ∷ 116 ∷ 115 ∷ 58 ∷ 58 ∷ 84 ∷ 105 ∷ 99 ∷ 107 ∷ 101 ∷ 116 ∷ []) (tcons (tyInt w64) (tcons (tyInt w64) (tcons (tyInt w64) (tcons (tyInt w64) tnil))))) 32) tnil)))) ∷ (14, any-gone (tyArray (tyStruct (100 ∷ 101 ∷ 115 ∷ 107 ∷ 95 ∷ 116 ∷ 105 ∷ 99 ∷ 107 ∷ 101 ∷ 116 ∷ 115 ∷ 58 ∷ 58 ∷ 84 ∷ 105 ∷ 99 ∷ 107 ∷ 101 ∷ 116 ∷ []) (tcons (tyInt w64) (tcons (tyInt w64) (tcons (tyInt w64) (tcons (tyInt w64) tnil))))) 32)) ∷ (15, any-gone (tyRef erased imm (pointee (the-row .written)))) ∷ []
 
         abbrev g9 : List.List Entry
-        g9 = (0, any-gone (tyStruct (98 ∷ 111 ∷ 97 ∷ 114 ∷ 100 ∷ 105 ∷ 110 ∷ 103 ∷ 115 ∷ 58 ∷ 58 ∷ 66 ∷ 111 ∷ 97 ∷ 114 ∷ 100 ∷ 101 ∷ 100 ∷ []) (tcons (tyStruct (119 ∷ 97 ∷ 108 ∷ 107 ∷ 58 ∷ 58 ∷ 65 ∷ 110 ∷ 115 ∷ 119 ∷ 101 ∷ 114 ∷ []) (tcons (tyEnum (114 ∷ 101 ∷ 102 ∷ 117 ∷ 115 ∷ 97 ∷ 108 ∷ 115 ∷ 58 ∷ 58 ∷ 82 ∷ 101 ∷ 102 ∷ 117 ∷ 115 ∷ 97 ∷ 108 ∷ []) (ttcons tnil (ttcons tnil (ttcons tnil (ttcons tnil (ttcons tnil (ttcons tnil (ttcons tnil (ttcons tnil (ttcons tnil (ttcons tnil (ttcons tnil (ttcons tnil (ttcons tnil (ttcons tnil (ttcons tnil (ttcons tnil (ttcons tnil (ttcons tnil (ttcons tnil (ttcons tnil (ttcons tnil (ttcons tnil (ttcons tnil (ttcons tnil (ttcons tnil (ttcons tnil (ttcons tnil ttnil)))))))))))))))))))))))))))) (tcons (tyInt w64) (tcons (tyInt w64) (tcons (tyInt w64) (tcons (tyInt w64) (tcons (tyInt w64) tnil))))))) (tcons (tyStruct (98 ∷ 111 ∷ 97 ∷ 114 ∷ 100 ∷ 105 ∷ 110 ∷ 103 ∷ 115 ∷ 58 ∷ 58 ∷ 84 ∷ 97 ∷ 107 ∷ 101 ∷ 110 ∷ []) (tcons (tyInt w64) (tcons (tyInt w64) tnil))) (tcons (tyStruct (98 ∷ 111 ∷ 97 ∷ 114 ∷ 100 ∷ 105 ∷ 110 ∷ 103 ∷ 115 ∷ 58 ∷ 58 ∷ 87 ∷ 97 ∷ 110 ∷ 116 ∷ 115 ∷ []) (tcons (tyInt w64) (tcons (tyArray (tyInt w64) 8) (tcons (tyArray (tyInt w64) 8) tnil)))) (tcons (tyStruct (116 ∷ 105 ∷ 99 ∷ 107 ∷ 101 ∷ 116 ∷ 115 ∷ 58 ∷ 58 ∷ 76 ∷ 97 ∷ 115 ∷ 116 ∷ 115 ∷ []) (tcons (tyInt w64) (tcons (tyInt w64) tnil))) tnil)))))) ∷ (1, mslice the-row (tyRef (named 0) mut (pointee (the-row .written))) 0) ∷ (2, whole (Declared.row Boarding.the-type)) ∷ (3, sslice (rtF (fInt w64)) (tyRef (named 1) imm (tyInt w64)) 1) ∷ (4, sslice (rtF (fInt w64)) (tyRef (named 2) imm (tyInt w64)) 2) ∷ (5, sslice (rtF (fInt w64)) (tyRef (named 3) imm (tyInt w64)) 3) ∷ (6, mslice-owed (rtF (fInt w64)) (tyRef (named 4) mut (tyInt w64)) 4 10 (lease (κs .1 .1 .1 .1 .0) (qs .1 .1 .1 .1 .0))) ∷ (7, mslice (rtF (fInt w64)) (tyRef (named 5) mut (tyInt w64)) 5) ∷ (8, mslice (rtF (fInt w64)) (tyRef (named 6) mut (tyInt w64)) 6) ∷ (9, mslice (rtF (fInt w64)) (tyRef (named 7) mut (tyInt w64)) 7) ∷ (10, mslice (rtF (fInt w64)) (tyRef (named 8) mut (tyInt w64)) 8) ∷ (11, sc-here (sInt w64)) ∷ (12, arrF (Declared.row Ticket.the-type) 32 0) ∷ (13, any-gone (tyStruct (98 ∷ 111 ∷ 97 ∷ 114 ∷ 100 ∷ 105 ∷ 110 ∷ 103 ∷ 115 ∷ 58 ∷ 58 ∷ 66 ∷ 111 ∷ 97 ∷ 114 ∷ 100 ∷ 101 ∷ 100 ∷ 82 ∷ 111 ∷ 119 ∷ []) (tcons (tyStruct (98 ∷ 111 ∷ 97 ∷ 114 ∷ 100 ∷ 105 ∷ 110 ∷ 103 ∷ 115 ∷ 58 ∷ 58 ∷ 66 ∷ 111 ∷ 97 ∷ 114 ∷ 100 ∷ 101 ∷ 100 ∷ []) (tcons (tyStruct (119 ∷ 97 ∷ 108 ∷ 107 ∷ 58 ∷ 58 ∷ 65 ∷ 110 ∷ 115 ∷ 119 ∷ 101 ∷ 114 ∷ []) (tcons (tyEnum (114 ∷ 101 ∷ 102 ∷ 117 ∷ 115 ∷ 97 ∷ 108 ∷ 115 ∷ 58 ∷ 58 ∷ 82 ∷ 101 ∷ 102 ∷ 117 ∷ 115 ∷ 97 ∷ 108 ∷ []) (ttcons tnil (ttcons tnil (ttcons tnil (ttcons tnil (ttcons tnil (ttcons tnil (ttcons tnil (ttcons tnil (ttcons tnil (ttcons tnil (ttcons tnil (ttcons tnil (ttcons tnil (ttcons tnil (ttcons tnil (ttcons tnil (ttcons tnil (ttcons tnil (ttcons tnil (ttcons tnil (ttcons tnil (ttcons tnil (ttcons tnil (ttcons tnil (ttcons tnil (ttcons tnil (ttcons tnil ttnil)))))))))))))))))))))))))))) (tcons (tyInt w64) (tcons (tyInt w64) (tcons (tyInt w64) (tcons (tyInt w64) (tcons (tyInt w64) tnil))))))) (tcons (tyStruct (98 ∷ 111 ∷ 97 ∷ 114 ∷ 100 ∷ 105 ∷ 110 ∷ 103 ∷ 115 ∷ 58 ∷ 58 ∷ 84 ∷ 97 ∷ 107 ∷ 101 ∷ 110 ∷ []) (tcons (tyInt w64) (tcons (tyInt w64) tnil))) (tcons (tyStruct (98 ∷ 111 ∷ 97 ∷ 114 ∷ 100 ∷ 105 ∷ 110 ∷ 103 ∷ 115 ∷ 58 ∷ 58 ∷ 87 ∷ 97 ∷ 110 ∷ 116 ∷ 115 ∷ []) (tcons (tyInt w64) (tcons (tyArray (tyInt w64) 8) (tcons (tyArray (tyInt w64) 8) tnil)))) (tcons (tyStruct (116 ∷ 105 ∷ 99 ∷ 107 ∷ 101 ∷ 116 ∷ 115 ∷ 58 ∷ 58 ∷ 76 ∷ 97 ∷ 115 ∷ 116 ∷ 115 ∷ []) (tcons (tyInt w64) (tcons (tyInt w64) tnil))) tnil))))) (tcons (tyArray (tyStruct (116 ∷ 105 ∷ 99 ∷ 107 ∷ 101 ∷ 116 ∷ 115 ∷ 58 ∷ 58 ∷ 84 ∷ 105 ∷ 99 ∷ 107 ∷ 101 ∷ 116 ∷ []) (tcons (tyInt w64) (tcons (tyInt w64) (tcons (tyInt w64) (tcons (tyInt w64) tnil))))) 32) tnil)))) ∷ (14, any-gone (tyArray (tyStruct (116 ∷ 105 ∷ 99 ∷ 107 ∷ 101 ∷ 116 ∷ 115 ∷ 58 ∷ 58 ∷ 84 ∷ 105 ∷ 99 ∷ 107 ∷ 101 ∷ 116 ∷ []) (tcons (tyInt w64) (tcons (tyInt w64) (tcons (tyInt w64) (tcons (tyInt w64) tnil))))) 32)) ∷ (15, any-gone (tyRef erased imm (pointee (the-row .written)))) ∷ []
+        g9 = (0, any-gone (tyStruct (100 ∷ 101 ∷ 115 ∷ 107 ∷ 95 ∷ 98 ∷ 111 ∷ 97 ∷ 114 ∷ 100 ∷ 105 ∷ 110 ∷ 103 ∷ 115 ∷ 58 ∷ 58 ∷ 66 ∷ 111 ∷ 97 ∷ 114 ∷ 100 ∷ 101 ∷ 100 ∷ []) (tcons (tyStruct (119 ∷ 97 ∷ 108 ∷ 107 ∷ 58 ∷ 58 ∷ 65 ∷ 110 ∷ 115 ∷ 119 ∷ 101 ∷ 114 ∷ []) (tcons (tyEnum (114 ∷ 101 ∷ 102 ∷ 117 ∷ 115 ∷ 97 ∷ 108 ∷ 115 ∷ 58 ∷ 58 ∷ 82 ∷ 101 ∷ 102 ∷ 117 ∷ 115 ∷ 97 ∷ 108 ∷ []) (ttcons tnil (ttcons tnil (ttcons tnil (ttcons tnil (ttcons tnil (ttcons tnil (ttcons tnil (ttcons tnil (ttcons tnil (ttcons tnil (ttcons tnil (ttcons tnil (ttcons tnil (ttcons tnil (ttcons tnil (ttcons tnil (ttcons tnil (ttcons tnil (ttcons tnil (ttcons tnil (ttcons tnil (ttcons tnil (ttcons tnil (ttcons tnil (ttcons tnil (ttcons tnil (ttcons tnil ttnil)))))))))))))))))))))))))))) (tcons (tyInt w64) (tcons (tyInt w64) (tcons (tyInt w64) (tcons (tyInt w64) (tcons (tyInt w64) tnil))))))) (tcons (tyStruct (100 ∷ 101 ∷ 115 ∷ 107 ∷ 95 ∷ 98 ∷ 111 ∷ 97 ∷ 114 ∷ 100 ∷ 105 ∷ 110 ∷ 103 ∷ 115 ∷ 58 ∷ 58 ∷ 84 ∷ 97 ∷ 107 ∷ 101 ∷ 110 ∷ []) (tcons (tyInt w64) (tcons (tyInt w64) tnil))) (tcons (tyStruct (100 ∷ 101 ∷ 115 ∷ 107 ∷ 95 ∷ 98 ∷ 111 ∷ 97 ∷ 114 ∷ 100 ∷ 105 ∷ 110 ∷ 103 ∷ 115 ∷ 58 ∷ 58 ∷ 87 ∷ 97 ∷ 110 ∷ 116 ∷ 115 ∷ []) (tcons (tyInt w64) (tcons (tyArray (tyInt w64) 8) (tcons (tyArray (tyInt w64) 8) tnil)))) (tcons (tyStruct (100 ∷ 101 ∷ 115 ∷ 107 ∷ 95 ∷ 116 ∷ 105 ∷ 99 ∷ 107 ∷ 101 ∷ 116 ∷ 115 ∷ 58 ∷ 58 ∷ 76 ∷ 97 ∷ 115 ∷ 116 ∷ 115 ∷ []) (tcons (tyInt w64) (tcons (tyInt w64) tnil))) tnil)))))) ∷ (1, mslice the-row (tyRef (named 0) mut (pointee (the-row .written))) 0) ∷ (2, whole (Declared.row Boarding.the-type)) ∷ (3, sslice (rtF (fInt w64)) (tyRef (named 1) imm (tyInt w64)) 1) ∷ (4, sslice (rtF (fInt w64)) (tyRef (named 2) imm (tyInt w64)) 2) ∷ (5, sslice (rtF (fInt w64)) (tyRef (named 3) imm (tyInt w64)) 3) ∷ (6, mslice-owed (rtF (fInt w64)) (tyRef (named 4) mut (tyInt w64)) 4 10 (lease (κs .1 .1 .1 .1 .0) (qs .1 .1 .1 .1 .0))) ∷ (7, mslice (rtF (fInt w64)) (tyRef (named 5) mut (tyInt w64)) 5) ∷ (8, mslice (rtF (fInt w64)) (tyRef (named 6) mut (tyInt w64)) 6) ∷ (9, mslice (rtF (fInt w64)) (tyRef (named 7) mut (tyInt w64)) 7) ∷ (10, mslice (rtF (fInt w64)) (tyRef (named 8) mut (tyInt w64)) 8) ∷ (11, sc-here (sInt w64)) ∷ (12, arrF (Declared.row Ticket.the-type) 32 0) ∷ (13, any-gone (tyStruct (100 ∷ 101 ∷ 115 ∷ 107 ∷ 95 ∷ 98 ∷ 111 ∷ 97 ∷ 114 ∷ 100 ∷ 105 ∷ 110 ∷ 103 ∷ 115 ∷ 58 ∷ 58 ∷ 66 ∷ 111 ∷ 97 ∷ 114 ∷ 100 ∷ 101 ∷ 100 ∷ 82 ∷ 111 ∷ 119 ∷ []) (tcons (tyStruct (100 ∷ 101 ∷ 115 ∷ 107 ∷ 95 ∷ 98 ∷ 111 ∷ 97 ∷ 114 ∷ 100 ∷ 105 ∷ 110 ∷ 103 ∷ 115 ∷ 58 ∷ 58 ∷ 66 ∷ 111 ∷ 97 ∷ 114 ∷ 100 ∷ 101 ∷ 100 ∷ []) (tcons (tyStruct (119 ∷ 97 ∷ 108 ∷ 107 ∷ 58 ∷ 58 ∷ 65 ∷ 110 ∷ 115 ∷ 119 ∷ 101 ∷ 114 ∷ []) (tcons (tyEnum (114 ∷ 101 ∷ 102 ∷ 117 ∷ 115 ∷ 97 ∷ 108 ∷ 115 ∷ 58 ∷ 58 ∷ 82 ∷ 101 ∷ 102 ∷ 117 ∷ 115 ∷ 97 ∷ 108 ∷ []) (ttcons tnil (ttcons tnil (ttcons tnil (ttcons tnil (ttcons tnil (ttcons tnil (ttcons tnil (ttcons tnil (ttcons tnil (ttcons tnil (ttcons tnil (ttcons tnil (ttcons tnil (ttcons tnil (ttcons tnil (ttcons tnil (ttcons tnil (ttcons tnil (ttcons tnil (ttcons tnil (ttcons tnil (ttcons tnil (ttcons tnil (ttcons tnil (ttcons tnil (ttcons tnil (ttcons tnil ttnil)))))))))))))))))))))))))))) (tcons (tyInt w64) (tcons (tyInt w64) (tcons (tyInt w64) (tcons (tyInt w64) (tcons (tyInt w64) tnil))))))) (tcons (tyStruct (100 ∷ 101 ∷ 115 ∷ 107 ∷ 95 ∷ 98 ∷ 111 ∷ 97 ∷ 114 ∷ 100 ∷ 105 ∷ 110 ∷ 103 ∷ 115 ∷ 58 ∷ 58 ∷ 84 ∷ 97 ∷ 107 ∷ 101 ∷ 110 ∷ []) (tcons (tyInt w64) (tcons (tyInt w64) tnil))) (tcons (tyStruct (100 ∷ 101 ∷ 115 ∷ 107 ∷ 95 ∷ 98 ∷ 111 ∷ 97 ∷ 114 ∷ 100 ∷ 105 ∷ 110 ∷ 103 ∷ 115 ∷ 58 ∷ 58 ∷ 87 ∷ 97 ∷ 110 ∷ 116 ∷ 115 ∷ []) (tcons (tyInt w64) (tcons (tyArray (tyInt w64) 8) (tcons (tyArray (tyInt w64) 8) tnil)))) (tcons (tyStruct (100 ∷ 101 ∷ 115 ∷ 107 ∷ 95 ∷ 116 ∷ 105 ∷ 99 ∷ 107 ∷ 101 ∷ 116 ∷ 115 ∷ 58 ∷ 58 ∷ 76 ∷ 97 ∷ 115 ∷ 116 ∷ 115 ∷ []) (tcons (tyInt w64) (tcons (tyInt w64) tnil))) tnil))))) (tcons (tyArray (tyStruct (100 ∷ 101 ∷ 115 ∷ 107 ∷ 95 ∷ 116 ∷ 105 ∷ 99 ∷ 107 ∷ 101 ∷ 116 ∷ 115 ∷ 58 ∷ 58 ∷ 84 ∷ 105 ∷ 99 ∷ 107 ∷ 101 ∷ 116 ∷ []) (tcons (tyInt w64) (tcons (tyInt w64) (tcons (tyInt w64) (tcons (tyInt w64) tnil))))) 32) tnil)))) ∷ (14, any-gone (tyArray (tyStruct (100 ∷ 101 ∷ 115 ∷ 107 ∷ 95 ∷ 116 ∷ 105 ∷ 99 ∷ 107 ∷ 101 ∷ 116 ∷ 115 ∷ 58 ∷ 58 ∷ 84 ∷ 105 ∷ 99 ∷ 107 ∷ 101 ∷ 116 ∷ []) (tcons (tyInt w64) (tcons (tyInt w64) (tcons (tyInt w64) (tcons (tyInt w64) tnil))))) 32)) ∷ (15, any-gone (tyRef erased imm (pointee (the-row .written)))) ∷ []
 
         abbrev g12 : List.List Entry
-        g12 = (0, any-gone (tyStruct (98 ∷ 111 ∷ 97 ∷ 114 ∷ 100 ∷ 105 ∷ 110 ∷ 103 ∷ 115 ∷ 58 ∷ 58 ∷ 66 ∷ 111 ∷ 97 ∷ 114 ∷ 100 ∷ 101 ∷ 100 ∷ []) (tcons (tyStruct (119 ∷ 97 ∷ 108 ∷ 107 ∷ 58 ∷ 58 ∷ 65 ∷ 110 ∷ 115 ∷ 119 ∷ 101 ∷ 114 ∷ []) (tcons (tyEnum (114 ∷ 101 ∷ 102 ∷ 117 ∷ 115 ∷ 97 ∷ 108 ∷ 115 ∷ 58 ∷ 58 ∷ 82 ∷ 101 ∷ 102 ∷ 117 ∷ 115 ∷ 97 ∷ 108 ∷ []) (ttcons tnil (ttcons tnil (ttcons tnil (ttcons tnil (ttcons tnil (ttcons tnil (ttcons tnil (ttcons tnil (ttcons tnil (ttcons tnil (ttcons tnil (ttcons tnil (ttcons tnil (ttcons tnil (ttcons tnil (ttcons tnil (ttcons tnil (ttcons tnil (ttcons tnil (ttcons tnil (ttcons tnil (ttcons tnil (ttcons tnil (ttcons tnil (ttcons tnil (ttcons tnil (ttcons tnil ttnil)))))))))))))))))))))))))))) (tcons (tyInt w64) (tcons (tyInt w64) (tcons (tyInt w64) (tcons (tyInt w64) (tcons (tyInt w64) tnil))))))) (tcons (tyStruct (98 ∷ 111 ∷ 97 ∷ 114 ∷ 100 ∷ 105 ∷ 110 ∷ 103 ∷ 115 ∷ 58 ∷ 58 ∷ 84 ∷ 97 ∷ 107 ∷ 101 ∷ 110 ∷ []) (tcons (tyInt w64) (tcons (tyInt w64) tnil))) (tcons (tyStruct (98 ∷ 111 ∷ 97 ∷ 114 ∷ 100 ∷ 105 ∷ 110 ∷ 103 ∷ 115 ∷ 58 ∷ 58 ∷ 87 ∷ 97 ∷ 110 ∷ 116 ∷ 115 ∷ []) (tcons (tyInt w64) (tcons (tyArray (tyInt w64) 8) (tcons (tyArray (tyInt w64) 8) tnil)))) (tcons (tyStruct (116 ∷ 105 ∷ 99 ∷ 107 ∷ 101 ∷ 116 ∷ 115 ∷ 58 ∷ 58 ∷ 76 ∷ 97 ∷ 115 ∷ 116 ∷ 115 ∷ []) (tcons (tyInt w64) (tcons (tyInt w64) tnil))) tnil)))))) ∷ (1, mslice the-row (tyRef (named 0) mut (pointee (the-row .written))) 0) ∷ (2, whole (Declared.row Boarding.the-type)) ∷ (3, sslice (rtF (fInt w64)) (tyRef (named 1) imm (tyInt w64)) 1) ∷ (4, sslice (rtF (fInt w64)) (tyRef (named 2) imm (tyInt w64)) 2) ∷ (5, sslice (rtF (fInt w64)) (tyRef (named 3) imm (tyInt w64)) 3) ∷ (6, mslice-owed (rtF (fInt w64)) (tyRef (named 4) mut (tyInt w64)) 4 10 (lease (κs .1 .1 .1 .1 .0) (qs .1 .1 .1 .1 .0))) ∷ (7, mslice-owed (rtF (fInt w64)) (tyRef (named 5) mut (tyInt w64)) 5 11 (lease (κs .1 .1 .1 .1 .1 .0) (qs .1 .1 .1 .1 .1 .0))) ∷ (8, mslice (rtF (fInt w64)) (tyRef (named 6) mut (tyInt w64)) 6) ∷ (9, mslice (rtF (fInt w64)) (tyRef (named 7) mut (tyInt w64)) 7) ∷ (10, mslice (rtF (fInt w64)) (tyRef (named 8) mut (tyInt w64)) 8) ∷ (11, sc-here (sInt w64)) ∷ (12, arrF (Declared.row Ticket.the-type) 32 0) ∷ (13, any-gone (tyStruct (98 ∷ 111 ∷ 97 ∷ 114 ∷ 100 ∷ 105 ∷ 110 ∷ 103 ∷ 115 ∷ 58 ∷ 58 ∷ 66 ∷ 111 ∷ 97 ∷ 114 ∷ 100 ∷ 101 ∷ 100 ∷ 82 ∷ 111 ∷ 119 ∷ []) (tcons (tyStruct (98 ∷ 111 ∷ 97 ∷ 114 ∷ 100 ∷ 105 ∷ 110 ∷ 103 ∷ 115 ∷ 58 ∷ 58 ∷ 66 ∷ 111 ∷ 97 ∷ 114 ∷ 100 ∷ 101 ∷ 100 ∷ []) (tcons (tyStruct (119 ∷ 97 ∷ 108 ∷ 107 ∷ 58 ∷ 58 ∷ 65 ∷ 110 ∷ 115 ∷ 119 ∷ 101 ∷ 114 ∷ []) (tcons (tyEnum (114 ∷ 101 ∷ 102 ∷ 117 ∷ 115 ∷ 97 ∷ 108 ∷ 115 ∷ 58 ∷ 58 ∷ 82 ∷ 101 ∷ 102 ∷ 117 ∷ 115 ∷ 97 ∷ 108 ∷ []) (ttcons tnil (ttcons tnil (ttcons tnil (ttcons tnil (ttcons tnil (ttcons tnil (ttcons tnil (ttcons tnil (ttcons tnil (ttcons tnil (ttcons tnil (ttcons tnil (ttcons tnil (ttcons tnil (ttcons tnil (ttcons tnil (ttcons tnil (ttcons tnil (ttcons tnil (ttcons tnil (ttcons tnil (ttcons tnil (ttcons tnil (ttcons tnil (ttcons tnil (ttcons tnil (ttcons tnil ttnil)))))))))))))))))))))))))))) (tcons (tyInt w64) (tcons (tyInt w64) (tcons (tyInt w64) (tcons (tyInt w64) (tcons (tyInt w64) tnil))))))) (tcons (tyStruct (98 ∷ 111 ∷ 97 ∷ 114 ∷ 100 ∷ 105 ∷ 110 ∷ 103 ∷ 115 ∷ 58 ∷ 58 ∷ 84 ∷ 97 ∷ 107 ∷ 101 ∷ 110 ∷ []) (tcons (tyInt w64) (tcons (tyInt w64) tnil))) (tcons (tyStruct (98 ∷ 111 ∷ 97 ∷ 114 ∷ 100 ∷ 105 ∷ 110 ∷ 103 ∷ 115 ∷ 58 ∷ 58 ∷ 87 ∷ 97 ∷ 110 ∷ 116 ∷ 115 ∷ []) (tcons (tyInt w64) (tcons (tyArray (tyInt w64) 8) (tcons (tyArray (tyInt w64) 8) tnil)))) (tcons (tyStruct (116 ∷ 105 ∷ 99 ∷ 107 ∷ 101 ∷ 116 ∷ 115 ∷ 58 ∷ 58 ∷ 76 ∷ 97 ∷ 115 ∷ 116 ∷ 115 ∷ []) (tcons (tyInt w64) (tcons (tyInt w64) tnil))) tnil))))) (tcons (tyArray (tyStruct (116 ∷ 105 ∷ 99 ∷ 107 ∷ 101 ∷ 116 ∷ 115 ∷ 58 ∷ 58 ∷ 84 ∷ 105 ∷ 99 ∷ 107 ∷ 101 ∷ 116 ∷ []) (tcons (tyInt w64) (tcons (tyInt w64) (tcons (tyInt w64) (tcons (tyInt w64) tnil))))) 32) tnil)))) ∷ (14, any-gone (tyArray (tyStruct (116 ∷ 105 ∷ 99 ∷ 107 ∷ 101 ∷ 116 ∷ 115 ∷ 58 ∷ 58 ∷ 84 ∷ 105 ∷ 99 ∷ 107 ∷ 101 ∷ 116 ∷ []) (tcons (tyInt w64) (tcons (tyInt w64) (tcons (tyInt w64) (tcons (tyInt w64) tnil))))) 32)) ∷ (15, any-gone (tyRef erased imm (pointee (the-row .written)))) ∷ []
+        g12 = (0, any-gone (tyStruct (100 ∷ 101 ∷ 115 ∷ 107 ∷ 95 ∷ 98 ∷ 111 ∷ 97 ∷ 114 ∷ 100 ∷ 105 ∷ 110 ∷ 103 ∷ 115 ∷ 58 ∷ 58 ∷ 66 ∷ 111 ∷ 97 ∷ 114 ∷ 100 ∷ 101 ∷ 100 ∷ []) (tcons (tyStruct (119 ∷ 97 ∷ 108 ∷ 107 ∷ 58 ∷ 58 ∷ 65 ∷ 110 ∷ 115 ∷ 119 ∷ 101 ∷ 114 ∷ []) (tcons (tyEnum (114 ∷ 101 ∷ 102 ∷ 117 ∷ 115 ∷ 97 ∷ 108 ∷ 115 ∷ 58 ∷ 58 ∷ 82 ∷ 101 ∷ 102 ∷ 117 ∷ 115 ∷ 97 ∷ 108 ∷ []) (ttcons tnil (ttcons tnil (ttcons tnil (ttcons tnil (ttcons tnil (ttcons tnil (ttcons tnil (ttcons tnil (ttcons tnil (ttcons tnil (ttcons tnil (ttcons tnil (ttcons tnil (ttcons tnil (ttcons tnil (ttcons tnil (ttcons tnil (ttcons tnil (ttcons tnil (ttcons tnil (ttcons tnil (ttcons tnil (ttcons tnil (ttcons tnil (ttcons tnil (ttcons tnil (ttcons tnil ttnil)))))))))))))))))))))))))))) (tcons (tyInt w64) (tcons (tyInt w64) (tcons (tyInt w64) (tcons (tyInt w64) (tcons (tyInt w64) tnil))))))) (tcons (tyStruct (100 ∷ 101 ∷ 115 ∷ 107 ∷ 95 ∷ 98 ∷ 111 ∷ 97 ∷ 114 ∷ 100 ∷ 105 ∷ 110 ∷ 103 ∷ 115 ∷ 58 ∷ 58 ∷ 84 ∷ 97 ∷ 107 ∷ 101 ∷ 110 ∷ []) (tcons (tyInt w64) (tcons (tyInt w64) tnil))) (tcons (tyStruct (100 ∷ 101 ∷ 115 ∷ 107 ∷ 95 ∷ 98 ∷ 111 ∷ 97 ∷ 114 ∷ 100 ∷ 105 ∷ 110 ∷ 103 ∷ 115 ∷ 58 ∷ 58 ∷ 87 ∷ 97 ∷ 110 ∷ 116 ∷ 115 ∷ []) (tcons (tyInt w64) (tcons (tyArray (tyInt w64) 8) (tcons (tyArray (tyInt w64) 8) tnil)))) (tcons (tyStruct (100 ∷ 101 ∷ 115 ∷ 107 ∷ 95 ∷ 116 ∷ 105 ∷ 99 ∷ 107 ∷ 101 ∷ 116 ∷ 115 ∷ 58 ∷ 58 ∷ 76 ∷ 97 ∷ 115 ∷ 116 ∷ 115 ∷ []) (tcons (tyInt w64) (tcons (tyInt w64) tnil))) tnil)))))) ∷ (1, mslice the-row (tyRef (named 0) mut (pointee (the-row .written))) 0) ∷ (2, whole (Declared.row Boarding.the-type)) ∷ (3, sslice (rtF (fInt w64)) (tyRef (named 1) imm (tyInt w64)) 1) ∷ (4, sslice (rtF (fInt w64)) (tyRef (named 2) imm (tyInt w64)) 2) ∷ (5, sslice (rtF (fInt w64)) (tyRef (named 3) imm (tyInt w64)) 3) ∷ (6, mslice-owed (rtF (fInt w64)) (tyRef (named 4) mut (tyInt w64)) 4 10 (lease (κs .1 .1 .1 .1 .0) (qs .1 .1 .1 .1 .0))) ∷ (7, mslice-owed (rtF (fInt w64)) (tyRef (named 5) mut (tyInt w64)) 5 11 (lease (κs .1 .1 .1 .1 .1 .0) (qs .1 .1 .1 .1 .1 .0))) ∷ (8, mslice (rtF (fInt w64)) (tyRef (named 6) mut (tyInt w64)) 6) ∷ (9, mslice (rtF (fInt w64)) (tyRef (named 7) mut (tyInt w64)) 7) ∷ (10, mslice (rtF (fInt w64)) (tyRef (named 8) mut (tyInt w64)) 8) ∷ (11, sc-here (sInt w64)) ∷ (12, arrF (Declared.row Ticket.the-type) 32 0) ∷ (13, any-gone (tyStruct (100 ∷ 101 ∷ 115 ∷ 107 ∷ 95 ∷ 98 ∷ 111 ∷ 97 ∷ 114 ∷ 100 ∷ 105 ∷ 110 ∷ 103 ∷ 115 ∷ 58 ∷ 58 ∷ 66 ∷ 111 ∷ 97 ∷ 114 ∷ 100 ∷ 101 ∷ 100 ∷ 82 ∷ 111 ∷ 119 ∷ []) (tcons (tyStruct (100 ∷ 101 ∷ 115 ∷ 107 ∷ 95 ∷ 98 ∷ 111 ∷ 97 ∷ 114 ∷ 100 ∷ 105 ∷ 110 ∷ 103 ∷ 115 ∷ 58 ∷ 58 ∷ 66 ∷ 111 ∷ 97 ∷ 114 ∷ 100 ∷ 101 ∷ 100 ∷ []) (tcons (tyStruct (119 ∷ 97 ∷ 108 ∷ 107 ∷ 58 ∷ 58 ∷ 65 ∷ 110 ∷ 115 ∷ 119 ∷ 101 ∷ 114 ∷ []) (tcons (tyEnum (114 ∷ 101 ∷ 102 ∷ 117 ∷ 115 ∷ 97 ∷ 108 ∷ 115 ∷ 58 ∷ 58 ∷ 82 ∷ 101 ∷ 102 ∷ 117 ∷ 115 ∷ 97 ∷ 108 ∷ []) (ttcons tnil (ttcons tnil (ttcons tnil (ttcons tnil (ttcons tnil (ttcons tnil (ttcons tnil (ttcons tnil (ttcons tnil (ttcons tnil (ttcons tnil (ttcons tnil (ttcons tnil (ttcons tnil (ttcons tnil (ttcons tnil (ttcons tnil (ttcons tnil (ttcons tnil (ttcons tnil (ttcons tnil (ttcons tnil (ttcons tnil (ttcons tnil (ttcons tnil (ttcons tnil (ttcons tnil ttnil)))))))))))))))))))))))))))) (tcons (tyInt w64) (tcons (tyInt w64) (tcons (tyInt w64) (tcons (tyInt w64) (tcons (tyInt w64) tnil))))))) (tcons (tyStruct (100 ∷ 101 ∷ 115 ∷ 107 ∷ 95 ∷ 98 ∷ 111 ∷ 97 ∷ 114 ∷ 100 ∷ 105 ∷ 110 ∷ 103 ∷ 115 ∷ 58 ∷ 58 ∷ 84 ∷ 97 ∷ 107 ∷ 101 ∷ 110 ∷ []) (tcons (tyInt w64) (tcons (tyInt w64) tnil))) (tcons (tyStruct (100 ∷ 101 ∷ 115 ∷ 107 ∷ 95 ∷ 98 ∷ 111 ∷ 97 ∷ 114 ∷ 100 ∷ 105 ∷ 110 ∷ 103 ∷ 115 ∷ 58 ∷ 58 ∷ 87 ∷ 97 ∷ 110 ∷ 116 ∷ 115 ∷ []) (tcons (tyInt w64) (tcons (tyArray (tyInt w64) 8) (tcons (tyArray (tyInt w64) 8) tnil)))) (tcons (tyStruct (100 ∷ 101 ∷ 115 ∷ 107 ∷ 95 ∷ 116 ∷ 105 ∷ 99 ∷ 107 ∷ 101 ∷ 116 ∷ 115 ∷ 58 ∷ 58 ∷ 76 ∷ 97 ∷ 115 ∷ 116 ∷ 115 ∷ []) (tcons (tyInt w64) (tcons (tyInt w64) tnil))) tnil))))) (tcons (tyArray (tyStruct (100 ∷ 101 ∷ 115 ∷ 107 ∷ 95 ∷ 116 ∷ 105 ∷ 99 ∷ 107 ∷ 101 ∷ 116 ∷ 115 ∷ 58 ∷ 58 ∷ 84 ∷ 105 ∷ 99 ∷ 107 ∷ 101 ∷ 116 ∷ []) (tcons (tyInt w64) (tcons (tyInt w64) (tcons (tyInt w64) (tcons (tyInt w64) tnil))))) 32) tnil)))) ∷ (14, any-gone (tyArray (tyStruct (100 ∷ 101 ∷ 115 ∷ 107 ∷ 95 ∷ 116 ∷ 105 ∷ 99 ∷ 107 ∷ 101 ∷ 116 ∷ 115 ∷ 58 ∷ 58 ∷ 84 ∷ 105 ∷ 99 ∷ 107 ∷ 101 ∷ 116 ∷ []) (tcons (tyInt w64) (tcons (tyInt w64) (tcons (tyInt w64) (tcons (tyInt w64) tnil))))) 32)) ∷ (15, any-gone (tyRef erased imm (pointee (the-row .written)))) ∷ []
 
         abbrev g15 : List.List Entry
-        g15 = (0, any-gone (tyStruct (98 ∷ 111 ∷ 97 ∷ 114 ∷ 100 ∷ 105 ∷ 110 ∷ 103 ∷ 115 ∷ 58 ∷ 58 ∷ 66 ∷ 111 ∷ 97 ∷ 114 ∷ 100 ∷ 101 ∷ 100 ∷ []) (tcons (tyStruct (119 ∷ 97 ∷ 108 ∷ 107 ∷ 58 ∷ 58 ∷ 65 ∷ 110 ∷ 115 ∷ 119 ∷ 101 ∷ 114 ∷ []) (tcons (tyEnum (114 ∷ 101 ∷ 102 ∷ 117 ∷ 115 ∷ 97 ∷ 108 ∷ 115 ∷ 58 ∷ 58 ∷ 82 ∷ 101 ∷ 102 ∷ 117 ∷ 115 ∷ 97 ∷ 108 ∷ []) (ttcons tnil (ttcons tnil (ttcons tnil (ttcons tnil (ttcons tnil (ttcons tnil (ttcons tnil (ttcons tnil (ttcons tnil (ttcons tnil (ttcons tnil (ttcons tnil (ttcons tnil (ttcons tnil (ttcons tnil (ttcons tnil (ttcons tnil (ttcons tnil (ttcons tnil (ttcons tnil (ttcons tnil (ttcons tnil (ttcons tnil (ttcons tnil (ttcons tnil (ttcons tnil (ttcons tnil ttnil)))))))))))))))))))))))))))) (tcons (tyInt w64) (tcons (tyInt w64) (tcons (tyInt w64) (tcons (tyInt w64) (tcons (tyInt w64) tnil))))))) (tcons (tyStruct (98 ∷ 111 ∷ 97 ∷ 114 ∷ 100 ∷ 105 ∷ 110 ∷ 103 ∷ 115 ∷ 58 ∷ 58 ∷ 84 ∷ 97 ∷ 107 ∷ 101 ∷ 110 ∷ []) (tcons (tyInt w64) (tcons (tyInt w64) tnil))) (tcons (tyStruct (98 ∷ 111 ∷ 97 ∷ 114 ∷ 100 ∷ 105 ∷ 110 ∷ 103 ∷ 115 ∷ 58 ∷ 58 ∷ 87 ∷ 97 ∷ 110 ∷ 116 ∷ 115 ∷ []) (tcons (tyInt w64) (tcons (tyArray (tyInt w64) 8) (tcons (tyArray (tyInt w64) 8) tnil)))) (tcons (tyStruct (116 ∷ 105 ∷ 99 ∷ 107 ∷ 101 ∷ 116 ∷ 115 ∷ 58 ∷ 58 ∷ 76 ∷ 97 ∷ 115 ∷ 116 ∷ 115 ∷ []) (tcons (tyInt w64) (tcons (tyInt w64) tnil))) tnil)))))) ∷ (1, mslice the-row (tyRef (named 0) mut (pointee (the-row .written))) 0) ∷ (2, whole (Declared.row Boarding.the-type)) ∷ (3, sslice (rtF (fInt w64)) (tyRef (named 1) imm (tyInt w64)) 1) ∷ (4, sslice (rtF (fInt w64)) (tyRef (named 2) imm (tyInt w64)) 2) ∷ (5, sslice (rtF (fInt w64)) (tyRef (named 3) imm (tyInt w64)) 3) ∷ (6, mslice-owed (rtF (fInt w64)) (tyRef (named 4) mut (tyInt w64)) 4 10 (lease (κs .1 .1 .1 .1 .0) (qs .1 .1 .1 .1 .0))) ∷ (7, mslice-owed (rtF (fInt w64)) (tyRef (named 5) mut (tyInt w64)) 5 11 (lease (κs .1 .1 .1 .1 .1 .0) (qs .1 .1 .1 .1 .1 .0))) ∷ (8, mslice-owed (rtF (fInt w64)) (tyRef (named 6) mut (tyInt w64)) 6 12 (lease (κs .1 .1 .1 .1 .1 .1 .0) (qs .1 .1 .1 .1 .1 .1 .0))) ∷ (9, mslice (rtF (fInt w64)) (tyRef (named 7) mut (tyInt w64)) 7) ∷ (10, mslice (rtF (fInt w64)) (tyRef (named 8) mut (tyInt w64)) 8) ∷ (11, sc-here (sInt w64)) ∷ (12, arrF (Declared.row Ticket.the-type) 32 0) ∷ (13, any-gone (tyStruct (98 ∷ 111 ∷ 97 ∷ 114 ∷ 100 ∷ 105 ∷ 110 ∷ 103 ∷ 115 ∷ 58 ∷ 58 ∷ 66 ∷ 111 ∷ 97 ∷ 114 ∷ 100 ∷ 101 ∷ 100 ∷ 82 ∷ 111 ∷ 119 ∷ []) (tcons (tyStruct (98 ∷ 111 ∷ 97 ∷ 114 ∷ 100 ∷ 105 ∷ 110 ∷ 103 ∷ 115 ∷ 58 ∷ 58 ∷ 66 ∷ 111 ∷ 97 ∷ 114 ∷ 100 ∷ 101 ∷ 100 ∷ []) (tcons (tyStruct (119 ∷ 97 ∷ 108 ∷ 107 ∷ 58 ∷ 58 ∷ 65 ∷ 110 ∷ 115 ∷ 119 ∷ 101 ∷ 114 ∷ []) (tcons (tyEnum (114 ∷ 101 ∷ 102 ∷ 117 ∷ 115 ∷ 97 ∷ 108 ∷ 115 ∷ 58 ∷ 58 ∷ 82 ∷ 101 ∷ 102 ∷ 117 ∷ 115 ∷ 97 ∷ 108 ∷ []) (ttcons tnil (ttcons tnil (ttcons tnil (ttcons tnil (ttcons tnil (ttcons tnil (ttcons tnil (ttcons tnil (ttcons tnil (ttcons tnil (ttcons tnil (ttcons tnil (ttcons tnil (ttcons tnil (ttcons tnil (ttcons tnil (ttcons tnil (ttcons tnil (ttcons tnil (ttcons tnil (ttcons tnil (ttcons tnil (ttcons tnil (ttcons tnil (ttcons tnil (ttcons tnil (ttcons tnil ttnil)))))))))))))))))))))))))))) (tcons (tyInt w64) (tcons (tyInt w64) (tcons (tyInt w64) (tcons (tyInt w64) (tcons (tyInt w64) tnil))))))) (tcons (tyStruct (98 ∷ 111 ∷ 97 ∷ 114 ∷ 100 ∷ 105 ∷ 110 ∷ 103 ∷ 115 ∷ 58 ∷ 58 ∷ 84 ∷ 97 ∷ 107 ∷ 101 ∷ 110 ∷ []) (tcons (tyInt w64) (tcons (tyInt w64) tnil))) (tcons (tyStruct (98 ∷ 111 ∷ 97 ∷ 114 ∷ 100 ∷ 105 ∷ 110 ∷ 103 ∷ 115 ∷ 58 ∷ 58 ∷ 87 ∷ 97 ∷ 110 ∷ 116 ∷ 115 ∷ []) (tcons (tyInt w64) (tcons (tyArray (tyInt w64) 8) (tcons (tyArray (tyInt w64) 8) tnil)))) (tcons (tyStruct (116 ∷ 105 ∷ 99 ∷ 107 ∷ 101 ∷ 116 ∷ 115 ∷ 58 ∷ 58 ∷ 76 ∷ 97 ∷ 115 ∷ 116 ∷ 115 ∷ []) (tcons (tyInt w64) (tcons (tyInt w64) tnil))) tnil))))) (tcons (tyArray (tyStruct (116 ∷ 105 ∷ 99 ∷ 107 ∷ 101 ∷ 116 ∷ 115 ∷ 58 ∷ 58 ∷ 84 ∷ 105 ∷ 99 ∷ 107 ∷ 101 ∷ 116 ∷ []) (tcons (tyInt w64) (tcons (tyInt w64) (tcons (tyInt w64) (tcons (tyInt w64) tnil))))) 32) tnil)))) ∷ (14, any-gone (tyArray (tyStruct (116 ∷ 105 ∷ 99 ∷ 107 ∷ 101 ∷ 116 ∷ 115 ∷ 58 ∷ 58 ∷ 84 ∷ 105 ∷ 99 ∷ 107 ∷ 101 ∷ 116 ∷ []) (tcons (tyInt w64) (tcons (tyInt w64) (tcons (tyInt w64) (tcons (tyInt w64) tnil))))) 32)) ∷ (15, any-gone (tyRef erased imm (pointee (the-row .written)))) ∷ []
+        g15 = (0, any-gone (tyStruct (100 ∷ 101 ∷ 115 ∷ 107 ∷ 95 ∷ 98 ∷ 111 ∷ 97 ∷ 114 ∷ 100 ∷ 105 ∷ 110 ∷ 103 ∷ 115 ∷ 58 ∷ 58 ∷ 66 ∷ 111 ∷ 97 ∷ 114 ∷ 100 ∷ 101 ∷ 100 ∷ []) (tcons (tyStruct (119 ∷ 97 ∷ 108 ∷ 107 ∷ 58 ∷ 58 ∷ 65 ∷ 110 ∷ 115 ∷ 119 ∷ 101 ∷ 114 ∷ []) (tcons (tyEnum (114 ∷ 101 ∷ 102 ∷ 117 ∷ 115 ∷ 97 ∷ 108 ∷ 115 ∷ 58 ∷ 58 ∷ 82 ∷ 101 ∷ 102 ∷ 117 ∷ 115 ∷ 97 ∷ 108 ∷ []) (ttcons tnil (ttcons tnil (ttcons tnil (ttcons tnil (ttcons tnil (ttcons tnil (ttcons tnil (ttcons tnil (ttcons tnil (ttcons tnil (ttcons tnil (ttcons tnil (ttcons tnil (ttcons tnil (ttcons tnil (ttcons tnil (ttcons tnil (ttcons tnil (ttcons tnil (ttcons tnil (ttcons tnil (ttcons tnil (ttcons tnil (ttcons tnil (ttcons tnil (ttcons tnil (ttcons tnil ttnil)))))))))))))))))))))))))))) (tcons (tyInt w64) (tcons (tyInt w64) (tcons (tyInt w64) (tcons (tyInt w64) (tcons (tyInt w64) tnil))))))) (tcons (tyStruct (100 ∷ 101 ∷ 115 ∷ 107 ∷ 95 ∷ 98 ∷ 111 ∷ 97 ∷ 114 ∷ 100 ∷ 105 ∷ 110 ∷ 103 ∷ 115 ∷ 58 ∷ 58 ∷ 84 ∷ 97 ∷ 107 ∷ 101 ∷ 110 ∷ []) (tcons (tyInt w64) (tcons (tyInt w64) tnil))) (tcons (tyStruct (100 ∷ 101 ∷ 115 ∷ 107 ∷ 95 ∷ 98 ∷ 111 ∷ 97 ∷ 114 ∷ 100 ∷ 105 ∷ 110 ∷ 103 ∷ 115 ∷ 58 ∷ 58 ∷ 87 ∷ 97 ∷ 110 ∷ 116 ∷ 115 ∷ []) (tcons (tyInt w64) (tcons (tyArray (tyInt w64) 8) (tcons (tyArray (tyInt w64) 8) tnil)))) (tcons (tyStruct (100 ∷ 101 ∷ 115 ∷ 107 ∷ 95 ∷ 116 ∷ 105 ∷ 99 ∷ 107 ∷ 101 ∷ 116 ∷ 115 ∷ 58 ∷ 58 ∷ 76 ∷ 97 ∷ 115 ∷ 116 ∷ 115 ∷ []) (tcons (tyInt w64) (tcons (tyInt w64) tnil))) tnil)))))) ∷ (1, mslice the-row (tyRef (named 0) mut (pointee (the-row .written))) 0) ∷ (2, whole (Declared.row Boarding.the-type)) ∷ (3, sslice (rtF (fInt w64)) (tyRef (named 1) imm (tyInt w64)) 1) ∷ (4, sslice (rtF (fInt w64)) (tyRef (named 2) imm (tyInt w64)) 2) ∷ (5, sslice (rtF (fInt w64)) (tyRef (named 3) imm (tyInt w64)) 3) ∷ (6, mslice-owed (rtF (fInt w64)) (tyRef (named 4) mut (tyInt w64)) 4 10 (lease (κs .1 .1 .1 .1 .0) (qs .1 .1 .1 .1 .0))) ∷ (7, mslice-owed (rtF (fInt w64)) (tyRef (named 5) mut (tyInt w64)) 5 11 (lease (κs .1 .1 .1 .1 .1 .0) (qs .1 .1 .1 .1 .1 .0))) ∷ (8, mslice-owed (rtF (fInt w64)) (tyRef (named 6) mut (tyInt w64)) 6 12 (lease (κs .1 .1 .1 .1 .1 .1 .0) (qs .1 .1 .1 .1 .1 .1 .0))) ∷ (9, mslice (rtF (fInt w64)) (tyRef (named 7) mut (tyInt w64)) 7) ∷ (10, mslice (rtF (fInt w64)) (tyRef (named 8) mut (tyInt w64)) 8) ∷ (11, sc-here (sInt w64)) ∷ (12, arrF (Declared.row Ticket.the-type) 32 0) ∷ (13, any-gone (tyStruct (100 ∷ 101 ∷ 115 ∷ 107 ∷ 95 ∷ 98 ∷ 111 ∷ 97 ∷ 114 ∷ 100 ∷ 105 ∷ 110 ∷ 103 ∷ 115 ∷ 58 ∷ 58 ∷ 66 ∷ 111 ∷ 97 ∷ 114 ∷ 100 ∷ 101 ∷ 100 ∷ 82 ∷ 111 ∷ 119 ∷ []) (tcons (tyStruct (100 ∷ 101 ∷ 115 ∷ 107 ∷ 95 ∷ 98 ∷ 111 ∷ 97 ∷ 114 ∷ 100 ∷ 105 ∷ 110 ∷ 103 ∷ 115 ∷ 58 ∷ 58 ∷ 66 ∷ 111 ∷ 97 ∷ 114 ∷ 100 ∷ 101 ∷ 100 ∷ []) (tcons (tyStruct (119 ∷ 97 ∷ 108 ∷ 107 ∷ 58 ∷ 58 ∷ 65 ∷ 110 ∷ 115 ∷ 119 ∷ 101 ∷ 114 ∷ []) (tcons (tyEnum (114 ∷ 101 ∷ 102 ∷ 117 ∷ 115 ∷ 97 ∷ 108 ∷ 115 ∷ 58 ∷ 58 ∷ 82 ∷ 101 ∷ 102 ∷ 117 ∷ 115 ∷ 97 ∷ 108 ∷ []) (ttcons tnil (ttcons tnil (ttcons tnil (ttcons tnil (ttcons tnil (ttcons tnil (ttcons tnil (ttcons tnil (ttcons tnil (ttcons tnil (ttcons tnil (ttcons tnil (ttcons tnil (ttcons tnil (ttcons tnil (ttcons tnil (ttcons tnil (ttcons tnil (ttcons tnil (ttcons tnil (ttcons tnil (ttcons tnil (ttcons tnil (ttcons tnil (ttcons tnil (ttcons tnil (ttcons tnil ttnil)))))))))))))))))))))))))))) (tcons (tyInt w64) (tcons (tyInt w64) (tcons (tyInt w64) (tcons (tyInt w64) (tcons (tyInt w64) tnil))))))) (tcons (tyStruct (100 ∷ 101 ∷ 115 ∷ 107 ∷ 95 ∷ 98 ∷ 111 ∷ 97 ∷ 114 ∷ 100 ∷ 105 ∷ 110 ∷ 103 ∷ 115 ∷ 58 ∷ 58 ∷ 84 ∷ 97 ∷ 107 ∷ 101 ∷ 110 ∷ []) (tcons (tyInt w64) (tcons (tyInt w64) tnil))) (tcons (tyStruct (100 ∷ 101 ∷ 115 ∷ 107 ∷ 95 ∷ 98 ∷ 111 ∷ 97 ∷ 114 ∷ 100 ∷ 105 ∷ 110 ∷ 103 ∷ 115 ∷ 58 ∷ 58 ∷ 87 ∷ 97 ∷ 110 ∷ 116 ∷ 115 ∷ []) (tcons (tyInt w64) (tcons (tyArray (tyInt w64) 8) (tcons (tyArray (tyInt w64) 8) tnil)))) (tcons (tyStruct (100 ∷ 101 ∷ 115 ∷ 107 ∷ 95 ∷ 116 ∷ 105 ∷ 99 ∷ 107 ∷ 101 ∷ 116 ∷ 115 ∷ 58 ∷ 58 ∷ 76 ∷ 97 ∷ 115 ∷ 116 ∷ 115 ∷ []) (tcons (tyInt w64) (tcons (tyInt w64) tnil))) tnil))))) (tcons (tyArray (tyStruct (100 ∷ 101 ∷ 115 ∷ 107 ∷ 95 ∷ 116 ∷ 105 ∷ 99 ∷ 107 ∷ 101 ∷ 116 ∷ 115 ∷ 58 ∷ 58 ∷ 84 ∷ 105 ∷ 99 ∷ 107 ∷ 101 ∷ 116 ∷ []) (tcons (tyInt w64) (tcons (tyInt w64) (tcons (tyInt w64) (tcons (tyInt w64) tnil))))) 32) tnil)))) ∷ (14, any-gone (tyArray (tyStruct (100 ∷ 101 ∷ 115 ∷ 107 ∷ 95 ∷ 116 ∷ 105 ∷ 99 ∷ 107 ∷ 101 ∷ 116 ∷ 115 ∷ 58 ∷ 58 ∷ 84 ∷ 105 ∷ 99 ∷ 107 ∷ 101 ∷ 116 ∷ []) (tcons (tyInt w64) (tcons (tyInt w64) (tcons (tyInt w64) (tcons (tyInt w64) tnil))))) 32)) ∷ (15, any-gone (tyRef erased imm (pointee (the-row .written)))) ∷ []
 
         abbrev g18 : List.List Entry
-        g18 = (0, any-gone (tyStruct (98 ∷ 111 ∷ 97 ∷ 114 ∷ 100 ∷ 105 ∷ 110 ∷ 103 ∷ 115 ∷ 58 ∷ 58 ∷ 66 ∷ 111 ∷ 97 ∷ 114 ∷ 100 ∷ 101 ∷ 100 ∷ []) (tcons (tyStruct (119 ∷ 97 ∷ 108 ∷ 107 ∷ 58 ∷ 58 ∷ 65 ∷ 110 ∷ 115 ∷ 119 ∷ 101 ∷ 114 ∷ []) (tcons (tyEnum (114 ∷ 101 ∷ 102 ∷ 117 ∷ 115 ∷ 97 ∷ 108 ∷ 115 ∷ 58 ∷ 58 ∷ 82 ∷ 101 ∷ 102 ∷ 117 ∷ 115 ∷ 97 ∷ 108 ∷ []) (ttcons tnil (ttcons tnil (ttcons tnil (ttcons tnil (ttcons tnil (ttcons tnil (ttcons tnil (ttcons tnil (ttcons tnil (ttcons tnil (ttcons tnil (ttcons tnil (ttcons tnil (ttcons tnil (ttcons tnil (ttcons tnil (ttcons tnil (ttcons tnil (ttcons tnil (ttcons tnil (ttcons tnil (ttcons tnil (ttcons tnil (ttcons tnil (ttcons tnil (ttcons tnil (ttcons tnil ttnil)))))))))))))))))))))))))))) (tcons (tyInt w64) (tcons (tyInt w64) (tcons (tyInt w64) (tcons (tyInt w64) (tcons (tyInt w64) tnil))))))) (tcons (tyStruct (98 ∷ 111 ∷ 97 ∷ 114 ∷ 100 ∷ 105 ∷ 110 ∷ 103 ∷ 115 ∷ 58 ∷ 58 ∷ 84 ∷ 97 ∷ 107 ∷ 101 ∷ 110 ∷ []) (tcons (tyInt w64) (tcons (tyInt w64) tnil))) (tcons (tyStruct (98 ∷ 111 ∷ 97 ∷ 114 ∷ 100 ∷ 105 ∷ 110 ∷ 103 ∷ 115 ∷ 58 ∷ 58 ∷ 87 ∷ 97 ∷ 110 ∷ 116 ∷ 115 ∷ []) (tcons (tyInt w64) (tcons (tyArray (tyInt w64) 8) (tcons (tyArray (tyInt w64) 8) tnil)))) (tcons (tyStruct (116 ∷ 105 ∷ 99 ∷ 107 ∷ 101 ∷ 116 ∷ 115 ∷ 58 ∷ 58 ∷ 76 ∷ 97 ∷ 115 ∷ 116 ∷ 115 ∷ []) (tcons (tyInt w64) (tcons (tyInt w64) tnil))) tnil)))))) ∷ (1, mslice the-row (tyRef (named 0) mut (pointee (the-row .written))) 0) ∷ (2, whole (Declared.row Boarding.the-type)) ∷ (3, sslice (rtF (fInt w64)) (tyRef (named 1) imm (tyInt w64)) 1) ∷ (4, sslice (rtF (fInt w64)) (tyRef (named 2) imm (tyInt w64)) 2) ∷ (5, sslice (rtF (fInt w64)) (tyRef (named 3) imm (tyInt w64)) 3) ∷ (6, mslice-owed (rtF (fInt w64)) (tyRef (named 4) mut (tyInt w64)) 4 10 (lease (κs .1 .1 .1 .1 .0) (qs .1 .1 .1 .1 .0))) ∷ (7, mslice-owed (rtF (fInt w64)) (tyRef (named 5) mut (tyInt w64)) 5 11 (lease (κs .1 .1 .1 .1 .1 .0) (qs .1 .1 .1 .1 .1 .0))) ∷ (8, mslice-owed (rtF (fInt w64)) (tyRef (named 6) mut (tyInt w64)) 6 12 (lease (κs .1 .1 .1 .1 .1 .1 .0) (qs .1 .1 .1 .1 .1 .1 .0))) ∷ (9, mslice-owed (rtF (fInt w64)) (tyRef (named 7) mut (tyInt w64)) 7 13 (lease (κs .1 .1 .1 .1 .1 .1 .1 .0) (qs .1 .1 .1 .1 .1 .1 .1 .0))) ∷ (10, mslice (rtF (fInt w64)) (tyRef (named 8) mut (tyInt w64)) 8) ∷ (11, sc-here (sInt w64)) ∷ (12, arrF (Declared.row Ticket.the-type) 32 0) ∷ (13, any-gone (tyStruct (98 ∷ 111 ∷ 97 ∷ 114 ∷ 100 ∷ 105 ∷ 110 ∷ 103 ∷ 115 ∷ 58 ∷ 58 ∷ 66 ∷ 111 ∷ 97 ∷ 114 ∷ 100 ∷ 101 ∷ 100 ∷ 82 ∷ 111 ∷ 119 ∷ []) (tcons (tyStruct (98 ∷ 111 ∷ 97 ∷ 114 ∷ 100 ∷ 105 ∷ 110 ∷ 103 ∷ 115 ∷ 58 ∷ 58 ∷ 66 ∷ 111 ∷ 97 ∷ 114 ∷ 100 ∷ 101 ∷ 100 ∷ []) (tcons (tyStruct (119 ∷ 97 ∷ 108 ∷ 107 ∷ 58 ∷ 58 ∷ 65 ∷ 110 ∷ 115 ∷ 119 ∷ 101 ∷ 114 ∷ []) (tcons (tyEnum (114 ∷ 101 ∷ 102 ∷ 117 ∷ 115 ∷ 97 ∷ 108 ∷ 115 ∷ 58 ∷ 58 ∷ 82 ∷ 101 ∷ 102 ∷ 117 ∷ 115 ∷ 97 ∷ 108 ∷ []) (ttcons tnil (ttcons tnil (ttcons tnil (ttcons tnil (ttcons tnil (ttcons tnil (ttcons tnil (ttcons tnil (ttcons tnil (ttcons tnil (ttcons tnil (ttcons tnil (ttcons tnil (ttcons tnil (ttcons tnil (ttcons tnil (ttcons tnil (ttcons tnil (ttcons tnil (ttcons tnil (ttcons tnil (ttcons tnil (ttcons tnil (ttcons tnil (ttcons tnil (ttcons tnil (ttcons tnil ttnil)))))))))))))))))))))))))))) (tcons (tyInt w64) (tcons (tyInt w64) (tcons (tyInt w64) (tcons (tyInt w64) (tcons (tyInt w64) tnil))))))) (tcons (tyStruct (98 ∷ 111 ∷ 97 ∷ 114 ∷ 100 ∷ 105 ∷ 110 ∷ 103 ∷ 115 ∷ 58 ∷ 58 ∷ 84 ∷ 97 ∷ 107 ∷ 101 ∷ 110 ∷ []) (tcons (tyInt w64) (tcons (tyInt w64) tnil))) (tcons (tyStruct (98 ∷ 111 ∷ 97 ∷ 114 ∷ 100 ∷ 105 ∷ 110 ∷ 103 ∷ 115 ∷ 58 ∷ 58 ∷ 87 ∷ 97 ∷ 110 ∷ 116 ∷ 115 ∷ []) (tcons (tyInt w64) (tcons (tyArray (tyInt w64) 8) (tcons (tyArray (tyInt w64) 8) tnil)))) (tcons (tyStruct (116 ∷ 105 ∷ 99 ∷ 107 ∷ 101 ∷ 116 ∷ 115 ∷ 58 ∷ 58 ∷ 76 ∷ 97 ∷ 115 ∷ 116 ∷ 115 ∷ []) (tcons (tyInt w64) (tcons (tyInt w64) tnil))) tnil))))) (tcons (tyArray (tyStruct (116 ∷ 105 ∷ 99 ∷ 107 ∷ 101 ∷ 116 ∷ 115 ∷ 58 ∷ 58 ∷ 84 ∷ 105 ∷ 99 ∷ 107 ∷ 101 ∷ 116 ∷ []) (tcons (tyInt w64) (tcons (tyInt w64) (tcons (tyInt w64) (tcons (tyInt w64) tnil))))) 32) tnil)))) ∷ (14, any-gone (tyArray (tyStruct (116 ∷ 105 ∷ 99 ∷ 107 ∷ 101 ∷ 116 ∷ 115 ∷ 58 ∷ 58 ∷ 84 ∷ 105 ∷ 99 ∷ 107 ∷ 101 ∷ 116 ∷ []) (tcons (tyInt w64) (tcons (tyInt w64) (tcons (tyInt w64) (tcons (tyInt w64) tnil))))) 32)) ∷ (15, any-gone (tyRef erased imm (pointee (the-row .written)))) ∷ []
+        g18 = (0, any-gone (tyStruct (100 ∷ 101 ∷ 115 ∷ 107 ∷ 95 ∷ 98 ∷ 111 ∷ 97 ∷ 114 ∷ 100 ∷ 105 ∷ 110 ∷ 103 ∷ 115 ∷ 58 ∷ 58 ∷ 66 ∷ 111 ∷ 97 ∷ 114 ∷ 100 ∷ 101 ∷ 100 ∷ []) (tcons (tyStruct (119 ∷ 97 ∷ 108 ∷ 107 ∷ 58 ∷ 58 ∷ 65 ∷ 110 ∷ 115 ∷ 119 ∷ 101 ∷ 114 ∷ []) (tcons (tyEnum (114 ∷ 101 ∷ 102 ∷ 117 ∷ 115 ∷ 97 ∷ 108 ∷ 115 ∷ 58 ∷ 58 ∷ 82 ∷ 101 ∷ 102 ∷ 117 ∷ 115 ∷ 97 ∷ 108 ∷ []) (ttcons tnil (ttcons tnil (ttcons tnil (ttcons tnil (ttcons tnil (ttcons tnil (ttcons tnil (ttcons tnil (ttcons tnil (ttcons tnil (ttcons tnil (ttcons tnil (ttcons tnil (ttcons tnil (ttcons tnil (ttcons tnil (ttcons tnil (ttcons tnil (ttcons tnil (ttcons tnil (ttcons tnil (ttcons tnil (ttcons tnil (ttcons tnil (ttcons tnil (ttcons tnil (ttcons tnil ttnil)))))))))))))))))))))))))))) (tcons (tyInt w64) (tcons (tyInt w64) (tcons (tyInt w64) (tcons (tyInt w64) (tcons (tyInt w64) tnil))))))) (tcons (tyStruct (100 ∷ 101 ∷ 115 ∷ 107 ∷ 95 ∷ 98 ∷ 111 ∷ 97 ∷ 114 ∷ 100 ∷ 105 ∷ 110 ∷ 103 ∷ 115 ∷ 58 ∷ 58 ∷ 84 ∷ 97 ∷ 107 ∷ 101 ∷ 110 ∷ []) (tcons (tyInt w64) (tcons (tyInt w64) tnil))) (tcons (tyStruct (100 ∷ 101 ∷ 115 ∷ 107 ∷ 95 ∷ 98 ∷ 111 ∷ 97 ∷ 114 ∷ 100 ∷ 105 ∷ 110 ∷ 103 ∷ 115 ∷ 58 ∷ 58 ∷ 87 ∷ 97 ∷ 110 ∷ 116 ∷ 115 ∷ []) (tcons (tyInt w64) (tcons (tyArray (tyInt w64) 8) (tcons (tyArray (tyInt w64) 8) tnil)))) (tcons (tyStruct (100 ∷ 101 ∷ 115 ∷ 107 ∷ 95 ∷ 116 ∷ 105 ∷ 99 ∷ 107 ∷ 101 ∷ 116 ∷ 115 ∷ 58 ∷ 58 ∷ 76 ∷ 97 ∷ 115 ∷ 116 ∷ 115 ∷ []) (tcons (tyInt w64) (tcons (tyInt w64) tnil))) tnil)))))) ∷ (1, mslice the-row (tyRef (named 0) mut (pointee (the-row .written))) 0) ∷ (2, whole (Declared.row Boarding.the-type)) ∷ (3, sslice (rtF (fInt w64)) (tyRef (named 1) imm (tyInt w64)) 1) ∷ (4, sslice (rtF (fInt w64)) (tyRef (named 2) imm (tyInt w64)) 2) ∷ (5, sslice (rtF (fInt w64)) (tyRef (named 3) imm (tyInt w64)) 3) ∷ (6, mslice-owed (rtF (fInt w64)) (tyRef (named 4) mut (tyInt w64)) 4 10 (lease (κs .1 .1 .1 .1 .0) (qs .1 .1 .1 .1 .0))) ∷ (7, mslice-owed (rtF (fInt w64)) (tyRef (named 5) mut (tyInt w64)) 5 11 (lease (κs .1 .1 .1 .1 .1 .0) (qs .1 .1 .1 .1 .1 .0))) ∷ (8, mslice-owed (rtF (fInt w64)) (tyRef (named 6) mut (tyInt w64)) 6 12 (lease (κs .1 .1 .1 .1 .1 .1 .0) (qs .1 .1 .1 .1 .1 .1 .0))) ∷ (9, mslice-owed (rtF (fInt w64)) (tyRef (named 7) mut (tyInt w64)) 7 13 (lease (κs .1 .1 .1 .1 .1 .1 .1 .0) (qs .1 .1 .1 .1 .1 .1 .1 .0))) ∷ (10, mslice (rtF (fInt w64)) (tyRef (named 8) mut (tyInt w64)) 8) ∷ (11, sc-here (sInt w64)) ∷ (12, arrF (Declared.row Ticket.the-type) 32 0) ∷ (13, any-gone (tyStruct (100 ∷ 101 ∷ 115 ∷ 107 ∷ 95 ∷ 98 ∷ 111 ∷ 97 ∷ 114 ∷ 100 ∷ 105 ∷ 110 ∷ 103 ∷ 115 ∷ 58 ∷ 58 ∷ 66 ∷ 111 ∷ 97 ∷ 114 ∷ 100 ∷ 101 ∷ 100 ∷ 82 ∷ 111 ∷ 119 ∷ []) (tcons (tyStruct (100 ∷ 101 ∷ 115 ∷ 107 ∷ 95 ∷ 98 ∷ 111 ∷ 97 ∷ 114 ∷ 100 ∷ 105 ∷ 110 ∷ 103 ∷ 115 ∷ 58 ∷ 58 ∷ 66 ∷ 111 ∷ 97 ∷ 114 ∷ 100 ∷ 101 ∷ 100 ∷ []) (tcons (tyStruct (119 ∷ 97 ∷ 108 ∷ 107 ∷ 58 ∷ 58 ∷ 65 ∷ 110 ∷ 115 ∷ 119 ∷ 101 ∷ 114 ∷ []) (tcons (tyEnum (114 ∷ 101 ∷ 102 ∷ 117 ∷ 115 ∷ 97 ∷ 108 ∷ 115 ∷ 58 ∷ 58 ∷ 82 ∷ 101 ∷ 102 ∷ 117 ∷ 115 ∷ 97 ∷ 108 ∷ []) (ttcons tnil (ttcons tnil (ttcons tnil (ttcons tnil (ttcons tnil (ttcons tnil (ttcons tnil (ttcons tnil (ttcons tnil (ttcons tnil (ttcons tnil (ttcons tnil (ttcons tnil (ttcons tnil (ttcons tnil (ttcons tnil (ttcons tnil (ttcons tnil (ttcons tnil (ttcons tnil (ttcons tnil (ttcons tnil (ttcons tnil (ttcons tnil (ttcons tnil (ttcons tnil (ttcons tnil ttnil)))))))))))))))))))))))))))) (tcons (tyInt w64) (tcons (tyInt w64) (tcons (tyInt w64) (tcons (tyInt w64) (tcons (tyInt w64) tnil))))))) (tcons (tyStruct (100 ∷ 101 ∷ 115 ∷ 107 ∷ 95 ∷ 98 ∷ 111 ∷ 97 ∷ 114 ∷ 100 ∷ 105 ∷ 110 ∷ 103 ∷ 115 ∷ 58 ∷ 58 ∷ 84 ∷ 97 ∷ 107 ∷ 101 ∷ 110 ∷ []) (tcons (tyInt w64) (tcons (tyInt w64) tnil))) (tcons (tyStruct (100 ∷ 101 ∷ 115 ∷ 107 ∷ 95 ∷ 98 ∷ 111 ∷ 97 ∷ 114 ∷ 100 ∷ 105 ∷ 110 ∷ 103 ∷ 115 ∷ 58 ∷ 58 ∷ 87 ∷ 97 ∷ 110 ∷ 116 ∷ 115 ∷ []) (tcons (tyInt w64) (tcons (tyArray (tyInt w64) 8) (tcons (tyArray (tyInt w64) 8) tnil)))) (tcons (tyStruct (100 ∷ 101 ∷ 115 ∷ 107 ∷ 95 ∷ 116 ∷ 105 ∷ 99 ∷ 107 ∷ 101 ∷ 116 ∷ 115 ∷ 58 ∷ 58 ∷ 76 ∷ 97 ∷ 115 ∷ 116 ∷ 115 ∷ []) (tcons (tyInt w64) (tcons (tyInt w64) tnil))) tnil))))) (tcons (tyArray (tyStruct (100 ∷ 101 ∷ 115 ∷ 107 ∷ 95 ∷ 116 ∷ 105 ∷ 99 ∷ 107 ∷ 101 ∷ 116 ∷ 115 ∷ 58 ∷ 58 ∷ 84 ∷ 105 ∷ 99 ∷ 107 ∷ 101 ∷ 116 ∷ []) (tcons (tyInt w64) (tcons (tyInt w64) (tcons (tyInt w64) (tcons (tyInt w64) tnil))))) 32) tnil)))) ∷ (14, any-gone (tyArray (tyStruct (100 ∷ 101 ∷ 115 ∷ 107 ∷ 95 ∷ 116 ∷ 105 ∷ 99 ∷ 107 ∷ 101 ∷ 116 ∷ 115 ∷ 58 ∷ 58 ∷ 84 ∷ 105 ∷ 99 ∷ 107 ∷ 101 ∷ 116 ∷ []) (tcons (tyInt w64) (tcons (tyInt w64) (tcons (tyInt w64) (tcons (tyInt w64) tnil))))) 32)) ∷ (15, any-gone (tyRef erased imm (pointee (the-row .written)))) ∷ []
 
         abbrev g21 : List.List Entry
-        g21 = (0, any-gone (tyStruct (98 ∷ 111 ∷ 97 ∷ 114 ∷ 100 ∷ 105 ∷ 110 ∷ 103 ∷ 115 ∷ 58 ∷ 58 ∷ 66 ∷ 111 ∷ 97 ∷ 114 ∷ 100 ∷ 101 ∷ 100 ∷ []) (tcons (tyStruct (119 ∷ 97 ∷ 108 ∷ 107 ∷ 58 ∷ 58 ∷ 65 ∷ 110 ∷ 115 ∷ 119 ∷ 101 ∷ 114 ∷ []) (tcons (tyEnum (114 ∷ 101 ∷ 102 ∷ 117 ∷ 115 ∷ 97 ∷ 108 ∷ 115 ∷ 58 ∷ 58 ∷ 82 ∷ 101 ∷ 102 ∷ 117 ∷ 115 ∷ 97 ∷ 108 ∷ []) (ttcons tnil (ttcons tnil (ttcons tnil (ttcons tnil (ttcons tnil (ttcons tnil (ttcons tnil (ttcons tnil (ttcons tnil (ttcons tnil (ttcons tnil (ttcons tnil (ttcons tnil (ttcons tnil (ttcons tnil (ttcons tnil (ttcons tnil (ttcons tnil (ttcons tnil (ttcons tnil (ttcons tnil (ttcons tnil (ttcons tnil (ttcons tnil (ttcons tnil (ttcons tnil (ttcons tnil ttnil)))))))))))))))))))))))))))) (tcons (tyInt w64) (tcons (tyInt w64) (tcons (tyInt w64) (tcons (tyInt w64) (tcons (tyInt w64) tnil))))))) (tcons (tyStruct (98 ∷ 111 ∷ 97 ∷ 114 ∷ 100 ∷ 105 ∷ 110 ∷ 103 ∷ 115 ∷ 58 ∷ 58 ∷ 84 ∷ 97 ∷ 107 ∷ 101 ∷ 110 ∷ []) (tcons (tyInt w64) (tcons (tyInt w64) tnil))) (tcons (tyStruct (98 ∷ 111 ∷ 97 ∷ 114 ∷ 100 ∷ 105 ∷ 110 ∷ 103 ∷ 115 ∷ 58 ∷ 58 ∷ 87 ∷ 97 ∷ 110 ∷ 116 ∷ 115 ∷ []) (tcons (tyInt w64) (tcons (tyArray (tyInt w64) 8) (tcons (tyArray (tyInt w64) 8) tnil)))) (tcons (tyStruct (116 ∷ 105 ∷ 99 ∷ 107 ∷ 101 ∷ 116 ∷ 115 ∷ 58 ∷ 58 ∷ 76 ∷ 97 ∷ 115 ∷ 116 ∷ 115 ∷ []) (tcons (tyInt w64) (tcons (tyInt w64) tnil))) tnil)))))) ∷ (1, mslice the-row (tyRef (named 0) mut (pointee (the-row .written))) 0) ∷ (2, whole (Declared.row Boarding.the-type)) ∷ (3, sslice (rtF (fInt w64)) (tyRef (named 1) imm (tyInt w64)) 1) ∷ (4, sslice (rtF (fInt w64)) (tyRef (named 2) imm (tyInt w64)) 2) ∷ (5, sslice (rtF (fInt w64)) (tyRef (named 3) imm (tyInt w64)) 3) ∷ (6, mslice-owed (rtF (fInt w64)) (tyRef (named 4) mut (tyInt w64)) 4 10 (lease (κs .1 .1 .1 .1 .0) (qs .1 .1 .1 .1 .0))) ∷ (7, mslice-owed (rtF (fInt w64)) (tyRef (named 5) mut (tyInt w64)) 5 11 (lease (κs .1 .1 .1 .1 .1 .0) (qs .1 .1 .1 .1 .1 .0))) ∷ (8, mslice-owed (rtF (fInt w64)) (tyRef (named 6) mut (tyInt w64)) 6 12 (lease (κs .1 .1 .1 .1 .1 .1 .0) (qs .1 .1 .1 .1 .1 .1 .0))) ∷ (9, mslice-owed (rtF (fInt w64)) (tyRef (named 7) mut (tyInt w64)) 7 13 (lease (κs .1 .1 .1 .1 .1 .1 .1 .0) (qs .1 .1 .1 .1 .1 .1 .1 .0))) ∷ (10, mslice-owed (rtF (fInt w64)) (tyRef (named 8) mut (tyInt w64)) 8 14 (lease (κs .1 .1 .1 .1 .1 .1 .1 .1 .0) (qs .1 .1 .1 .1 .1 .1 .1 .1 .0))) ∷ (11, sc-here (sInt w64)) ∷ (12, arrF (Declared.row Ticket.the-type) 32 0) ∷ (13, any-gone (tyStruct (98 ∷ 111 ∷ 97 ∷ 114 ∷ 100 ∷ 105 ∷ 110 ∷ 103 ∷ 115 ∷ 58 ∷ 58 ∷ 66 ∷ 111 ∷ 97 ∷ 114 ∷ 100 ∷ 101 ∷ 100 ∷ 82 ∷ 111 ∷ 119 ∷ []) (tcons (tyStruct (98 ∷ 111 ∷ 97 ∷ 114 ∷ 100 ∷ 105 ∷ 110 ∷ 103 ∷ 115 ∷ 58 ∷ 58 ∷ 66 ∷ 111 ∷ 97 ∷ 114 ∷ 100 ∷ 101 ∷ 100 ∷ []) (tcons (tyStruct (119 ∷ 97 ∷ 108 ∷ 107 ∷ 58 ∷ 58 ∷ 65 ∷ 110 ∷ 115 ∷ 119 ∷ 101 ∷ 114 ∷ []) (tcons (tyEnum (114 ∷ 101 ∷ 102 ∷ 117 ∷ 115 ∷ 97 ∷ 108 ∷ 115 ∷ 58 ∷ 58 ∷ 82 ∷ 101 ∷ 102 ∷ 117 ∷ 115 ∷ 97 ∷ 108 ∷ []) (ttcons tnil (ttcons tnil (ttcons tnil (ttcons tnil (ttcons tnil (ttcons tnil (ttcons tnil (ttcons tnil (ttcons tnil (ttcons tnil (ttcons tnil (ttcons tnil (ttcons tnil (ttcons tnil (ttcons tnil (ttcons tnil (ttcons tnil (ttcons tnil (ttcons tnil (ttcons tnil (ttcons tnil (ttcons tnil (ttcons tnil (ttcons tnil (ttcons tnil (ttcons tnil (ttcons tnil ttnil)))))))))))))))))))))))))))) (tcons (tyInt w64) (tcons (tyInt w64) (tcons (tyInt w64) (tcons (tyInt w64) (tcons (tyInt w64) tnil))))))) (tcons (tyStruct (98 ∷ 111 ∷ 97 ∷ 114 ∷ 100 ∷ 105 ∷ 110 ∷ 103 ∷ 115 ∷ 58 ∷ 58 ∷ 84 ∷ 97 ∷ 107 ∷ 101 ∷ 110 ∷ []) (tcons (tyInt w64) (tcons (tyInt w64) tnil))) (tcons (tyStruct (98 ∷ 111 ∷ 97 ∷ 114 ∷ 100 ∷ 105 ∷ 110 ∷ 103 ∷ 115 ∷ 58 ∷ 58 ∷ 87 ∷ 97 ∷ 110 ∷ 116 ∷ 115 ∷ []) (tcons (tyInt w64) (tcons (tyArray (tyInt w64) 8) (tcons (tyArray (tyInt w64) 8) tnil)))) (tcons (tyStruct (116 ∷ 105 ∷ 99 ∷ 107 ∷ 101 ∷ 116 ∷ 115 ∷ 58 ∷ 58 ∷ 76 ∷ 97 ∷ 115 ∷ 116 ∷ 115 ∷ []) (tcons (tyInt w64) (tcons (tyInt w64) tnil))) tnil))))) (tcons (tyArray (tyStruct (116 ∷ 105 ∷ 99 ∷ 107 ∷ 101 ∷ 116 ∷ 115 ∷ 58 ∷ 58 ∷ 84 ∷ 105 ∷ 99 ∷ 107 ∷ 101 ∷ 116 ∷ []) (tcons (tyInt w64) (tcons (tyInt w64) (tcons (tyInt w64) (tcons (tyInt w64) tnil))))) 32) tnil)))) ∷ (14, any-gone (tyArray (tyStruct (116 ∷ 105 ∷ 99 ∷ 107 ∷ 101 ∷ 116 ∷ 115 ∷ 58 ∷ 58 ∷ 84 ∷ 105 ∷ 99 ∷ 107 ∷ 101 ∷ 116 ∷ []) (tcons (tyInt w64) (tcons (tyInt w64) (tcons (tyInt w64) (tcons (tyInt w64) tnil))))) 32)) ∷ (15, any-gone (tyRef erased imm (pointee (the-row .written)))) ∷ []
+        g21 = (0, any-gone (tyStruct (100 ∷ 101 ∷ 115 ∷ 107 ∷ 95 ∷ 98 ∷ 111 ∷ 97 ∷ 114 ∷ 100 ∷ 105 ∷ 110 ∷ 103 ∷ 115 ∷ 58 ∷ 58 ∷ 66 ∷ 111 ∷ 97 ∷ 114 ∷ 100 ∷ 101 ∷ 100 ∷ []) (tcons (tyStruct (119 ∷ 97 ∷ 108 ∷ 107 ∷ 58 ∷ 58 ∷ 65 ∷ 110 ∷ 115 ∷ 119 ∷ 101 ∷ 114 ∷ []) (tcons (tyEnum (114 ∷ 101 ∷ 102 ∷ 117 ∷ 115 ∷ 97 ∷ 108 ∷ 115 ∷ 58 ∷ 58 ∷ 82 ∷ 101 ∷ 102 ∷ 117 ∷ 115 ∷ 97 ∷ 108 ∷ []) (ttcons tnil (ttcons tnil (ttcons tnil (ttcons tnil (ttcons tnil (ttcons tnil (ttcons tnil (ttcons tnil (ttcons tnil (ttcons tnil (ttcons tnil (ttcons tnil (ttcons tnil (ttcons tnil (ttcons tnil (ttcons tnil (ttcons tnil (ttcons tnil (ttcons tnil (ttcons tnil (ttcons tnil (ttcons tnil (ttcons tnil (ttcons tnil (ttcons tnil (ttcons tnil (ttcons tnil ttnil)))))))))))))))))))))))))))) (tcons (tyInt w64) (tcons (tyInt w64) (tcons (tyInt w64) (tcons (tyInt w64) (tcons (tyInt w64) tnil))))))) (tcons (tyStruct (100 ∷ 101 ∷ 115 ∷ 107 ∷ 95 ∷ 98 ∷ 111 ∷ 97 ∷ 114 ∷ 100 ∷ 105 ∷ 110 ∷ 103 ∷ 115 ∷ 58 ∷ 58 ∷ 84 ∷ 97 ∷ 107 ∷ 101 ∷ 110 ∷ []) (tcons (tyInt w64) (tcons (tyInt w64) tnil))) (tcons (tyStruct (100 ∷ 101 ∷ 115 ∷ 107 ∷ 95 ∷ 98 ∷ 111 ∷ 97 ∷ 114 ∷ 100 ∷ 105 ∷ 110 ∷ 103 ∷ 115 ∷ 58 ∷ 58 ∷ 87 ∷ 97 ∷ 110 ∷ 116 ∷ 115 ∷ []) (tcons (tyInt w64) (tcons (tyArray (tyInt w64) 8) (tcons (tyArray (tyInt w64) 8) tnil)))) (tcons (tyStruct (100 ∷ 101 ∷ 115 ∷ 107 ∷ 95 ∷ 116 ∷ 105 ∷ 99 ∷ 107 ∷ 101 ∷ 116 ∷ 115 ∷ 58 ∷ 58 ∷ 76 ∷ 97 ∷ 115 ∷ 116 ∷ 115 ∷ []) (tcons (tyInt w64) (tcons (tyInt w64) tnil))) tnil)))))) ∷ (1, mslice the-row (tyRef (named 0) mut (pointee (the-row .written))) 0) ∷ (2, whole (Declared.row Boarding.the-type)) ∷ (3, sslice (rtF (fInt w64)) (tyRef (named 1) imm (tyInt w64)) 1) ∷ (4, sslice (rtF (fInt w64)) (tyRef (named 2) imm (tyInt w64)) 2) ∷ (5, sslice (rtF (fInt w64)) (tyRef (named 3) imm (tyInt w64)) 3) ∷ (6, mslice-owed (rtF (fInt w64)) (tyRef (named 4) mut (tyInt w64)) 4 10 (lease (κs .1 .1 .1 .1 .0) (qs .1 .1 .1 .1 .0))) ∷ (7, mslice-owed (rtF (fInt w64)) (tyRef (named 5) mut (tyInt w64)) 5 11 (lease (κs .1 .1 .1 .1 .1 .0) (qs .1 .1 .1 .1 .1 .0))) ∷ (8, mslice-owed (rtF (fInt w64)) (tyRef (named 6) mut (tyInt w64)) 6 12 (lease (κs .1 .1 .1 .1 .1 .1 .0) (qs .1 .1 .1 .1 .1 .1 .0))) ∷ (9, mslice-owed (rtF (fInt w64)) (tyRef (named 7) mut (tyInt w64)) 7 13 (lease (κs .1 .1 .1 .1 .1 .1 .1 .0) (qs .1 .1 .1 .1 .1 .1 .1 .0))) ∷ (10, mslice-owed (rtF (fInt w64)) (tyRef (named 8) mut (tyInt w64)) 8 14 (lease (κs .1 .1 .1 .1 .1 .1 .1 .1 .0) (qs .1 .1 .1 .1 .1 .1 .1 .1 .0))) ∷ (11, sc-here (sInt w64)) ∷ (12, arrF (Declared.row Ticket.the-type) 32 0) ∷ (13, any-gone (tyStruct (100 ∷ 101 ∷ 115 ∷ 107 ∷ 95 ∷ 98 ∷ 111 ∷ 97 ∷ 114 ∷ 100 ∷ 105 ∷ 110 ∷ 103 ∷ 115 ∷ 58 ∷ 58 ∷ 66 ∷ 111 ∷ 97 ∷ 114 ∷ 100 ∷ 101 ∷ 100 ∷ 82 ∷ 111 ∷ 119 ∷ []) (tcons (tyStruct (100 ∷ 101 ∷ 115 ∷ 107 ∷ 95 ∷ 98 ∷ 111 ∷ 97 ∷ 114 ∷ 100 ∷ 105 ∷ 110 ∷ 103 ∷ 115 ∷ 58 ∷ 58 ∷ 66 ∷ 111 ∷ 97 ∷ 114 ∷ 100 ∷ 101 ∷ 100 ∷ []) (tcons (tyStruct (119 ∷ 97 ∷ 108 ∷ 107 ∷ 58 ∷ 58 ∷ 65 ∷ 110 ∷ 115 ∷ 119 ∷ 101 ∷ 114 ∷ []) (tcons (tyEnum (114 ∷ 101 ∷ 102 ∷ 117 ∷ 115 ∷ 97 ∷ 108 ∷ 115 ∷ 58 ∷ 58 ∷ 82 ∷ 101 ∷ 102 ∷ 117 ∷ 115 ∷ 97 ∷ 108 ∷ []) (ttcons tnil (ttcons tnil (ttcons tnil (ttcons tnil (ttcons tnil (ttcons tnil (ttcons tnil (ttcons tnil (ttcons tnil (ttcons tnil (ttcons tnil (ttcons tnil (ttcons tnil (ttcons tnil (ttcons tnil (ttcons tnil (ttcons tnil (ttcons tnil (ttcons tnil (ttcons tnil (ttcons tnil (ttcons tnil (ttcons tnil (ttcons tnil (ttcons tnil (ttcons tnil (ttcons tnil ttnil)))))))))))))))))))))))))))) (tcons (tyInt w64) (tcons (tyInt w64) (tcons (tyInt w64) (tcons (tyInt w64) (tcons (tyInt w64) tnil))))))) (tcons (tyStruct (100 ∷ 101 ∷ 115 ∷ 107 ∷ 95 ∷ 98 ∷ 111 ∷ 97 ∷ 114 ∷ 100 ∷ 105 ∷ 110 ∷ 103 ∷ 115 ∷ 58 ∷ 58 ∷ 84 ∷ 97 ∷ 107 ∷ 101 ∷ 110 ∷ []) (tcons (tyInt w64) (tcons (tyInt w64) tnil))) (tcons (tyStruct (100 ∷ 101 ∷ 115 ∷ 107 ∷ 95 ∷ 98 ∷ 111 ∷ 97 ∷ 114 ∷ 100 ∷ 105 ∷ 110 ∷ 103 ∷ 115 ∷ 58 ∷ 58 ∷ 87 ∷ 97 ∷ 110 ∷ 116 ∷ 115 ∷ []) (tcons (tyInt w64) (tcons (tyArray (tyInt w64) 8) (tcons (tyArray (tyInt w64) 8) tnil)))) (tcons (tyStruct (100 ∷ 101 ∷ 115 ∷ 107 ∷ 95 ∷ 116 ∷ 105 ∷ 99 ∷ 107 ∷ 101 ∷ 116 ∷ 115 ∷ 58 ∷ 58 ∷ 76 ∷ 97 ∷ 115 ∷ 116 ∷ 115 ∷ []) (tcons (tyInt w64) (tcons (tyInt w64) tnil))) tnil))))) (tcons (tyArray (tyStruct (100 ∷ 101 ∷ 115 ∷ 107 ∷ 95 ∷ 116 ∷ 105 ∷ 99 ∷ 107 ∷ 101 ∷ 116 ∷ 115 ∷ 58 ∷ 58 ∷ 84 ∷ 105 ∷ 99 ∷ 107 ∷ 101 ∷ 116 ∷ []) (tcons (tyInt w64) (tcons (tyInt w64) (tcons (tyInt w64) (tcons (tyInt w64) tnil))))) 32) tnil)))) ∷ (14, any-gone (tyArray (tyStruct (100 ∷ 101 ∷ 115 ∷ 107 ∷ 95 ∷ 116 ∷ 105 ∷ 99 ∷ 107 ∷ 101 ∷ 116 ∷ 115 ∷ 58 ∷ 58 ∷ 84 ∷ 105 ∷ 99 ∷ 107 ∷ 101 ∷ 116 ∷ []) (tcons (tyInt w64) (tcons (tyInt w64) (tcons (tyInt w64) (tcons (tyInt w64) tnil))))) 32)) ∷ (15, any-gone (tyRef erased imm (pointee (the-row .written)))) ∷ []
 
         abbrev g24 : List.List Entry
-        g24 = (0, any-gone (tyStruct (98 ∷ 111 ∷ 97 ∷ 114 ∷ 100 ∷ 105 ∷ 110 ∷ 103 ∷ 115 ∷ 58 ∷ 58 ∷ 66 ∷ 111 ∷ 97 ∷ 114 ∷ 100 ∷ 101 ∷ 100 ∷ []) (tcons (tyStruct (119 ∷ 97 ∷ 108 ∷ 107 ∷ 58 ∷ 58 ∷ 65 ∷ 110 ∷ 115 ∷ 119 ∷ 101 ∷ 114 ∷ []) (tcons (tyEnum (114 ∷ 101 ∷ 102 ∷ 117 ∷ 115 ∷ 97 ∷ 108 ∷ 115 ∷ 58 ∷ 58 ∷ 82 ∷ 101 ∷ 102 ∷ 117 ∷ 115 ∷ 97 ∷ 108 ∷ []) (ttcons tnil (ttcons tnil (ttcons tnil (ttcons tnil (ttcons tnil (ttcons tnil (ttcons tnil (ttcons tnil (ttcons tnil (ttcons tnil (ttcons tnil (ttcons tnil (ttcons tnil (ttcons tnil (ttcons tnil (ttcons tnil (ttcons tnil (ttcons tnil (ttcons tnil (ttcons tnil (ttcons tnil (ttcons tnil (ttcons tnil (ttcons tnil (ttcons tnil (ttcons tnil (ttcons tnil ttnil)))))))))))))))))))))))))))) (tcons (tyInt w64) (tcons (tyInt w64) (tcons (tyInt w64) (tcons (tyInt w64) (tcons (tyInt w64) tnil))))))) (tcons (tyStruct (98 ∷ 111 ∷ 97 ∷ 114 ∷ 100 ∷ 105 ∷ 110 ∷ 103 ∷ 115 ∷ 58 ∷ 58 ∷ 84 ∷ 97 ∷ 107 ∷ 101 ∷ 110 ∷ []) (tcons (tyInt w64) (tcons (tyInt w64) tnil))) (tcons (tyStruct (98 ∷ 111 ∷ 97 ∷ 114 ∷ 100 ∷ 105 ∷ 110 ∷ 103 ∷ 115 ∷ 58 ∷ 58 ∷ 87 ∷ 97 ∷ 110 ∷ 116 ∷ 115 ∷ []) (tcons (tyInt w64) (tcons (tyArray (tyInt w64) 8) (tcons (tyArray (tyInt w64) 8) tnil)))) (tcons (tyStruct (116 ∷ 105 ∷ 99 ∷ 107 ∷ 101 ∷ 116 ∷ 115 ∷ 58 ∷ 58 ∷ 76 ∷ 97 ∷ 115 ∷ 116 ∷ 115 ∷ []) (tcons (tyInt w64) (tcons (tyInt w64) tnil))) tnil)))))) ∷ (1, mslice the-row (tyRef (named 0) mut (pointee (the-row .written))) 0) ∷ (2, whole (Declared.row Boarding.the-type)) ∷ (3, sslice (rtF (fInt w64)) (tyRef (named 1) imm (tyInt w64)) 1) ∷ (4, sslice (rtF (fInt w64)) (tyRef (named 2) imm (tyInt w64)) 2) ∷ (5, sslice (rtF (fInt w64)) (tyRef (named 3) imm (tyInt w64)) 3) ∷ (6, mslice-owed (rtF (fInt w64)) (tyRef (named 4) mut (tyInt w64)) 4 10 (lease (κs .1 .1 .1 .1 .0) (qs .1 .1 .1 .1 .0))) ∷ (7, mslice-owed (rtF (fInt w64)) (tyRef (named 5) mut (tyInt w64)) 5 11 (lease (κs .1 .1 .1 .1 .1 .0) (qs .1 .1 .1 .1 .1 .0))) ∷ (8, mslice-owed (rtF (fInt w64)) (tyRef (named 6) mut (tyInt w64)) 6 12 (lease (κs .1 .1 .1 .1 .1 .1 .0) (qs .1 .1 .1 .1 .1 .1 .0))) ∷ (9, mslice-owed (rtF (fInt w64)) (tyRef (named 7) mut (tyInt w64)) 7 13 (lease (κs .1 .1 .1 .1 .1 .1 .1 .0) (qs .1 .1 .1 .1 .1 .1 .1 .0))) ∷ (10, mslice-owed (rtF (fInt w64)) (tyRef (named 8) mut (tyInt w64)) 8 14 (lease (κs .1 .1 .1 .1 .1 .1 .1 .1 .0) (qs .1 .1 .1 .1 .1 .1 .1 .1 .0))) ∷ (11, sc-here (sInt w64)) ∷ (12, arrF (Declared.row Ticket.the-type) 32 0) ∷ (13, whole (Declared.row BoardedRow.the-type)) ∷ (14, any-gone (tyArray (tyStruct (116 ∷ 105 ∷ 99 ∷ 107 ∷ 101 ∷ 116 ∷ 115 ∷ 58 ∷ 58 ∷ 84 ∷ 105 ∷ 99 ∷ 107 ∷ 101 ∷ 116 ∷ []) (tcons (tyInt w64) (tcons (tyInt w64) (tcons (tyInt w64) (tcons (tyInt w64) tnil))))) 32)) ∷ (15, any-gone (tyRef erased imm (pointee (the-row .written)))) ∷ []
+        g24 = (0, any-gone (tyStruct (100 ∷ 101 ∷ 115 ∷ 107 ∷ 95 ∷ 98 ∷ 111 ∷ 97 ∷ 114 ∷ 100 ∷ 105 ∷ 110 ∷ 103 ∷ 115 ∷ 58 ∷ 58 ∷ 66 ∷ 111 ∷ 97 ∷ 114 ∷ 100 ∷ 101 ∷ 100 ∷ []) (tcons (tyStruct (119 ∷ 97 ∷ 108 ∷ 107 ∷ 58 ∷ 58 ∷ 65 ∷ 110 ∷ 115 ∷ 119 ∷ 101 ∷ 114 ∷ []) (tcons (tyEnum (114 ∷ 101 ∷ 102 ∷ 117 ∷ 115 ∷ 97 ∷ 108 ∷ 115 ∷ 58 ∷ 58 ∷ 82 ∷ 101 ∷ 102 ∷ 117 ∷ 115 ∷ 97 ∷ 108 ∷ []) (ttcons tnil (ttcons tnil (ttcons tnil (ttcons tnil (ttcons tnil (ttcons tnil (ttcons tnil (ttcons tnil (ttcons tnil (ttcons tnil (ttcons tnil (ttcons tnil (ttcons tnil (ttcons tnil (ttcons tnil (ttcons tnil (ttcons tnil (ttcons tnil (ttcons tnil (ttcons tnil (ttcons tnil (ttcons tnil (ttcons tnil (ttcons tnil (ttcons tnil (ttcons tnil (ttcons tnil ttnil)))))))))))))))))))))))))))) (tcons (tyInt w64) (tcons (tyInt w64) (tcons (tyInt w64) (tcons (tyInt w64) (tcons (tyInt w64) tnil))))))) (tcons (tyStruct (100 ∷ 101 ∷ 115 ∷ 107 ∷ 95 ∷ 98 ∷ 111 ∷ 97 ∷ 114 ∷ 100 ∷ 105 ∷ 110 ∷ 103 ∷ 115 ∷ 58 ∷ 58 ∷ 84 ∷ 97 ∷ 107 ∷ 101 ∷ 110 ∷ []) (tcons (tyInt w64) (tcons (tyInt w64) tnil))) (tcons (tyStruct (100 ∷ 101 ∷ 115 ∷ 107 ∷ 95 ∷ 98 ∷ 111 ∷ 97 ∷ 114 ∷ 100 ∷ 105 ∷ 110 ∷ 103 ∷ 115 ∷ 58 ∷ 58 ∷ 87 ∷ 97 ∷ 110 ∷ 116 ∷ 115 ∷ []) (tcons (tyInt w64) (tcons (tyArray (tyInt w64) 8) (tcons (tyArray (tyInt w64) 8) tnil)))) (tcons (tyStruct (100 ∷ 101 ∷ 115 ∷ 107 ∷ 95 ∷ 116 ∷ 105 ∷ 99 ∷ 107 ∷ 101 ∷ 116 ∷ 115 ∷ 58 ∷ 58 ∷ 76 ∷ 97 ∷ 115 ∷ 116 ∷ 115 ∷ []) (tcons (tyInt w64) (tcons (tyInt w64) tnil))) tnil)))))) ∷ (1, mslice the-row (tyRef (named 0) mut (pointee (the-row .written))) 0) ∷ (2, whole (Declared.row Boarding.the-type)) ∷ (3, sslice (rtF (fInt w64)) (tyRef (named 1) imm (tyInt w64)) 1) ∷ (4, sslice (rtF (fInt w64)) (tyRef (named 2) imm (tyInt w64)) 2) ∷ (5, sslice (rtF (fInt w64)) (tyRef (named 3) imm (tyInt w64)) 3) ∷ (6, mslice-owed (rtF (fInt w64)) (tyRef (named 4) mut (tyInt w64)) 4 10 (lease (κs .1 .1 .1 .1 .0) (qs .1 .1 .1 .1 .0))) ∷ (7, mslice-owed (rtF (fInt w64)) (tyRef (named 5) mut (tyInt w64)) 5 11 (lease (κs .1 .1 .1 .1 .1 .0) (qs .1 .1 .1 .1 .1 .0))) ∷ (8, mslice-owed (rtF (fInt w64)) (tyRef (named 6) mut (tyInt w64)) 6 12 (lease (κs .1 .1 .1 .1 .1 .1 .0) (qs .1 .1 .1 .1 .1 .1 .0))) ∷ (9, mslice-owed (rtF (fInt w64)) (tyRef (named 7) mut (tyInt w64)) 7 13 (lease (κs .1 .1 .1 .1 .1 .1 .1 .0) (qs .1 .1 .1 .1 .1 .1 .1 .0))) ∷ (10, mslice-owed (rtF (fInt w64)) (tyRef (named 8) mut (tyInt w64)) 8 14 (lease (κs .1 .1 .1 .1 .1 .1 .1 .1 .0) (qs .1 .1 .1 .1 .1 .1 .1 .1 .0))) ∷ (11, sc-here (sInt w64)) ∷ (12, arrF (Declared.row Ticket.the-type) 32 0) ∷ (13, whole (Declared.row BoardedRow.the-type)) ∷ (14, any-gone (tyArray (tyStruct (100 ∷ 101 ∷ 115 ∷ 107 ∷ 95 ∷ 116 ∷ 105 ∷ 99 ∷ 107 ∷ 101 ∷ 116 ∷ 115 ∷ 58 ∷ 58 ∷ 84 ∷ 105 ∷ 99 ∷ 107 ∷ 101 ∷ 116 ∷ []) (tcons (tyInt w64) (tcons (tyInt w64) (tcons (tyInt w64) (tcons (tyInt w64) tnil))))) 32)) ∷ (15, any-gone (tyRef erased imm (pointee (the-row .written)))) ∷ []
 
         abbrev g26 : List.List Entry
-        g26 = (0, any-gone (tyStruct (98 ∷ 111 ∷ 97 ∷ 114 ∷ 100 ∷ 105 ∷ 110 ∷ 103 ∷ 115 ∷ 58 ∷ 58 ∷ 66 ∷ 111 ∷ 97 ∷ 114 ∷ 100 ∷ 101 ∷ 100 ∷ []) (tcons (tyStruct (119 ∷ 97 ∷ 108 ∷ 107 ∷ 58 ∷ 58 ∷ 65 ∷ 110 ∷ 115 ∷ 119 ∷ 101 ∷ 114 ∷ []) (tcons (tyEnum (114 ∷ 101 ∷ 102 ∷ 117 ∷ 115 ∷ 97 ∷ 108 ∷ 115 ∷ 58 ∷ 58 ∷ 82 ∷ 101 ∷ 102 ∷ 117 ∷ 115 ∷ 97 ∷ 108 ∷ []) (ttcons tnil (ttcons tnil (ttcons tnil (ttcons tnil (ttcons tnil (ttcons tnil (ttcons tnil (ttcons tnil (ttcons tnil (ttcons tnil (ttcons tnil (ttcons tnil (ttcons tnil (ttcons tnil (ttcons tnil (ttcons tnil (ttcons tnil (ttcons tnil (ttcons tnil (ttcons tnil (ttcons tnil (ttcons tnil (ttcons tnil (ttcons tnil (ttcons tnil (ttcons tnil (ttcons tnil ttnil)))))))))))))))))))))))))))) (tcons (tyInt w64) (tcons (tyInt w64) (tcons (tyInt w64) (tcons (tyInt w64) (tcons (tyInt w64) tnil))))))) (tcons (tyStruct (98 ∷ 111 ∷ 97 ∷ 114 ∷ 100 ∷ 105 ∷ 110 ∷ 103 ∷ 115 ∷ 58 ∷ 58 ∷ 84 ∷ 97 ∷ 107 ∷ 101 ∷ 110 ∷ []) (tcons (tyInt w64) (tcons (tyInt w64) tnil))) (tcons (tyStruct (98 ∷ 111 ∷ 97 ∷ 114 ∷ 100 ∷ 105 ∷ 110 ∷ 103 ∷ 115 ∷ 58 ∷ 58 ∷ 87 ∷ 97 ∷ 110 ∷ 116 ∷ 115 ∷ []) (tcons (tyInt w64) (tcons (tyArray (tyInt w64) 8) (tcons (tyArray (tyInt w64) 8) tnil)))) (tcons (tyStruct (116 ∷ 105 ∷ 99 ∷ 107 ∷ 101 ∷ 116 ∷ 115 ∷ 58 ∷ 58 ∷ 76 ∷ 97 ∷ 115 ∷ 116 ∷ 115 ∷ []) (tcons (tyInt w64) (tcons (tyInt w64) tnil))) tnil)))))) ∷ (1, mslice the-row (tyRef (named 0) mut (pointee (the-row .written))) 0) ∷ (2, any-gone (tyStruct (98 ∷ 111 ∷ 97 ∷ 114 ∷ 100 ∷ 105 ∷ 110 ∷ 103 ∷ 115 ∷ 58 ∷ 58 ∷ 66 ∷ 111 ∷ 97 ∷ 114 ∷ 100 ∷ 105 ∷ 110 ∷ 103 ∷ []) (tcons (tyInt w64) (tcons (tyInt w64) (tcons (tyStruct (116 ∷ 105 ∷ 99 ∷ 107 ∷ 101 ∷ 116 ∷ 115 ∷ 58 ∷ 58 ∷ 76 ∷ 97 ∷ 115 ∷ 116 ∷ 115 ∷ []) (tcons (tyInt w64) (tcons (tyInt w64) tnil))) tnil))))) ∷ (3, sslice (rtF (fInt w64)) (tyRef (named 1) imm (tyInt w64)) 1) ∷ (4, sslice (rtF (fInt w64)) (tyRef (named 2) imm (tyInt w64)) 2) ∷ (5, sslice (rtF (fInt w64)) (tyRef (named 3) imm (tyInt w64)) 3) ∷ (6, mslice-owed (rtF (fInt w64)) (tyRef (named 4) mut (tyInt w64)) 4 10 (lease (κs .1 .1 .1 .1 .0) (qs .1 .1 .1 .1 .0))) ∷ (7, mslice-owed (rtF (fInt w64)) (tyRef (named 5) mut (tyInt w64)) 5 11 (lease (κs .1 .1 .1 .1 .1 .0) (qs .1 .1 .1 .1 .1 .0))) ∷ (8, mslice-owed (rtF (fInt w64)) (tyRef (named 6) mut (tyInt w64)) 6 12 (lease (κs .1 .1 .1 .1 .1 .1 .0) (qs .1 .1 .1 .1 .1 .1 .0))) ∷ (9, mslice-owed (rtF (fInt w64)) (tyRef (named 7) mut (tyInt w64)) 7 13 (lease (κs .1 .1 .1 .1 .1 .1 .1 .0) (qs .1 .1 .1 .1 .1 .1 .1 .0))) ∷ (10, mslice-owed (rtF (fInt w64)) (tyRef (named 8) mut (tyInt w64)) 8 14 (lease (κs .1 .1 .1 .1 .1 .1 .1 .1 .0) (qs .1 .1 .1 .1 .1 .1 .1 .1 .0))) ∷ (11, sc-here (sInt w64)) ∷ (12, arrF (Declared.row Ticket.the-type) 32 0) ∷ (13, whole (Declared.row BoardedRow.the-type)) ∷ (14, any-gone (tyArray (tyStruct (116 ∷ 105 ∷ 99 ∷ 107 ∷ 101 ∷ 116 ∷ 115 ∷ 58 ∷ 58 ∷ 84 ∷ 105 ∷ 99 ∷ 107 ∷ 101 ∷ 116 ∷ []) (tcons (tyInt w64) (tcons (tyInt w64) (tcons (tyInt w64) (tcons (tyInt w64) tnil))))) 32)) ∷ (15, any-gone (tyRef erased imm (pointee (the-row .written)))) ∷ []
+        g26 = (0, any-gone (tyStruct (100 ∷ 101 ∷ 115 ∷ 107 ∷ 95 ∷ 98 ∷ 111 ∷ 97 ∷ 114 ∷ 100 ∷ 105 ∷ 110 ∷ 103 ∷ 115 ∷ 58 ∷ 58 ∷ 66 ∷ 111 ∷ 97 ∷ 114 ∷ 100 ∷ 101 ∷ 100 ∷ []) (tcons (tyStruct (119 ∷ 97 ∷ 108 ∷ 107 ∷ 58 ∷ 58 ∷ 65 ∷ 110 ∷ 115 ∷ 119 ∷ 101 ∷ 114 ∷ []) (tcons (tyEnum (114 ∷ 101 ∷ 102 ∷ 117 ∷ 115 ∷ 97 ∷ 108 ∷ 115 ∷ 58 ∷ 58 ∷ 82 ∷ 101 ∷ 102 ∷ 117 ∷ 115 ∷ 97 ∷ 108 ∷ []) (ttcons tnil (ttcons tnil (ttcons tnil (ttcons tnil (ttcons tnil (ttcons tnil (ttcons tnil (ttcons tnil (ttcons tnil (ttcons tnil (ttcons tnil (ttcons tnil (ttcons tnil (ttcons tnil (ttcons tnil (ttcons tnil (ttcons tnil (ttcons tnil (ttcons tnil (ttcons tnil (ttcons tnil (ttcons tnil (ttcons tnil (ttcons tnil (ttcons tnil (ttcons tnil (ttcons tnil ttnil)))))))))))))))))))))))))))) (tcons (tyInt w64) (tcons (tyInt w64) (tcons (tyInt w64) (tcons (tyInt w64) (tcons (tyInt w64) tnil))))))) (tcons (tyStruct (100 ∷ 101 ∷ 115 ∷ 107 ∷ 95 ∷ 98 ∷ 111 ∷ 97 ∷ 114 ∷ 100 ∷ 105 ∷ 110 ∷ 103 ∷ 115 ∷ 58 ∷ 58 ∷ 84 ∷ 97 ∷ 107 ∷ 101 ∷ 110 ∷ []) (tcons (tyInt w64) (tcons (tyInt w64) tnil))) (tcons (tyStruct (100 ∷ 101 ∷ 115 ∷ 107 ∷ 95 ∷ 98 ∷ 111 ∷ 97 ∷ 114 ∷ 100 ∷ 105 ∷ 110 ∷ 103 ∷ 115 ∷ 58 ∷ 58 ∷ 87 ∷ 97 ∷ 110 ∷ 116 ∷ 115 ∷ []) (tcons (tyInt w64) (tcons (tyArray (tyInt w64) 8) (tcons (tyArray (tyInt w64) 8) tnil)))) (tcons (tyStruct (100 ∷ 101 ∷ 115 ∷ 107 ∷ 95 ∷ 116 ∷ 105 ∷ 99 ∷ 107 ∷ 101 ∷ 116 ∷ 115 ∷ 58 ∷ 58 ∷ 76 ∷ 97 ∷ 115 ∷ 116 ∷ 115 ∷ []) (tcons (tyInt w64) (tcons (tyInt w64) tnil))) tnil)))))) ∷ (1, mslice the-row (tyRef (named 0) mut (pointee (the-row .written))) 0) ∷ (2, any-gone (tyStruct (100 ∷ 101 ∷ 115 ∷ 107 ∷ 95 ∷ 98 ∷ 111 ∷ 97 ∷ 114 ∷ 100 ∷ 105 ∷ 110 ∷ 103 ∷ 115 ∷ 58 ∷ 58 ∷ 66 ∷ 111 ∷ 97 ∷ 114 ∷ 100 ∷ 105 ∷ 110 ∷ 103 ∷ []) (tcons (tyInt w64) (tcons (tyInt w64) (tcons (tyStruct (100 ∷ 101 ∷ 115 ∷ 107 ∷ 95 ∷ 116 ∷ 105 ∷ 99 ∷ 107 ∷ 101 ∷ 116 ∷ 115 ∷ 58 ∷ 58 ∷ 76 ∷ 97 ∷ 115 ∷ 116 ∷ 115 ∷ []) (tcons (tyInt w64) (tcons (tyInt w64) tnil))) tnil))))) ∷ (3, sslice (rtF (fInt w64)) (tyRef (named 1) imm (tyInt w64)) 1) ∷ (4, sslice (rtF (fInt w64)) (tyRef (named 2) imm (tyInt w64)) 2) ∷ (5, sslice (rtF (fInt w64)) (tyRef (named 3) imm (tyInt w64)) 3) ∷ (6, mslice-owed (rtF (fInt w64)) (tyRef (named 4) mut (tyInt w64)) 4 10 (lease (κs .1 .1 .1 .1 .0) (qs .1 .1 .1 .1 .0))) ∷ (7, mslice-owed (rtF (fInt w64)) (tyRef (named 5) mut (tyInt w64)) 5 11 (lease (κs .1 .1 .1 .1 .1 .0) (qs .1 .1 .1 .1 .1 .0))) ∷ (8, mslice-owed (rtF (fInt w64)) (tyRef (named 6) mut (tyInt w64)) 6 12 (lease (κs .1 .1 .1 .1 .1 .1 .0) (qs .1 .1 .1 .1 .1 .1 .0))) ∷ (9, mslice-owed (rtF (fInt w64)) (tyRef (named 7) mut (tyInt w64)) 7 13 (lease (κs .1 .1 .1 .1 .1 .1 .1 .0) (qs .1 .1 .1 .1 .1 .1 .1 .0))) ∷ (10, mslice-owed (rtF (fInt w64)) (tyRef (named 8) mut (tyInt w64)) 8 14 (lease (κs .1 .1 .1 .1 .1 .1 .1 .1 .0) (qs .1 .1 .1 .1 .1 .1 .1 .1 .0))) ∷ (11, sc-here (sInt w64)) ∷ (12, arrF (Declared.row Ticket.the-type) 32 0) ∷ (13, whole (Declared.row BoardedRow.the-type)) ∷ (14, any-gone (tyArray (tyStruct (100 ∷ 101 ∷ 115 ∷ 107 ∷ 95 ∷ 116 ∷ 105 ∷ 99 ∷ 107 ∷ 101 ∷ 116 ∷ 115 ∷ 58 ∷ 58 ∷ 84 ∷ 105 ∷ 99 ∷ 107 ∷ 101 ∷ 116 ∷ []) (tcons (tyInt w64) (tcons (tyInt w64) (tcons (tyInt w64) (tcons (tyInt w64) tnil))))) 32)) ∷ (15, any-gone (tyRef erased imm (pointee (the-row .written)))) ∷ []
 
         abbrev g27 : List.List Entry
-        g27 = (0, any-gone (tyStruct (98 ∷ 111 ∷ 97 ∷ 114 ∷ 100 ∷ 105 ∷ 110 ∷ 103 ∷ 115 ∷ 58 ∷ 58 ∷ 66 ∷ 111 ∷ 97 ∷ 114 ∷ 100 ∷ 101 ∷ 100 ∷ []) (tcons (tyStruct (119 ∷ 97 ∷ 108 ∷ 107 ∷ 58 ∷ 58 ∷ 65 ∷ 110 ∷ 115 ∷ 119 ∷ 101 ∷ 114 ∷ []) (tcons (tyEnum (114 ∷ 101 ∷ 102 ∷ 117 ∷ 115 ∷ 97 ∷ 108 ∷ 115 ∷ 58 ∷ 58 ∷ 82 ∷ 101 ∷ 102 ∷ 117 ∷ 115 ∷ 97 ∷ 108 ∷ []) (ttcons tnil (ttcons tnil (ttcons tnil (ttcons tnil (ttcons tnil (ttcons tnil (ttcons tnil (ttcons tnil (ttcons tnil (ttcons tnil (ttcons tnil (ttcons tnil (ttcons tnil (ttcons tnil (ttcons tnil (ttcons tnil (ttcons tnil (ttcons tnil (ttcons tnil (ttcons tnil (ttcons tnil (ttcons tnil (ttcons tnil (ttcons tnil (ttcons tnil (ttcons tnil (ttcons tnil ttnil)))))))))))))))))))))))))))) (tcons (tyInt w64) (tcons (tyInt w64) (tcons (tyInt w64) (tcons (tyInt w64) (tcons (tyInt w64) tnil))))))) (tcons (tyStruct (98 ∷ 111 ∷ 97 ∷ 114 ∷ 100 ∷ 105 ∷ 110 ∷ 103 ∷ 115 ∷ 58 ∷ 58 ∷ 84 ∷ 97 ∷ 107 ∷ 101 ∷ 110 ∷ []) (tcons (tyInt w64) (tcons (tyInt w64) tnil))) (tcons (tyStruct (98 ∷ 111 ∷ 97 ∷ 114 ∷ 100 ∷ 105 ∷ 110 ∷ 103 ∷ 115 ∷ 58 ∷ 58 ∷ 87 ∷ 97 ∷ 110 ∷ 116 ∷ 115 ∷ []) (tcons (tyInt w64) (tcons (tyArray (tyInt w64) 8) (tcons (tyArray (tyInt w64) 8) tnil)))) (tcons (tyStruct (116 ∷ 105 ∷ 99 ∷ 107 ∷ 101 ∷ 116 ∷ 115 ∷ 58 ∷ 58 ∷ 76 ∷ 97 ∷ 115 ∷ 116 ∷ 115 ∷ []) (tcons (tyInt w64) (tcons (tyInt w64) tnil))) tnil)))))) ∷ (1, mslice the-row (tyRef (named 0) mut (pointee (the-row .written))) 0) ∷ (2, any-gone (tyStruct (98 ∷ 111 ∷ 97 ∷ 114 ∷ 100 ∷ 105 ∷ 110 ∷ 103 ∷ 115 ∷ 58 ∷ 58 ∷ 66 ∷ 111 ∷ 97 ∷ 114 ∷ 100 ∷ 105 ∷ 110 ∷ 103 ∷ []) (tcons (tyInt w64) (tcons (tyInt w64) (tcons (tyStruct (116 ∷ 105 ∷ 99 ∷ 107 ∷ 101 ∷ 116 ∷ 115 ∷ 58 ∷ 58 ∷ 76 ∷ 97 ∷ 115 ∷ 116 ∷ 115 ∷ []) (tcons (tyInt w64) (tcons (tyInt w64) tnil))) tnil))))) ∷ (3, sslice (rtF (fInt w64)) (tyRef (named 1) imm (tyInt w64)) 1) ∷ (4, sslice (rtF (fInt w64)) (tyRef (named 2) imm (tyInt w64)) 2) ∷ (5, sslice (rtF (fInt w64)) (tyRef (named 3) imm (tyInt w64)) 3) ∷ (6, mslice-owed (rtF (fInt w64)) (tyRef (named 4) mut (tyInt w64)) 4 10 (lease (κs .1 .1 .1 .1 .0) (qs .1 .1 .1 .1 .0))) ∷ (7, mslice-owed (rtF (fInt w64)) (tyRef (named 5) mut (tyInt w64)) 5 11 (lease (κs .1 .1 .1 .1 .1 .0) (qs .1 .1 .1 .1 .1 .0))) ∷ (8, mslice-owed (rtF (fInt w64)) (tyRef (named 6) mut (tyInt w64)) 6 12 (lease (κs .1 .1 .1 .1 .1 .1 .0) (qs .1 .1 .1 .1 .1 .1 .0))) ∷ (9, mslice-owed (rtF (fInt w64)) (tyRef (named 7) mut (tyInt w64)) 7 13 (lease (κs .1 .1 .1 .1 .1 .1 .1 .0) (qs .1 .1 .1 .1 .1 .1 .1 .0))) ∷ (10, mslice-owed (rtF (fInt w64)) (tyRef (named 8) mut (tyInt w64)) 8 14 (lease (κs .1 .1 .1 .1 .1 .1 .1 .1 .0) (qs .1 .1 .1 .1 .1 .1 .1 .1 .0))) ∷ (11, sc-here (sInt w64)) ∷ (12, any-gone (tyArray (tyStruct (116 ∷ 105 ∷ 99 ∷ 107 ∷ 101 ∷ 116 ∷ 115 ∷ 58 ∷ 58 ∷ 84 ∷ 105 ∷ 99 ∷ 107 ∷ 101 ∷ 116 ∷ []) (tcons (tyInt w64) (tcons (tyInt w64) (tcons (tyInt w64) (tcons (tyInt w64) tnil))))) 32)) ∷ (13, whole (Declared.row BoardedRow.the-type)) ∷ (14, any-gone (tyArray (tyStruct (116 ∷ 105 ∷ 99 ∷ 107 ∷ 101 ∷ 116 ∷ 115 ∷ 58 ∷ 58 ∷ 84 ∷ 105 ∷ 99 ∷ 107 ∷ 101 ∷ 116 ∷ []) (tcons (tyInt w64) (tcons (tyInt w64) (tcons (tyInt w64) (tcons (tyInt w64) tnil))))) 32)) ∷ (15, any-gone (tyRef erased imm (pointee (the-row .written)))) ∷ []
+        g27 = (0, any-gone (tyStruct (100 ∷ 101 ∷ 115 ∷ 107 ∷ 95 ∷ 98 ∷ 111 ∷ 97 ∷ 114 ∷ 100 ∷ 105 ∷ 110 ∷ 103 ∷ 115 ∷ 58 ∷ 58 ∷ 66 ∷ 111 ∷ 97 ∷ 114 ∷ 100 ∷ 101 ∷ 100 ∷ []) (tcons (tyStruct (119 ∷ 97 ∷ 108 ∷ 107 ∷ 58 ∷ 58 ∷ 65 ∷ 110 ∷ 115 ∷ 119 ∷ 101 ∷ 114 ∷ []) (tcons (tyEnum (114 ∷ 101 ∷ 102 ∷ 117 ∷ 115 ∷ 97 ∷ 108 ∷ 115 ∷ 58 ∷ 58 ∷ 82 ∷ 101 ∷ 102 ∷ 117 ∷ 115 ∷ 97 ∷ 108 ∷ []) (ttcons tnil (ttcons tnil (ttcons tnil (ttcons tnil (ttcons tnil (ttcons tnil (ttcons tnil (ttcons tnil (ttcons tnil (ttcons tnil (ttcons tnil (ttcons tnil (ttcons tnil (ttcons tnil (ttcons tnil (ttcons tnil (ttcons tnil (ttcons tnil (ttcons tnil (ttcons tnil (ttcons tnil (ttcons tnil (ttcons tnil (ttcons tnil (ttcons tnil (ttcons tnil (ttcons tnil ttnil)))))))))))))))))))))))))))) (tcons (tyInt w64) (tcons (tyInt w64) (tcons (tyInt w64) (tcons (tyInt w64) (tcons (tyInt w64) tnil))))))) (tcons (tyStruct (100 ∷ 101 ∷ 115 ∷ 107 ∷ 95 ∷ 98 ∷ 111 ∷ 97 ∷ 114 ∷ 100 ∷ 105 ∷ 110 ∷ 103 ∷ 115 ∷ 58 ∷ 58 ∷ 84 ∷ 97 ∷ 107 ∷ 101 ∷ 110 ∷ []) (tcons (tyInt w64) (tcons (tyInt w64) tnil))) (tcons (tyStruct (100 ∷ 101 ∷ 115 ∷ 107 ∷ 95 ∷ 98 ∷ 111 ∷ 97 ∷ 114 ∷ 100 ∷ 105 ∷ 110 ∷ 103 ∷ 115 ∷ 58 ∷ 58 ∷ 87 ∷ 97 ∷ 110 ∷ 116 ∷ 115 ∷ []) (tcons (tyInt w64) (tcons (tyArray (tyInt w64) 8) (tcons (tyArray (tyInt w64) 8) tnil)))) (tcons (tyStruct (100 ∷ 101 ∷ 115 ∷ 107 ∷ 95 ∷ 116 ∷ 105 ∷ 99 ∷ 107 ∷ 101 ∷ 116 ∷ 115 ∷ 58 ∷ 58 ∷ 76 ∷ 97 ∷ 115 ∷ 116 ∷ 115 ∷ []) (tcons (tyInt w64) (tcons (tyInt w64) tnil))) tnil)))))) ∷ (1, mslice the-row (tyRef (named 0) mut (pointee (the-row .written))) 0) ∷ (2, any-gone (tyStruct (100 ∷ 101 ∷ 115 ∷ 107 ∷ 95 ∷ 98 ∷ 111 ∷ 97 ∷ 114 ∷ 100 ∷ 105 ∷ 110 ∷ 103 ∷ 115 ∷ 58 ∷ 58 ∷ 66 ∷ 111 ∷ 97 ∷ 114 ∷ 100 ∷ 105 ∷ 110 ∷ 103 ∷ []) (tcons (tyInt w64) (tcons (tyInt w64) (tcons (tyStruct (100 ∷ 101 ∷ 115 ∷ 107 ∷ 95 ∷ 116 ∷ 105 ∷ 99 ∷ 107 ∷ 101 ∷ 116 ∷ 115 ∷ 58 ∷ 58 ∷ 76 ∷ 97 ∷ 115 ∷ 116 ∷ 115 ∷ []) (tcons (tyInt w64) (tcons (tyInt w64) tnil))) tnil))))) ∷ (3, sslice (rtF (fInt w64)) (tyRef (named 1) imm (tyInt w64)) 1) ∷ (4, sslice (rtF (fInt w64)) (tyRef (named 2) imm (tyInt w64)) 2) ∷ (5, sslice (rtF (fInt w64)) (tyRef (named 3) imm (tyInt w64)) 3) ∷ (6, mslice-owed (rtF (fInt w64)) (tyRef (named 4) mut (tyInt w64)) 4 10 (lease (κs .1 .1 .1 .1 .0) (qs .1 .1 .1 .1 .0))) ∷ (7, mslice-owed (rtF (fInt w64)) (tyRef (named 5) mut (tyInt w64)) 5 11 (lease (κs .1 .1 .1 .1 .1 .0) (qs .1 .1 .1 .1 .1 .0))) ∷ (8, mslice-owed (rtF (fInt w64)) (tyRef (named 6) mut (tyInt w64)) 6 12 (lease (κs .1 .1 .1 .1 .1 .1 .0) (qs .1 .1 .1 .1 .1 .1 .0))) ∷ (9, mslice-owed (rtF (fInt w64)) (tyRef (named 7) mut (tyInt w64)) 7 13 (lease (κs .1 .1 .1 .1 .1 .1 .1 .0) (qs .1 .1 .1 .1 .1 .1 .1 .0))) ∷ (10, mslice-owed (rtF (fInt w64)) (tyRef (named 8) mut (tyInt w64)) 8 14 (lease (κs .1 .1 .1 .1 .1 .1 .1 .1 .0) (qs .1 .1 .1 .1 .1 .1 .1 .1 .0))) ∷ (11, sc-here (sInt w64)) ∷ (12, any-gone (tyArray (tyStruct (100 ∷ 101 ∷ 115 ∷ 107 ∷ 95 ∷ 116 ∷ 105 ∷ 99 ∷ 107 ∷ 101 ∷ 116 ∷ 115 ∷ 58 ∷ 58 ∷ 84 ∷ 105 ∷ 99 ∷ 107 ∷ 101 ∷ 116 ∷ []) (tcons (tyInt w64) (tcons (tyInt w64) (tcons (tyInt w64) (tcons (tyInt w64) tnil))))) 32)) ∷ (13, whole (Declared.row BoardedRow.the-type)) ∷ (14, any-gone (tyArray (tyStruct (100 ∷ 101 ∷ 115 ∷ 107 ∷ 95 ∷ 116 ∷ 105 ∷ 99 ∷ 107 ∷ 101 ∷ 116 ∷ 115 ∷ 58 ∷ 58 ∷ 84 ∷ 105 ∷ 99 ∷ 107 ∷ 101 ∷ 116 ∷ []) (tcons (tyInt w64) (tcons (tyInt w64) (tcons (tyInt w64) (tcons (tyInt w64) tnil))))) 32)) ∷ (15, any-gone (tyRef erased imm (pointee (the-row .written)))) ∷ []
 
         abbrev g28 : List.List Entry
-        g28 = (0, any-gone (tyStruct (98 ∷ 111 ∷ 97 ∷ 114 ∷ 100 ∷ 105 ∷ 110 ∷ 103 ∷ 115 ∷ 58 ∷ 58 ∷ 66 ∷ 111 ∷ 97 ∷ 114 ∷ 100 ∷ 101 ∷ 100 ∷ []) (tcons (tyStruct (119 ∷ 97 ∷ 108 ∷ 107 ∷ 58 ∷ 58 ∷ 65 ∷ 110 ∷ 115 ∷ 119 ∷ 101 ∷ 114 ∷ []) (tcons (tyEnum (114 ∷ 101 ∷ 102 ∷ 117 ∷ 115 ∷ 97 ∷ 108 ∷ 115 ∷ 58 ∷ 58 ∷ 82 ∷ 101 ∷ 102 ∷ 117 ∷ 115 ∷ 97 ∷ 108 ∷ []) (ttcons tnil (ttcons tnil (ttcons tnil (ttcons tnil (ttcons tnil (ttcons tnil (ttcons tnil (ttcons tnil (ttcons tnil (ttcons tnil (ttcons tnil (ttcons tnil (ttcons tnil (ttcons tnil (ttcons tnil (ttcons tnil (ttcons tnil (ttcons tnil (ttcons tnil (ttcons tnil (ttcons tnil (ttcons tnil (ttcons tnil (ttcons tnil (ttcons tnil (ttcons tnil (ttcons tnil ttnil)))))))))))))))))))))))))))) (tcons (tyInt w64) (tcons (tyInt w64) (tcons (tyInt w64) (tcons (tyInt w64) (tcons (tyInt w64) tnil))))))) (tcons (tyStruct (98 ∷ 111 ∷ 97 ∷ 114 ∷ 100 ∷ 105 ∷ 110 ∷ 103 ∷ 115 ∷ 58 ∷ 58 ∷ 84 ∷ 97 ∷ 107 ∷ 101 ∷ 110 ∷ []) (tcons (tyInt w64) (tcons (tyInt w64) tnil))) (tcons (tyStruct (98 ∷ 111 ∷ 97 ∷ 114 ∷ 100 ∷ 105 ∷ 110 ∷ 103 ∷ 115 ∷ 58 ∷ 58 ∷ 87 ∷ 97 ∷ 110 ∷ 116 ∷ 115 ∷ []) (tcons (tyInt w64) (tcons (tyArray (tyInt w64) 8) (tcons (tyArray (tyInt w64) 8) tnil)))) (tcons (tyStruct (116 ∷ 105 ∷ 99 ∷ 107 ∷ 101 ∷ 116 ∷ 115 ∷ 58 ∷ 58 ∷ 76 ∷ 97 ∷ 115 ∷ 116 ∷ 115 ∷ []) (tcons (tyInt w64) (tcons (tyInt w64) tnil))) tnil)))))) ∷ (1, mslice the-row (tyRef (named 0) mut (pointee (the-row .written))) 0) ∷ (2, any-gone (tyStruct (98 ∷ 111 ∷ 97 ∷ 114 ∷ 100 ∷ 105 ∷ 110 ∷ 103 ∷ 115 ∷ 58 ∷ 58 ∷ 66 ∷ 111 ∷ 97 ∷ 114 ∷ 100 ∷ 105 ∷ 110 ∷ 103 ∷ []) (tcons (tyInt w64) (tcons (tyInt w64) (tcons (tyStruct (116 ∷ 105 ∷ 99 ∷ 107 ∷ 101 ∷ 116 ∷ 115 ∷ 58 ∷ 58 ∷ 76 ∷ 97 ∷ 115 ∷ 116 ∷ 115 ∷ []) (tcons (tyInt w64) (tcons (tyInt w64) tnil))) tnil))))) ∷ (3, sslice (rtF (fInt w64)) (tyRef (named 1) imm (tyInt w64)) 1) ∷ (4, sslice (rtF (fInt w64)) (tyRef (named 2) imm (tyInt w64)) 2) ∷ (5, sslice (rtF (fInt w64)) (tyRef (named 3) imm (tyInt w64)) 3) ∷ (6, mslice (rtF (fInt w64)) (tyRef (named 4) mut (tyInt w64)) 4) ∷ (7, mslice-owed (rtF (fInt w64)) (tyRef (named 5) mut (tyInt w64)) 5 11 (lease (κs .1 .1 .1 .1 .1 .0) (qs .1 .1 .1 .1 .1 .0))) ∷ (8, mslice-owed (rtF (fInt w64)) (tyRef (named 6) mut (tyInt w64)) 6 12 (lease (κs .1 .1 .1 .1 .1 .1 .0) (qs .1 .1 .1 .1 .1 .1 .0))) ∷ (9, mslice-owed (rtF (fInt w64)) (tyRef (named 7) mut (tyInt w64)) 7 13 (lease (κs .1 .1 .1 .1 .1 .1 .1 .0) (qs .1 .1 .1 .1 .1 .1 .1 .0))) ∷ (10, mslice-owed (rtF (fInt w64)) (tyRef (named 8) mut (tyInt w64)) 8 14 (lease (κs .1 .1 .1 .1 .1 .1 .1 .1 .0) (qs .1 .1 .1 .1 .1 .1 .1 .1 .0))) ∷ (11, sc-here (sInt w64)) ∷ (12, any-gone (tyArray (tyStruct (116 ∷ 105 ∷ 99 ∷ 107 ∷ 101 ∷ 116 ∷ 115 ∷ 58 ∷ 58 ∷ 84 ∷ 105 ∷ 99 ∷ 107 ∷ 101 ∷ 116 ∷ []) (tcons (tyInt w64) (tcons (tyInt w64) (tcons (tyInt w64) (tcons (tyInt w64) tnil))))) 32)) ∷ (13, whole (Declared.row BoardedRow.the-type)) ∷ (14, any-gone (tyArray (tyStruct (116 ∷ 105 ∷ 99 ∷ 107 ∷ 101 ∷ 116 ∷ 115 ∷ 58 ∷ 58 ∷ 84 ∷ 105 ∷ 99 ∷ 107 ∷ 101 ∷ 116 ∷ []) (tcons (tyInt w64) (tcons (tyInt w64) (tcons (tyInt w64) (tcons (tyInt w64) tnil))))) 32)) ∷ (15, any-gone (tyRef erased imm (pointee (the-row .written)))) ∷ []
+        g28 = (0, any-gone (tyStruct (100 ∷ 101 ∷ 115 ∷ 107 ∷ 95 ∷ 98 ∷ 111 ∷ 97 ∷ 114 ∷ 100 ∷ 105 ∷ 110 ∷ 103 ∷ 115 ∷ 58 ∷ 58 ∷ 66 ∷ 111 ∷ 97 ∷ 114 ∷ 100 ∷ 101 ∷ 100 ∷ []) (tcons (tyStruct (119 ∷ 97 ∷ 108 ∷ 107 ∷ 58 ∷ 58 ∷ 65 ∷ 110 ∷ 115 ∷ 119 ∷ 101 ∷ 114 ∷ []) (tcons (tyEnum (114 ∷ 101 ∷ 102 ∷ 117 ∷ 115 ∷ 97 ∷ 108 ∷ 115 ∷ 58 ∷ 58 ∷ 82 ∷ 101 ∷ 102 ∷ 117 ∷ 115 ∷ 97 ∷ 108 ∷ []) (ttcons tnil (ttcons tnil (ttcons tnil (ttcons tnil (ttcons tnil (ttcons tnil (ttcons tnil (ttcons tnil (ttcons tnil (ttcons tnil (ttcons tnil (ttcons tnil (ttcons tnil (ttcons tnil (ttcons tnil (ttcons tnil (ttcons tnil (ttcons tnil (ttcons tnil (ttcons tnil (ttcons tnil (ttcons tnil (ttcons tnil (ttcons tnil (ttcons tnil (ttcons tnil (ttcons tnil ttnil)))))))))))))))))))))))))))) (tcons (tyInt w64) (tcons (tyInt w64) (tcons (tyInt w64) (tcons (tyInt w64) (tcons (tyInt w64) tnil))))))) (tcons (tyStruct (100 ∷ 101 ∷ 115 ∷ 107 ∷ 95 ∷ 98 ∷ 111 ∷ 97 ∷ 114 ∷ 100 ∷ 105 ∷ 110 ∷ 103 ∷ 115 ∷ 58 ∷ 58 ∷ 84 ∷ 97 ∷ 107 ∷ 101 ∷ 110 ∷ []) (tcons (tyInt w64) (tcons (tyInt w64) tnil))) (tcons (tyStruct (100 ∷ 101 ∷ 115 ∷ 107 ∷ 95 ∷ 98 ∷ 111 ∷ 97 ∷ 114 ∷ 100 ∷ 105 ∷ 110 ∷ 103 ∷ 115 ∷ 58 ∷ 58 ∷ 87 ∷ 97 ∷ 110 ∷ 116 ∷ 115 ∷ []) (tcons (tyInt w64) (tcons (tyArray (tyInt w64) 8) (tcons (tyArray (tyInt w64) 8) tnil)))) (tcons (tyStruct (100 ∷ 101 ∷ 115 ∷ 107 ∷ 95 ∷ 116 ∷ 105 ∷ 99 ∷ 107 ∷ 101 ∷ 116 ∷ 115 ∷ 58 ∷ 58 ∷ 76 ∷ 97 ∷ 115 ∷ 116 ∷ 115 ∷ []) (tcons (tyInt w64) (tcons (tyInt w64) tnil))) tnil)))))) ∷ (1, mslice the-row (tyRef (named 0) mut (pointee (the-row .written))) 0) ∷ (2, any-gone (tyStruct (100 ∷ 101 ∷ 115 ∷ 107 ∷ 95 ∷ 98 ∷ 111 ∷ 97 ∷ 114 ∷ 100 ∷ 105 ∷ 110 ∷ 103 ∷ 115 ∷ 58 ∷ 58 ∷ 66 ∷ 111 ∷ 97 ∷ 114 ∷ 100 ∷ 105 ∷ 110 ∷ 103 ∷ []) (tcons (tyInt w64) (tcons (tyInt w64) (tcons (tyStruct (100 ∷ 101 ∷ 115 ∷ 107 ∷ 95 ∷ 116 ∷ 105 ∷ 99 ∷ 107 ∷ 101 ∷ 116 ∷ 115 ∷ 58 ∷ 58 ∷ 76 ∷ 97 ∷ 115 ∷ 116 ∷ 115 ∷ []) (tcons (tyInt w64) (tcons (tyInt w64) tnil))) tnil))))) ∷ (3, sslice (rtF (fInt w64)) (tyRef (named 1) imm (tyInt w64)) 1) ∷ (4, sslice (rtF (fInt w64)) (tyRef (named 2) imm (tyInt w64)) 2) ∷ (5, sslice (rtF (fInt w64)) (tyRef (named 3) imm (tyInt w64)) 3) ∷ (6, mslice (rtF (fInt w64)) (tyRef (named 4) mut (tyInt w64)) 4) ∷ (7, mslice-owed (rtF (fInt w64)) (tyRef (named 5) mut (tyInt w64)) 5 11 (lease (κs .1 .1 .1 .1 .1 .0) (qs .1 .1 .1 .1 .1 .0))) ∷ (8, mslice-owed (rtF (fInt w64)) (tyRef (named 6) mut (tyInt w64)) 6 12 (lease (κs .1 .1 .1 .1 .1 .1 .0) (qs .1 .1 .1 .1 .1 .1 .0))) ∷ (9, mslice-owed (rtF (fInt w64)) (tyRef (named 7) mut (tyInt w64)) 7 13 (lease (κs .1 .1 .1 .1 .1 .1 .1 .0) (qs .1 .1 .1 .1 .1 .1 .1 .0))) ∷ (10, mslice-owed (rtF (fInt w64)) (tyRef (named 8) mut (tyInt w64)) 8 14 (lease (κs .1 .1 .1 .1 .1 .1 .1 .1 .0) (qs .1 .1 .1 .1 .1 .1 .1 .1 .0))) ∷ (11, sc-here (sInt w64)) ∷ (12, any-gone (tyArray (tyStruct (100 ∷ 101 ∷ 115 ∷ 107 ∷ 95 ∷ 116 ∷ 105 ∷ 99 ∷ 107 ∷ 101 ∷ 116 ∷ 115 ∷ 58 ∷ 58 ∷ 84 ∷ 105 ∷ 99 ∷ 107 ∷ 101 ∷ 116 ∷ []) (tcons (tyInt w64) (tcons (tyInt w64) (tcons (tyInt w64) (tcons (tyInt w64) tnil))))) 32)) ∷ (13, whole (Declared.row BoardedRow.the-type)) ∷ (14, any-gone (tyArray (tyStruct (100 ∷ 101 ∷ 115 ∷ 107 ∷ 95 ∷ 116 ∷ 105 ∷ 99 ∷ 107 ∷ 101 ∷ 116 ∷ 115 ∷ 58 ∷ 58 ∷ 84 ∷ 105 ∷ 99 ∷ 107 ∷ 101 ∷ 116 ∷ []) (tcons (tyInt w64) (tcons (tyInt w64) (tcons (tyInt w64) (tcons (tyInt w64) tnil))))) 32)) ∷ (15, any-gone (tyRef erased imm (pointee (the-row .written)))) ∷ []
 
         abbrev g30 : List.List Entry
-        g30 = (0, any-gone (tyStruct (98 ∷ 111 ∷ 97 ∷ 114 ∷ 100 ∷ 105 ∷ 110 ∷ 103 ∷ 115 ∷ 58 ∷ 58 ∷ 66 ∷ 111 ∷ 97 ∷ 114 ∷ 100 ∷ 101 ∷ 100 ∷ []) (tcons (tyStruct (119 ∷ 97 ∷ 108 ∷ 107 ∷ 58 ∷ 58 ∷ 65 ∷ 110 ∷ 115 ∷ 119 ∷ 101 ∷ 114 ∷ []) (tcons (tyEnum (114 ∷ 101 ∷ 102 ∷ 117 ∷ 115 ∷ 97 ∷ 108 ∷ 115 ∷ 58 ∷ 58 ∷ 82 ∷ 101 ∷ 102 ∷ 117 ∷ 115 ∷ 97 ∷ 108 ∷ []) (ttcons tnil (ttcons tnil (ttcons tnil (ttcons tnil (ttcons tnil (ttcons tnil (ttcons tnil (ttcons tnil (ttcons tnil (ttcons tnil (ttcons tnil (ttcons tnil (ttcons tnil (ttcons tnil (ttcons tnil (ttcons tnil (ttcons tnil (ttcons tnil (ttcons tnil (ttcons tnil (ttcons tnil (ttcons tnil (ttcons tnil (ttcons tnil (ttcons tnil (ttcons tnil (ttcons tnil ttnil)))))))))))))))))))))))))))) (tcons (tyInt w64) (tcons (tyInt w64) (tcons (tyInt w64) (tcons (tyInt w64) (tcons (tyInt w64) tnil))))))) (tcons (tyStruct (98 ∷ 111 ∷ 97 ∷ 114 ∷ 100 ∷ 105 ∷ 110 ∷ 103 ∷ 115 ∷ 58 ∷ 58 ∷ 84 ∷ 97 ∷ 107 ∷ 101 ∷ 110 ∷ []) (tcons (tyInt w64) (tcons (tyInt w64) tnil))) (tcons (tyStruct (98 ∷ 111 ∷ 97 ∷ 114 ∷ 100 ∷ 105 ∷ 110 ∷ 103 ∷ 115 ∷ 58 ∷ 58 ∷ 87 ∷ 97 ∷ 110 ∷ 116 ∷ 115 ∷ []) (tcons (tyInt w64) (tcons (tyArray (tyInt w64) 8) (tcons (tyArray (tyInt w64) 8) tnil)))) (tcons (tyStruct (116 ∷ 105 ∷ 99 ∷ 107 ∷ 101 ∷ 116 ∷ 115 ∷ 58 ∷ 58 ∷ 76 ∷ 97 ∷ 115 ∷ 116 ∷ 115 ∷ []) (tcons (tyInt w64) (tcons (tyInt w64) tnil))) tnil)))))) ∷ (1, mslice the-row (tyRef (named 0) mut (pointee (the-row .written))) 0) ∷ (2, any-gone (tyStruct (98 ∷ 111 ∷ 97 ∷ 114 ∷ 100 ∷ 105 ∷ 110 ∷ 103 ∷ 115 ∷ 58 ∷ 58 ∷ 66 ∷ 111 ∷ 97 ∷ 114 ∷ 100 ∷ 105 ∷ 110 ∷ 103 ∷ []) (tcons (tyInt w64) (tcons (tyInt w64) (tcons (tyStruct (116 ∷ 105 ∷ 99 ∷ 107 ∷ 101 ∷ 116 ∷ 115 ∷ 58 ∷ 58 ∷ 76 ∷ 97 ∷ 115 ∷ 116 ∷ 115 ∷ []) (tcons (tyInt w64) (tcons (tyInt w64) tnil))) tnil))))) ∷ (3, sslice (rtF (fInt w64)) (tyRef (named 1) imm (tyInt w64)) 1) ∷ (4, sslice (rtF (fInt w64)) (tyRef (named 2) imm (tyInt w64)) 2) ∷ (5, sslice (rtF (fInt w64)) (tyRef (named 3) imm (tyInt w64)) 3) ∷ (6, mslice (rtF (fInt w64)) (tyRef (named 4) mut (tyInt w64)) 4) ∷ (7, mslice (rtF (fInt w64)) (tyRef (named 5) mut (tyInt w64)) 5) ∷ (8, mslice-owed (rtF (fInt w64)) (tyRef (named 6) mut (tyInt w64)) 6 12 (lease (κs .1 .1 .1 .1 .1 .1 .0) (qs .1 .1 .1 .1 .1 .1 .0))) ∷ (9, mslice-owed (rtF (fInt w64)) (tyRef (named 7) mut (tyInt w64)) 7 13 (lease (κs .1 .1 .1 .1 .1 .1 .1 .0) (qs .1 .1 .1 .1 .1 .1 .1 .0))) ∷ (10, mslice-owed (rtF (fInt w64)) (tyRef (named 8) mut (tyInt w64)) 8 14 (lease (κs .1 .1 .1 .1 .1 .1 .1 .1 .0) (qs .1 .1 .1 .1 .1 .1 .1 .1 .0))) ∷ (11, sc-here (sInt w64)) ∷ (12, any-gone (tyArray (tyStruct (116 ∷ 105 ∷ 99 ∷ 107 ∷ 101 ∷ 116 ∷ 115 ∷ 58 ∷ 58 ∷ 84 ∷ 105 ∷ 99 ∷ 107 ∷ 101 ∷ 116 ∷ []) (tcons (tyInt w64) (tcons (tyInt w64) (tcons (tyInt w64) (tcons (tyInt w64) tnil))))) 32)) ∷ (13, whole (Declared.row BoardedRow.the-type)) ∷ (14, any-gone (tyArray (tyStruct (116 ∷ 105 ∷ 99 ∷ 107 ∷ 101 ∷ 116 ∷ 115 ∷ 58 ∷ 58 ∷ 84 ∷ 105 ∷ 99 ∷ 107 ∷ 101 ∷ 116 ∷ []) (tcons (tyInt w64) (tcons (tyInt w64) (tcons (tyInt w64) (tcons (tyInt w64) tnil))))) 32)) ∷ (15, any-gone (tyRef erased imm (pointee (the-row .written)))) ∷ []
+        g30 = (0, any-gone (tyStruct (100 ∷ 101 ∷ 115 ∷ 107 ∷ 95 ∷ 98 ∷ 111 ∷ 97 ∷ 114 ∷ 100 ∷ 105 ∷ 110 ∷ 103 ∷ 115 ∷ 58 ∷ 58 ∷ 66 ∷ 111 ∷ 97 ∷ 114 ∷ 100 ∷ 101 ∷ 100 ∷ []) (tcons (tyStruct (119 ∷ 97 ∷ 108 ∷ 107 ∷ 58 ∷ 58 ∷ 65 ∷ 110 ∷ 115 ∷ 119 ∷ 101 ∷ 114 ∷ []) (tcons (tyEnum (114 ∷ 101 ∷ 102 ∷ 117 ∷ 115 ∷ 97 ∷ 108 ∷ 115 ∷ 58 ∷ 58 ∷ 82 ∷ 101 ∷ 102 ∷ 117 ∷ 115 ∷ 97 ∷ 108 ∷ []) (ttcons tnil (ttcons tnil (ttcons tnil (ttcons tnil (ttcons tnil (ttcons tnil (ttcons tnil (ttcons tnil (ttcons tnil (ttcons tnil (ttcons tnil (ttcons tnil (ttcons tnil (ttcons tnil (ttcons tnil (ttcons tnil (ttcons tnil (ttcons tnil (ttcons tnil (ttcons tnil (ttcons tnil (ttcons tnil (ttcons tnil (ttcons tnil (ttcons tnil (ttcons tnil (ttcons tnil ttnil)))))))))))))))))))))))))))) (tcons (tyInt w64) (tcons (tyInt w64) (tcons (tyInt w64) (tcons (tyInt w64) (tcons (tyInt w64) tnil))))))) (tcons (tyStruct (100 ∷ 101 ∷ 115 ∷ 107 ∷ 95 ∷ 98 ∷ 111 ∷ 97 ∷ 114 ∷ 100 ∷ 105 ∷ 110 ∷ 103 ∷ 115 ∷ 58 ∷ 58 ∷ 84 ∷ 97 ∷ 107 ∷ 101 ∷ 110 ∷ []) (tcons (tyInt w64) (tcons (tyInt w64) tnil))) (tcons (tyStruct (100 ∷ 101 ∷ 115 ∷ 107 ∷ 95 ∷ 98 ∷ 111 ∷ 97 ∷ 114 ∷ 100 ∷ 105 ∷ 110 ∷ 103 ∷ 115 ∷ 58 ∷ 58 ∷ 87 ∷ 97 ∷ 110 ∷ 116 ∷ 115 ∷ []) (tcons (tyInt w64) (tcons (tyArray (tyInt w64) 8) (tcons (tyArray (tyInt w64) 8) tnil)))) (tcons (tyStruct (100 ∷ 101 ∷ 115 ∷ 107 ∷ 95 ∷ 116 ∷ 105 ∷ 99 ∷ 107 ∷ 101 ∷ 116 ∷ 115 ∷ 58 ∷ 58 ∷ 76 ∷ 97 ∷ 115 ∷ 116 ∷ 115 ∷ []) (tcons (tyInt w64) (tcons (tyInt w64) tnil))) tnil)))))) ∷ (1, mslice the-row (tyRef (named 0) mut (pointee (the-row .written))) 0) ∷ (2, any-gone (tyStruct (100 ∷ 101 ∷ 115 ∷ 107 ∷ 95 ∷ 98 ∷ 111 ∷ 97 ∷ 114 ∷ 100 ∷ 105 ∷ 110 ∷ 103 ∷ 115 ∷ 58 ∷ 58 ∷ 66 ∷ 111 ∷ 97 ∷ 114 ∷ 100 ∷ 105 ∷ 110 ∷ 103 ∷ []) (tcons (tyInt w64) (tcons (tyInt w64) (tcons (tyStruct (100 ∷ 101 ∷ 115 ∷ 107 ∷ 95 ∷ 116 ∷ 105 ∷ 99 ∷ 107 ∷ 101 ∷ 116 ∷ 115 ∷ 58 ∷ 58 ∷ 76 ∷ 97 ∷ 115 ∷ 116 ∷ 115 ∷ []) (tcons (tyInt w64) (tcons (tyInt w64) tnil))) tnil))))) ∷ (3, sslice (rtF (fInt w64)) (tyRef (named 1) imm (tyInt w64)) 1) ∷ (4, sslice (rtF (fInt w64)) (tyRef (named 2) imm (tyInt w64)) 2) ∷ (5, sslice (rtF (fInt w64)) (tyRef (named 3) imm (tyInt w64)) 3) ∷ (6, mslice (rtF (fInt w64)) (tyRef (named 4) mut (tyInt w64)) 4) ∷ (7, mslice (rtF (fInt w64)) (tyRef (named 5) mut (tyInt w64)) 5) ∷ (8, mslice-owed (rtF (fInt w64)) (tyRef (named 6) mut (tyInt w64)) 6 12 (lease (κs .1 .1 .1 .1 .1 .1 .0) (qs .1 .1 .1 .1 .1 .1 .0))) ∷ (9, mslice-owed (rtF (fInt w64)) (tyRef (named 7) mut (tyInt w64)) 7 13 (lease (κs .1 .1 .1 .1 .1 .1 .1 .0) (qs .1 .1 .1 .1 .1 .1 .1 .0))) ∷ (10, mslice-owed (rtF (fInt w64)) (tyRef (named 8) mut (tyInt w64)) 8 14 (lease (κs .1 .1 .1 .1 .1 .1 .1 .1 .0) (qs .1 .1 .1 .1 .1 .1 .1 .1 .0))) ∷ (11, sc-here (sInt w64)) ∷ (12, any-gone (tyArray (tyStruct (100 ∷ 101 ∷ 115 ∷ 107 ∷ 95 ∷ 116 ∷ 105 ∷ 99 ∷ 107 ∷ 101 ∷ 116 ∷ 115 ∷ 58 ∷ 58 ∷ 84 ∷ 105 ∷ 99 ∷ 107 ∷ 101 ∷ 116 ∷ []) (tcons (tyInt w64) (tcons (tyInt w64) (tcons (tyInt w64) (tcons (tyInt w64) tnil))))) 32)) ∷ (13, whole (Declared.row BoardedRow.the-type)) ∷ (14, any-gone (tyArray (tyStruct (100 ∷ 101 ∷ 115 ∷ 107 ∷ 95 ∷ 116 ∷ 105 ∷ 99 ∷ 107 ∷ 101 ∷ 116 ∷ 115 ∷ 58 ∷ 58 ∷ 84 ∷ 105 ∷ 99 ∷ 107 ∷ 101 ∷ 116 ∷ []) (tcons (tyInt w64) (tcons (tyInt w64) (tcons (tyInt w64) (tcons (tyInt w64) tnil))))) 32)) ∷ (15, any-gone (tyRef erased imm (pointee (the-row .written)))) ∷ []
 
         abbrev g32 : List.List Entry
-        g32 = (0, any-gone (tyStruct (98 ∷ 111 ∷ 97 ∷ 114 ∷ 100 ∷ 105 ∷ 110 ∷ 103 ∷ 115 ∷ 58 ∷ 58 ∷ 66 ∷ 111 ∷ 97 ∷ 114 ∷ 100 ∷ 101 ∷ 100 ∷ []) (tcons (tyStruct (119 ∷ 97 ∷ 108 ∷ 107 ∷ 58 ∷ 58 ∷ 65 ∷ 110 ∷ 115 ∷ 119 ∷ 101 ∷ 114 ∷ []) (tcons (tyEnum (114 ∷ 101 ∷ 102 ∷ 117 ∷ 115 ∷ 97 ∷ 108 ∷ 115 ∷ 58 ∷ 58 ∷ 82 ∷ 101 ∷ 102 ∷ 117 ∷ 115 ∷ 97 ∷ 108 ∷ []) (ttcons tnil (ttcons tnil (ttcons tnil (ttcons tnil (ttcons tnil (ttcons tnil (ttcons tnil (ttcons tnil (ttcons tnil (ttcons tnil (ttcons tnil (ttcons tnil (ttcons tnil (ttcons tnil (ttcons tnil (ttcons tnil (ttcons tnil (ttcons tnil (ttcons tnil (ttcons tnil (ttcons tnil (ttcons tnil (ttcons tnil (ttcons tnil (ttcons tnil (ttcons tnil (ttcons tnil ttnil)))))))))))))))))))))))))))) (tcons (tyInt w64) (tcons (tyInt w64) (tcons (tyInt w64) (tcons (tyInt w64) (tcons (tyInt w64) tnil))))))) (tcons (tyStruct (98 ∷ 111 ∷ 97 ∷ 114 ∷ 100 ∷ 105 ∷ 110 ∷ 103 ∷ 115 ∷ 58 ∷ 58 ∷ 84 ∷ 97 ∷ 107 ∷ 101 ∷ 110 ∷ []) (tcons (tyInt w64) (tcons (tyInt w64) tnil))) (tcons (tyStruct (98 ∷ 111 ∷ 97 ∷ 114 ∷ 100 ∷ 105 ∷ 110 ∷ 103 ∷ 115 ∷ 58 ∷ 58 ∷ 87 ∷ 97 ∷ 110 ∷ 116 ∷ 115 ∷ []) (tcons (tyInt w64) (tcons (tyArray (tyInt w64) 8) (tcons (tyArray (tyInt w64) 8) tnil)))) (tcons (tyStruct (116 ∷ 105 ∷ 99 ∷ 107 ∷ 101 ∷ 116 ∷ 115 ∷ 58 ∷ 58 ∷ 76 ∷ 97 ∷ 115 ∷ 116 ∷ 115 ∷ []) (tcons (tyInt w64) (tcons (tyInt w64) tnil))) tnil)))))) ∷ (1, mslice the-row (tyRef (named 0) mut (pointee (the-row .written))) 0) ∷ (2, any-gone (tyStruct (98 ∷ 111 ∷ 97 ∷ 114 ∷ 100 ∷ 105 ∷ 110 ∷ 103 ∷ 115 ∷ 58 ∷ 58 ∷ 66 ∷ 111 ∷ 97 ∷ 114 ∷ 100 ∷ 105 ∷ 110 ∷ 103 ∷ []) (tcons (tyInt w64) (tcons (tyInt w64) (tcons (tyStruct (116 ∷ 105 ∷ 99 ∷ 107 ∷ 101 ∷ 116 ∷ 115 ∷ 58 ∷ 58 ∷ 76 ∷ 97 ∷ 115 ∷ 116 ∷ 115 ∷ []) (tcons (tyInt w64) (tcons (tyInt w64) tnil))) tnil))))) ∷ (3, sslice (rtF (fInt w64)) (tyRef (named 1) imm (tyInt w64)) 1) ∷ (4, sslice (rtF (fInt w64)) (tyRef (named 2) imm (tyInt w64)) 2) ∷ (5, sslice (rtF (fInt w64)) (tyRef (named 3) imm (tyInt w64)) 3) ∷ (6, mslice (rtF (fInt w64)) (tyRef (named 4) mut (tyInt w64)) 4) ∷ (7, mslice (rtF (fInt w64)) (tyRef (named 5) mut (tyInt w64)) 5) ∷ (8, mslice (rtF (fInt w64)) (tyRef (named 6) mut (tyInt w64)) 6) ∷ (9, mslice-owed (rtF (fInt w64)) (tyRef (named 7) mut (tyInt w64)) 7 13 (lease (κs .1 .1 .1 .1 .1 .1 .1 .0) (qs .1 .1 .1 .1 .1 .1 .1 .0))) ∷ (10, mslice-owed (rtF (fInt w64)) (tyRef (named 8) mut (tyInt w64)) 8 14 (lease (κs .1 .1 .1 .1 .1 .1 .1 .1 .0) (qs .1 .1 .1 .1 .1 .1 .1 .1 .0))) ∷ (11, sc-here (sInt w64)) ∷ (12, any-gone (tyArray (tyStruct (116 ∷ 105 ∷ 99 ∷ 107 ∷ 101 ∷ 116 ∷ 115 ∷ 58 ∷ 58 ∷ 84 ∷ 105 ∷ 99 ∷ 107 ∷ 101 ∷ 116 ∷ []) (tcons (tyInt w64) (tcons (tyInt w64) (tcons (tyInt w64) (tcons (tyInt w64) tnil))))) 32)) ∷ (13, whole (Declared.row BoardedRow.the-type)) ∷ (14, any-gone (tyArray (tyStruct (116 ∷ 105 ∷ 99 ∷ 107 ∷ 101 ∷ 116 ∷ 115 ∷ 58 ∷ 58 ∷ 84 ∷ 105 ∷ 99 ∷ 107 ∷ 101 ∷ 116 ∷ []) (tcons (tyInt w64) (tcons (tyInt w64) (tcons (tyInt w64) (tcons (tyInt w64) tnil))))) 32)) ∷ (15, any-gone (tyRef erased imm (pointee (the-row .written)))) ∷ []
+        g32 = (0, any-gone (tyStruct (100 ∷ 101 ∷ 115 ∷ 107 ∷ 95 ∷ 98 ∷ 111 ∷ 97 ∷ 114 ∷ 100 ∷ 105 ∷ 110 ∷ 103 ∷ 115 ∷ 58 ∷ 58 ∷ 66 ∷ 111 ∷ 97 ∷ 114 ∷ 100 ∷ 101 ∷ 100 ∷ []) (tcons (tyStruct (119 ∷ 97 ∷ 108 ∷ 107 ∷ 58 ∷ 58 ∷ 65 ∷ 110 ∷ 115 ∷ 119 ∷ 101 ∷ 114 ∷ []) (tcons (tyEnum (114 ∷ 101 ∷ 102 ∷ 117 ∷ 115 ∷ 97 ∷ 108 ∷ 115 ∷ 58 ∷ 58 ∷ 82 ∷ 101 ∷ 102 ∷ 117 ∷ 115 ∷ 97 ∷ 108 ∷ []) (ttcons tnil (ttcons tnil (ttcons tnil (ttcons tnil (ttcons tnil (ttcons tnil (ttcons tnil (ttcons tnil (ttcons tnil (ttcons tnil (ttcons tnil (ttcons tnil (ttcons tnil (ttcons tnil (ttcons tnil (ttcons tnil (ttcons tnil (ttcons tnil (ttcons tnil (ttcons tnil (ttcons tnil (ttcons tnil (ttcons tnil (ttcons tnil (ttcons tnil (ttcons tnil (ttcons tnil ttnil)))))))))))))))))))))))))))) (tcons (tyInt w64) (tcons (tyInt w64) (tcons (tyInt w64) (tcons (tyInt w64) (tcons (tyInt w64) tnil))))))) (tcons (tyStruct (100 ∷ 101 ∷ 115 ∷ 107 ∷ 95 ∷ 98 ∷ 111 ∷ 97 ∷ 114 ∷ 100 ∷ 105 ∷ 110 ∷ 103 ∷ 115 ∷ 58 ∷ 58 ∷ 84 ∷ 97 ∷ 107 ∷ 101 ∷ 110 ∷ []) (tcons (tyInt w64) (tcons (tyInt w64) tnil))) (tcons (tyStruct (100 ∷ 101 ∷ 115 ∷ 107 ∷ 95 ∷ 98 ∷ 111 ∷ 97 ∷ 114 ∷ 100 ∷ 105 ∷ 110 ∷ 103 ∷ 115 ∷ 58 ∷ 58 ∷ 87 ∷ 97 ∷ 110 ∷ 116 ∷ 115 ∷ []) (tcons (tyInt w64) (tcons (tyArray (tyInt w64) 8) (tcons (tyArray (tyInt w64) 8) tnil)))) (tcons (tyStruct (100 ∷ 101 ∷ 115 ∷ 107 ∷ 95 ∷ 116 ∷ 105 ∷ 99 ∷ 107 ∷ 101 ∷ 116 ∷ 115 ∷ 58 ∷ 58 ∷ 76 ∷ 97 ∷ 115 ∷ 116 ∷ 115 ∷ []) (tcons (tyInt w64) (tcons (tyInt w64) tnil))) tnil)))))) ∷ (1, mslice the-row (tyRef (named 0) mut (pointee (the-row .written))) 0) ∷ (2, any-gone (tyStruct (100 ∷ 101 ∷ 115 ∷ 107 ∷ 95 ∷ 98 ∷ 111 ∷ 97 ∷ 114 ∷ 100 ∷ 105 ∷ 110 ∷ 103 ∷ 115 ∷ 58 ∷ 58 ∷ 66 ∷ 111 ∷ 97 ∷ 114 ∷ 100 ∷ 105 ∷ 110 ∷ 103 ∷ []) (tcons (tyInt w64) (tcons (tyInt w64) (tcons (tyStruct (100 ∷ 101 ∷ 115 ∷ 107 ∷ 95 ∷ 116 ∷ 105 ∷ 99 ∷ 107 ∷ 101 ∷ 116 ∷ 115 ∷ 58 ∷ 58 ∷ 76 ∷ 97 ∷ 115 ∷ 116 ∷ 115 ∷ []) (tcons (tyInt w64) (tcons (tyInt w64) tnil))) tnil))))) ∷ (3, sslice (rtF (fInt w64)) (tyRef (named 1) imm (tyInt w64)) 1) ∷ (4, sslice (rtF (fInt w64)) (tyRef (named 2) imm (tyInt w64)) 2) ∷ (5, sslice (rtF (fInt w64)) (tyRef (named 3) imm (tyInt w64)) 3) ∷ (6, mslice (rtF (fInt w64)) (tyRef (named 4) mut (tyInt w64)) 4) ∷ (7, mslice (rtF (fInt w64)) (tyRef (named 5) mut (tyInt w64)) 5) ∷ (8, mslice (rtF (fInt w64)) (tyRef (named 6) mut (tyInt w64)) 6) ∷ (9, mslice-owed (rtF (fInt w64)) (tyRef (named 7) mut (tyInt w64)) 7 13 (lease (κs .1 .1 .1 .1 .1 .1 .1 .0) (qs .1 .1 .1 .1 .1 .1 .1 .0))) ∷ (10, mslice-owed (rtF (fInt w64)) (tyRef (named 8) mut (tyInt w64)) 8 14 (lease (κs .1 .1 .1 .1 .1 .1 .1 .1 .0) (qs .1 .1 .1 .1 .1 .1 .1 .1 .0))) ∷ (11, sc-here (sInt w64)) ∷ (12, any-gone (tyArray (tyStruct (100 ∷ 101 ∷ 115 ∷ 107 ∷ 95 ∷ 116 ∷ 105 ∷ 99 ∷ 107 ∷ 101 ∷ 116 ∷ 115 ∷ 58 ∷ 58 ∷ 84 ∷ 105 ∷ 99 ∷ 107 ∷ 101 ∷ 116 ∷ []) (tcons (tyInt w64) (tcons (tyInt w64) (tcons (tyInt w64) (tcons (tyInt w64) tnil))))) 32)) ∷ (13, whole (Declared.row BoardedRow.the-type)) ∷ (14, any-gone (tyArray (tyStruct (100 ∷ 101 ∷ 115 ∷ 107 ∷ 95 ∷ 116 ∷ 105 ∷ 99 ∷ 107 ∷ 101 ∷ 116 ∷ 115 ∷ 58 ∷ 58 ∷ 84 ∷ 105 ∷ 99 ∷ 107 ∷ 101 ∷ 116 ∷ []) (tcons (tyInt w64) (tcons (tyInt w64) (tcons (tyInt w64) (tcons (tyInt w64) tnil))))) 32)) ∷ (15, any-gone (tyRef erased imm (pointee (the-row .written)))) ∷ []
 
         abbrev g34 : List.List Entry
-        g34 = (0, any-gone (tyStruct (98 ∷ 111 ∷ 97 ∷ 114 ∷ 100 ∷ 105 ∷ 110 ∷ 103 ∷ 115 ∷ 58 ∷ 58 ∷ 66 ∷ 111 ∷ 97 ∷ 114 ∷ 100 ∷ 101 ∷ 100 ∷ []) (tcons (tyStruct (119 ∷ 97 ∷ 108 ∷ 107 ∷ 58 ∷ 58 ∷ 65 ∷ 110 ∷ 115 ∷ 119 ∷ 101 ∷ 114 ∷ []) (tcons (tyEnum (114 ∷ 101 ∷ 102 ∷ 117 ∷ 115 ∷ 97 ∷ 108 ∷ 115 ∷ 58 ∷ 58 ∷ 82 ∷ 101 ∷ 102 ∷ 117 ∷ 115 ∷ 97 ∷ 108 ∷ []) (ttcons tnil (ttcons tnil (ttcons tnil (ttcons tnil (ttcons tnil (ttcons tnil (ttcons tnil (ttcons tnil (ttcons tnil (ttcons tnil (ttcons tnil (ttcons tnil (ttcons tnil (ttcons tnil (ttcons tnil (ttcons tnil (ttcons tnil (ttcons tnil (ttcons tnil (ttcons tnil (ttcons tnil (ttcons tnil (ttcons tnil (ttcons tnil (ttcons tnil (ttcons tnil (ttcons tnil ttnil)))))))))))))))))))))))))))) (tcons (tyInt w64) (tcons (tyInt w64) (tcons (tyInt w64) (tcons (tyInt w64) (tcons (tyInt w64) tnil))))))) (tcons (tyStruct (98 ∷ 111 ∷ 97 ∷ 114 ∷ 100 ∷ 105 ∷ 110 ∷ 103 ∷ 115 ∷ 58 ∷ 58 ∷ 84 ∷ 97 ∷ 107 ∷ 101 ∷ 110 ∷ []) (tcons (tyInt w64) (tcons (tyInt w64) tnil))) (tcons (tyStruct (98 ∷ 111 ∷ 97 ∷ 114 ∷ 100 ∷ 105 ∷ 110 ∷ 103 ∷ 115 ∷ 58 ∷ 58 ∷ 87 ∷ 97 ∷ 110 ∷ 116 ∷ 115 ∷ []) (tcons (tyInt w64) (tcons (tyArray (tyInt w64) 8) (tcons (tyArray (tyInt w64) 8) tnil)))) (tcons (tyStruct (116 ∷ 105 ∷ 99 ∷ 107 ∷ 101 ∷ 116 ∷ 115 ∷ 58 ∷ 58 ∷ 76 ∷ 97 ∷ 115 ∷ 116 ∷ 115 ∷ []) (tcons (tyInt w64) (tcons (tyInt w64) tnil))) tnil)))))) ∷ (1, mslice the-row (tyRef (named 0) mut (pointee (the-row .written))) 0) ∷ (2, any-gone (tyStruct (98 ∷ 111 ∷ 97 ∷ 114 ∷ 100 ∷ 105 ∷ 110 ∷ 103 ∷ 115 ∷ 58 ∷ 58 ∷ 66 ∷ 111 ∷ 97 ∷ 114 ∷ 100 ∷ 105 ∷ 110 ∷ 103 ∷ []) (tcons (tyInt w64) (tcons (tyInt w64) (tcons (tyStruct (116 ∷ 105 ∷ 99 ∷ 107 ∷ 101 ∷ 116 ∷ 115 ∷ 58 ∷ 58 ∷ 76 ∷ 97 ∷ 115 ∷ 116 ∷ 115 ∷ []) (tcons (tyInt w64) (tcons (tyInt w64) tnil))) tnil))))) ∷ (3, sslice (rtF (fInt w64)) (tyRef (named 1) imm (tyInt w64)) 1) ∷ (4, sslice (rtF (fInt w64)) (tyRef (named 2) imm (tyInt w64)) 2) ∷ (5, sslice (rtF (fInt w64)) (tyRef (named 3) imm (tyInt w64)) 3) ∷ (6, mslice (rtF (fInt w64)) (tyRef (named 4) mut (tyInt w64)) 4) ∷ (7, mslice (rtF (fInt w64)) (tyRef (named 5) mut (tyInt w64)) 5) ∷ (8, mslice (rtF (fInt w64)) (tyRef (named 6) mut (tyInt w64)) 6) ∷ (9, mslice (rtF (fInt w64)) (tyRef (named 7) mut (tyInt w64)) 7) ∷ (10, mslice-owed (rtF (fInt w64)) (tyRef (named 8) mut (tyInt w64)) 8 14 (lease (κs .1 .1 .1 .1 .1 .1 .1 .1 .0) (qs .1 .1 .1 .1 .1 .1 .1 .1 .0))) ∷ (11, sc-here (sInt w64)) ∷ (12, any-gone (tyArray (tyStruct (116 ∷ 105 ∷ 99 ∷ 107 ∷ 101 ∷ 116 ∷ 115 ∷ 58 ∷ 58 ∷ 84 ∷ 105 ∷ 99 ∷ 107 ∷ 101 ∷ 116 ∷ []) (tcons (tyInt w64) (tcons (tyInt w64) (tcons (tyInt w64) (tcons (tyInt w64) tnil))))) 32)) ∷ (13, whole (Declared.row BoardedRow.the-type)) ∷ (14, any-gone (tyArray (tyStruct (116 ∷ 105 ∷ 99 ∷ 107 ∷ 101 ∷ 116 ∷ 115 ∷ 58 ∷ 58 ∷ 84 ∷ 105 ∷ 99 ∷ 107 ∷ 101 ∷ 116 ∷ []) (tcons (tyInt w64) (tcons (tyInt w64) (tcons (tyInt w64) (tcons (tyInt w64) tnil))))) 32)) ∷ (15, any-gone (tyRef erased imm (pointee (the-row .written)))) ∷ []
+        g34 = (0, any-gone (tyStruct (100 ∷ 101 ∷ 115 ∷ 107 ∷ 95 ∷ 98 ∷ 111 ∷ 97 ∷ 114 ∷ 100 ∷ 105 ∷ 110 ∷ 103 ∷ 115 ∷ 58 ∷ 58 ∷ 66 ∷ 111 ∷ 97 ∷ 114 ∷ 100 ∷ 101 ∷ 100 ∷ []) (tcons (tyStruct (119 ∷ 97 ∷ 108 ∷ 107 ∷ 58 ∷ 58 ∷ 65 ∷ 110 ∷ 115 ∷ 119 ∷ 101 ∷ 114 ∷ []) (tcons (tyEnum (114 ∷ 101 ∷ 102 ∷ 117 ∷ 115 ∷ 97 ∷ 108 ∷ 115 ∷ 58 ∷ 58 ∷ 82 ∷ 101 ∷ 102 ∷ 117 ∷ 115 ∷ 97 ∷ 108 ∷ []) (ttcons tnil (ttcons tnil (ttcons tnil (ttcons tnil (ttcons tnil (ttcons tnil (ttcons tnil (ttcons tnil (ttcons tnil (ttcons tnil (ttcons tnil (ttcons tnil (ttcons tnil (ttcons tnil (ttcons tnil (ttcons tnil (ttcons tnil (ttcons tnil (ttcons tnil (ttcons tnil (ttcons tnil (ttcons tnil (ttcons tnil (ttcons tnil (ttcons tnil (ttcons tnil (ttcons tnil ttnil)))))))))))))))))))))))))))) (tcons (tyInt w64) (tcons (tyInt w64) (tcons (tyInt w64) (tcons (tyInt w64) (tcons (tyInt w64) tnil))))))) (tcons (tyStruct (100 ∷ 101 ∷ 115 ∷ 107 ∷ 95 ∷ 98 ∷ 111 ∷ 97 ∷ 114 ∷ 100 ∷ 105 ∷ 110 ∷ 103 ∷ 115 ∷ 58 ∷ 58 ∷ 84 ∷ 97 ∷ 107 ∷ 101 ∷ 110 ∷ []) (tcons (tyInt w64) (tcons (tyInt w64) tnil))) (tcons (tyStruct (100 ∷ 101 ∷ 115 ∷ 107 ∷ 95 ∷ 98 ∷ 111 ∷ 97 ∷ 114 ∷ 100 ∷ 105 ∷ 110 ∷ 103 ∷ 115 ∷ 58 ∷ 58 ∷ 87 ∷ 97 ∷ 110 ∷ 116 ∷ 115 ∷ []) (tcons (tyInt w64) (tcons (tyArray (tyInt w64) 8) (tcons (tyArray (tyInt w64) 8) tnil)))) (tcons (tyStruct (100 ∷ 101 ∷ 115 ∷ 107 ∷ 95 ∷ 116 ∷ 105 ∷ 99 ∷ 107 ∷ 101 ∷ 116 ∷ 115 ∷ 58 ∷ 58 ∷ 76 ∷ 97 ∷ 115 ∷ 116 ∷ 115 ∷ []) (tcons (tyInt w64) (tcons (tyInt w64) tnil))) tnil)))))) ∷ (1, mslice the-row (tyRef (named 0) mut (pointee (the-row .written))) 0) ∷ (2, any-gone (tyStruct (100 ∷ 101 ∷ 115 ∷ 107 ∷ 95 ∷ 98 ∷ 111 ∷ 97 ∷ 114 ∷ 100 ∷ 105 ∷ 110 ∷ 103 ∷ 115 ∷ 58 ∷ 58 ∷ 66 ∷ 111 ∷ 97 ∷ 114 ∷ 100 ∷ 105 ∷ 110 ∷ 103 ∷ []) (tcons (tyInt w64) (tcons (tyInt w64) (tcons (tyStruct (100 ∷ 101 ∷ 115 ∷ 107 ∷ 95 ∷ 116 ∷ 105 ∷ 99 ∷ 107 ∷ 101 ∷ 116 ∷ 115 ∷ 58 ∷ 58 ∷ 76 ∷ 97 ∷ 115 ∷ 116 ∷ 115 ∷ []) (tcons (tyInt w64) (tcons (tyInt w64) tnil))) tnil))))) ∷ (3, sslice (rtF (fInt w64)) (tyRef (named 1) imm (tyInt w64)) 1) ∷ (4, sslice (rtF (fInt w64)) (tyRef (named 2) imm (tyInt w64)) 2) ∷ (5, sslice (rtF (fInt w64)) (tyRef (named 3) imm (tyInt w64)) 3) ∷ (6, mslice (rtF (fInt w64)) (tyRef (named 4) mut (tyInt w64)) 4) ∷ (7, mslice (rtF (fInt w64)) (tyRef (named 5) mut (tyInt w64)) 5) ∷ (8, mslice (rtF (fInt w64)) (tyRef (named 6) mut (tyInt w64)) 6) ∷ (9, mslice (rtF (fInt w64)) (tyRef (named 7) mut (tyInt w64)) 7) ∷ (10, mslice-owed (rtF (fInt w64)) (tyRef (named 8) mut (tyInt w64)) 8 14 (lease (κs .1 .1 .1 .1 .1 .1 .1 .1 .0) (qs .1 .1 .1 .1 .1 .1 .1 .1 .0))) ∷ (11, sc-here (sInt w64)) ∷ (12, any-gone (tyArray (tyStruct (100 ∷ 101 ∷ 115 ∷ 107 ∷ 95 ∷ 116 ∷ 105 ∷ 99 ∷ 107 ∷ 101 ∷ 116 ∷ 115 ∷ 58 ∷ 58 ∷ 84 ∷ 105 ∷ 99 ∷ 107 ∷ 101 ∷ 116 ∷ []) (tcons (tyInt w64) (tcons (tyInt w64) (tcons (tyInt w64) (tcons (tyInt w64) tnil))))) 32)) ∷ (13, whole (Declared.row BoardedRow.the-type)) ∷ (14, any-gone (tyArray (tyStruct (100 ∷ 101 ∷ 115 ∷ 107 ∷ 95 ∷ 116 ∷ 105 ∷ 99 ∷ 107 ∷ 101 ∷ 116 ∷ 115 ∷ 58 ∷ 58 ∷ 84 ∷ 105 ∷ 99 ∷ 107 ∷ 101 ∷ 116 ∷ []) (tcons (tyInt w64) (tcons (tyInt w64) (tcons (tyInt w64) (tcons (tyInt w64) tnil))))) 32)) ∷ (15, any-gone (tyRef erased imm (pointee (the-row .written)))) ∷ []
 
         abbrev g38 : List.List Entry
-        g38 = (0, any-gone (tyStruct (98 ∷ 111 ∷ 97 ∷ 114 ∷ 100 ∷ 105 ∷ 110 ∷ 103 ∷ 115 ∷ 58 ∷ 58 ∷ 66 ∷ 111 ∷ 97 ∷ 114 ∷ 100 ∷ 101 ∷ 100 ∷ []) (tcons (tyStruct (119 ∷ 97 ∷ 108 ∷ 107 ∷ 58 ∷ 58 ∷ 65 ∷ 110 ∷ 115 ∷ 119 ∷ 101 ∷ 114 ∷ []) (tcons (tyEnum (114 ∷ 101 ∷ 102 ∷ 117 ∷ 115 ∷ 97 ∷ 108 ∷ 115 ∷ 58 ∷ 58 ∷ 82 ∷ 101 ∷ 102 ∷ 117 ∷ 115 ∷ 97 ∷ 108 ∷ []) (ttcons tnil (ttcons tnil (ttcons tnil (ttcons tnil (ttcons tnil (ttcons tnil (ttcons tnil (ttcons tnil (ttcons tnil (ttcons tnil (ttcons tnil (ttcons tnil (ttcons tnil (ttcons tnil (ttcons tnil (ttcons tnil (ttcons tnil (ttcons tnil (ttcons tnil (ttcons tnil (ttcons tnil (ttcons tnil (ttcons tnil (ttcons tnil (ttcons tnil (ttcons tnil (ttcons tnil ttnil)))))))))))))))))))))))))))) (tcons (tyInt w64) (tcons (tyInt w64) (tcons (tyInt w64) (tcons (tyInt w64) (tcons (tyInt w64) tnil))))))) (tcons (tyStruct (98 ∷ 111 ∷ 97 ∷ 114 ∷ 100 ∷ 105 ∷ 110 ∷ 103 ∷ 115 ∷ 58 ∷ 58 ∷ 84 ∷ 97 ∷ 107 ∷ 101 ∷ 110 ∷ []) (tcons (tyInt w64) (tcons (tyInt w64) tnil))) (tcons (tyStruct (98 ∷ 111 ∷ 97 ∷ 114 ∷ 100 ∷ 105 ∷ 110 ∷ 103 ∷ 115 ∷ 58 ∷ 58 ∷ 87 ∷ 97 ∷ 110 ∷ 116 ∷ 115 ∷ []) (tcons (tyInt w64) (tcons (tyArray (tyInt w64) 8) (tcons (tyArray (tyInt w64) 8) tnil)))) (tcons (tyStruct (116 ∷ 105 ∷ 99 ∷ 107 ∷ 101 ∷ 116 ∷ 115 ∷ 58 ∷ 58 ∷ 76 ∷ 97 ∷ 115 ∷ 116 ∷ 115 ∷ []) (tcons (tyInt w64) (tcons (tyInt w64) tnil))) tnil)))))) ∷ (1, mslice-owed the-row (tyRef (named 0) mut (pointee (the-row .written))) 0 15 (lease (κs .0) (qs .0))) ∷ (2, any-gone (tyStruct (98 ∷ 111 ∷ 97 ∷ 114 ∷ 100 ∷ 105 ∷ 110 ∷ 103 ∷ 115 ∷ 58 ∷ 58 ∷ 66 ∷ 111 ∷ 97 ∷ 114 ∷ 100 ∷ 105 ∷ 110 ∷ 103 ∷ []) (tcons (tyInt w64) (tcons (tyInt w64) (tcons (tyStruct (116 ∷ 105 ∷ 99 ∷ 107 ∷ 101 ∷ 116 ∷ 115 ∷ 58 ∷ 58 ∷ 76 ∷ 97 ∷ 115 ∷ 116 ∷ 115 ∷ []) (tcons (tyInt w64) (tcons (tyInt w64) tnil))) tnil))))) ∷ (3, sslice (rtF (fInt w64)) (tyRef (named 1) imm (tyInt w64)) 1) ∷ (4, sslice (rtF (fInt w64)) (tyRef (named 2) imm (tyInt w64)) 2) ∷ (5, sslice (rtF (fInt w64)) (tyRef (named 3) imm (tyInt w64)) 3) ∷ (6, mslice (rtF (fInt w64)) (tyRef (named 4) mut (tyInt w64)) 4) ∷ (7, mslice (rtF (fInt w64)) (tyRef (named 5) mut (tyInt w64)) 5) ∷ (8, mslice (rtF (fInt w64)) (tyRef (named 6) mut (tyInt w64)) 6) ∷ (9, mslice (rtF (fInt w64)) (tyRef (named 7) mut (tyInt w64)) 7) ∷ (10, mslice (rtF (fInt w64)) (tyRef (named 8) mut (tyInt w64)) 8) ∷ (11, sc-here (sInt w64)) ∷ (12, any-gone (tyArray (tyStruct (116 ∷ 105 ∷ 99 ∷ 107 ∷ 101 ∷ 116 ∷ 115 ∷ 58 ∷ 58 ∷ 84 ∷ 105 ∷ 99 ∷ 107 ∷ 101 ∷ 116 ∷ []) (tcons (tyInt w64) (tcons (tyInt w64) (tcons (tyInt w64) (tcons (tyInt w64) tnil))))) 32)) ∷ (13, whole (Declared.row BoardedRow.the-type)) ∷ (14, arrF (Declared.row Ticket.the-type) 32 0) ∷ (15, any-gone (tyRef erased imm (pointee (the-row .written)))) ∷ []
+        g38 = (0, any-gone (tyStruct (100 ∷ 101 ∷ 115 ∷ 107 ∷ 95 ∷ 98 ∷ 111 ∷ 97 ∷ 114 ∷ 100 ∷ 105 ∷ 110 ∷ 103 ∷ 115 ∷ 58 ∷ 58 ∷ 66 ∷ 111 ∷ 97 ∷ 114 ∷ 100 ∷ 101 ∷ 100 ∷ []) (tcons (tyStruct (119 ∷ 97 ∷ 108 ∷ 107 ∷ 58 ∷ 58 ∷ 65 ∷ 110 ∷ 115 ∷ 119 ∷ 101 ∷ 114 ∷ []) (tcons (tyEnum (114 ∷ 101 ∷ 102 ∷ 117 ∷ 115 ∷ 97 ∷ 108 ∷ 115 ∷ 58 ∷ 58 ∷ 82 ∷ 101 ∷ 102 ∷ 117 ∷ 115 ∷ 97 ∷ 108 ∷ []) (ttcons tnil (ttcons tnil (ttcons tnil (ttcons tnil (ttcons tnil (ttcons tnil (ttcons tnil (ttcons tnil (ttcons tnil (ttcons tnil (ttcons tnil (ttcons tnil (ttcons tnil (ttcons tnil (ttcons tnil (ttcons tnil (ttcons tnil (ttcons tnil (ttcons tnil (ttcons tnil (ttcons tnil (ttcons tnil (ttcons tnil (ttcons tnil (ttcons tnil (ttcons tnil (ttcons tnil ttnil)))))))))))))))))))))))))))) (tcons (tyInt w64) (tcons (tyInt w64) (tcons (tyInt w64) (tcons (tyInt w64) (tcons (tyInt w64) tnil))))))) (tcons (tyStruct (100 ∷ 101 ∷ 115 ∷ 107 ∷ 95 ∷ 98 ∷ 111 ∷ 97 ∷ 114 ∷ 100 ∷ 105 ∷ 110 ∷ 103 ∷ 115 ∷ 58 ∷ 58 ∷ 84 ∷ 97 ∷ 107 ∷ 101 ∷ 110 ∷ []) (tcons (tyInt w64) (tcons (tyInt w64) tnil))) (tcons (tyStruct (100 ∷ 101 ∷ 115 ∷ 107 ∷ 95 ∷ 98 ∷ 111 ∷ 97 ∷ 114 ∷ 100 ∷ 105 ∷ 110 ∷ 103 ∷ 115 ∷ 58 ∷ 58 ∷ 87 ∷ 97 ∷ 110 ∷ 116 ∷ 115 ∷ []) (tcons (tyInt w64) (tcons (tyArray (tyInt w64) 8) (tcons (tyArray (tyInt w64) 8) tnil)))) (tcons (tyStruct (100 ∷ 101 ∷ 115 ∷ 107 ∷ 95 ∷ 116 ∷ 105 ∷ 99 ∷ 107 ∷ 101 ∷ 116 ∷ 115 ∷ 58 ∷ 58 ∷ 76 ∷ 97 ∷ 115 ∷ 116 ∷ 115 ∷ []) (tcons (tyInt w64) (tcons (tyInt w64) tnil))) tnil)))))) ∷ (1, mslice-owed the-row (tyRef (named 0) mut (pointee (the-row .written))) 0 15 (lease (κs .0) (qs .0))) ∷ (2, any-gone (tyStruct (100 ∷ 101 ∷ 115 ∷ 107 ∷ 95 ∷ 98 ∷ 111 ∷ 97 ∷ 114 ∷ 100 ∷ 105 ∷ 110 ∷ 103 ∷ 115 ∷ 58 ∷ 58 ∷ 66 ∷ 111 ∷ 97 ∷ 114 ∷ 100 ∷ 105 ∷ 110 ∷ 103 ∷ []) (tcons (tyInt w64) (tcons (tyInt w64) (tcons (tyStruct (100 ∷ 101 ∷ 115 ∷ 107 ∷ 95 ∷ 116 ∷ 105 ∷ 99 ∷ 107 ∷ 101 ∷ 116 ∷ 115 ∷ 58 ∷ 58 ∷ 76 ∷ 97 ∷ 115 ∷ 116 ∷ 115 ∷ []) (tcons (tyInt w64) (tcons (tyInt w64) tnil))) tnil))))) ∷ (3, sslice (rtF (fInt w64)) (tyRef (named 1) imm (tyInt w64)) 1) ∷ (4, sslice (rtF (fInt w64)) (tyRef (named 2) imm (tyInt w64)) 2) ∷ (5, sslice (rtF (fInt w64)) (tyRef (named 3) imm (tyInt w64)) 3) ∷ (6, mslice (rtF (fInt w64)) (tyRef (named 4) mut (tyInt w64)) 4) ∷ (7, mslice (rtF (fInt w64)) (tyRef (named 5) mut (tyInt w64)) 5) ∷ (8, mslice (rtF (fInt w64)) (tyRef (named 6) mut (tyInt w64)) 6) ∷ (9, mslice (rtF (fInt w64)) (tyRef (named 7) mut (tyInt w64)) 7) ∷ (10, mslice (rtF (fInt w64)) (tyRef (named 8) mut (tyInt w64)) 8) ∷ (11, sc-here (sInt w64)) ∷ (12, any-gone (tyArray (tyStruct (100 ∷ 101 ∷ 115 ∷ 107 ∷ 95 ∷ 116 ∷ 105 ∷ 99 ∷ 107 ∷ 101 ∷ 116 ∷ 115 ∷ 58 ∷ 58 ∷ 84 ∷ 105 ∷ 99 ∷ 107 ∷ 101 ∷ 116 ∷ []) (tcons (tyInt w64) (tcons (tyInt w64) (tcons (tyInt w64) (tcons (tyInt w64) tnil))))) 32)) ∷ (13, whole (Declared.row BoardedRow.the-type)) ∷ (14, arrF (Declared.row Ticket.the-type) 32 0) ∷ (15, any-gone (tyRef erased imm (pointee (the-row .written)))) ∷ []
 
         abbrev g42 : List.List Entry
-        g42 = (0, any-gone (tyStruct (98 ∷ 111 ∷ 97 ∷ 114 ∷ 100 ∷ 105 ∷ 110 ∷ 103 ∷ 115 ∷ 58 ∷ 58 ∷ 66 ∷ 111 ∷ 97 ∷ 114 ∷ 100 ∷ 101 ∷ 100 ∷ []) (tcons (tyStruct (119 ∷ 97 ∷ 108 ∷ 107 ∷ 58 ∷ 58 ∷ 65 ∷ 110 ∷ 115 ∷ 119 ∷ 101 ∷ 114 ∷ []) (tcons (tyEnum (114 ∷ 101 ∷ 102 ∷ 117 ∷ 115 ∷ 97 ∷ 108 ∷ 115 ∷ 58 ∷ 58 ∷ 82 ∷ 101 ∷ 102 ∷ 117 ∷ 115 ∷ 97 ∷ 108 ∷ []) (ttcons tnil (ttcons tnil (ttcons tnil (ttcons tnil (ttcons tnil (ttcons tnil (ttcons tnil (ttcons tnil (ttcons tnil (ttcons tnil (ttcons tnil (ttcons tnil (ttcons tnil (ttcons tnil (ttcons tnil (ttcons tnil (ttcons tnil (ttcons tnil (ttcons tnil (ttcons tnil (ttcons tnil (ttcons tnil (ttcons tnil (ttcons tnil (ttcons tnil (ttcons tnil (ttcons tnil ttnil)))))))))))))))))))))))))))) (tcons (tyInt w64) (tcons (tyInt w64) (tcons (tyInt w64) (tcons (tyInt w64) (tcons (tyInt w64) tnil))))))) (tcons (tyStruct (98 ∷ 111 ∷ 97 ∷ 114 ∷ 100 ∷ 105 ∷ 110 ∷ 103 ∷ 115 ∷ 58 ∷ 58 ∷ 84 ∷ 97 ∷ 107 ∷ 101 ∷ 110 ∷ []) (tcons (tyInt w64) (tcons (tyInt w64) tnil))) (tcons (tyStruct (98 ∷ 111 ∷ 97 ∷ 114 ∷ 100 ∷ 105 ∷ 110 ∷ 103 ∷ 115 ∷ 58 ∷ 58 ∷ 87 ∷ 97 ∷ 110 ∷ 116 ∷ 115 ∷ []) (tcons (tyInt w64) (tcons (tyArray (tyInt w64) 8) (tcons (tyArray (tyInt w64) 8) tnil)))) (tcons (tyStruct (116 ∷ 105 ∷ 99 ∷ 107 ∷ 101 ∷ 116 ∷ 115 ∷ 58 ∷ 58 ∷ 76 ∷ 97 ∷ 115 ∷ 116 ∷ 115 ∷ []) (tcons (tyInt w64) (tcons (tyInt w64) tnil))) tnil)))))) ∷ (1, mslice-owed the-row (tyRef (named 0) mut (pointee (the-row .written))) 0 15 (lease (κs .0) (qs .0))) ∷ (2, any-gone (tyStruct (98 ∷ 111 ∷ 97 ∷ 114 ∷ 100 ∷ 105 ∷ 110 ∷ 103 ∷ 115 ∷ 58 ∷ 58 ∷ 66 ∷ 111 ∷ 97 ∷ 114 ∷ 100 ∷ 105 ∷ 110 ∷ 103 ∷ []) (tcons (tyInt w64) (tcons (tyInt w64) (tcons (tyStruct (116 ∷ 105 ∷ 99 ∷ 107 ∷ 101 ∷ 116 ∷ 115 ∷ 58 ∷ 58 ∷ 76 ∷ 97 ∷ 115 ∷ 116 ∷ 115 ∷ []) (tcons (tyInt w64) (tcons (tyInt w64) tnil))) tnil))))) ∷ (3, sslice (rtF (fInt w64)) (tyRef (named 1) imm (tyInt w64)) 1) ∷ (4, sslice (rtF (fInt w64)) (tyRef (named 2) imm (tyInt w64)) 2) ∷ (5, sslice (rtF (fInt w64)) (tyRef (named 3) imm (tyInt w64)) 3) ∷ (6, mslice (rtF (fInt w64)) (tyRef (named 4) mut (tyInt w64)) 4) ∷ (7, mslice (rtF (fInt w64)) (tyRef (named 5) mut (tyInt w64)) 5) ∷ (8, mslice (rtF (fInt w64)) (tyRef (named 6) mut (tyInt w64)) 6) ∷ (9, mslice (rtF (fInt w64)) (tyRef (named 7) mut (tyInt w64)) 7) ∷ (10, mslice (rtF (fInt w64)) (tyRef (named 8) mut (tyInt w64)) 8) ∷ (11, sc-here (sInt w64)) ∷ (12, any-gone (tyArray (tyStruct (116 ∷ 105 ∷ 99 ∷ 107 ∷ 101 ∷ 116 ∷ 115 ∷ 58 ∷ 58 ∷ 84 ∷ 105 ∷ 99 ∷ 107 ∷ 101 ∷ 116 ∷ []) (tcons (tyInt w64) (tcons (tyInt w64) (tcons (tyInt w64) (tcons (tyInt w64) tnil))))) 32)) ∷ (13, whole (Declared.row BoardedRow.the-type)) ∷ (14, any-gone (tyArray (tyStruct (116 ∷ 105 ∷ 99 ∷ 107 ∷ 101 ∷ 116 ∷ 115 ∷ 58 ∷ 58 ∷ 84 ∷ 105 ∷ 99 ∷ 107 ∷ 101 ∷ 116 ∷ []) (tcons (tyInt w64) (tcons (tyInt w64) (tcons (tyInt w64) (tcons (tyInt w64) tnil))))) 32)) ∷ (15, any-gone (tyRef erased imm (pointee (the-row .written)))) ∷ []
+        g42 = (0, any-gone (tyStruct (100 ∷ 101 ∷ 115 ∷ 107 ∷ 95 ∷ 98 ∷ 111 ∷ 97 ∷ 114 ∷ 100 ∷ 105 ∷ 110 ∷ 103 ∷ 115 ∷ 58 ∷ 58 ∷ 66 ∷ 111 ∷ 97 ∷ 114 ∷ 100 ∷ 101 ∷ 100 ∷ []) (tcons (tyStruct (119 ∷ 97 ∷ 108 ∷ 107 ∷ 58 ∷ 58 ∷ 65 ∷ 110 ∷ 115 ∷ 119 ∷ 101 ∷ 114 ∷ []) (tcons (tyEnum (114 ∷ 101 ∷ 102 ∷ 117 ∷ 115 ∷ 97 ∷ 108 ∷ 115 ∷ 58 ∷ 58 ∷ 82 ∷ 101 ∷ 102 ∷ 117 ∷ 115 ∷ 97 ∷ 108 ∷ []) (ttcons tnil (ttcons tnil (ttcons tnil (ttcons tnil (ttcons tnil (ttcons tnil (ttcons tnil (ttcons tnil (ttcons tnil (ttcons tnil (ttcons tnil (ttcons tnil (ttcons tnil (ttcons tnil (ttcons tnil (ttcons tnil (ttcons tnil (ttcons tnil (ttcons tnil (ttcons tnil (ttcons tnil (ttcons tnil (ttcons tnil (ttcons tnil (ttcons tnil (ttcons tnil (ttcons tnil ttnil)))))))))))))))))))))))))))) (tcons (tyInt w64) (tcons (tyInt w64) (tcons (tyInt w64) (tcons (tyInt w64) (tcons (tyInt w64) tnil))))))) (tcons (tyStruct (100 ∷ 101 ∷ 115 ∷ 107 ∷ 95 ∷ 98 ∷ 111 ∷ 97 ∷ 114 ∷ 100 ∷ 105 ∷ 110 ∷ 103 ∷ 115 ∷ 58 ∷ 58 ∷ 84 ∷ 97 ∷ 107 ∷ 101 ∷ 110 ∷ []) (tcons (tyInt w64) (tcons (tyInt w64) tnil))) (tcons (tyStruct (100 ∷ 101 ∷ 115 ∷ 107 ∷ 95 ∷ 98 ∷ 111 ∷ 97 ∷ 114 ∷ 100 ∷ 105 ∷ 110 ∷ 103 ∷ 115 ∷ 58 ∷ 58 ∷ 87 ∷ 97 ∷ 110 ∷ 116 ∷ 115 ∷ []) (tcons (tyInt w64) (tcons (tyArray (tyInt w64) 8) (tcons (tyArray (tyInt w64) 8) tnil)))) (tcons (tyStruct (100 ∷ 101 ∷ 115 ∷ 107 ∷ 95 ∷ 116 ∷ 105 ∷ 99 ∷ 107 ∷ 101 ∷ 116 ∷ 115 ∷ 58 ∷ 58 ∷ 76 ∷ 97 ∷ 115 ∷ 116 ∷ 115 ∷ []) (tcons (tyInt w64) (tcons (tyInt w64) tnil))) tnil)))))) ∷ (1, mslice-owed the-row (tyRef (named 0) mut (pointee (the-row .written))) 0 15 (lease (κs .0) (qs .0))) ∷ (2, any-gone (tyStruct (100 ∷ 101 ∷ 115 ∷ 107 ∷ 95 ∷ 98 ∷ 111 ∷ 97 ∷ 114 ∷ 100 ∷ 105 ∷ 110 ∷ 103 ∷ 115 ∷ 58 ∷ 58 ∷ 66 ∷ 111 ∷ 97 ∷ 114 ∷ 100 ∷ 105 ∷ 110 ∷ 103 ∷ []) (tcons (tyInt w64) (tcons (tyInt w64) (tcons (tyStruct (100 ∷ 101 ∷ 115 ∷ 107 ∷ 95 ∷ 116 ∷ 105 ∷ 99 ∷ 107 ∷ 101 ∷ 116 ∷ 115 ∷ 58 ∷ 58 ∷ 76 ∷ 97 ∷ 115 ∷ 116 ∷ 115 ∷ []) (tcons (tyInt w64) (tcons (tyInt w64) tnil))) tnil))))) ∷ (3, sslice (rtF (fInt w64)) (tyRef (named 1) imm (tyInt w64)) 1) ∷ (4, sslice (rtF (fInt w64)) (tyRef (named 2) imm (tyInt w64)) 2) ∷ (5, sslice (rtF (fInt w64)) (tyRef (named 3) imm (tyInt w64)) 3) ∷ (6, mslice (rtF (fInt w64)) (tyRef (named 4) mut (tyInt w64)) 4) ∷ (7, mslice (rtF (fInt w64)) (tyRef (named 5) mut (tyInt w64)) 5) ∷ (8, mslice (rtF (fInt w64)) (tyRef (named 6) mut (tyInt w64)) 6) ∷ (9, mslice (rtF (fInt w64)) (tyRef (named 7) mut (tyInt w64)) 7) ∷ (10, mslice (rtF (fInt w64)) (tyRef (named 8) mut (tyInt w64)) 8) ∷ (11, sc-here (sInt w64)) ∷ (12, any-gone (tyArray (tyStruct (100 ∷ 101 ∷ 115 ∷ 107 ∷ 95 ∷ 116 ∷ 105 ∷ 99 ∷ 107 ∷ 101 ∷ 116 ∷ 115 ∷ 58 ∷ 58 ∷ 84 ∷ 105 ∷ 99 ∷ 107 ∷ 101 ∷ 116 ∷ []) (tcons (tyInt w64) (tcons (tyInt w64) (tcons (tyInt w64) (tcons (tyInt w64) tnil))))) 32)) ∷ (13, whole (Declared.row BoardedRow.the-type)) ∷ (14, any-gone (tyArray (tyStruct (100 ∷ 101 ∷ 115 ∷ 107 ∷ 95 ∷ 116 ∷ 105 ∷ 99 ∷ 107 ∷ 101 ∷ 116 ∷ 115 ∷ 58 ∷ 58 ∷ 84 ∷ 105 ∷ 99 ∷ 107 ∷ 101 ∷ 116 ∷ []) (tcons (tyInt w64) (tcons (tyInt w64) (tcons (tyInt w64) (tcons (tyInt w64) tnil))))) 32)) ∷ (15, any-gone (tyRef erased imm (pointee (the-row .written)))) ∷ []
 
         abbrev G0 : Cx
         G0 = record { locals = _++_ t0 t1; slots = (lease (κs .0) (qs .0) ∷ lease (κs .1 .0) (qs .1 .0) ∷ lease (κs .1 .1 .0) (qs .1 .1 .0) ∷ lease (κs .1 .1 .1 .0) (qs .1 .1 .1 .0) ∷ lease (κs .1 .1 .1 .1 .0) (qs .1 .1 .1 .1 .0) ∷ lease (κs .1 .1 .1 .1 .1 .0) (qs .1 .1 .1 .1 .1 .0) ∷ lease (κs .1 .1 .1 .1 .1 .1 .0) (qs .1 .1 .1 .1 .1 .1 .0) ∷ lease (κs .1 .1 .1 .1 .1 .1 .1 .0) (qs .1 .1 .1 .1 .1 .1 .1 .0) ∷ lease (κs .1 .1 .1 .1 .1 .1 .1 .1 .0) (qs .1 .1 .1 .1 .1 .1 .1 .1 .0) ∷ off ∷ off ∷ off ∷ off ∷ off ∷ off ∷ off ∷ []) }
@@ -1159,13 +1159,13 @@ module _ (claims· : Claims) where
           d0 = t-return 𝓤 H A W 𝓣 E Δ0 tt
 
           d1 : Typed.Typed 𝓤 H A 𝓣 E G68 b20 Δ0 (at1 bs)
-          d1 = g-pre 𝓤 H A W 𝓣 E G68 G69 b20 Δ0 (pass T68 T69 (s67 bs)) (at0 bs) (g-room 𝓤 H A W E G68 13 (tyStruct (98 ∷ 111 ∷ 97 ∷ 114 ∷ 100 ∷ 105 ∷ 110 ∷ 103 ∷ 115 ∷ 58 ∷ 58 ∷ 66 ∷ 111 ∷ 97 ∷ 114 ∷ 100 ∷ 101 ∷ 100 ∷ 82 ∷ 111 ∷ 119 ∷ []) (tcons (tyStruct (98 ∷ 111 ∷ 97 ∷ 114 ∷ 100 ∷ 105 ∷ 110 ∷ 103 ∷ 115 ∷ 58 ∷ 58 ∷ 66 ∷ 111 ∷ 97 ∷ 114 ∷ 100 ∷ 101 ∷ 100 ∷ []) (tcons (tyStruct (119 ∷ 97 ∷ 108 ∷ 107 ∷ 58 ∷ 58 ∷ 65 ∷ 110 ∷ 115 ∷ 119 ∷ 101 ∷ 114 ∷ []) (tcons (tyEnum (114 ∷ 101 ∷ 102 ∷ 117 ∷ 115 ∷ 97 ∷ 108 ∷ 115 ∷ 58 ∷ 58 ∷ 82 ∷ 101 ∷ 102 ∷ 117 ∷ 115 ∷ 97 ∷ 108 ∷ []) (ttcons tnil (ttcons tnil (ttcons tnil (ttcons tnil (ttcons tnil (ttcons tnil (ttcons tnil (ttcons tnil (ttcons tnil (ttcons tnil (ttcons tnil (ttcons tnil (ttcons tnil (ttcons tnil (ttcons tnil (ttcons tnil (ttcons tnil (ttcons tnil (ttcons tnil (ttcons tnil (ttcons tnil (ttcons tnil (ttcons tnil (ttcons tnil (ttcons tnil (ttcons tnil (ttcons tnil ttnil)))))))))))))))))))))))))))) (tcons (tyInt w64) (tcons (tyInt w64) (tcons (tyInt w64) (tcons (tyInt w64) (tcons (tyInt w64) tnil))))))) (tcons (tyStruct (98 ∷ 111 ∷ 97 ∷ 114 ∷ 100 ∷ 105 ∷ 110 ∷ 103 ∷ 115 ∷ 58 ∷ 58 ∷ 84 ∷ 97 ∷ 107 ∷ 101 ∷ 110 ∷ []) (tcons (tyInt w64) (tcons (tyInt w64) tnil))) (tcons (tyStruct (98 ∷ 111 ∷ 97 ∷ 114 ∷ 100 ∷ 105 ∷ 110 ∷ 103 ∷ 115 ∷ 58 ∷ 58 ∷ 87 ∷ 97 ∷ 110 ∷ 116 ∷ 115 ∷ []) (tcons (tyInt w64) (tcons (tyArray (tyInt w64) 8) (tcons (tyArray (tyInt w64) 8) tnil)))) (tcons (tyStruct (116 ∷ 105 ∷ 99 ∷ 107 ∷ 101 ∷ 116 ∷ 115 ∷ 58 ∷ 58 ∷ 76 ∷ 97 ∷ 115 ∷ 116 ∷ 115 ∷ []) (tcons (tyInt w64) (tcons (tyInt w64) tnil))) tnil))))) (tcons (tyArray (tyStruct (116 ∷ 105 ∷ 99 ∷ 107 ∷ 101 ∷ 116 ∷ 115 ∷ 58 ∷ 58 ∷ 84 ∷ 105 ∷ 99 ∷ 107 ∷ 101 ∷ 116 ∷ []) (tcons (tyInt w64) (tcons (tyInt w64) (tcons (tyInt w64) (tcons (tyInt w64) tnil))))) 32) tnil))) (room-whole 𝓤 H A W (Declared.row BoardedRow.the-type) (tyStruct (98 ∷ 111 ∷ 97 ∷ 114 ∷ 100 ∷ 105 ∷ 110 ∷ 103 ∷ 115 ∷ 58 ∷ 58 ∷ 66 ∷ 111 ∷ 97 ∷ 114 ∷ 100 ∷ 101 ∷ 100 ∷ 82 ∷ 111 ∷ 119 ∷ []) (tcons (tyStruct (98 ∷ 111 ∷ 97 ∷ 114 ∷ 100 ∷ 105 ∷ 110 ∷ 103 ∷ 115 ∷ 58 ∷ 58 ∷ 66 ∷ 111 ∷ 97 ∷ 114 ∷ 100 ∷ 101 ∷ 100 ∷ []) (tcons (tyStruct (119 ∷ 97 ∷ 108 ∷ 107 ∷ 58 ∷ 58 ∷ 65 ∷ 110 ∷ 115 ∷ 119 ∷ 101 ∷ 114 ∷ []) (tcons (tyEnum (114 ∷ 101 ∷ 102 ∷ 117 ∷ 115 ∷ 97 ∷ 108 ∷ 115 ∷ 58 ∷ 58 ∷ 82 ∷ 101 ∷ 102 ∷ 117 ∷ 115 ∷ 97 ∷ 108 ∷ []) (ttcons tnil (ttcons tnil (ttcons tnil (ttcons tnil (ttcons tnil (ttcons tnil (ttcons tnil (ttcons tnil (ttcons tnil (ttcons tnil (ttcons tnil (ttcons tnil (ttcons tnil (ttcons tnil (ttcons tnil (ttcons tnil (ttcons tnil (ttcons tnil (ttcons tnil (ttcons tnil (ttcons tnil (ttcons tnil (ttcons tnil (ttcons tnil (ttcons tnil (ttcons tnil (ttcons tnil ttnil)))))))))))))))))))))))))))) (tcons (tyInt w64) (tcons (tyInt w64) (tcons (tyInt w64) (tcons (tyInt w64) (tcons (tyInt w64) tnil))))))) (tcons (tyStruct (98 ∷ 111 ∷ 97 ∷ 114 ∷ 100 ∷ 105 ∷ 110 ∷ 103 ∷ 115 ∷ 58 ∷ 58 ∷ 84 ∷ 97 ∷ 107 ∷ 101 ∷ 110 ∷ []) (tcons (tyInt w64) (tcons (tyInt w64) tnil))) (tcons (tyStruct (98 ∷ 111 ∷ 97 ∷ 114 ∷ 100 ∷ 105 ∷ 110 ∷ 103 ∷ 115 ∷ 58 ∷ 58 ∷ 87 ∷ 97 ∷ 110 ∷ 116 ∷ 115 ∷ []) (tcons (tyInt w64) (tcons (tyArray (tyInt w64) 8) (tcons (tyArray (tyInt w64) 8) tnil)))) (tcons (tyStruct (116 ∷ 105 ∷ 99 ∷ 107 ∷ 101 ∷ 116 ∷ 115 ∷ 58 ∷ 58 ∷ 76 ∷ 97 ∷ 115 ∷ 116 ∷ 115 ∷ []) (tcons (tyInt w64) (tcons (tyInt w64) tnil))) tnil))))) (tcons (tyArray (tyStruct (116 ∷ 105 ∷ 99 ∷ 107 ∷ 101 ∷ 116 ∷ 115 ∷ 58 ∷ 58 ∷ 84 ∷ 105 ∷ 99 ∷ 107 ∷ 101 ∷ 116 ∷ []) (tcons (tyInt w64) (tcons (tyInt w64) (tcons (tyInt w64) (tcons (tyInt w64) tnil))))) 32) tnil))) refl)) d0
+          d1 = g-pre 𝓤 H A W 𝓣 E G68 G69 b20 Δ0 (pass T68 T69 (s67 bs)) (at0 bs) (g-room 𝓤 H A W E G68 13 (tyStruct (100 ∷ 101 ∷ 115 ∷ 107 ∷ 95 ∷ 98 ∷ 111 ∷ 97 ∷ 114 ∷ 100 ∷ 105 ∷ 110 ∷ 103 ∷ 115 ∷ 58 ∷ 58 ∷ 66 ∷ 111 ∷ 97 ∷ 114 ∷ 100 ∷ 101 ∷ 100 ∷ 82 ∷ 111 ∷ 119 ∷ []) (tcons (tyStruct (100 ∷ 101 ∷ 115 ∷ 107 ∷ 95 ∷ 98 ∷ 111 ∷ 97 ∷ 114 ∷ 100 ∷ 105 ∷ 110 ∷ 103 ∷ 115 ∷ 58 ∷ 58 ∷ 66 ∷ 111 ∷ 97 ∷ 114 ∷ 100 ∷ 101 ∷ 100 ∷ []) (tcons (tyStruct (119 ∷ 97 ∷ 108 ∷ 107 ∷ 58 ∷ 58 ∷ 65 ∷ 110 ∷ 115 ∷ 119 ∷ 101 ∷ 114 ∷ []) (tcons (tyEnum (114 ∷ 101 ∷ 102 ∷ 117 ∷ 115 ∷ 97 ∷ 108 ∷ 115 ∷ 58 ∷ 58 ∷ 82 ∷ 101 ∷ 102 ∷ 117 ∷ 115 ∷ 97 ∷ 108 ∷ []) (ttcons tnil (ttcons tnil (ttcons tnil (ttcons tnil (ttcons tnil (ttcons tnil (ttcons tnil (ttcons tnil (ttcons tnil (ttcons tnil (ttcons tnil (ttcons tnil (ttcons tnil (ttcons tnil (ttcons tnil (ttcons tnil (ttcons tnil (ttcons tnil (ttcons tnil (ttcons tnil (ttcons tnil (ttcons tnil (ttcons tnil (ttcons tnil (ttcons tnil (ttcons tnil (ttcons tnil ttnil)))))))))))))))))))))))))))) (tcons (tyInt w64) (tcons (tyInt w64) (tcons (tyInt w64) (tcons (tyInt w64) (tcons (tyInt w64) tnil))))))) (tcons (tyStruct (100 ∷ 101 ∷ 115 ∷ 107 ∷ 95 ∷ 98 ∷ 111 ∷ 97 ∷ 114 ∷ 100 ∷ 105 ∷ 110 ∷ 103 ∷ 115 ∷ 58 ∷ 58 ∷ 84 ∷ 97 ∷ 107 ∷ 101 ∷ 110 ∷ []) (tcons (tyInt w64) (tcons (tyInt w64) tnil))) (tcons (tyStruct (100 ∷ 101 ∷ 115 ∷ 107 ∷ 95 ∷ 98 ∷ 111 ∷ 97 ∷ 114 ∷ 100 ∷ 105 ∷ 110 ∷ 103 ∷ 115 ∷ 58 ∷ 58 ∷ 87 ∷ 97 ∷ 110 ∷ 116 ∷ 115 ∷ []) (tcons (tyInt w64) (tcons (tyArray (tyInt w64) 8) (tcons (tyArray (tyInt w64) 8) tnil)))) (tcons (tyStruct (100 ∷ 101 ∷ 115 ∷ 107 ∷ 95 ∷ 116 ∷ 105 ∷ 99 ∷ 107 ∷ 101 ∷ 116 ∷ 115 ∷ 58 ∷ 58 ∷ 76 ∷ 97 ∷ 115 ∷ 116 ∷ 115 ∷ []) (tcons (tyInt w64) (tcons (tyInt w64) tnil))) tnil))))) (tcons (tyArray (tyStruct (100 ∷ 101 ∷ 115 ∷ 107 ∷ 95 ∷ 116 ∷ 105 ∷ 99 ∷ 107 ∷ 101 ∷ 116 ∷ 115 ∷ 58 ∷ 58 ∷ 84 ∷ 105 ∷ 99 ∷ 107 ∷ 101 ∷ 116 ∷ []) (tcons (tyInt w64) (tcons (tyInt w64) (tcons (tyInt w64) (tcons (tyInt w64) tnil))))) 32) tnil))) (room-whole 𝓤 H A W (Declared.row BoardedRow.the-type) (tyStruct (100 ∷ 101 ∷ 115 ∷ 107 ∷ 95 ∷ 98 ∷ 111 ∷ 97 ∷ 114 ∷ 100 ∷ 105 ∷ 110 ∷ 103 ∷ 115 ∷ 58 ∷ 58 ∷ 66 ∷ 111 ∷ 97 ∷ 114 ∷ 100 ∷ 101 ∷ 100 ∷ 82 ∷ 111 ∷ 119 ∷ []) (tcons (tyStruct (100 ∷ 101 ∷ 115 ∷ 107 ∷ 95 ∷ 98 ∷ 111 ∷ 97 ∷ 114 ∷ 100 ∷ 105 ∷ 110 ∷ 103 ∷ 115 ∷ 58 ∷ 58 ∷ 66 ∷ 111 ∷ 97 ∷ 114 ∷ 100 ∷ 101 ∷ 100 ∷ []) (tcons (tyStruct (119 ∷ 97 ∷ 108 ∷ 107 ∷ 58 ∷ 58 ∷ 65 ∷ 110 ∷ 115 ∷ 119 ∷ 101 ∷ 114 ∷ []) (tcons (tyEnum (114 ∷ 101 ∷ 102 ∷ 117 ∷ 115 ∷ 97 ∷ 108 ∷ 115 ∷ 58 ∷ 58 ∷ 82 ∷ 101 ∷ 102 ∷ 117 ∷ 115 ∷ 97 ∷ 108 ∷ []) (ttcons tnil (ttcons tnil (ttcons tnil (ttcons tnil (ttcons tnil (ttcons tnil (ttcons tnil (ttcons tnil (ttcons tnil (ttcons tnil (ttcons tnil (ttcons tnil (ttcons tnil (ttcons tnil (ttcons tnil (ttcons tnil (ttcons tnil (ttcons tnil (ttcons tnil (ttcons tnil (ttcons tnil (ttcons tnil (ttcons tnil (ttcons tnil (ttcons tnil (ttcons tnil (ttcons tnil ttnil)))))))))))))))))))))))))))) (tcons (tyInt w64) (tcons (tyInt w64) (tcons (tyInt w64) (tcons (tyInt w64) (tcons (tyInt w64) tnil))))))) (tcons (tyStruct (100 ∷ 101 ∷ 115 ∷ 107 ∷ 95 ∷ 98 ∷ 111 ∷ 97 ∷ 114 ∷ 100 ∷ 105 ∷ 110 ∷ 103 ∷ 115 ∷ 58 ∷ 58 ∷ 84 ∷ 97 ∷ 107 ∷ 101 ∷ 110 ∷ []) (tcons (tyInt w64) (tcons (tyInt w64) tnil))) (tcons (tyStruct (100 ∷ 101 ∷ 115 ∷ 107 ∷ 95 ∷ 98 ∷ 111 ∷ 97 ∷ 114 ∷ 100 ∷ 105 ∷ 110 ∷ 103 ∷ 115 ∷ 58 ∷ 58 ∷ 87 ∷ 97 ∷ 110 ∷ 116 ∷ 115 ∷ []) (tcons (tyInt w64) (tcons (tyArray (tyInt w64) 8) (tcons (tyArray (tyInt w64) 8) tnil)))) (tcons (tyStruct (100 ∷ 101 ∷ 115 ∷ 107 ∷ 95 ∷ 116 ∷ 105 ∷ 99 ∷ 107 ∷ 101 ∷ 116 ∷ 115 ∷ 58 ∷ 58 ∷ 76 ∷ 97 ∷ 115 ∷ 116 ∷ 115 ∷ []) (tcons (tyInt w64) (tcons (tyInt w64) tnil))) tnil))))) (tcons (tyArray (tyStruct (100 ∷ 101 ∷ 115 ∷ 107 ∷ 95 ∷ 116 ∷ 105 ∷ 99 ∷ 107 ∷ 101 ∷ 116 ∷ 115 ∷ 58 ∷ 58 ∷ 84 ∷ 105 ∷ 99 ∷ 107 ∷ 101 ∷ 116 ∷ []) (tcons (tyInt w64) (tcons (tyInt w64) (tcons (tyInt w64) (tcons (tyInt w64) tnil))))) 32) tnil))) refl)) d0
 
           d2 : Typed.Typed 𝓤 H A 𝓣 E G67 b20 Δ0 (at2 bs)
           d2 = g-pre 𝓤 H A W 𝓣 E G67 G68 b20 Δ0 (pass T67 T68 (s66 bs)) (at1 bs) (g-room 𝓤 H A W E G67 11 (tyInt w64) (room-sc 𝓤 H A W (sInt w64))) d1
 
           d3 : Typed.Typed 𝓤 H A 𝓣 E G66 b21 Δ0 (at3 bs)
-          d3 = s-seq 𝓤 H A W 𝓣 E G66 G67 b19 b20 Δ0 (both (s65 bs)) (at2 bs) (t-way-copy-out 𝓤 H A W E 𝓣 (Declared.row Boarded.the-type) refl (cStruct Boarded.the-type Laws.the-laws Laws.the-copy .copy 𝓤 H A W) (λ ρ. Unit) G66 (out 13 (G66 .locals)) (λ u. drop 13 (G66 .locals) u) (G66 .slots) 13 (λ t. _∷_ (field 0) t) (tyStruct (98 ∷ 111 ∷ 97 ∷ 114 ∷ 100 ∷ 105 ∷ 110 ∷ 103 ∷ 115 ∷ 58 ∷ 58 ∷ 66 ∷ 111 ∷ 97 ∷ 114 ∷ 100 ∷ 101 ∷ 100 ∷ []) (tcons (tyStruct (119 ∷ 97 ∷ 108 ∷ 107 ∷ 58 ∷ 58 ∷ 65 ∷ 110 ∷ 115 ∷ 119 ∷ 101 ∷ 114 ∷ []) (tcons (tyEnum (114 ∷ 101 ∷ 102 ∷ 117 ∷ 115 ∷ 97 ∷ 108 ∷ 115 ∷ 58 ∷ 58 ∷ 82 ∷ 101 ∷ 102 ∷ 117 ∷ 115 ∷ 97 ∷ 108 ∷ []) (ttcons tnil (ttcons tnil (ttcons tnil (ttcons tnil (ttcons tnil (ttcons tnil (ttcons tnil (ttcons tnil (ttcons tnil (ttcons tnil (ttcons tnil (ttcons tnil (ttcons tnil (ttcons tnil (ttcons tnil (ttcons tnil (ttcons tnil (ttcons tnil (ttcons tnil (ttcons tnil (ttcons tnil (ttcons tnil (ttcons tnil (ttcons tnil (ttcons tnil (ttcons tnil (ttcons tnil ttnil)))))))))))))))))))))))))))) (tcons (tyInt w64) (tcons (tyInt w64) (tcons (tyInt w64) (tcons (tyInt w64) (tcons (tyInt w64) tnil))))))) (tcons (tyStruct (98 ∷ 111 ∷ 97 ∷ 114 ∷ 100 ∷ 105 ∷ 110 ∷ 103 ∷ 115 ∷ 58 ∷ 58 ∷ 84 ∷ 97 ∷ 107 ∷ 101 ∷ 110 ∷ []) (tcons (tyInt w64) (tcons (tyInt w64) tnil))) (tcons (tyStruct (98 ∷ 111 ∷ 97 ∷ 114 ∷ 100 ∷ 105 ∷ 110 ∷ 103 ∷ 115 ∷ 58 ∷ 58 ∷ 87 ∷ 97 ∷ 110 ∷ 116 ∷ 115 ∷ []) (tcons (tyInt w64) (tcons (tyArray (tyInt w64) 8) (tcons (tyArray (tyInt w64) 8) tnil)))) (tcons (tyStruct (116 ∷ 105 ∷ 99 ∷ 107 ∷ 101 ∷ 116 ∷ 115 ∷ 58 ∷ 58 ∷ 76 ∷ 97 ∷ 115 ∷ 116 ∷ 115 ∷ []) (tcons (tyInt w64) (tcons (tyInt w64) tnil))) tnil))))) (tyStruct (98 ∷ 111 ∷ 97 ∷ 114 ∷ 100 ∷ 105 ∷ 110 ∷ 103 ∷ 115 ∷ 58 ∷ 58 ∷ 66 ∷ 111 ∷ 97 ∷ 114 ∷ 100 ∷ 101 ∷ 100 ∷ []) (tcons (tyStruct (119 ∷ 97 ∷ 108 ∷ 107 ∷ 58 ∷ 58 ∷ 65 ∷ 110 ∷ 115 ∷ 119 ∷ 101 ∷ 114 ∷ []) (tcons (tyEnum (114 ∷ 101 ∷ 102 ∷ 117 ∷ 115 ∷ 97 ∷ 108 ∷ 115 ∷ 58 ∷ 58 ∷ 82 ∷ 101 ∷ 102 ∷ 117 ∷ 115 ∷ 97 ∷ 108 ∷ []) (ttcons tnil (ttcons tnil (ttcons tnil (ttcons tnil (ttcons tnil (ttcons tnil (ttcons tnil (ttcons tnil (ttcons tnil (ttcons tnil (ttcons tnil (ttcons tnil (ttcons tnil (ttcons tnil (ttcons tnil (ttcons tnil (ttcons tnil (ttcons tnil (ttcons tnil (ttcons tnil (ttcons tnil (ttcons tnil (ttcons tnil (ttcons tnil (ttcons tnil (ttcons tnil (ttcons tnil ttnil)))))))))))))))))))))))))))) (tcons (tyInt w64) (tcons (tyInt w64) (tcons (tyInt w64) (tcons (tyInt w64) (tcons (tyInt w64) tnil))))))) (tcons (tyStruct (98 ∷ 111 ∷ 97 ∷ 114 ∷ 100 ∷ 105 ∷ 110 ∷ 103 ∷ 115 ∷ 58 ∷ 58 ∷ 84 ∷ 97 ∷ 107 ∷ 101 ∷ 110 ∷ []) (tcons (tyInt w64) (tcons (tyInt w64) tnil))) (tcons (tyStruct (98 ∷ 111 ∷ 97 ∷ 114 ∷ 100 ∷ 105 ∷ 110 ∷ 103 ∷ 115 ∷ 58 ∷ 58 ∷ 87 ∷ 97 ∷ 110 ∷ 116 ∷ 115 ∷ []) (tcons (tyInt w64) (tcons (tyArray (tyInt w64) 8) (tcons (tyArray (tyInt w64) 8) tnil)))) (tcons (tyStruct (116 ∷ 105 ∷ 99 ∷ 107 ∷ 101 ∷ 116 ∷ 115 ∷ 58 ∷ 58 ∷ 76 ∷ 97 ∷ 115 ∷ 116 ∷ 115 ∷ []) (tcons (tyInt w64) (tcons (tyInt w64) tnil))) tnil))))) 0 (whole (Declared.row Boarded.the-type)) (λ x. x) (λ u. getAt (BoardedRow.the-type .parts) 0 (struct .as-values (u .1 .1 .1 .1 .1 .1 .1 .1 .1 .1 .1 .1 .1 .0))) (λ u. (hd 0 (tl (tl (tl (tl (tl (tl (tl (tl (tl (tl (tl (tl (tl bs))))))))))))), _+_ 0 0)) (λ T′. record { locals = setRow 13 (13, whole (Declared.row BoardedRow.the-type)) T′; slots = G66 .slots }) (λ u T′ m′. set 13 (13, whole (Declared.row BoardedRow.the-type)) (u .1 .1 .1 .1 .1 .1 .1 .1 .1 .1 .1 .1 .1 .0) T′ m′) (λ u. Unit) (λ x. Unit) (told-none 𝓤 H A (G66 .slots)) (learns-nothing 𝓤 H A (Declared.row Boarded.the-type)) (λ ρ told u asked. w-partˢ 𝓤 H A W E (Declared.row BoardedRow.the-type) (Declared.row Boarded.the-type) (tyStruct (98 ∷ 111 ∷ 97 ∷ 114 ∷ 100 ∷ 105 ∷ 110 ∷ 103 ∷ 115 ∷ 58 ∷ 58 ∷ 66 ∷ 111 ∷ 97 ∷ 114 ∷ 100 ∷ 101 ∷ 100 ∷ 82 ∷ 111 ∷ 119 ∷ []) (tcons (tyStruct (98 ∷ 111 ∷ 97 ∷ 114 ∷ 100 ∷ 105 ∷ 110 ∷ 103 ∷ 115 ∷ 58 ∷ 58 ∷ 66 ∷ 111 ∷ 97 ∷ 114 ∷ 100 ∷ 101 ∷ 100 ∷ []) (tcons (tyStruct (119 ∷ 97 ∷ 108 ∷ 107 ∷ 58 ∷ 58 ∷ 65 ∷ 110 ∷ 115 ∷ 119 ∷ 101 ∷ 114 ∷ []) (tcons (tyEnum (114 ∷ 101 ∷ 102 ∷ 117 ∷ 115 ∷ 97 ∷ 108 ∷ 115 ∷ 58 ∷ 58 ∷ 82 ∷ 101 ∷ 102 ∷ 117 ∷ 115 ∷ 97 ∷ 108 ∷ []) (ttcons tnil (ttcons tnil (ttcons tnil (ttcons tnil (ttcons tnil (ttcons tnil (ttcons tnil (ttcons tnil (ttcons tnil (ttcons tnil (ttcons tnil (ttcons tnil (ttcons tnil (ttcons tnil (ttcons tnil (ttcons tnil (ttcons tnil (ttcons tnil (ttcons tnil (ttcons tnil (ttcons tnil (ttcons tnil (ttcons tnil (ttcons tnil (ttcons tnil (ttcons tnil (ttcons tnil ttnil)))))))))))))))))))))))))))) (tcons (tyInt w64) (tcons (tyInt w64) (tcons (tyInt w64) (tcons (tyInt w64) (tcons (tyInt w64) tnil))))))) (tcons (tyStruct (98 ∷ 111 ∷ 97 ∷ 114 ∷ 100 ∷ 105 ∷ 110 ∷ 103 ∷ 115 ∷ 58 ∷ 58 ∷ 84 ∷ 97 ∷ 107 ∷ 101 ∷ 110 ∷ []) (tcons (tyInt w64) (tcons (tyInt w64) tnil))) (tcons (tyStruct (98 ∷ 111 ∷ 97 ∷ 114 ∷ 100 ∷ 105 ∷ 110 ∷ 103 ∷ 115 ∷ 58 ∷ 58 ∷ 87 ∷ 97 ∷ 110 ∷ 116 ∷ 115 ∷ []) (tcons (tyInt w64) (tcons (tyArray (tyInt w64) 8) (tcons (tyArray (tyInt w64) 8) tnil)))) (tcons (tyStruct (116 ∷ 105 ∷ 99 ∷ 107 ∷ 101 ∷ 116 ∷ 115 ∷ 58 ∷ 58 ∷ 76 ∷ 97 ∷ 115 ∷ 116 ∷ 115 ∷ []) (tcons (tyInt w64) (tcons (tyInt w64) tnil))) tnil))))) (tcons (tyArray (tyStruct (116 ∷ 105 ∷ 99 ∷ 107 ∷ 101 ∷ 116 ∷ 115 ∷ 58 ∷ 58 ∷ 84 ∷ 105 ∷ 99 ∷ 107 ∷ 101 ∷ 116 ∷ []) (tcons (tyInt w64) (tcons (tyInt w64) (tcons (tyInt w64) (tcons (tyInt w64) tnil))))) 32) tnil))) (tyStruct (98 ∷ 111 ∷ 97 ∷ 114 ∷ 100 ∷ 105 ∷ 110 ∷ 103 ∷ 115 ∷ 58 ∷ 58 ∷ 66 ∷ 111 ∷ 97 ∷ 114 ∷ 100 ∷ 101 ∷ 100 ∷ []) (tcons (tyStruct (119 ∷ 97 ∷ 108 ∷ 107 ∷ 58 ∷ 58 ∷ 65 ∷ 110 ∷ 115 ∷ 119 ∷ 101 ∷ 114 ∷ []) (tcons (tyEnum (114 ∷ 101 ∷ 102 ∷ 117 ∷ 115 ∷ 97 ∷ 108 ∷ 115 ∷ 58 ∷ 58 ∷ 82 ∷ 101 ∷ 102 ∷ 117 ∷ 115 ∷ 97 ∷ 108 ∷ []) (ttcons tnil (ttcons tnil (ttcons tnil (ttcons tnil (ttcons tnil (ttcons tnil (ttcons tnil (ttcons tnil (ttcons tnil (ttcons tnil (ttcons tnil (ttcons tnil (ttcons tnil (ttcons tnil (ttcons tnil (ttcons tnil (ttcons tnil (ttcons tnil (ttcons tnil (ttcons tnil (ttcons tnil (ttcons tnil (ttcons tnil (ttcons tnil (ttcons tnil (ttcons tnil (ttcons tnil ttnil)))))))))))))))))))))))))))) (tcons (tyInt w64) (tcons (tyInt w64) (tcons (tyInt w64) (tcons (tyInt w64) (tcons (tyInt w64) tnil))))))) (tcons (tyStruct (98 ∷ 111 ∷ 97 ∷ 114 ∷ 100 ∷ 105 ∷ 110 ∷ 103 ∷ 115 ∷ 58 ∷ 58 ∷ 84 ∷ 97 ∷ 107 ∷ 101 ∷ 110 ∷ []) (tcons (tyInt w64) (tcons (tyInt w64) tnil))) (tcons (tyStruct (98 ∷ 111 ∷ 97 ∷ 114 ∷ 100 ∷ 105 ∷ 110 ∷ 103 ∷ 115 ∷ 58 ∷ 58 ∷ 87 ∷ 97 ∷ 110 ∷ 116 ∷ 115 ∷ []) (tcons (tyInt w64) (tcons (tyArray (tyInt w64) 8) (tcons (tyArray (tyInt w64) 8) tnil)))) (tcons (tyStruct (116 ∷ 105 ∷ 99 ∷ 107 ∷ 101 ∷ 116 ∷ 115 ∷ 58 ∷ 58 ∷ 76 ∷ 97 ∷ 115 ∷ 116 ∷ 115 ∷ []) (tcons (tyInt w64) (tcons (tyInt w64) tnil))) tnil))))) 0 0 (u .1 .1 .1 .1 .1 .1 .1 .1 .1 .1 .1 .1 .1 .0) (getAt (BoardedRow.the-type .parts) 0 (struct .as-values (u .1 .1 .1 .1 .1 .1 .1 .1 .1 .1 .1 .1 .1 .0))) (hd 0 (tl (tl (tl (tl (tl (tl (tl (tl (tl (tl (tl (tl (tl bs))))))))))))), 0) (w-look 𝓤 H A W E (w-local 𝓤 H A W E G66 ρ u (G66 .slots) 13 (Declared.row BoardedRow.the-type) (whole (Declared.row BoardedRow.the-type)) (λ x. x) (λ x. x) (u .1 .1 .1 .1 .1 .1 .1 .1 .1 .1 .1 .1 .1 .0) (mem-whole 𝓤 H A W (Declared.row BoardedRow.the-type) ρ (u .1 .1 .1 .1 .1 .1 .1 .1 .1 .1 .1 .1 .1 .0) (hd 0 (tl (tl (tl (tl (tl (tl (tl (tl (tl (tl (tl (tl (tl bs))))))))))))))) (whole-mem 𝓤 H A W (Declared.row BoardedRow.the-type) ρ (u .1 .1 .1 .1 .1 .1 .1 .1 .1 .1 .1 .1 .1 .0) (hd 0 (tl (tl (tl (tl (tl (tl (tl (tl (tl (tl (tl (tl (tl bs))))))))))))))))) refl λ q. cut-record 𝓤 H A q (Declared.row BoardedRow.the-type) Boarded.the-type 0 (u .1 .1 .1 .1 .1 .1 .1 .1 .1 .1 .1 .1 .1 .0) (u .1 .1 .1 .1 .1 .1 .1 .1 .1 .1 .1 .1 .1 .0) (getAt (BoardedRow.the-type .parts) 0 (struct .as-values (u .1 .1 .1 .1 .1 .1 .1 .1 .1 .1 .1 .1 .1 .0))) (getAt (BoardedRow.the-type .parts) 0 (struct .as-values (u .1 .1 .1 .1 .1 .1 .1 .1 .1 .1 .1 .1 .1 .0))) (hd 0 (tl (tl (tl (tl (tl (tl (tl (tl (tl (tl (tl (tl (tl bs))))))))))))), 0) (look-at 𝓤 H A W q BoardedRow.the-type Laws'.the-laws 0 0 refl refl (hd 0 (tl (tl (tl (tl (tl (tl (tl (tl (tl (tl (tl (tl (tl bs))))))))))))), 0) (u .1 .1 .1 .1 .1 .1 .1 .1 .1 .1 .1 .1 .1 .0) (struct .as-values (u .1 .1 .1 .1 .1 .1 .1 .1 .1 .1 .1 .1 .1 .0)) refl)) (room-gone 𝓤 H A (tyStruct (98 ∷ 111 ∷ 97 ∷ 114 ∷ 100 ∷ 105 ∷ 110 ∷ 103 ∷ 115 ∷ 58 ∷ 58 ∷ 66 ∷ 111 ∷ 97 ∷ 114 ∷ 100 ∷ 101 ∷ 100 ∷ []) (tcons (tyStruct (119 ∷ 97 ∷ 108 ∷ 107 ∷ 58 ∷ 58 ∷ 65 ∷ 110 ∷ 115 ∷ 119 ∷ 101 ∷ 114 ∷ []) (tcons (tyEnum (114 ∷ 101 ∷ 102 ∷ 117 ∷ 115 ∷ 97 ∷ 108 ∷ 115 ∷ 58 ∷ 58 ∷ 82 ∷ 101 ∷ 102 ∷ 117 ∷ 115 ∷ 97 ∷ 108 ∷ []) (ttcons tnil (ttcons tnil (ttcons tnil (ttcons tnil (ttcons tnil (ttcons tnil (ttcons tnil (ttcons tnil (ttcons tnil (ttcons tnil (ttcons tnil (ttcons tnil (ttcons tnil (ttcons tnil (ttcons tnil (ttcons tnil (ttcons tnil (ttcons tnil (ttcons tnil (ttcons tnil (ttcons tnil (ttcons tnil (ttcons tnil (ttcons tnil (ttcons tnil (ttcons tnil (ttcons tnil ttnil)))))))))))))))))))))))))))) (tcons (tyInt w64) (tcons (tyInt w64) (tcons (tyInt w64) (tcons (tyInt w64) (tcons (tyInt w64) tnil))))))) (tcons (tyStruct (98 ∷ 111 ∷ 97 ∷ 114 ∷ 100 ∷ 105 ∷ 110 ∷ 103 ∷ 115 ∷ 58 ∷ 58 ∷ 84 ∷ 97 ∷ 107 ∷ 101 ∷ 110 ∷ []) (tcons (tyInt w64) (tcons (tyInt w64) tnil))) (tcons (tyStruct (98 ∷ 111 ∷ 97 ∷ 114 ∷ 100 ∷ 105 ∷ 110 ∷ 103 ∷ 115 ∷ 58 ∷ 58 ∷ 87 ∷ 97 ∷ 110 ∷ 116 ∷ 115 ∷ []) (tcons (tyInt w64) (tcons (tyArray (tyInt w64) 8) (tcons (tyArray (tyInt w64) 8) tnil)))) (tcons (tyStruct (116 ∷ 105 ∷ 99 ∷ 107 ∷ 101 ∷ 116 ∷ 115 ∷ 58 ∷ 58 ∷ 76 ∷ 97 ∷ 115 ∷ 116 ∷ 115 ∷ []) (tcons (tyInt w64) (tcons (tyInt w64) tnil))) tnil)))))) (makes-mem 𝓤 H A W (λ ρ. Unit) (Declared.row Boarded.the-type) refl (whole (Declared.row Boarded.the-type)) (λ x. x) λ ρ told. whole-mem 𝓤 H A W (Declared.row Boarded.the-type) ρ) refl refl refl) d2
+          d3 = s-seq 𝓤 H A W 𝓣 E G66 G67 b19 b20 Δ0 (both (s65 bs)) (at2 bs) (t-way-copy-out 𝓤 H A W E 𝓣 (Declared.row Boarded.the-type) refl (cStruct Boarded.the-type Laws.the-laws Laws.the-copy .copy 𝓤 H A W) (λ ρ. Unit) G66 (out 13 (G66 .locals)) (λ u. drop 13 (G66 .locals) u) (G66 .slots) 13 (λ t. _∷_ (field 0) t) (tyStruct (100 ∷ 101 ∷ 115 ∷ 107 ∷ 95 ∷ 98 ∷ 111 ∷ 97 ∷ 114 ∷ 100 ∷ 105 ∷ 110 ∷ 103 ∷ 115 ∷ 58 ∷ 58 ∷ 66 ∷ 111 ∷ 97 ∷ 114 ∷ 100 ∷ 101 ∷ 100 ∷ []) (tcons (tyStruct (119 ∷ 97 ∷ 108 ∷ 107 ∷ 58 ∷ 58 ∷ 65 ∷ 110 ∷ 115 ∷ 119 ∷ 101 ∷ 114 ∷ []) (tcons (tyEnum (114 ∷ 101 ∷ 102 ∷ 117 ∷ 115 ∷ 97 ∷ 108 ∷ 115 ∷ 58 ∷ 58 ∷ 82 ∷ 101 ∷ 102 ∷ 117 ∷ 115 ∷ 97 ∷ 108 ∷ []) (ttcons tnil (ttcons tnil (ttcons tnil (ttcons tnil (ttcons tnil (ttcons tnil (ttcons tnil (ttcons tnil (ttcons tnil (ttcons tnil (ttcons tnil (ttcons tnil (ttcons tnil (ttcons tnil (ttcons tnil (ttcons tnil (ttcons tnil (ttcons tnil (ttcons tnil (ttcons tnil (ttcons tnil (ttcons tnil (ttcons tnil (ttcons tnil (ttcons tnil (ttcons tnil (ttcons tnil ttnil)))))))))))))))))))))))))))) (tcons (tyInt w64) (tcons (tyInt w64) (tcons (tyInt w64) (tcons (tyInt w64) (tcons (tyInt w64) tnil))))))) (tcons (tyStruct (100 ∷ 101 ∷ 115 ∷ 107 ∷ 95 ∷ 98 ∷ 111 ∷ 97 ∷ 114 ∷ 100 ∷ 105 ∷ 110 ∷ 103 ∷ 115 ∷ 58 ∷ 58 ∷ 84 ∷ 97 ∷ 107 ∷ 101 ∷ 110 ∷ []) (tcons (tyInt w64) (tcons (tyInt w64) tnil))) (tcons (tyStruct (100 ∷ 101 ∷ 115 ∷ 107 ∷ 95 ∷ 98 ∷ 111 ∷ 97 ∷ 114 ∷ 100 ∷ 105 ∷ 110 ∷ 103 ∷ 115 ∷ 58 ∷ 58 ∷ 87 ∷ 97 ∷ 110 ∷ 116 ∷ 115 ∷ []) (tcons (tyInt w64) (tcons (tyArray (tyInt w64) 8) (tcons (tyArray (tyInt w64) 8) tnil)))) (tcons (tyStruct (100 ∷ 101 ∷ 115 ∷ 107 ∷ 95 ∷ 116 ∷ 105 ∷ 99 ∷ 107 ∷ 101 ∷ 116 ∷ 115 ∷ 58 ∷ 58 ∷ 76 ∷ 97 ∷ 115 ∷ 116 ∷ 115 ∷ []) (tcons (tyInt w64) (tcons (tyInt w64) tnil))) tnil))))) (tyStruct (100 ∷ 101 ∷ 115 ∷ 107 ∷ 95 ∷ 98 ∷ 111 ∷ 97 ∷ 114 ∷ 100 ∷ 105 ∷ 110 ∷ 103 ∷ 115 ∷ 58 ∷ 58 ∷ 66 ∷ 111 ∷ 97 ∷ 114 ∷ 100 ∷ 101 ∷ 100 ∷ []) (tcons (tyStruct (119 ∷ 97 ∷ 108 ∷ 107 ∷ 58 ∷ 58 ∷ 65 ∷ 110 ∷ 115 ∷ 119 ∷ 101 ∷ 114 ∷ []) (tcons (tyEnum (114 ∷ 101 ∷ 102 ∷ 117 ∷ 115 ∷ 97 ∷ 108 ∷ 115 ∷ 58 ∷ 58 ∷ 82 ∷ 101 ∷ 102 ∷ 117 ∷ 115 ∷ 97 ∷ 108 ∷ []) (ttcons tnil (ttcons tnil (ttcons tnil (ttcons tnil (ttcons tnil (ttcons tnil (ttcons tnil (ttcons tnil (ttcons tnil (ttcons tnil (ttcons tnil (ttcons tnil (ttcons tnil (ttcons tnil (ttcons tnil (ttcons tnil (ttcons tnil (ttcons tnil (ttcons tnil (ttcons tnil (ttcons tnil (ttcons tnil (ttcons tnil (ttcons tnil (ttcons tnil (ttcons tnil (ttcons tnil ttnil)))))))))))))))))))))))))))) (tcons (tyInt w64) (tcons (tyInt w64) (tcons (tyInt w64) (tcons (tyInt w64) (tcons (tyInt w64) tnil))))))) (tcons (tyStruct (100 ∷ 101 ∷ 115 ∷ 107 ∷ 95 ∷ 98 ∷ 111 ∷ 97 ∷ 114 ∷ 100 ∷ 105 ∷ 110 ∷ 103 ∷ 115 ∷ 58 ∷ 58 ∷ 84 ∷ 97 ∷ 107 ∷ 101 ∷ 110 ∷ []) (tcons (tyInt w64) (tcons (tyInt w64) tnil))) (tcons (tyStruct (100 ∷ 101 ∷ 115 ∷ 107 ∷ 95 ∷ 98 ∷ 111 ∷ 97 ∷ 114 ∷ 100 ∷ 105 ∷ 110 ∷ 103 ∷ 115 ∷ 58 ∷ 58 ∷ 87 ∷ 97 ∷ 110 ∷ 116 ∷ 115 ∷ []) (tcons (tyInt w64) (tcons (tyArray (tyInt w64) 8) (tcons (tyArray (tyInt w64) 8) tnil)))) (tcons (tyStruct (100 ∷ 101 ∷ 115 ∷ 107 ∷ 95 ∷ 116 ∷ 105 ∷ 99 ∷ 107 ∷ 101 ∷ 116 ∷ 115 ∷ 58 ∷ 58 ∷ 76 ∷ 97 ∷ 115 ∷ 116 ∷ 115 ∷ []) (tcons (tyInt w64) (tcons (tyInt w64) tnil))) tnil))))) 0 (whole (Declared.row Boarded.the-type)) (λ x. x) (λ u. getAt (BoardedRow.the-type .parts) 0 (struct .as-values (u .1 .1 .1 .1 .1 .1 .1 .1 .1 .1 .1 .1 .1 .0))) (λ u. (hd 0 (tl (tl (tl (tl (tl (tl (tl (tl (tl (tl (tl (tl (tl bs))))))))))))), _+_ 0 0)) (λ T′. record { locals = setRow 13 (13, whole (Declared.row BoardedRow.the-type)) T′; slots = G66 .slots }) (λ u T′ m′. set 13 (13, whole (Declared.row BoardedRow.the-type)) (u .1 .1 .1 .1 .1 .1 .1 .1 .1 .1 .1 .1 .1 .0) T′ m′) (λ u. Unit) (λ x. Unit) (told-none 𝓤 H A (G66 .slots)) (learns-nothing 𝓤 H A (Declared.row Boarded.the-type)) (λ ρ told u asked. w-partˢ 𝓤 H A W E (Declared.row BoardedRow.the-type) (Declared.row Boarded.the-type) (tyStruct (100 ∷ 101 ∷ 115 ∷ 107 ∷ 95 ∷ 98 ∷ 111 ∷ 97 ∷ 114 ∷ 100 ∷ 105 ∷ 110 ∷ 103 ∷ 115 ∷ 58 ∷ 58 ∷ 66 ∷ 111 ∷ 97 ∷ 114 ∷ 100 ∷ 101 ∷ 100 ∷ 82 ∷ 111 ∷ 119 ∷ []) (tcons (tyStruct (100 ∷ 101 ∷ 115 ∷ 107 ∷ 95 ∷ 98 ∷ 111 ∷ 97 ∷ 114 ∷ 100 ∷ 105 ∷ 110 ∷ 103 ∷ 115 ∷ 58 ∷ 58 ∷ 66 ∷ 111 ∷ 97 ∷ 114 ∷ 100 ∷ 101 ∷ 100 ∷ []) (tcons (tyStruct (119 ∷ 97 ∷ 108 ∷ 107 ∷ 58 ∷ 58 ∷ 65 ∷ 110 ∷ 115 ∷ 119 ∷ 101 ∷ 114 ∷ []) (tcons (tyEnum (114 ∷ 101 ∷ 102 ∷ 117 ∷ 115 ∷ 97 ∷ 108 ∷ 115 ∷ 58 ∷ 58 ∷ 82 ∷ 101 ∷ 102 ∷ 117 ∷ 115 ∷ 97 ∷ 108 ∷ []) (ttcons tnil (ttcons tnil (ttcons tnil (ttcons tnil (ttcons tnil (ttcons tnil (ttcons tnil (ttcons tnil (ttcons tnil (ttcons tnil (ttcons tnil (ttcons tnil (ttcons tnil (ttcons tnil (ttcons tnil (ttcons tnil (ttcons tnil (ttcons tnil (ttcons tnil (ttcons tnil (ttcons tnil (ttcons tnil (ttcons tnil (ttcons tnil (ttcons tnil (ttcons tnil (ttcons tnil ttnil)))))))))))))))))))))))))))) (tcons (tyInt w64) (tcons (tyInt w64) (tcons (tyInt w64) (tcons (tyInt w64) (tcons (tyInt w64) tnil))))))) (tcons (tyStruct (100 ∷ 101 ∷ 115 ∷ 107 ∷ 95 ∷ 98 ∷ 111 ∷ 97 ∷ 114 ∷ 100 ∷ 105 ∷ 110 ∷ 103 ∷ 115 ∷ 58 ∷ 58 ∷ 84 ∷ 97 ∷ 107 ∷ 101 ∷ 110 ∷ []) (tcons (tyInt w64) (tcons (tyInt w64) tnil))) (tcons (tyStruct (100 ∷ 101 ∷ 115 ∷ 107 ∷ 95 ∷ 98 ∷ 111 ∷ 97 ∷ 114 ∷ 100 ∷ 105 ∷ 110 ∷ 103 ∷ 115 ∷ 58 ∷ 58 ∷ 87 ∷ 97 ∷ 110 ∷ 116 ∷ 115 ∷ []) (tcons (tyInt w64) (tcons (tyArray (tyInt w64) 8) (tcons (tyArray (tyInt w64) 8) tnil)))) (tcons (tyStruct (100 ∷ 101 ∷ 115 ∷ 107 ∷ 95 ∷ 116 ∷ 105 ∷ 99 ∷ 107 ∷ 101 ∷ 116 ∷ 115 ∷ 58 ∷ 58 ∷ 76 ∷ 97 ∷ 115 ∷ 116 ∷ 115 ∷ []) (tcons (tyInt w64) (tcons (tyInt w64) tnil))) tnil))))) (tcons (tyArray (tyStruct (100 ∷ 101 ∷ 115 ∷ 107 ∷ 95 ∷ 116 ∷ 105 ∷ 99 ∷ 107 ∷ 101 ∷ 116 ∷ 115 ∷ 58 ∷ 58 ∷ 84 ∷ 105 ∷ 99 ∷ 107 ∷ 101 ∷ 116 ∷ []) (tcons (tyInt w64) (tcons (tyInt w64) (tcons (tyInt w64) (tcons (tyInt w64) tnil))))) 32) tnil))) (tyStruct (100 ∷ 101 ∷ 115 ∷ 107 ∷ 95 ∷ 98 ∷ 111 ∷ 97 ∷ 114 ∷ 100 ∷ 105 ∷ 110 ∷ 103 ∷ 115 ∷ 58 ∷ 58 ∷ 66 ∷ 111 ∷ 97 ∷ 114 ∷ 100 ∷ 101 ∷ 100 ∷ []) (tcons (tyStruct (119 ∷ 97 ∷ 108 ∷ 107 ∷ 58 ∷ 58 ∷ 65 ∷ 110 ∷ 115 ∷ 119 ∷ 101 ∷ 114 ∷ []) (tcons (tyEnum (114 ∷ 101 ∷ 102 ∷ 117 ∷ 115 ∷ 97 ∷ 108 ∷ 115 ∷ 58 ∷ 58 ∷ 82 ∷ 101 ∷ 102 ∷ 117 ∷ 115 ∷ 97 ∷ 108 ∷ []) (ttcons tnil (ttcons tnil (ttcons tnil (ttcons tnil (ttcons tnil (ttcons tnil (ttcons tnil (ttcons tnil (ttcons tnil (ttcons tnil (ttcons tnil (ttcons tnil (ttcons tnil (ttcons tnil (ttcons tnil (ttcons tnil (ttcons tnil (ttcons tnil (ttcons tnil (ttcons tnil (ttcons tnil (ttcons tnil (ttcons tnil (ttcons tnil (ttcons tnil (ttcons tnil (ttcons tnil ttnil)))))))))))))))))))))))))))) (tcons (tyInt w64) (tcons (tyInt w64) (tcons (tyInt w64) (tcons (tyInt w64) (tcons (tyInt w64) tnil))))))) (tcons (tyStruct (100 ∷ 101 ∷ 115 ∷ 107 ∷ 95 ∷ 98 ∷ 111 ∷ 97 ∷ 114 ∷ 100 ∷ 105 ∷ 110 ∷ 103 ∷ 115 ∷ 58 ∷ 58 ∷ 84 ∷ 97 ∷ 107 ∷ 101 ∷ 110 ∷ []) (tcons (tyInt w64) (tcons (tyInt w64) tnil))) (tcons (tyStruct (100 ∷ 101 ∷ 115 ∷ 107 ∷ 95 ∷ 98 ∷ 111 ∷ 97 ∷ 114 ∷ 100 ∷ 105 ∷ 110 ∷ 103 ∷ 115 ∷ 58 ∷ 58 ∷ 87 ∷ 97 ∷ 110 ∷ 116 ∷ 115 ∷ []) (tcons (tyInt w64) (tcons (tyArray (tyInt w64) 8) (tcons (tyArray (tyInt w64) 8) tnil)))) (tcons (tyStruct (100 ∷ 101 ∷ 115 ∷ 107 ∷ 95 ∷ 116 ∷ 105 ∷ 99 ∷ 107 ∷ 101 ∷ 116 ∷ 115 ∷ 58 ∷ 58 ∷ 76 ∷ 97 ∷ 115 ∷ 116 ∷ 115 ∷ []) (tcons (tyInt w64) (tcons (tyInt w64) tnil))) tnil))))) 0 0 (u .1 .1 .1 .1 .1 .1 .1 .1 .1 .1 .1 .1 .1 .0) (getAt (BoardedRow.the-type .parts) 0 (struct .as-values (u .1 .1 .1 .1 .1 .1 .1 .1 .1 .1 .1 .1 .1 .0))) (hd 0 (tl (tl (tl (tl (tl (tl (tl (tl (tl (tl (tl (tl (tl bs))))))))))))), 0) (w-look 𝓤 H A W E (w-local 𝓤 H A W E G66 ρ u (G66 .slots) 13 (Declared.row BoardedRow.the-type) (whole (Declared.row BoardedRow.the-type)) (λ x. x) (λ x. x) (u .1 .1 .1 .1 .1 .1 .1 .1 .1 .1 .1 .1 .1 .0) (mem-whole 𝓤 H A W (Declared.row BoardedRow.the-type) ρ (u .1 .1 .1 .1 .1 .1 .1 .1 .1 .1 .1 .1 .1 .0) (hd 0 (tl (tl (tl (tl (tl (tl (tl (tl (tl (tl (tl (tl (tl bs))))))))))))))) (whole-mem 𝓤 H A W (Declared.row BoardedRow.the-type) ρ (u .1 .1 .1 .1 .1 .1 .1 .1 .1 .1 .1 .1 .1 .0) (hd 0 (tl (tl (tl (tl (tl (tl (tl (tl (tl (tl (tl (tl (tl bs))))))))))))))))) refl λ q. cut-record 𝓤 H A q (Declared.row BoardedRow.the-type) Boarded.the-type 0 (u .1 .1 .1 .1 .1 .1 .1 .1 .1 .1 .1 .1 .1 .0) (u .1 .1 .1 .1 .1 .1 .1 .1 .1 .1 .1 .1 .1 .0) (getAt (BoardedRow.the-type .parts) 0 (struct .as-values (u .1 .1 .1 .1 .1 .1 .1 .1 .1 .1 .1 .1 .1 .0))) (getAt (BoardedRow.the-type .parts) 0 (struct .as-values (u .1 .1 .1 .1 .1 .1 .1 .1 .1 .1 .1 .1 .1 .0))) (hd 0 (tl (tl (tl (tl (tl (tl (tl (tl (tl (tl (tl (tl (tl bs))))))))))))), 0) (look-at 𝓤 H A W q BoardedRow.the-type Laws'.the-laws 0 0 refl refl (hd 0 (tl (tl (tl (tl (tl (tl (tl (tl (tl (tl (tl (tl (tl bs))))))))))))), 0) (u .1 .1 .1 .1 .1 .1 .1 .1 .1 .1 .1 .1 .1 .0) (struct .as-values (u .1 .1 .1 .1 .1 .1 .1 .1 .1 .1 .1 .1 .1 .0)) refl)) (room-gone 𝓤 H A (tyStruct (100 ∷ 101 ∷ 115 ∷ 107 ∷ 95 ∷ 98 ∷ 111 ∷ 97 ∷ 114 ∷ 100 ∷ 105 ∷ 110 ∷ 103 ∷ 115 ∷ 58 ∷ 58 ∷ 66 ∷ 111 ∷ 97 ∷ 114 ∷ 100 ∷ 101 ∷ 100 ∷ []) (tcons (tyStruct (119 ∷ 97 ∷ 108 ∷ 107 ∷ 58 ∷ 58 ∷ 65 ∷ 110 ∷ 115 ∷ 119 ∷ 101 ∷ 114 ∷ []) (tcons (tyEnum (114 ∷ 101 ∷ 102 ∷ 117 ∷ 115 ∷ 97 ∷ 108 ∷ 115 ∷ 58 ∷ 58 ∷ 82 ∷ 101 ∷ 102 ∷ 117 ∷ 115 ∷ 97 ∷ 108 ∷ []) (ttcons tnil (ttcons tnil (ttcons tnil (ttcons tnil (ttcons tnil (ttcons tnil (ttcons tnil (ttcons tnil (ttcons tnil (ttcons tnil (ttcons tnil (ttcons tnil (ttcons tnil (ttcons tnil (ttcons tnil (ttcons tnil (ttcons tnil (ttcons tnil (ttcons tnil (ttcons tnil (ttcons tnil (ttcons tnil (ttcons tnil (ttcons tnil (ttcons tnil (ttcons tnil (ttcons tnil ttnil)))))))))))))))))))))))))))) (tcons (tyInt w64) (tcons (tyInt w64) (tcons (tyInt w64) (tcons (tyInt w64) (tcons (tyInt w64) tnil))))))) (tcons (tyStruct (100 ∷ 101 ∷ 115 ∷ 107 ∷ 95 ∷ 98 ∷ 111 ∷ 97 ∷ 114 ∷ 100 ∷ 105 ∷ 110 ∷ 103 ∷ 115 ∷ 58 ∷ 58 ∷ 84 ∷ 97 ∷ 107 ∷ 101 ∷ 110 ∷ []) (tcons (tyInt w64) (tcons (tyInt w64) tnil))) (tcons (tyStruct (100 ∷ 101 ∷ 115 ∷ 107 ∷ 95 ∷ 98 ∷ 111 ∷ 97 ∷ 114 ∷ 100 ∷ 105 ∷ 110 ∷ 103 ∷ 115 ∷ 58 ∷ 58 ∷ 87 ∷ 97 ∷ 110 ∷ 116 ∷ 115 ∷ []) (tcons (tyInt w64) (tcons (tyArray (tyInt w64) 8) (tcons (tyArray (tyInt w64) 8) tnil)))) (tcons (tyStruct (100 ∷ 101 ∷ 115 ∷ 107 ∷ 95 ∷ 116 ∷ 105 ∷ 99 ∷ 107 ∷ 101 ∷ 116 ∷ 115 ∷ 58 ∷ 58 ∷ 76 ∷ 97 ∷ 115 ∷ 116 ∷ 115 ∷ []) (tcons (tyInt w64) (tcons (tyInt w64) tnil))) tnil)))))) (makes-mem 𝓤 H A W (λ ρ. Unit) (Declared.row Boarded.the-type) refl (whole (Declared.row Boarded.the-type)) (λ x. x) λ ρ told. whole-mem 𝓤 H A W (Declared.row Boarded.the-type) ρ) refl refl refl) d2
 
           d4 : Typed.Typed 𝓤 H A 𝓣 E G65 b21 Δ0 (at4 bs)
           d4 = g-pre 𝓤 H A W 𝓣 E G65 G66 b21 Δ0 (λ Ψ. Ψ) (at3 bs) (g-forget 𝓤 H A W E G65 15 dead refl) d3
@@ -1180,10 +1180,10 @@ module _ (claims· : Claims) where
           d7 = g-pre 𝓤 H A W 𝓣 E G62 G63 b21 Δ0 (pass T62 T63 (s61 bs)) (at6 bs) (g-room 𝓤 H A W E G62 27 tyUnit (room-sc 𝓤 H A W sUnit)) d6
 
           d8 : Typed.Typed 𝓤 H A 𝓣 E G61 b21 Δ0 (at8 bs)
-          d8 = g-pre 𝓤 H A W 𝓣 E G61 G62 b21 Δ0 (pass T61 T62 (s60 bs)) (at7 bs) (g-room 𝓤 H A W E G61 14 (tyArray (tyStruct (116 ∷ 105 ∷ 99 ∷ 107 ∷ 101 ∷ 116 ∷ 115 ∷ 58 ∷ 58 ∷ 84 ∷ 105 ∷ 99 ∷ 107 ∷ 101 ∷ 116 ∷ []) (tcons (tyInt w64) (tcons (tyInt w64) (tcons (tyInt w64) (tcons (tyInt w64) tnil))))) 32) (room-arr 𝓤 H A W (Declared.row Ticket.the-type) 32 0 32 refl)) d7
+          d8 = g-pre 𝓤 H A W 𝓣 E G61 G62 b21 Δ0 (pass T61 T62 (s60 bs)) (at7 bs) (g-room 𝓤 H A W E G61 14 (tyArray (tyStruct (100 ∷ 101 ∷ 115 ∷ 107 ∷ 95 ∷ 116 ∷ 105 ∷ 99 ∷ 107 ∷ 101 ∷ 116 ∷ 115 ∷ 58 ∷ 58 ∷ 84 ∷ 105 ∷ 99 ∷ 107 ∷ 101 ∷ 116 ∷ []) (tcons (tyInt w64) (tcons (tyInt w64) (tcons (tyInt w64) (tcons (tyInt w64) tnil))))) 32) (room-arr 𝓤 H A W (Declared.row Ticket.the-type) 32 0 32 refl)) d7
 
           d9 : Typed.Typed 𝓤 H A 𝓣 E G60 b22 Δ0 (at9 bs)
-          d9 = s-seq 𝓤 H A W 𝓣 E G60 G61 b18 b21 Δ0 (both (s59 bs)) (at8 bs) (t-call-plain 𝓤 H A W 𝓣 1 ps·2 r·2 (claims· .4) (claims· .5) "desk::copy_in" (known .2) E (λ pos β. β) G60 (record { pos = 29; ty = tyRef erased mut (pointee (the-row .written)); ref = λ x. x }, (record { pos = 14; st = []; d = 0; at = λ x. x }, tt)) 27 (15 ∷ []) (sub-id 𝓤 H A W (G60 .slots)) (as-is 𝓤 H A (mslice the-row (tyRef erased mut (pointee (the-row .written))) 15), reads-mslice 𝓤 H A W the-row (tyRef erased mut (pointee (the-row .written))) 15, refl, ((arr-yields 𝓤 H A W (eStruct Ticket.the-type Laws'3.the-laws Laws'3.the-copy) (eStruct-laws Ticket.the-type Laws'3.the-laws Laws'3.the-copy Laws'3.the-plain) 32, refl), tt)) (room-gone 𝓤 H A tyUnit) (tt, tt) refl) d8
+          d9 = s-seq 𝓤 H A W 𝓣 E G60 G61 b18 b21 Δ0 (both (s59 bs)) (at8 bs) (t-call-plain 𝓤 H A W 𝓣 1 ps·2 r·2 (claims· .4) (claims· .5) "desk_rows::copy_in" (known .2) E (λ pos β. β) G60 (record { pos = 29; ty = tyRef erased mut (pointee (the-row .written)); ref = λ x. x }, (record { pos = 14; st = []; d = 0; at = λ x. x }, tt)) 27 (15 ∷ []) (sub-id 𝓤 H A W (G60 .slots)) (as-is 𝓤 H A (mslice the-row (tyRef erased mut (pointee (the-row .written))) 15), reads-mslice 𝓤 H A W the-row (tyRef erased mut (pointee (the-row .written))) 15, refl, ((arr-yields 𝓤 H A W (eStruct Ticket.the-type Laws'3.the-laws Laws'3.the-copy) (eStruct-laws Ticket.the-type Laws'3.the-laws Laws'3.the-copy Laws'3.the-plain) 32, refl), tt)) (room-gone 𝓤 H A tyUnit) (tt, tt) refl) d8
 
           d10 : Typed.Typed 𝓤 H A 𝓣 E G59 b23 Δ0 (at10 bs)
           d10 = s-seq 𝓤 H A W 𝓣 E G59 G60 b17 b22 Δ0 (ask (s58 bs)) (at9 bs) (t-sl-aggregate 𝓤 H A W E the-row 𝓣 (asMut the-row) G59 28 29 15 (tyRef erased mut (pointee (the-row .written))) (tyRef erased mut (pointee (the-row .written))) (λ x. x) (oFld 1 (field 1 ∷ []) (tyInt w64) 8 λ v. lenV (v .0)) (as-is 𝓤 H A (msptr the-row (tyRef erased mut (pointee (the-row .written))) 15)) (room-gone 𝓤 H A (tyStruct (38 ∷ 91 ∷ 93 ∷ []) (tcons (tyRef erased mut (pointee (the-row .written))) (tcons (tyInt w64) tnil)))) (reads-owed-len 𝓤 H A W the-row (tyRef (named 0) mut (pointee (the-row .written))) 0 15 (lease (κs .0) (qs .0)) 8 refl, refl) refl refl λ b o k. tt) d9
@@ -1195,7 +1195,7 @@ module _ (claims· : Claims) where
           d12 = g-pre 𝓤 H A W 𝓣 E G57 G58 b24 Δ0 (λ Ψ. Ψ) (at11 bs) (g-begin 𝓤 H A W E G57 15 (tt, (tt, (tt, (tt, (tt, (tt, (tt, (tt, (tt, (tt, (tt, (tt, (tt, (tt, (tt, (tt, (tt, (tt, (tt, (tt, (tt, (tt, (tt, (tt, (tt, (tt, (tt, (tt, (tt, (tt, tt))))))))))))))))))))))))))))))) d11
 
           d13 : Typed.Typed 𝓤 H A 𝓣 E G56 b25 Δ0 (at13 bs)
-          d13 = s-seq 𝓤 H A W 𝓣 E G56 G57 b15 b24 Δ0 (both (s55 bs)) (at12 bs) (t-way-copy-out 𝓤 H A W E 𝓣 (Array'.Array (Declared.row Ticket.the-type) 32) refl (cArr (Declared.row Ticket.the-type) (cStruct Ticket.the-type Laws'3.the-laws Laws'3.the-copy) 32 .copy 𝓤 H A W) (λ ρ. Unit) G56 (out 13 (G56 .locals)) (λ u. drop 13 (G56 .locals) u) (G56 .slots) 13 (λ t. _∷_ (field 1) t) (tyArray (tyStruct (116 ∷ 105 ∷ 99 ∷ 107 ∷ 101 ∷ 116 ∷ 115 ∷ 58 ∷ 58 ∷ 84 ∷ 105 ∷ 99 ∷ 107 ∷ 101 ∷ 116 ∷ []) (tcons (tyInt w64) (tcons (tyInt w64) (tcons (tyInt w64) (tcons (tyInt w64) tnil))))) 32) (tyArray (tyStruct (116 ∷ 105 ∷ 99 ∷ 107 ∷ 101 ∷ 116 ∷ 115 ∷ 58 ∷ 58 ∷ 84 ∷ 105 ∷ 99 ∷ 107 ∷ 101 ∷ 116 ∷ []) (tcons (tyInt w64) (tcons (tyInt w64) (tcons (tyInt w64) (tcons (tyInt w64) tnil))))) 32) 14 (arrF (Declared.row Ticket.the-type) 32 0) (λ x. x) (λ u. getAt (BoardedRow.the-type .parts) 1 (struct .as-values (u .1 .1 .1 .1 .1 .1 .1 .1 .1 .1 .1 .1 .1 .0))) (λ u. (hd 0 (tl (tl (tl (tl (tl (tl (tl (tl (tl (tl (tl (tl (tl bs))))))))))))), _+_ 0 216)) (λ T′. record { locals = setRow 13 (13, whole (Declared.row BoardedRow.the-type)) T′; slots = G56 .slots }) (λ u T′ m′. set 13 (13, whole (Declared.row BoardedRow.the-type)) (u .1 .1 .1 .1 .1 .1 .1 .1 .1 .1 .1 .1 .1 .0) T′ m′) (λ u. Unit) (λ x. Unit) (told-none 𝓤 H A (G56 .slots)) (learns-nothing 𝓤 H A (Array'.Array (Declared.row Ticket.the-type) 32)) (λ ρ told u asked. w-partˢ 𝓤 H A W E (Declared.row BoardedRow.the-type) (Array'.Array (Declared.row Ticket.the-type) 32) (tyStruct (98 ∷ 111 ∷ 97 ∷ 114 ∷ 100 ∷ 105 ∷ 110 ∷ 103 ∷ 115 ∷ 58 ∷ 58 ∷ 66 ∷ 111 ∷ 97 ∷ 114 ∷ 100 ∷ 101 ∷ 100 ∷ 82 ∷ 111 ∷ 119 ∷ []) (tcons (tyStruct (98 ∷ 111 ∷ 97 ∷ 114 ∷ 100 ∷ 105 ∷ 110 ∷ 103 ∷ 115 ∷ 58 ∷ 58 ∷ 66 ∷ 111 ∷ 97 ∷ 114 ∷ 100 ∷ 101 ∷ 100 ∷ []) (tcons (tyStruct (119 ∷ 97 ∷ 108 ∷ 107 ∷ 58 ∷ 58 ∷ 65 ∷ 110 ∷ 115 ∷ 119 ∷ 101 ∷ 114 ∷ []) (tcons (tyEnum (114 ∷ 101 ∷ 102 ∷ 117 ∷ 115 ∷ 97 ∷ 108 ∷ 115 ∷ 58 ∷ 58 ∷ 82 ∷ 101 ∷ 102 ∷ 117 ∷ 115 ∷ 97 ∷ 108 ∷ []) (ttcons tnil (ttcons tnil (ttcons tnil (ttcons tnil (ttcons tnil (ttcons tnil (ttcons tnil (ttcons tnil (ttcons tnil (ttcons tnil (ttcons tnil (ttcons tnil (ttcons tnil (ttcons tnil (ttcons tnil (ttcons tnil (ttcons tnil (ttcons tnil (ttcons tnil (ttcons tnil (ttcons tnil (ttcons tnil (ttcons tnil (ttcons tnil (ttcons tnil (ttcons tnil (ttcons tnil ttnil)))))))))))))))))))))))))))) (tcons (tyInt w64) (tcons (tyInt w64) (tcons (tyInt w64) (tcons (tyInt w64) (tcons (tyInt w64) tnil))))))) (tcons (tyStruct (98 ∷ 111 ∷ 97 ∷ 114 ∷ 100 ∷ 105 ∷ 110 ∷ 103 ∷ 115 ∷ 58 ∷ 58 ∷ 84 ∷ 97 ∷ 107 ∷ 101 ∷ 110 ∷ []) (tcons (tyInt w64) (tcons (tyInt w64) tnil))) (tcons (tyStruct (98 ∷ 111 ∷ 97 ∷ 114 ∷ 100 ∷ 105 ∷ 110 ∷ 103 ∷ 115 ∷ 58 ∷ 58 ∷ 87 ∷ 97 ∷ 110 ∷ 116 ∷ 115 ∷ []) (tcons (tyInt w64) (tcons (tyArray (tyInt w64) 8) (tcons (tyArray (tyInt w64) 8) tnil)))) (tcons (tyStruct (116 ∷ 105 ∷ 99 ∷ 107 ∷ 101 ∷ 116 ∷ 115 ∷ 58 ∷ 58 ∷ 76 ∷ 97 ∷ 115 ∷ 116 ∷ 115 ∷ []) (tcons (tyInt w64) (tcons (tyInt w64) tnil))) tnil))))) (tcons (tyArray (tyStruct (116 ∷ 105 ∷ 99 ∷ 107 ∷ 101 ∷ 116 ∷ 115 ∷ 58 ∷ 58 ∷ 84 ∷ 105 ∷ 99 ∷ 107 ∷ 101 ∷ 116 ∷ []) (tcons (tyInt w64) (tcons (tyInt w64) (tcons (tyInt w64) (tcons (tyInt w64) tnil))))) 32) tnil))) (tyArray (tyStruct (116 ∷ 105 ∷ 99 ∷ 107 ∷ 101 ∷ 116 ∷ 115 ∷ 58 ∷ 58 ∷ 84 ∷ 105 ∷ 99 ∷ 107 ∷ 101 ∷ 116 ∷ []) (tcons (tyInt w64) (tcons (tyInt w64) (tcons (tyInt w64) (tcons (tyInt w64) tnil))))) 32) 1 216 (u .1 .1 .1 .1 .1 .1 .1 .1 .1 .1 .1 .1 .1 .0) (getAt (BoardedRow.the-type .parts) 1 (struct .as-values (u .1 .1 .1 .1 .1 .1 .1 .1 .1 .1 .1 .1 .1 .0))) (hd 0 (tl (tl (tl (tl (tl (tl (tl (tl (tl (tl (tl (tl (tl bs))))))))))))), 0) (w-look 𝓤 H A W E (w-local 𝓤 H A W E G56 ρ u (G56 .slots) 13 (Declared.row BoardedRow.the-type) (whole (Declared.row BoardedRow.the-type)) (λ x. x) (λ x. x) (u .1 .1 .1 .1 .1 .1 .1 .1 .1 .1 .1 .1 .1 .0) (mem-whole 𝓤 H A W (Declared.row BoardedRow.the-type) ρ (u .1 .1 .1 .1 .1 .1 .1 .1 .1 .1 .1 .1 .1 .0) (hd 0 (tl (tl (tl (tl (tl (tl (tl (tl (tl (tl (tl (tl (tl bs))))))))))))))) (whole-mem 𝓤 H A W (Declared.row BoardedRow.the-type) ρ (u .1 .1 .1 .1 .1 .1 .1 .1 .1 .1 .1 .1 .1 .0) (hd 0 (tl (tl (tl (tl (tl (tl (tl (tl (tl (tl (tl (tl (tl bs))))))))))))))))) refl λ q. cut-records 𝓤 H A q (Declared.row BoardedRow.the-type) Ticket.the-type 32 216 (u .1 .1 .1 .1 .1 .1 .1 .1 .1 .1 .1 .1 .1 .0) (u .1 .1 .1 .1 .1 .1 .1 .1 .1 .1 .1 .1 .1 .0) (getAt (BoardedRow.the-type .parts) 1 (struct .as-values (u .1 .1 .1 .1 .1 .1 .1 .1 .1 .1 .1 .1 .1 .0))) (getAt (BoardedRow.the-type .parts) 1 (struct .as-values (u .1 .1 .1 .1 .1 .1 .1 .1 .1 .1 .1 .1 .1 .0))) (hd 0 (tl (tl (tl (tl (tl (tl (tl (tl (tl (tl (tl (tl (tl bs))))))))))))), 0) (look-at 𝓤 H A W q BoardedRow.the-type Laws'.the-laws 1 216 refl refl (hd 0 (tl (tl (tl (tl (tl (tl (tl (tl (tl (tl (tl (tl (tl bs))))))))))))), 0) (u .1 .1 .1 .1 .1 .1 .1 .1 .1 .1 .1 .1 .1 .0) (struct .as-values (u .1 .1 .1 .1 .1 .1 .1 .1 .1 .1 .1 .1 .1 .0)) refl)) (room-gone 𝓤 H A (tyArray (tyStruct (116 ∷ 105 ∷ 99 ∷ 107 ∷ 101 ∷ 116 ∷ 115 ∷ 58 ∷ 58 ∷ 84 ∷ 105 ∷ 99 ∷ 107 ∷ 101 ∷ 116 ∷ []) (tcons (tyInt w64) (tcons (tyInt w64) (tcons (tyInt w64) (tcons (tyInt w64) tnil))))) 32)) (makes-mem 𝓤 H A W (λ ρ. Unit) (Array'.Array (Declared.row Ticket.the-type) 32) refl (arrF (Declared.row Ticket.the-type) 32 0) (λ x. x) λ ρ told. arr-mem 𝓤 H A W (Declared.row Ticket.the-type) 32 tt ρ) refl refl refl) d12
+          d13 = s-seq 𝓤 H A W 𝓣 E G56 G57 b15 b24 Δ0 (both (s55 bs)) (at12 bs) (t-way-copy-out 𝓤 H A W E 𝓣 (Array'.Array (Declared.row Ticket.the-type) 32) refl (cArr (Declared.row Ticket.the-type) (cStruct Ticket.the-type Laws'3.the-laws Laws'3.the-copy) 32 .copy 𝓤 H A W) (λ ρ. Unit) G56 (out 13 (G56 .locals)) (λ u. drop 13 (G56 .locals) u) (G56 .slots) 13 (λ t. _∷_ (field 1) t) (tyArray (tyStruct (100 ∷ 101 ∷ 115 ∷ 107 ∷ 95 ∷ 116 ∷ 105 ∷ 99 ∷ 107 ∷ 101 ∷ 116 ∷ 115 ∷ 58 ∷ 58 ∷ 84 ∷ 105 ∷ 99 ∷ 107 ∷ 101 ∷ 116 ∷ []) (tcons (tyInt w64) (tcons (tyInt w64) (tcons (tyInt w64) (tcons (tyInt w64) tnil))))) 32) (tyArray (tyStruct (100 ∷ 101 ∷ 115 ∷ 107 ∷ 95 ∷ 116 ∷ 105 ∷ 99 ∷ 107 ∷ 101 ∷ 116 ∷ 115 ∷ 58 ∷ 58 ∷ 84 ∷ 105 ∷ 99 ∷ 107 ∷ 101 ∷ 116 ∷ []) (tcons (tyInt w64) (tcons (tyInt w64) (tcons (tyInt w64) (tcons (tyInt w64) tnil))))) 32) 14 (arrF (Declared.row Ticket.the-type) 32 0) (λ x. x) (λ u. getAt (BoardedRow.the-type .parts) 1 (struct .as-values (u .1 .1 .1 .1 .1 .1 .1 .1 .1 .1 .1 .1 .1 .0))) (λ u. (hd 0 (tl (tl (tl (tl (tl (tl (tl (tl (tl (tl (tl (tl (tl bs))))))))))))), _+_ 0 216)) (λ T′. record { locals = setRow 13 (13, whole (Declared.row BoardedRow.the-type)) T′; slots = G56 .slots }) (λ u T′ m′. set 13 (13, whole (Declared.row BoardedRow.the-type)) (u .1 .1 .1 .1 .1 .1 .1 .1 .1 .1 .1 .1 .1 .0) T′ m′) (λ u. Unit) (λ x. Unit) (told-none 𝓤 H A (G56 .slots)) (learns-nothing 𝓤 H A (Array'.Array (Declared.row Ticket.the-type) 32)) (λ ρ told u asked. w-partˢ 𝓤 H A W E (Declared.row BoardedRow.the-type) (Array'.Array (Declared.row Ticket.the-type) 32) (tyStruct (100 ∷ 101 ∷ 115 ∷ 107 ∷ 95 ∷ 98 ∷ 111 ∷ 97 ∷ 114 ∷ 100 ∷ 105 ∷ 110 ∷ 103 ∷ 115 ∷ 58 ∷ 58 ∷ 66 ∷ 111 ∷ 97 ∷ 114 ∷ 100 ∷ 101 ∷ 100 ∷ 82 ∷ 111 ∷ 119 ∷ []) (tcons (tyStruct (100 ∷ 101 ∷ 115 ∷ 107 ∷ 95 ∷ 98 ∷ 111 ∷ 97 ∷ 114 ∷ 100 ∷ 105 ∷ 110 ∷ 103 ∷ 115 ∷ 58 ∷ 58 ∷ 66 ∷ 111 ∷ 97 ∷ 114 ∷ 100 ∷ 101 ∷ 100 ∷ []) (tcons (tyStruct (119 ∷ 97 ∷ 108 ∷ 107 ∷ 58 ∷ 58 ∷ 65 ∷ 110 ∷ 115 ∷ 119 ∷ 101 ∷ 114 ∷ []) (tcons (tyEnum (114 ∷ 101 ∷ 102 ∷ 117 ∷ 115 ∷ 97 ∷ 108 ∷ 115 ∷ 58 ∷ 58 ∷ 82 ∷ 101 ∷ 102 ∷ 117 ∷ 115 ∷ 97 ∷ 108 ∷ []) (ttcons tnil (ttcons tnil (ttcons tnil (ttcons tnil (ttcons tnil (ttcons tnil (ttcons tnil (ttcons tnil (ttcons tnil (ttcons tnil (ttcons tnil (ttcons tnil (ttcons tnil (ttcons tnil (ttcons tnil (ttcons tnil (ttcons tnil (ttcons tnil (ttcons tnil (ttcons tnil (ttcons tnil (ttcons tnil (ttcons tnil (ttcons tnil (ttcons tnil (ttcons tnil (ttcons tnil ttnil)))))))))))))))))))))))))))) (tcons (tyInt w64) (tcons (tyInt w64) (tcons (tyInt w64) (tcons (tyInt w64) (tcons (tyInt w64) tnil))))))) (tcons (tyStruct (100 ∷ 101 ∷ 115 ∷ 107 ∷ 95 ∷ 98 ∷ 111 ∷ 97 ∷ 114 ∷ 100 ∷ 105 ∷ 110 ∷ 103 ∷ 115 ∷ 58 ∷ 58 ∷ 84 ∷ 97 ∷ 107 ∷ 101 ∷ 110 ∷ []) (tcons (tyInt w64) (tcons (tyInt w64) tnil))) (tcons (tyStruct (100 ∷ 101 ∷ 115 ∷ 107 ∷ 95 ∷ 98 ∷ 111 ∷ 97 ∷ 114 ∷ 100 ∷ 105 ∷ 110 ∷ 103 ∷ 115 ∷ 58 ∷ 58 ∷ 87 ∷ 97 ∷ 110 ∷ 116 ∷ 115 ∷ []) (tcons (tyInt w64) (tcons (tyArray (tyInt w64) 8) (tcons (tyArray (tyInt w64) 8) tnil)))) (tcons (tyStruct (100 ∷ 101 ∷ 115 ∷ 107 ∷ 95 ∷ 116 ∷ 105 ∷ 99 ∷ 107 ∷ 101 ∷ 116 ∷ 115 ∷ 58 ∷ 58 ∷ 76 ∷ 97 ∷ 115 ∷ 116 ∷ 115 ∷ []) (tcons (tyInt w64) (tcons (tyInt w64) tnil))) tnil))))) (tcons (tyArray (tyStruct (100 ∷ 101 ∷ 115 ∷ 107 ∷ 95 ∷ 116 ∷ 105 ∷ 99 ∷ 107 ∷ 101 ∷ 116 ∷ 115 ∷ 58 ∷ 58 ∷ 84 ∷ 105 ∷ 99 ∷ 107 ∷ 101 ∷ 116 ∷ []) (tcons (tyInt w64) (tcons (tyInt w64) (tcons (tyInt w64) (tcons (tyInt w64) tnil))))) 32) tnil))) (tyArray (tyStruct (100 ∷ 101 ∷ 115 ∷ 107 ∷ 95 ∷ 116 ∷ 105 ∷ 99 ∷ 107 ∷ 101 ∷ 116 ∷ 115 ∷ 58 ∷ 58 ∷ 84 ∷ 105 ∷ 99 ∷ 107 ∷ 101 ∷ 116 ∷ []) (tcons (tyInt w64) (tcons (tyInt w64) (tcons (tyInt w64) (tcons (tyInt w64) tnil))))) 32) 1 216 (u .1 .1 .1 .1 .1 .1 .1 .1 .1 .1 .1 .1 .1 .0) (getAt (BoardedRow.the-type .parts) 1 (struct .as-values (u .1 .1 .1 .1 .1 .1 .1 .1 .1 .1 .1 .1 .1 .0))) (hd 0 (tl (tl (tl (tl (tl (tl (tl (tl (tl (tl (tl (tl (tl bs))))))))))))), 0) (w-look 𝓤 H A W E (w-local 𝓤 H A W E G56 ρ u (G56 .slots) 13 (Declared.row BoardedRow.the-type) (whole (Declared.row BoardedRow.the-type)) (λ x. x) (λ x. x) (u .1 .1 .1 .1 .1 .1 .1 .1 .1 .1 .1 .1 .1 .0) (mem-whole 𝓤 H A W (Declared.row BoardedRow.the-type) ρ (u .1 .1 .1 .1 .1 .1 .1 .1 .1 .1 .1 .1 .1 .0) (hd 0 (tl (tl (tl (tl (tl (tl (tl (tl (tl (tl (tl (tl (tl bs))))))))))))))) (whole-mem 𝓤 H A W (Declared.row BoardedRow.the-type) ρ (u .1 .1 .1 .1 .1 .1 .1 .1 .1 .1 .1 .1 .1 .0) (hd 0 (tl (tl (tl (tl (tl (tl (tl (tl (tl (tl (tl (tl (tl bs))))))))))))))))) refl λ q. cut-records 𝓤 H A q (Declared.row BoardedRow.the-type) Ticket.the-type 32 216 (u .1 .1 .1 .1 .1 .1 .1 .1 .1 .1 .1 .1 .1 .0) (u .1 .1 .1 .1 .1 .1 .1 .1 .1 .1 .1 .1 .1 .0) (getAt (BoardedRow.the-type .parts) 1 (struct .as-values (u .1 .1 .1 .1 .1 .1 .1 .1 .1 .1 .1 .1 .1 .0))) (getAt (BoardedRow.the-type .parts) 1 (struct .as-values (u .1 .1 .1 .1 .1 .1 .1 .1 .1 .1 .1 .1 .1 .0))) (hd 0 (tl (tl (tl (tl (tl (tl (tl (tl (tl (tl (tl (tl (tl bs))))))))))))), 0) (look-at 𝓤 H A W q BoardedRow.the-type Laws'.the-laws 1 216 refl refl (hd 0 (tl (tl (tl (tl (tl (tl (tl (tl (tl (tl (tl (tl (tl bs))))))))))))), 0) (u .1 .1 .1 .1 .1 .1 .1 .1 .1 .1 .1 .1 .1 .0) (struct .as-values (u .1 .1 .1 .1 .1 .1 .1 .1 .1 .1 .1 .1 .1 .0)) refl)) (room-gone 𝓤 H A (tyArray (tyStruct (100 ∷ 101 ∷ 115 ∷ 107 ∷ 95 ∷ 116 ∷ 105 ∷ 99 ∷ 107 ∷ 101 ∷ 116 ∷ 115 ∷ 58 ∷ 58 ∷ 84 ∷ 105 ∷ 99 ∷ 107 ∷ 101 ∷ 116 ∷ []) (tcons (tyInt w64) (tcons (tyInt w64) (tcons (tyInt w64) (tcons (tyInt w64) tnil))))) 32)) (makes-mem 𝓤 H A W (λ ρ. Unit) (Array'.Array (Declared.row Ticket.the-type) 32) refl (arrF (Declared.row Ticket.the-type) 32 0) (λ x. x) λ ρ told. arr-mem 𝓤 H A W (Declared.row Ticket.the-type) 32 tt ρ) refl refl refl) d12
 
           d14 : Typed.Typed 𝓤 H A 𝓣 E G55 b25 Δ0 (at14 bs)
           d14 = g-pre 𝓤 H A W 𝓣 E G55 G56 b25 Δ0 (λ Ψ. Ψ) (at13 bs) (g-forget 𝓤 H A W E G55 14 dead refl) d13
@@ -1258,13 +1258,13 @@ module _ (claims· : Claims) where
           d33 = g-pre 𝓤 H A W 𝓣 E G36 G37 b25 Δ0 (λ Ψ. Ψ) (at32 bs) (g-end 𝓤 H A W E G36 10 refl) d32
 
           d34 : Typed.Typed 𝓤 H A 𝓣 E G35 b25 Δ0 (at34 bs)
-          d34 = g-pre 𝓤 H A W 𝓣 E G35 G36 b25 Δ0 (pass T35 T36 (s34 bs)) (at33 bs) (g-room 𝓤 H A W E G35 12 (tyArray (tyStruct (116 ∷ 105 ∷ 99 ∷ 107 ∷ 101 ∷ 116 ∷ 115 ∷ 58 ∷ 58 ∷ 84 ∷ 105 ∷ 99 ∷ 107 ∷ 101 ∷ 116 ∷ []) (tcons (tyInt w64) (tcons (tyInt w64) (tcons (tyInt w64) (tcons (tyInt w64) tnil))))) 32) (room-arr 𝓤 H A W (Declared.row Ticket.the-type) 32 0 32 refl)) d33
+          d34 = g-pre 𝓤 H A W 𝓣 E G35 G36 b25 Δ0 (pass T35 T36 (s34 bs)) (at33 bs) (g-room 𝓤 H A W E G35 12 (tyArray (tyStruct (100 ∷ 101 ∷ 115 ∷ 107 ∷ 95 ∷ 116 ∷ 105 ∷ 99 ∷ 107 ∷ 101 ∷ 116 ∷ 115 ∷ 58 ∷ 58 ∷ 84 ∷ 105 ∷ 99 ∷ 107 ∷ 101 ∷ 116 ∷ []) (tcons (tyInt w64) (tcons (tyInt w64) (tcons (tyInt w64) (tcons (tyInt w64) tnil))))) 32) (room-arr 𝓤 H A W (Declared.row Ticket.the-type) 32 0 32 refl)) d33
 
           d35 : Typed.Typed 𝓤 H A 𝓣 E G34 b25 Δ0 (at35 bs)
-          d35 = g-pre 𝓤 H A W 𝓣 E G34 G35 b25 Δ0 (pass T34 T35 (s33 bs)) (at34 bs) (g-room 𝓤 H A W E G34 2 (tyStruct (98 ∷ 111 ∷ 97 ∷ 114 ∷ 100 ∷ 105 ∷ 110 ∷ 103 ∷ 115 ∷ 58 ∷ 58 ∷ 66 ∷ 111 ∷ 97 ∷ 114 ∷ 100 ∷ 105 ∷ 110 ∷ 103 ∷ []) (tcons (tyInt w64) (tcons (tyInt w64) (tcons (tyStruct (116 ∷ 105 ∷ 99 ∷ 107 ∷ 101 ∷ 116 ∷ 115 ∷ 58 ∷ 58 ∷ 76 ∷ 97 ∷ 115 ∷ 116 ∷ 115 ∷ []) (tcons (tyInt w64) (tcons (tyInt w64) tnil))) tnil)))) (room-whole 𝓤 H A W (Declared.row Boarding.the-type) (tyStruct (98 ∷ 111 ∷ 97 ∷ 114 ∷ 100 ∷ 105 ∷ 110 ∷ 103 ∷ 115 ∷ 58 ∷ 58 ∷ 66 ∷ 111 ∷ 97 ∷ 114 ∷ 100 ∷ 105 ∷ 110 ∷ 103 ∷ []) (tcons (tyInt w64) (tcons (tyInt w64) (tcons (tyStruct (116 ∷ 105 ∷ 99 ∷ 107 ∷ 101 ∷ 116 ∷ 115 ∷ 58 ∷ 58 ∷ 76 ∷ 97 ∷ 115 ∷ 116 ∷ 115 ∷ []) (tcons (tyInt w64) (tcons (tyInt w64) tnil))) tnil)))) refl)) d34
+          d35 = g-pre 𝓤 H A W 𝓣 E G34 G35 b25 Δ0 (pass T34 T35 (s33 bs)) (at34 bs) (g-room 𝓤 H A W E G34 2 (tyStruct (100 ∷ 101 ∷ 115 ∷ 107 ∷ 95 ∷ 98 ∷ 111 ∷ 97 ∷ 114 ∷ 100 ∷ 105 ∷ 110 ∷ 103 ∷ 115 ∷ 58 ∷ 58 ∷ 66 ∷ 111 ∷ 97 ∷ 114 ∷ 100 ∷ 105 ∷ 110 ∷ 103 ∷ []) (tcons (tyInt w64) (tcons (tyInt w64) (tcons (tyStruct (100 ∷ 101 ∷ 115 ∷ 107 ∷ 95 ∷ 116 ∷ 105 ∷ 99 ∷ 107 ∷ 101 ∷ 116 ∷ 115 ∷ 58 ∷ 58 ∷ 76 ∷ 97 ∷ 115 ∷ 116 ∷ 115 ∷ []) (tcons (tyInt w64) (tcons (tyInt w64) tnil))) tnil)))) (room-whole 𝓤 H A W (Declared.row Boarding.the-type) (tyStruct (100 ∷ 101 ∷ 115 ∷ 107 ∷ 95 ∷ 98 ∷ 111 ∷ 97 ∷ 114 ∷ 100 ∷ 105 ∷ 110 ∷ 103 ∷ 115 ∷ 58 ∷ 58 ∷ 66 ∷ 111 ∷ 97 ∷ 114 ∷ 100 ∷ 105 ∷ 110 ∷ 103 ∷ []) (tcons (tyInt w64) (tcons (tyInt w64) (tcons (tyStruct (100 ∷ 101 ∷ 115 ∷ 107 ∷ 95 ∷ 116 ∷ 105 ∷ 99 ∷ 107 ∷ 101 ∷ 116 ∷ 115 ∷ 58 ∷ 58 ∷ 76 ∷ 97 ∷ 115 ∷ 116 ∷ 115 ∷ []) (tcons (tyInt w64) (tcons (tyInt w64) tnil))) tnil)))) refl)) d34
 
           d36 : Typed.Typed 𝓤 H A 𝓣 E G33 b26 Δ0 (at36 bs)
-          d36 = s-seq 𝓤 H A W 𝓣 E G33 G34 b14 b25 Δ0 (both (s32 bs)) (at35 bs) (t-call-plain 𝓤 H A W 𝓣 8 ps·1 r·1 (claims· .2) (claims· .3) "boardings::board_in" (known .1) E (λ pos β. β) G33 (vAt 11 λ x. x, (record { pos = 12; st = []; d = 0; at = λ x. x }, (record { pos = 2; st = []; d = 0; at = λ x. x }, (record { pos = 3; ty = tyRef (named 1) imm (tyInt w64); ref = λ x. x }, (record { pos = 4; ty = tyRef (named 2) imm (tyInt w64); ref = λ x. x }, (record { pos = 5; ty = tyRef (named 3) imm (tyInt w64); ref = λ x. x }, (record { pos = 18; ty = tyRef erased mut (tyInt w64); ref = λ x. x }, (record { pos = 20; ty = tyRef erased mut (tyInt w64); ref = λ x. x }, (record { pos = 22; ty = tyRef erased mut (tyInt w64); ref = λ x. x }, (record { pos = 24; ty = tyRef erased mut (tyInt w64); ref = λ x. x }, (record { pos = 26; ty = tyRef erased mut (tyInt w64); ref = λ x. x }, tt))))))))))) 13 (1 ∷ 2 ∷ 3 ∷ 10 ∷ 11 ∷ 12 ∷ 13 ∷ 14 ∷ []) (sub-id 𝓤 H A W (G33 .slots)) ((reads-sc 𝓤 H A W (sInt w64), refl), ((arr-yields 𝓤 H A W (eStruct Ticket.the-type Laws'3.the-laws Laws'3.the-copy) (eStruct-laws Ticket.the-type Laws'3.the-laws Laws'3.the-copy Laws'3.the-plain) 32, refl), ((yields-copy 𝓤 H A W (λ ρ. Unit) (Declared.row Boarding.the-type) refl (cStruct Boarding.the-type Laws''.the-laws Laws''.the-copy .copy 𝓤 H A W) (whole (Declared.row Boarding.the-type)) (λ x. x) (λ x. x) (λ ρ told. mem-whole 𝓤 H A W (Declared.row Boarding.the-type) ρ) λ ρ told. whole-mem 𝓤 H A W (Declared.row Boarding.the-type) ρ, refl), (spares-sslice 𝓤 H A W (rtF (fInt w64)) (tyRef (named 1) imm (tyInt w64)) 1, reads-sslice 𝓤 H A W (rtF (fInt w64)) (tyRef (named 1) imm (tyInt w64)) 1, refl, (spares-sslice 𝓤 H A W (rtF (fInt w64)) (tyRef (named 2) imm (tyInt w64)) 2, reads-sslice 𝓤 H A W (rtF (fInt w64)) (tyRef (named 2) imm (tyInt w64)) 2, refl, (spares-sslice 𝓤 H A W (rtF (fInt w64)) (tyRef (named 3) imm (tyInt w64)) 3, reads-sslice 𝓤 H A W (rtF (fInt w64)) (tyRef (named 3) imm (tyInt w64)) 3, refl, (as-is 𝓤 H A (mslice (rtF (fInt w64)) (tyRef erased mut (tyInt w64)) 10), reads-mslice 𝓤 H A W (rtF (fInt w64)) (tyRef erased mut (tyInt w64)) 10, refl, (as-is 𝓤 H A (mslice (rtF (fInt w64)) (tyRef erased mut (tyInt w64)) 11), reads-mslice 𝓤 H A W (rtF (fInt w64)) (tyRef erased mut (tyInt w64)) 11, refl, (as-is 𝓤 H A (mslice (rtF (fInt w64)) (tyRef erased mut (tyInt w64)) 12), reads-mslice 𝓤 H A W (rtF (fInt w64)) (tyRef erased mut (tyInt w64)) 12, refl, (as-is 𝓤 H A (mslice (rtF (fInt w64)) (tyRef erased mut (tyInt w64)) 13), reads-mslice 𝓤 H A W (rtF (fInt w64)) (tyRef erased mut (tyInt w64)) 13, refl, (as-is 𝓤 H A (mslice (rtF (fInt w64)) (tyRef erased mut (tyInt w64)) 14), reads-mslice 𝓤 H A W (rtF (fInt w64)) (tyRef erased mut (tyInt w64)) 14, refl, tt))))))))))) (room-gone 𝓤 H A (tyStruct (98 ∷ 111 ∷ 97 ∷ 114 ∷ 100 ∷ 105 ∷ 110 ∷ 103 ∷ 115 ∷ 58 ∷ 58 ∷ 66 ∷ 111 ∷ 97 ∷ 114 ∷ 100 ∷ 101 ∷ 100 ∷ 82 ∷ 111 ∷ 119 ∷ []) (tcons (tyStruct (98 ∷ 111 ∷ 97 ∷ 114 ∷ 100 ∷ 105 ∷ 110 ∷ 103 ∷ 115 ∷ 58 ∷ 58 ∷ 66 ∷ 111 ∷ 97 ∷ 114 ∷ 100 ∷ 101 ∷ 100 ∷ []) (tcons (tyStruct (119 ∷ 97 ∷ 108 ∷ 107 ∷ 58 ∷ 58 ∷ 65 ∷ 110 ∷ 115 ∷ 119 ∷ 101 ∷ 114 ∷ []) (tcons (tyEnum (114 ∷ 101 ∷ 102 ∷ 117 ∷ 115 ∷ 97 ∷ 108 ∷ 115 ∷ 58 ∷ 58 ∷ 82 ∷ 101 ∷ 102 ∷ 117 ∷ 115 ∷ 97 ∷ 108 ∷ []) (ttcons tnil (ttcons tnil (ttcons tnil (ttcons tnil (ttcons tnil (ttcons tnil (ttcons tnil (ttcons tnil (ttcons tnil (ttcons tnil (ttcons tnil (ttcons tnil (ttcons tnil (ttcons tnil (ttcons tnil (ttcons tnil (ttcons tnil (ttcons tnil (ttcons tnil (ttcons tnil (ttcons tnil (ttcons tnil (ttcons tnil (ttcons tnil (ttcons tnil (ttcons tnil (ttcons tnil ttnil)))))))))))))))))))))))))))) (tcons (tyInt w64) (tcons (tyInt w64) (tcons (tyInt w64) (tcons (tyInt w64) (tcons (tyInt w64) tnil))))))) (tcons (tyStruct (98 ∷ 111 ∷ 97 ∷ 114 ∷ 100 ∷ 105 ∷ 110 ∷ 103 ∷ 115 ∷ 58 ∷ 58 ∷ 84 ∷ 97 ∷ 107 ∷ 101 ∷ 110 ∷ []) (tcons (tyInt w64) (tcons (tyInt w64) tnil))) (tcons (tyStruct (98 ∷ 111 ∷ 97 ∷ 114 ∷ 100 ∷ 105 ∷ 110 ∷ 103 ∷ 115 ∷ 58 ∷ 58 ∷ 87 ∷ 97 ∷ 110 ∷ 116 ∷ 115 ∷ []) (tcons (tyInt w64) (tcons (tyArray (tyInt w64) 8) (tcons (tyArray (tyInt w64) 8) tnil)))) (tcons (tyStruct (116 ∷ 105 ∷ 99 ∷ 107 ∷ 101 ∷ 116 ∷ 115 ∷ 58 ∷ 58 ∷ 76 ∷ 97 ∷ 115 ∷ 116 ∷ 115 ∷ []) (tcons (tyInt w64) (tcons (tyInt w64) tnil))) tnil))))) (tcons (tyArray (tyStruct (116 ∷ 105 ∷ 99 ∷ 107 ∷ 101 ∷ 116 ∷ 115 ∷ 58 ∷ 58 ∷ 84 ∷ 105 ∷ 99 ∷ 107 ∷ 101 ∷ 116 ∷ []) (tcons (tyInt w64) (tcons (tyInt w64) (tcons (tyInt w64) (tcons (tyInt w64) tnil))))) 32) tnil)))) (tt, (tt, (tt, (tt, (tt, (tt, (tt, (tt, tt)))))))) refl) d35
+          d36 = s-seq 𝓤 H A W 𝓣 E G33 G34 b14 b25 Δ0 (both (s32 bs)) (at35 bs) (t-call-plain 𝓤 H A W 𝓣 8 ps·1 r·1 (claims· .2) (claims· .3) "desk_boardings::board_in" (known .1) E (λ pos β. β) G33 (vAt 11 λ x. x, (record { pos = 12; st = []; d = 0; at = λ x. x }, (record { pos = 2; st = []; d = 0; at = λ x. x }, (record { pos = 3; ty = tyRef (named 1) imm (tyInt w64); ref = λ x. x }, (record { pos = 4; ty = tyRef (named 2) imm (tyInt w64); ref = λ x. x }, (record { pos = 5; ty = tyRef (named 3) imm (tyInt w64); ref = λ x. x }, (record { pos = 18; ty = tyRef erased mut (tyInt w64); ref = λ x. x }, (record { pos = 20; ty = tyRef erased mut (tyInt w64); ref = λ x. x }, (record { pos = 22; ty = tyRef erased mut (tyInt w64); ref = λ x. x }, (record { pos = 24; ty = tyRef erased mut (tyInt w64); ref = λ x. x }, (record { pos = 26; ty = tyRef erased mut (tyInt w64); ref = λ x. x }, tt))))))))))) 13 (1 ∷ 2 ∷ 3 ∷ 10 ∷ 11 ∷ 12 ∷ 13 ∷ 14 ∷ []) (sub-id 𝓤 H A W (G33 .slots)) ((reads-sc 𝓤 H A W (sInt w64), refl), ((arr-yields 𝓤 H A W (eStruct Ticket.the-type Laws'3.the-laws Laws'3.the-copy) (eStruct-laws Ticket.the-type Laws'3.the-laws Laws'3.the-copy Laws'3.the-plain) 32, refl), ((yields-copy 𝓤 H A W (λ ρ. Unit) (Declared.row Boarding.the-type) refl (cStruct Boarding.the-type Laws''.the-laws Laws''.the-copy .copy 𝓤 H A W) (whole (Declared.row Boarding.the-type)) (λ x. x) (λ x. x) (λ ρ told. mem-whole 𝓤 H A W (Declared.row Boarding.the-type) ρ) λ ρ told. whole-mem 𝓤 H A W (Declared.row Boarding.the-type) ρ, refl), (spares-sslice 𝓤 H A W (rtF (fInt w64)) (tyRef (named 1) imm (tyInt w64)) 1, reads-sslice 𝓤 H A W (rtF (fInt w64)) (tyRef (named 1) imm (tyInt w64)) 1, refl, (spares-sslice 𝓤 H A W (rtF (fInt w64)) (tyRef (named 2) imm (tyInt w64)) 2, reads-sslice 𝓤 H A W (rtF (fInt w64)) (tyRef (named 2) imm (tyInt w64)) 2, refl, (spares-sslice 𝓤 H A W (rtF (fInt w64)) (tyRef (named 3) imm (tyInt w64)) 3, reads-sslice 𝓤 H A W (rtF (fInt w64)) (tyRef (named 3) imm (tyInt w64)) 3, refl, (as-is 𝓤 H A (mslice (rtF (fInt w64)) (tyRef erased mut (tyInt w64)) 10), reads-mslice 𝓤 H A W (rtF (fInt w64)) (tyRef erased mut (tyInt w64)) 10, refl, (as-is 𝓤 H A (mslice (rtF (fInt w64)) (tyRef erased mut (tyInt w64)) 11), reads-mslice 𝓤 H A W (rtF (fInt w64)) (tyRef erased mut (tyInt w64)) 11, refl, (as-is 𝓤 H A (mslice (rtF (fInt w64)) (tyRef erased mut (tyInt w64)) 12), reads-mslice 𝓤 H A W (rtF (fInt w64)) (tyRef erased mut (tyInt w64)) 12, refl, (as-is 𝓤 H A (mslice (rtF (fInt w64)) (tyRef erased mut (tyInt w64)) 13), reads-mslice 𝓤 H A W (rtF (fInt w64)) (tyRef erased mut (tyInt w64)) 13, refl, (as-is 𝓤 H A (mslice (rtF (fInt w64)) (tyRef erased mut (tyInt w64)) 14), reads-mslice 𝓤 H A W (rtF (fInt w64)) (tyRef erased mut (tyInt w64)) 14, refl, tt))))))))))) (room-gone 𝓤 H A (tyStruct (100 ∷ 101 ∷ 115 ∷ 107 ∷ 95 ∷ 98 ∷ 111 ∷ 97 ∷ 114 ∷ 100 ∷ 105 ∷ 110 ∷ 103 ∷ 115 ∷ 58 ∷ 58 ∷ 66 ∷ 111 ∷ 97 ∷ 114 ∷ 100 ∷ 101 ∷ 100 ∷ 82 ∷ 111 ∷ 119 ∷ []) (tcons (tyStruct (100 ∷ 101 ∷ 115 ∷ 107 ∷ 95 ∷ 98 ∷ 111 ∷ 97 ∷ 114 ∷ 100 ∷ 105 ∷ 110 ∷ 103 ∷ 115 ∷ 58 ∷ 58 ∷ 66 ∷ 111 ∷ 97 ∷ 114 ∷ 100 ∷ 101 ∷ 100 ∷ []) (tcons (tyStruct (119 ∷ 97 ∷ 108 ∷ 107 ∷ 58 ∷ 58 ∷ 65 ∷ 110 ∷ 115 ∷ 119 ∷ 101 ∷ 114 ∷ []) (tcons (tyEnum (114 ∷ 101 ∷ 102 ∷ 117 ∷ 115 ∷ 97 ∷ 108 ∷ 115 ∷ 58 ∷ 58 ∷ 82 ∷ 101 ∷ 102 ∷ 117 ∷ 115 ∷ 97 ∷ 108 ∷ []) (ttcons tnil (ttcons tnil (ttcons tnil (ttcons tnil (ttcons tnil (ttcons tnil (ttcons tnil (ttcons tnil (ttcons tnil (ttcons tnil (ttcons tnil (ttcons tnil (ttcons tnil (ttcons tnil (ttcons tnil (ttcons tnil (ttcons tnil (ttcons tnil (ttcons tnil (ttcons tnil (ttcons tnil (ttcons tnil (ttcons tnil (ttcons tnil (ttcons tnil (ttcons tnil (ttcons tnil ttnil)))))))))))))))))))))))))))) (tcons (tyInt w64) (tcons (tyInt w64) (tcons (tyInt w64) (tcons (tyInt w64) (tcons (tyInt w64) tnil))))))) (tcons (tyStruct (100 ∷ 101 ∷ 115 ∷ 107 ∷ 95 ∷ 98 ∷ 111 ∷ 97 ∷ 114 ∷ 100 ∷ 105 ∷ 110 ∷ 103 ∷ 115 ∷ 58 ∷ 58 ∷ 84 ∷ 97 ∷ 107 ∷ 101 ∷ 110 ∷ []) (tcons (tyInt w64) (tcons (tyInt w64) tnil))) (tcons (tyStruct (100 ∷ 101 ∷ 115 ∷ 107 ∷ 95 ∷ 98 ∷ 111 ∷ 97 ∷ 114 ∷ 100 ∷ 105 ∷ 110 ∷ 103 ∷ 115 ∷ 58 ∷ 58 ∷ 87 ∷ 97 ∷ 110 ∷ 116 ∷ 115 ∷ []) (tcons (tyInt w64) (tcons (tyArray (tyInt w64) 8) (tcons (tyArray (tyInt w64) 8) tnil)))) (tcons (tyStruct (100 ∷ 101 ∷ 115 ∷ 107 ∷ 95 ∷ 116 ∷ 105 ∷ 99 ∷ 107 ∷ 101 ∷ 116 ∷ 115 ∷ 58 ∷ 58 ∷ 76 ∷ 97 ∷ 115 ∷ 116 ∷ 115 ∷ []) (tcons (tyInt w64) (tcons (tyInt w64) tnil))) tnil))))) (tcons (tyArray (tyStruct (100 ∷ 101 ∷ 115 ∷ 107 ∷ 95 ∷ 116 ∷ 105 ∷ 99 ∷ 107 ∷ 101 ∷ 116 ∷ 115 ∷ 58 ∷ 58 ∷ 84 ∷ 105 ∷ 99 ∷ 107 ∷ 101 ∷ 116 ∷ []) (tcons (tyInt w64) (tcons (tyInt w64) (tcons (tyInt w64) (tcons (tyInt w64) tnil))))) 32) tnil)))) (tt, (tt, (tt, (tt, (tt, (tt, (tt, (tt, tt)))))))) refl) d35
 
           d37 : Typed.Typed 𝓤 H A 𝓣 E G32 b27 Δ0 (at37 bs)
           d37 = s-seq 𝓤 H A W 𝓣 E G32 G33 b13 b26 Δ0 (ask (s31 bs)) (at36 bs) (t-sl-aggregate 𝓤 H A W E (rtF (fInt w64)) 𝓣 (asMut (rtF (fInt w64))) G32 25 26 14 (tyRef erased mut (tyInt w64)) (tyRef erased mut (tyInt w64)) (λ x. x) (oFld 10 (field 1 ∷ []) (tyInt w64) 8 λ v. lenV (v .0)) (as-is 𝓤 H A (msptr (rtF (fInt w64)) (tyRef erased mut (tyInt w64)) 14)) (room-gone 𝓤 H A (tyStruct (38 ∷ 91 ∷ 93 ∷ []) (tcons (tyRef erased mut (tyInt w64)) (tcons (tyInt w64) tnil)))) (reads-owed-len 𝓤 H A W (rtF (fInt w64)) (tyRef (named 8) mut (tyInt w64)) 8 14 (lease (κs .1 .1 .1 .1 .1 .1 .1 .1 .0) (qs .1 .1 .1 .1 .1 .1 .1 .1 .0)) 8 refl, refl) refl refl λ b o k. tt) d36
@@ -1324,7 +1324,7 @@ module _ (claims· : Claims) where
           d55 = g-pre 𝓤 H A W 𝓣 E G14 G15 b36 Δ0 (pass T14 T15 (s13 bs)) (at54 bs) (g-room 𝓤 H A W E G14 16 (tyStruct (38 ∷ 91 ∷ 93 ∷ []) (tcons (tyRef erased imm (pointee (the-row .written))) (tcons (tyInt w64) tnil))) (room-sslice 𝓤 H A W the-row (tyRef erased imm (pointee (the-row .written))) 9)) d54
 
           d56 : Typed.Typed 𝓤 H A 𝓣 E G13 b37 Δ0 (at56 bs)
-          d56 = s-seq 𝓤 H A W 𝓣 E G13 G14 b3 b36 Δ0 (both (s12 bs)) (at55 bs) (t-call-plain 𝓤 H A W 𝓣 1 ps·0 r·0 (claims· .0) (claims· .1) "desk::copy_out" (known .0) E (λ pos β. β) G13 (record { pos = 16; ty = tyRef erased imm (pointee (the-row .written)); ref = λ x. x }, tt) 12 (9 ∷ []) (sub-id 𝓤 H A W (G13 .slots)) (spares-sslice 𝓤 H A W the-row (tyRef erased imm (pointee (the-row .written))) 9, reads-sslice 𝓤 H A W the-row (tyRef erased imm (pointee (the-row .written))) 9, refl, tt) (room-gone 𝓤 H A (tyArray (tyStruct (116 ∷ 105 ∷ 99 ∷ 107 ∷ 101 ∷ 116 ∷ 115 ∷ 58 ∷ 58 ∷ 84 ∷ 105 ∷ 99 ∷ 107 ∷ 101 ∷ 116 ∷ []) (tcons (tyInt w64) (tcons (tyInt w64) (tcons (tyInt w64) (tcons (tyInt w64) tnil))))) 32)) (tt, tt) refl) d55
+          d56 = s-seq 𝓤 H A W 𝓣 E G13 G14 b3 b36 Δ0 (both (s12 bs)) (at55 bs) (t-call-plain 𝓤 H A W 𝓣 1 ps·0 r·0 (claims· .0) (claims· .1) "desk_rows::copy_out" (known .0) E (λ pos β. β) G13 (record { pos = 16; ty = tyRef erased imm (pointee (the-row .written)); ref = λ x. x }, tt) 12 (9 ∷ []) (sub-id 𝓤 H A W (G13 .slots)) (spares-sslice 𝓤 H A W the-row (tyRef erased imm (pointee (the-row .written))) 9, reads-sslice 𝓤 H A W the-row (tyRef erased imm (pointee (the-row .written))) 9, refl, tt) (room-gone 𝓤 H A (tyArray (tyStruct (100 ∷ 101 ∷ 115 ∷ 107 ∷ 95 ∷ 116 ∷ 105 ∷ 99 ∷ 107 ∷ 101 ∷ 116 ∷ 115 ∷ 58 ∷ 58 ∷ 84 ∷ 105 ∷ 99 ∷ 107 ∷ 101 ∷ 116 ∷ []) (tcons (tyInt w64) (tcons (tyInt w64) (tcons (tyInt w64) (tcons (tyInt w64) tnil))))) 32)) (tt, tt) refl) d55
 
           d57 : Typed.Typed 𝓤 H A 𝓣 E G12 b38 Δ0 (at57 bs)
           d57 = s-seq 𝓤 H A W 𝓣 E G12 G13 b2 b37 Δ0 (ask (s11 bs)) (at56 bs) (t-sl-aggregate 𝓤 H A W E the-row 𝓣 (asShr the-row) G12 15 16 9 (tyRef erased imm (pointee (the-row .written))) (tyRef erased imm (pointee (the-row .written))) (λ x. x) (oFld 1 (field 1 ∷ []) (tyInt w64) 8 λ v. lenV (v .0)) (as-is 𝓤 H A (ssptr the-row (tyRef erased imm (pointee (the-row .written))) 9)) (room-gone 𝓤 H A (tyStruct (38 ∷ 91 ∷ 93 ∷ []) (tcons (tyRef erased imm (pointee (the-row .written))) (tcons (tyInt w64) tnil)))) (reads-owedS-len 𝓤 H A W the-row (tyRef (named 0) mut (pointee (the-row .written))) 0 9 (lease (κs .0) (qs .0)) 8 refl, refl) refl refl λ b o k. tt) d56
@@ -1839,6 +1839,6 @@ module _ (claims· : Claims) where
           pub asked : (a : Dens κs ps) → (good : GoodsP κs ps a) → (pre : Pre· κs a) → (bs : List.List ℕ) → Φ bs (wantQ 9 ps r xs m κs qs a (Post· κs a)) (init 9 ps r xs m κs qs a)
           asked = λ a good pre bs. laid record { κs = κs; args = record { ts = a .0; boarding = a .1 .0; starts = a .1 .1 .0; lengths = a .1 .1 .1 .0; aggregates = a .1 .1 .1 .1 .0; froms = a .1 .1 .1 .1 .1 .0; tos = a .1 .1 .1 .1 .1 .1 .0; times = a .1 .1 .1 .1 .1 .1 .1 .0; legs = a .1 .1 .1 .1 .1 .1 .1 .1 .0; room = a .1 .1 .1 .1 .1 .1 .1 .1 .1 .0 }; blocks = bs; good = good; pre = pre }
 
-        module _ {M : Type 1} (𝓤 : URA.URA M) (H : Heap 𝓤) (A : Atoms.Atoms 𝓤) (W : Given 𝓤 H A) (𝓣 : Tables 𝓤 H) (known0 : Known 𝓤 H A W 𝓣 1 ps·0 r·0 (claims· .0) (claims· .1) "desk::copy_out") (known1 : Known 𝓤 H A W 𝓣 8 ps·1 r·1 (claims· .2) (claims· .3) "boardings::board_in") (known2 : Known 𝓤 H A W 𝓣 1 ps·2 r·2 (claims· .4) (claims· .5) "desk::copy_in") where
+        module _ {M : Type 1} (𝓤 : URA.URA M) (H : Heap 𝓤) (A : Atoms.Atoms 𝓤) (W : Given 𝓤 H A) (𝓣 : Tables 𝓤 H) (known0 : Known 𝓤 H A W 𝓣 1 ps·0 r·0 (claims· .0) (claims· .1) "desk_rows::copy_out") (known1 : Known 𝓤 H A W 𝓣 8 ps·1 r·1 (claims· .2) (claims· .3) "desk_boardings::board_in") (known2 : Known 𝓤 H A W 𝓣 1 ps·2 r·2 (claims· .4) (claims· .5) "desk_rows::copy_in") where
           pub spec : Triple 𝓤 (WpFn 𝓤 H (𝓣 .C) (𝓣 .Λ) (fnOf 9 ps r xs m hs body)) (plainOf 𝓤 H A 9 ps r Pre· Post·)
           spec = t-fn-plain 𝓤 H A W 𝓣 9 ps r xs m hs body (λ κs qs bs. Φ bs) (λ κs qs bs bd. typed κs qs 𝓤 H A W 𝓣 (known0, known1, known2) bs bd) Pre· Post· asked

@@ -3,7 +3,7 @@ use Rattle.desk_boardings.proofs.board_in.Met
 use Rattle.desk_boardings.proofs.board_in.Reads
 use Rattle.desk_boardings.proofs.board_in.Symbol
 use Rattle.desk_rows.proofs.board.Code
-use Rattle.desk_rows.proofs.board.Code.{calls-boardings·board-in, calls-desk·copy-in, calls-desk·copy-out, env, function, unfolded}
+use Rattle.desk_rows.proofs.board.Code.{calls-desk-boardings·board-in, calls-desk-rows·copy-in, calls-desk-rows·copy-out, env, function, unfolded}
 use Rattle.desk_rows.proofs.board.Key
 use Rattle.desk_rows.proofs.Walks.BoardKinds.{ps, r}
 use Rattle.desk_rows.proofs.board.Proof.Lts
@@ -152,4 +152,4 @@ module _ {M : Type 1} where
 
   pub close : Closed (Reads'3.Asked, Reads'3.Learnt, Reads.Asked, Reads.Learnt, Reads''.Asked, Reads''.Learnt) Pre Post M → statement M
   unfolding Code.routine tablesOf
-  close = λ closed 𝓤 H 𝓜 𝓖 𝓡. Written.close 9 ps r Ghost requires ensures pre-read Pinned Owned post-read record { M = M; 𝓤 = 𝓤; H = H; 𝓜 = 𝓜; 𝓖 = 𝓖; 𝓡 = 𝓡 } env Key.name function (unfolded 𝓤 H 𝓜 𝓡) (λ κs a g. tt) (λ κs. owns κs record { M = M; 𝓤 = 𝓤; H = H; 𝓜 = 𝓜; 𝓖 = 𝓖; 𝓡 = 𝓡 }) (passes record { M = M; 𝓤 = 𝓤; H = H; 𝓜 = 𝓜; 𝓖 = 𝓖; 𝓡 = 𝓡 }) λ g. closed 𝓤 H (𝓖 .A) (givenOf 𝓤 H 𝓜 𝓖) (Over 𝓤 H 𝓜 𝓖 𝓡 env) (Reads'3.known record { M = M; 𝓤 = 𝓤; H = H; 𝓜 = 𝓜; 𝓖 = 𝓖; 𝓡 = 𝓡 } env Symbol''.name Symbol''.routine calls-desk·copy-out (Met''.met 𝓤 H 𝓜 𝓖 𝓡)) (Reads.known record { M = M; 𝓤 = 𝓤; H = H; 𝓜 = 𝓜; 𝓖 = 𝓖; 𝓡 = 𝓡 } env Symbol.name Symbol.routine calls-boardings·board-in (Met.met 𝓤 H 𝓜 𝓖 𝓡)) (Reads''.known record { M = M; 𝓤 = 𝓤; H = H; 𝓜 = 𝓜; 𝓖 = 𝓖; 𝓡 = 𝓡 } env Symbol'.name Symbol'.routine calls-desk·copy-in (Met'.met 𝓤 H 𝓜 𝓖 𝓡))
+  close = λ closed 𝓤 H 𝓜 𝓖 𝓡. Written.close 9 ps r Ghost requires ensures pre-read Pinned Owned post-read record { M = M; 𝓤 = 𝓤; H = H; 𝓜 = 𝓜; 𝓖 = 𝓖; 𝓡 = 𝓡 } env Key.name function (unfolded 𝓤 H 𝓜 𝓡) (λ κs a g. tt) (λ κs. owns κs record { M = M; 𝓤 = 𝓤; H = H; 𝓜 = 𝓜; 𝓖 = 𝓖; 𝓡 = 𝓡 }) (passes record { M = M; 𝓤 = 𝓤; H = H; 𝓜 = 𝓜; 𝓖 = 𝓖; 𝓡 = 𝓡 }) λ g. closed 𝓤 H (𝓖 .A) (givenOf 𝓤 H 𝓜 𝓖) (Over 𝓤 H 𝓜 𝓖 𝓡 env) (Reads'3.known record { M = M; 𝓤 = 𝓤; H = H; 𝓜 = 𝓜; 𝓖 = 𝓖; 𝓡 = 𝓡 } env Symbol''.name Symbol''.routine calls-desk-rows·copy-out (Met''.met 𝓤 H 𝓜 𝓖 𝓡)) (Reads.known record { M = M; 𝓤 = 𝓤; H = H; 𝓜 = 𝓜; 𝓖 = 𝓖; 𝓡 = 𝓡 } env Symbol.name Symbol.routine calls-desk-boardings·board-in (Met.met 𝓤 H 𝓜 𝓖 𝓡)) (Reads''.known record { M = M; 𝓤 = 𝓤; H = H; 𝓜 = 𝓜; 𝓖 = 𝓖; 𝓡 = 𝓡 } env Symbol'.name Symbol'.routine calls-desk-rows·copy-in (Met'.met 𝓤 H 𝓜 𝓖 𝓡))

@@ -461,7 +461,7 @@ module _ (claims· : Claims) where
   module _ (Pre· : (κs : Lfts 1) → Dens κs ps → Type 0) (Post· : (κs : Lfts 1) → (a : Dens κs ps) → Kinds.Plain 1 ps r κs) where
     module _ (M : Type 1) where
       abbrev pub Closed : Type 2
-      Closed = (𝓤 : URA.URA M) (H : Heap 𝓤) (A : Atoms.Atoms 𝓤) (W : Given 𝓤 H A) (𝓣 : Tables 𝓤 H) (known0 : Known 𝓤 H A W 𝓣 0 ps·0 r·0 (claims· .0) (claims· .1) "desk::used") → Triple 𝓤 (WpFn 𝓤 H (𝓣 .C) (𝓣 .Λ) (fnOf 1 ps r xs m hs body)) (plainOf 𝓤 H A 1 ps r Pre· Post·)
+      Closed = (𝓤 : URA.URA M) (H : Heap 𝓤) (A : Atoms.Atoms 𝓤) (W : Given 𝓤 H A) (𝓣 : Tables 𝓤 H) (known0 : Known 𝓤 H A W 𝓣 0 ps·0 r·0 (claims· .0) (claims· .1) "desk_rows::used") → Triple 𝓤 (WpFn 𝓤 H (𝓣 .C) (𝓣 .Λ) (fnOf 1 ps r xs m hs body)) (plainOf 𝓤 H A 1 ps r Pre· Post·)
 
     module _ (Inv·0 : InvT-loop) (μ·0 : MeasureT-loop) where
       abbrev at0 : (bs : List.List ℕ) → TF T11 O4
@@ -574,7 +574,7 @@ module _ (claims· : Claims) where
 
       module _ {M : Type 1} (𝓤 : URA.URA M) (H : Heap 𝓤) (A : Atoms.Atoms 𝓤) (W : Given 𝓤 H A) (𝓣 : Tables 𝓤 H) where
         abbrev Knowns : Type 1
-        Knowns = Known 𝓤 H A W 𝓣 0 ps·0 r·0 (claims· .0) (claims· .1) "desk::used"
+        Knowns = Known 𝓤 H A W 𝓣 0 ps·0 r·0 (claims· .0) (claims· .1) "desk_rows::used"
 
       module _ (κs : Lfts 1) (qs : Shares 1) where
         abbrev G0 : Cx
@@ -783,7 +783,7 @@ module _ (claims· : Claims) where
           d30 = g-pre 𝓤 H A W 𝓣 E G5 G6 b31 Δ0 (pass T5 T6 (s4 bs)) (at29 bs) (g-room 𝓤 H A W E G5 6 (tyInt w64) (room-sc 𝓤 H A W (sInt w64))) d29
 
           d31 : Typed.Typed 𝓤 H A 𝓣 E G4 b32 Δ0 (at31 bs)
-          d31 = s-seq 𝓤 H A W 𝓣 E G4 G5 b2 b31 Δ0 (both (s3 bs)) (at30 bs) (t-call-plain 𝓤 H A W 𝓣 0 ps·0 r·0 (claims· .0) (claims· .1) "desk::used" known E (λ pos β. β) G4 (vAt 6 λ x. x, tt) 4 [] (sub-id 𝓤 H A W (G4 .slots)) ((reads-sc 𝓤 H A W (sInt w64), refl), tt) (room-gone 𝓤 H A (tyInt w64)) tt refl) d30
+          d31 = s-seq 𝓤 H A W 𝓣 E G4 G5 b2 b31 Δ0 (both (s3 bs)) (at30 bs) (t-call-plain 𝓤 H A W 𝓣 0 ps·0 r·0 (claims· .0) (claims· .1) "desk_rows::used" known E (λ pos β. β) G4 (vAt 6 λ x. x, tt) 4 [] (sub-id 𝓤 H A W (G4 .slots)) ((reads-sc 𝓤 H A W (sInt w64), refl), tt) (room-gone 𝓤 H A (tyInt w64)) tt refl) d30
 
           d32 : Typed.Typed 𝓤 H A 𝓣 E G3 b33 Δ0 (at32 bs)
           d32 = s-seq 𝓤 H A W 𝓣 E G3 G4 b1 b32 Δ0 (pass T3 T4 (s2 bs)) (at31 bs) (t-use 𝓤 H A W E 𝓣 G3 (oFld 1 (field 1 ∷ []) (tyInt w64) 8 lenV) 6 (sc-here (sInt w64)) (tyInt w64) (valS (sInt w64)) (sInt w64 .of) (reads-mslice-len 𝓤 H A W the-row (tyRef (named 0) mut (pointee (the-row .written))) 0 8 refl, refl) (room-gone 𝓤 H A (tyInt w64)) (holds-sc 𝓤 H A W (sInt w64)) refl (λ u. refl) λ u. tt) d31
@@ -1015,6 +1015,6 @@ module _ (claims· : Claims) where
           pub asked : (a : Dens κs ps) → (good : GoodsP κs ps a) → (pre : Pre· κs a) → (bs : List.List ℕ) → Φ bs (wantQ 1 ps r xs m κs qs a (Post· κs a)) (init 1 ps r xs m κs qs a)
           asked = λ a good pre bs. laid record { κs = κs; args = record { ts = a .0; t2 = a .1 .0 }; blocks = bs; good = good; pre = pre }
 
-        module _ {M : Type 1} (𝓤 : URA.URA M) (H : Heap 𝓤) (A : Atoms.Atoms 𝓤) (W : Given 𝓤 H A) (𝓣 : Tables 𝓤 H) (known0 : Known 𝓤 H A W 𝓣 0 ps·0 r·0 (claims· .0) (claims· .1) "desk::used") where
+        module _ {M : Type 1} (𝓤 : URA.URA M) (H : Heap 𝓤) (A : Atoms.Atoms 𝓤) (W : Given 𝓤 H A) (𝓣 : Tables 𝓤 H) (known0 : Known 𝓤 H A W 𝓣 0 ps·0 r·0 (claims· .0) (claims· .1) "desk_rows::used") where
           pub spec : Triple 𝓤 (WpFn 𝓤 H (𝓣 .C) (𝓣 .Λ) (fnOf 1 ps r xs m hs body)) (plainOf 𝓤 H A 1 ps r Pre· Post·)
           spec = t-fn-plain 𝓤 H A W 𝓣 1 ps r xs m hs body (λ κs qs bs. Φ bs) (λ κs qs bs bd. typed κs qs 𝓤 H A W 𝓣 known0 bs bd) Pre· Post· asked

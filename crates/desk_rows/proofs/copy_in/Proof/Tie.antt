@@ -1,6 +1,6 @@
 -- Derived by tools/derive.py from the text of `desk_rows::copy_in`, and derived again after any change of it.
 use Rattle.desk_rows.proofs.copy_in.Code
-use Rattle.desk_rows.proofs.copy_in.Code.{calls-desk·used, env, function, unfolded}
+use Rattle.desk_rows.proofs.copy_in.Code.{calls-desk-rows·used, env, function, unfolded}
 use Rattle.desk_rows.proofs.copy_in.Key
 use Rattle.desk_rows.proofs.Walks.CopyInKinds.{ps, r}
 use Rattle.desk_rows.proofs.copy_in.Proof.Lts
@@ -77,4 +77,4 @@ module _ {M : Type 1} where
 
   pub close : Closed (Asked, Learnt) Pre Post M → statement M
   unfolding Code.routine tablesOf
-  close = λ closed 𝓤 H 𝓜 𝓖 𝓡. Written.close 1 ps r Ghost requires ensures pre-read Pinned Owned post-read record { M = M; 𝓤 = 𝓤; H = H; 𝓜 = 𝓜; 𝓖 = 𝓖; 𝓡 = 𝓡 } env Key.name function (unfolded 𝓤 H 𝓜 𝓡) (λ κs a g. tt) (λ κs. owns κs record { M = M; 𝓤 = 𝓤; H = H; 𝓜 = 𝓜; 𝓖 = 𝓖; 𝓡 = 𝓡 }) (passes record { M = M; 𝓤 = 𝓤; H = H; 𝓜 = 𝓜; 𝓖 = 𝓖; 𝓡 = 𝓡 }) λ g. closed 𝓤 H (𝓖 .A) (givenOf 𝓤 H 𝓜 𝓖) (Over 𝓤 H 𝓜 𝓖 𝓡 env) (known record { M = M; 𝓤 = 𝓤; H = H; 𝓜 = 𝓜; 𝓖 = 𝓖; 𝓡 = 𝓡 } env Symbol.name Symbol.routine calls-desk·used (met 𝓤 H 𝓜 𝓖 𝓡))
+  close = λ closed 𝓤 H 𝓜 𝓖 𝓡. Written.close 1 ps r Ghost requires ensures pre-read Pinned Owned post-read record { M = M; 𝓤 = 𝓤; H = H; 𝓜 = 𝓜; 𝓖 = 𝓖; 𝓡 = 𝓡 } env Key.name function (unfolded 𝓤 H 𝓜 𝓡) (λ κs a g. tt) (λ κs. owns κs record { M = M; 𝓤 = 𝓤; H = H; 𝓜 = 𝓜; 𝓖 = 𝓖; 𝓡 = 𝓡 }) (passes record { M = M; 𝓤 = 𝓤; H = H; 𝓜 = 𝓜; 𝓖 = 𝓖; 𝓡 = 𝓡 }) λ g. closed 𝓤 H (𝓖 .A) (givenOf 𝓤 H 𝓜 𝓖) (Over 𝓤 H 𝓜 𝓖 𝓡 env) (known record { M = M; 𝓤 = 𝓤; H = H; 𝓜 = 𝓜; 𝓖 = 𝓖; 𝓡 = 𝓡 } env Symbol.name Symbol.routine calls-desk-rows·used (met 𝓤 H 𝓜 𝓖 𝓡))

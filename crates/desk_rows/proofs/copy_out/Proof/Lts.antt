@@ -477,7 +477,7 @@ module _ (claims· : Claims) where
   module _ (Pre· : (κs : Lfts 1) → Dens κs ps → Type 0) (Post· : (κs : Lfts 1) → (a : Dens κs ps) → Kinds.Plain 1 ps r κs) where
     module _ (M : Type 1) where
       abbrev pub Closed : Type 2
-      Closed = (𝓤 : URA.URA M) (H : Heap 𝓤) (A : Atoms.Atoms 𝓤) (W : Given 𝓤 H A) (𝓣 : Tables 𝓤 H) (known0 : Known 𝓤 H A W 𝓣 0 ps·0 r·0 (claims· .0) (claims· .1) "desk::blank") (known1 : Known 𝓤 H A W 𝓣 0 ps·1 r·1 (claims· .2) (claims· .3) "desk::used") → Triple 𝓤 (WpFn 𝓤 H (𝓣 .C) (𝓣 .Λ) (fnOf 1 ps r xs m hs body)) (plainOf 𝓤 H A 1 ps r Pre· Post·)
+      Closed = (𝓤 : URA.URA M) (H : Heap 𝓤) (A : Atoms.Atoms 𝓤) (W : Given 𝓤 H A) (𝓣 : Tables 𝓤 H) (known0 : Known 𝓤 H A W 𝓣 0 ps·0 r·0 (claims· .0) (claims· .1) "desk_rows::blank") (known1 : Known 𝓤 H A W 𝓣 0 ps·1 r·1 (claims· .2) (claims· .3) "desk_rows::used") → Triple 𝓤 (WpFn 𝓤 H (𝓣 .C) (𝓣 .Λ) (fnOf 1 ps r xs m hs body)) (plainOf 𝓤 H A 1 ps r Pre· Post·)
 
     module _ (Inv·0 : InvT-loop) (μ·0 : MeasureT-loop) where
       abbrev at0 : (bs : List.List ℕ) → TF T12 O4
@@ -593,7 +593,7 @@ module _ (claims· : Claims) where
 
       module _ {M : Type 1} (𝓤 : URA.URA M) (H : Heap 𝓤) (A : Atoms.Atoms 𝓤) (W : Given 𝓤 H A) (𝓣 : Tables 𝓤 H) where
         abbrev Knowns : Type 1
-        Knowns = Known 𝓤 H A W 𝓣 0 ps·0 r·0 (claims· .0) (claims· .1) "desk::blank" × Known 𝓤 H A W 𝓣 0 ps·1 r·1 (claims· .2) (claims· .3) "desk::used"
+        Knowns = Known 𝓤 H A W 𝓣 0 ps·0 r·0 (claims· .0) (claims· .1) "desk_rows::blank" × Known 𝓤 H A W 𝓣 0 ps·1 r·1 (claims· .2) (claims· .3) "desk_rows::used"
 
       module _ (κs : Lfts 1) (qs : Shares 1) where
         abbrev G0 : Cx
@@ -805,7 +805,7 @@ module _ (claims· : Claims) where
           d30 = g-pre 𝓤 H A W 𝓣 E G6 G7 b32 Δ0 (pass T6 T7 (s5 bs)) (at29 bs) (g-room 𝓤 H A W E G6 6 (tyInt w64) (room-sc 𝓤 H A W (sInt w64))) d29
 
           d31 : Typed.Typed 𝓤 H A 𝓣 E G5 b33 Δ0 (at31 bs)
-          d31 = s-seq 𝓤 H A W 𝓣 E G5 G6 b3 b32 Δ0 (both (s4 bs)) (at30 bs) (t-call-plain 𝓤 H A W 𝓣 0 ps·1 r·1 (claims· .2) (claims· .3) "desk::used" (known .1) E (λ pos β. β) G5 (vAt 6 λ x. x, tt) 3 [] (sub-id 𝓤 H A W (G5 .slots)) ((reads-sc 𝓤 H A W (sInt w64), refl), tt) (room-gone 𝓤 H A (tyInt w64)) tt refl) d30
+          d31 = s-seq 𝓤 H A W 𝓣 E G5 G6 b3 b32 Δ0 (both (s4 bs)) (at30 bs) (t-call-plain 𝓤 H A W 𝓣 0 ps·1 r·1 (claims· .2) (claims· .3) "desk_rows::used" (known .1) E (λ pos β. β) G5 (vAt 6 λ x. x, tt) 3 [] (sub-id 𝓤 H A W (G5 .slots)) ((reads-sc 𝓤 H A W (sInt w64), refl), tt) (room-gone 𝓤 H A (tyInt w64)) tt refl) d30
 
           d32 : Typed.Typed 𝓤 H A 𝓣 E G4 b34 Δ0 (at32 bs)
           d32 = s-seq 𝓤 H A W 𝓣 E G4 G5 b2 b33 Δ0 (pass T4 T5 (s3 bs)) (at31 bs) (t-use 𝓤 H A W E 𝓣 G4 (oFld 1 (field 1 ∷ []) (tyInt w64) 8 lenV) 6 (sc-here (sInt w64)) (tyInt w64) (valS (sInt w64)) (sInt w64 .of) (reads-sslice-len 𝓤 H A W the-row (tyRef (named 0) imm (pointee (the-row .written))) 0 8 refl, refl) (room-gone 𝓤 H A (tyInt w64)) (holds-sc 𝓤 H A W (sInt w64)) refl (λ u. refl) λ u. tt) d31
@@ -817,7 +817,7 @@ module _ (claims· : Claims) where
           d34 = s-seq 𝓤 H A W 𝓣 E G2 G3 b1 b34 Δ0 (pass T2 T3 (s1 bs)) (at33 bs) (t-val-copy 𝓤 H A W E 𝓣 (λ ρ. Unit) G2 5 2 (Array'.Array the-row 32) (tyArray L.mir 32) (tyArray L.mir 32) (arrF the-row 32 0) (arrF the-row 32 0) (λ x. x) (λ x. x) (λ x. x) refl (told-none 𝓤 H A (G2 .slots)) (yields-copy 𝓤 H A W (λ ρ. Unit) (Array'.Array the-row 32) refl (cArr the-row (cStruct the-type the-laws the-copy) 32 .copy 𝓤 H A W) (arrF the-row 32 0) (λ x. x) (λ x. x) (λ ρ told. mem-arr 𝓤 H A W the-row 32 ρ) λ ρ told. arr-mem 𝓤 H A W the-row 32 tt ρ) (room-gone 𝓤 H A (tyArray L.mir 32)) (makes-mem 𝓤 H A W (λ ρ. Unit) (Array'.Array the-row 32) refl (arrF the-row 32 0) (λ x. x) λ ρ told. arr-mem 𝓤 H A W the-row 32 tt ρ) refl refl) d33
 
           d35 : Typed.Typed 𝓤 H A 𝓣 E G0 b36 Δ0 (at35 bs)
-          d35 = s-seq 𝓤 H A W 𝓣 E G0 G2 b0 b35 Δ0 (both (s0 bs)) (at34 bs) (t-call-plain 𝓤 H A W 𝓣 0 ps·0 r·0 (claims· .0) (claims· .1) "desk::blank" (known .0) E (λ pos β. β) G0 tt 5 [] (sub-id 𝓤 H A W (G0 .slots)) tt (room-gone 𝓤 H A (tyArray L.mir 32)) tt refl) d34
+          d35 = s-seq 𝓤 H A W 𝓣 E G0 G2 b0 b35 Δ0 (both (s0 bs)) (at34 bs) (t-call-plain 𝓤 H A W 𝓣 0 ps·0 r·0 (claims· .0) (claims· .1) "desk_rows::blank" (known .0) E (λ pos β. β) G0 tt 5 [] (sub-id 𝓤 H A W (G0 .slots)) tt (room-gone 𝓤 H A (tyArray L.mir 32)) tt refl) d34
 
           pub typed : Typed.Typed 𝓤 H A 𝓣 E (Γin 1 ps r xs m κs qs) b36 (Δret 1 ps r xs m κs qs) (Φ bs)
           typed = d35
@@ -1056,6 +1056,6 @@ module _ (claims· : Claims) where
           pub asked : (a : Dens κs ps) → (good : GoodsP κs ps a) → (pre : Pre· κs a) → (bs : List.List ℕ) → Φ bs (wantQ 1 ps r xs m κs qs a (Post· κs a)) (init 1 ps r xs m κs qs a)
           asked = λ a good pre bs. laid record { κs = κs; args = record { ts = a .0 }; blocks = bs; good = good; pre = pre }
 
-        module _ {M : Type 1} (𝓤 : URA.URA M) (H : Heap 𝓤) (A : Atoms.Atoms 𝓤) (W : Given 𝓤 H A) (𝓣 : Tables 𝓤 H) (known0 : Known 𝓤 H A W 𝓣 0 ps·0 r·0 (claims· .0) (claims· .1) "desk::blank") (known1 : Known 𝓤 H A W 𝓣 0 ps·1 r·1 (claims· .2) (claims· .3) "desk::used") where
+        module _ {M : Type 1} (𝓤 : URA.URA M) (H : Heap 𝓤) (A : Atoms.Atoms 𝓤) (W : Given 𝓤 H A) (𝓣 : Tables 𝓤 H) (known0 : Known 𝓤 H A W 𝓣 0 ps·0 r·0 (claims· .0) (claims· .1) "desk_rows::blank") (known1 : Known 𝓤 H A W 𝓣 0 ps·1 r·1 (claims· .2) (claims· .3) "desk_rows::used") where
           pub spec : Triple 𝓤 (WpFn 𝓤 H (𝓣 .C) (𝓣 .Λ) (fnOf 1 ps r xs m hs body)) (plainOf 𝓤 H A 1 ps r Pre· Post·)
           spec = t-fn-plain 𝓤 H A W 𝓣 1 ps r xs m hs body (λ κs qs bs. Φ bs) (λ κs qs bs bd. typed κs qs 𝓤 H A W 𝓣 (known0, known1) bs bd) Pre· Post· asked

@@ -3,7 +3,7 @@ use Rattle.desk_rows.proofs.blank.Met
 use Rattle.desk_rows.proofs.blank.Reads
 use Rattle.desk_rows.proofs.blank.Symbol
 use Rattle.desk_rows.proofs.copy_out.Code
-use Rattle.desk_rows.proofs.copy_out.Code.{calls-desk·blank, calls-desk·used, env, function, unfolded}
+use Rattle.desk_rows.proofs.copy_out.Code.{calls-desk-rows·blank, calls-desk-rows·used, env, function, unfolded}
 use Rattle.desk_rows.proofs.copy_out.Key
 use Rattle.desk_rows.proofs.Walks.CopyOutKinds.{ps, r}
 use Rattle.desk_rows.proofs.copy_out.Proof.Lts
@@ -83,4 +83,4 @@ module _ {M : Type 1} where
 
   pub close : Closed (Reads.Asked, Reads.Learnt, Reads''.Asked, Reads''.Learnt) Pre Post M → statement M
   unfolding Code.routine tablesOf
-  close = λ closed 𝓤 H 𝓜 𝓖 𝓡. Written.close 1 ps r Ghost requires ensures pre-read Pinned Owned post-read record { M = M; 𝓤 = 𝓤; H = H; 𝓜 = 𝓜; 𝓖 = 𝓖; 𝓡 = 𝓡 } env Key.name function (unfolded 𝓤 H 𝓜 𝓡) (λ κs a g. tt) (λ κs. owns κs record { M = M; 𝓤 = 𝓤; H = H; 𝓜 = 𝓜; 𝓖 = 𝓖; 𝓡 = 𝓡 }) (passes record { M = M; 𝓤 = 𝓤; H = H; 𝓜 = 𝓜; 𝓖 = 𝓖; 𝓡 = 𝓡 }) λ g. closed 𝓤 H (𝓖 .A) (givenOf 𝓤 H 𝓜 𝓖) (Over 𝓤 H 𝓜 𝓖 𝓡 env) (Reads.known record { M = M; 𝓤 = 𝓤; H = H; 𝓜 = 𝓜; 𝓖 = 𝓖; 𝓡 = 𝓡 } env Symbol.name Symbol.routine calls-desk·blank (Met.met 𝓤 H 𝓜 𝓖 𝓡)) (Reads''.known record { M = M; 𝓤 = 𝓤; H = H; 𝓜 = 𝓜; 𝓖 = 𝓖; 𝓡 = 𝓡 } env Symbol'.name Symbol'.routine calls-desk·used (Met'.met 𝓤 H 𝓜 𝓖 𝓡))
+  close = λ closed 𝓤 H 𝓜 𝓖 𝓡. Written.close 1 ps r Ghost requires ensures pre-read Pinned Owned post-read record { M = M; 𝓤 = 𝓤; H = H; 𝓜 = 𝓜; 𝓖 = 𝓖; 𝓡 = 𝓡 } env Key.name function (unfolded 𝓤 H 𝓜 𝓡) (λ κs a g. tt) (λ κs. owns κs record { M = M; 𝓤 = 𝓤; H = H; 𝓜 = 𝓜; 𝓖 = 𝓖; 𝓡 = 𝓡 }) (passes record { M = M; 𝓤 = 𝓤; H = H; 𝓜 = 𝓜; 𝓖 = 𝓖; 𝓡 = 𝓡 }) λ g. closed 𝓤 H (𝓖 .A) (givenOf 𝓤 H 𝓜 𝓖) (Over 𝓤 H 𝓜 𝓖 𝓡 env) (Reads.known record { M = M; 𝓤 = 𝓤; H = H; 𝓜 = 𝓜; 𝓖 = 𝓖; 𝓡 = 𝓡 } env Symbol.name Symbol.routine calls-desk-rows·blank (Met.met 𝓤 H 𝓜 𝓖 𝓡)) (Reads''.known record { M = M; 𝓤 = 𝓤; H = H; 𝓜 = 𝓜; 𝓖 = 𝓖; 𝓡 = 𝓡 } env Symbol'.name Symbol'.routine calls-desk-rows·used (Met'.met 𝓤 H 𝓜 𝓖 𝓡))

@@ -78,7 +78,7 @@ abbrev pub r : RK 1
 r = rVal record { ty = Declared.row Filed.the-type; one = refl; val = Laws'4.val Filed.the-type Laws.the-laws; tells = Laws'4.tells Filed.the-type Laws.the-laws; still = Laws'4.still Filed.the-type Laws.the-copy yes; row = whole (Declared.row Filed.the-type); rd = λ x. x; mk = λ x. x } λ M 𝓤 H A W. record { copies = Laws'4.copy Filed.the-type Laws.the-copy 𝓤 H A W; lawful = Laws'4.lawful Filed.the-type Laws.the-laws 𝓤 H A W; makes = Laws'4.makes Filed.the-type Laws.the-plain 𝓤 H A; in-mem = mem-whole 𝓤 H A W (Declared.row Filed.the-type); of-mem = whole-mem 𝓤 H A W (Declared.row Filed.the-type) }
 
 abbrev pub xs : List.List Ty
-xs = tyInt w64 ∷ tyArray (tyStruct (116 ∷ 105 ∷ 99 ∷ 107 ∷ 101 ∷ 116 ∷ 115 ∷ 58 ∷ 58 ∷ 84 ∷ 105 ∷ 99 ∷ 107 ∷ 101 ∷ 116 ∷ []) (tcons (tyInt w64) (tcons (tyInt w64) (tcons (tyInt w64) (tcons (tyInt w64) tnil))))) 32 ∷ tyStruct (116 ∷ 105 ∷ 99 ∷ 107 ∷ 101 ∷ 116 ∷ 115 ∷ 58 ∷ 58 ∷ 70 ∷ 105 ∷ 108 ∷ 101 ∷ 100 ∷ 82 ∷ 111 ∷ 119 ∷ []) (tcons (tyStruct (116 ∷ 105 ∷ 99 ∷ 107 ∷ 101 ∷ 116 ∷ 115 ∷ 58 ∷ 58 ∷ 70 ∷ 105 ∷ 108 ∷ 101 ∷ 100 ∷ []) (tcons (tyStruct (114 ∷ 101 ∷ 102 ∷ 117 ∷ 115 ∷ 97 ∷ 108 ∷ 115 ∷ 58 ∷ 58 ∷ 86 ∷ 101 ∷ 114 ∷ 100 ∷ 105 ∷ 99 ∷ 116 ∷ []) (tcons (tyEnum (114 ∷ 101 ∷ 102 ∷ 117 ∷ 115 ∷ 97 ∷ 108 ∷ 115 ∷ 58 ∷ 58 ∷ 82 ∷ 101 ∷ 102 ∷ 117 ∷ 115 ∷ 97 ∷ 108 ∷ []) (ttcons tnil (ttcons tnil (ttcons tnil (ttcons tnil (ttcons tnil (ttcons tnil (ttcons tnil (ttcons tnil (ttcons tnil (ttcons tnil (ttcons tnil (ttcons tnil (ttcons tnil (ttcons tnil (ttcons tnil (ttcons tnil (ttcons tnil (ttcons tnil (ttcons tnil (ttcons tnil (ttcons tnil (ttcons tnil (ttcons tnil (ttcons tnil (ttcons tnil (ttcons tnil (ttcons tnil ttnil)))))))))))))))))))))))))))) (tcons (tyInt w64) tnil))) (tcons (tyInt w64) (tcons (tyStruct (116 ∷ 105 ∷ 99 ∷ 107 ∷ 101 ∷ 116 ∷ 115 ∷ 58 ∷ 58 ∷ 76 ∷ 97 ∷ 115 ∷ 116 ∷ 115 ∷ []) (tcons (tyInt w64) (tcons (tyInt w64) tnil))) tnil)))) (tcons (tyArray (tyStruct (116 ∷ 105 ∷ 99 ∷ 107 ∷ 101 ∷ 116 ∷ 115 ∷ 58 ∷ 58 ∷ 84 ∷ 105 ∷ 99 ∷ 107 ∷ 101 ∷ 116 ∷ []) (tcons (tyInt w64) (tcons (tyInt w64) (tcons (tyInt w64) (tcons (tyInt w64) tnil))))) 32) tnil)) ∷ tyArray (tyStruct (116 ∷ 105 ∷ 99 ∷ 107 ∷ 101 ∷ 116 ∷ 115 ∷ 58 ∷ 58 ∷ 84 ∷ 105 ∷ 99 ∷ 107 ∷ 101 ∷ 116 ∷ []) (tcons (tyInt w64) (tcons (tyInt w64) (tcons (tyInt w64) (tcons (tyInt w64) tnil))))) 32 ∷ tyRef erased imm (pointee (the-row .written)) ∷ tyStruct (38 ∷ 91 ∷ 93 ∷ []) (tcons (tyRef erased imm (pointee (the-row .written))) (tcons (tyInt w64) tnil)) ∷ tyUnit ∷ tyRef erased mut (pointee (the-row .written)) ∷ tyStruct (38 ∷ 91 ∷ 93 ∷ []) (tcons (tyRef erased mut (pointee (the-row .written))) (tcons (tyInt w64) tnil)) ∷ []
+xs = tyInt w64 ∷ tyArray (tyStruct (100 ∷ 101 ∷ 115 ∷ 107 ∷ 95 ∷ 116 ∷ 105 ∷ 99 ∷ 107 ∷ 101 ∷ 116 ∷ 115 ∷ 58 ∷ 58 ∷ 84 ∷ 105 ∷ 99 ∷ 107 ∷ 101 ∷ 116 ∷ []) (tcons (tyInt w64) (tcons (tyInt w64) (tcons (tyInt w64) (tcons (tyInt w64) tnil))))) 32 ∷ tyStruct (100 ∷ 101 ∷ 115 ∷ 107 ∷ 95 ∷ 116 ∷ 105 ∷ 99 ∷ 107 ∷ 101 ∷ 116 ∷ 115 ∷ 58 ∷ 58 ∷ 70 ∷ 105 ∷ 108 ∷ 101 ∷ 100 ∷ 82 ∷ 111 ∷ 119 ∷ []) (tcons (tyStruct (100 ∷ 101 ∷ 115 ∷ 107 ∷ 95 ∷ 116 ∷ 105 ∷ 99 ∷ 107 ∷ 101 ∷ 116 ∷ 115 ∷ 58 ∷ 58 ∷ 70 ∷ 105 ∷ 108 ∷ 101 ∷ 100 ∷ []) (tcons (tyStruct (114 ∷ 101 ∷ 102 ∷ 117 ∷ 115 ∷ 97 ∷ 108 ∷ 115 ∷ 58 ∷ 58 ∷ 86 ∷ 101 ∷ 114 ∷ 100 ∷ 105 ∷ 99 ∷ 116 ∷ []) (tcons (tyEnum (114 ∷ 101 ∷ 102 ∷ 117 ∷ 115 ∷ 97 ∷ 108 ∷ 115 ∷ 58 ∷ 58 ∷ 82 ∷ 101 ∷ 102 ∷ 117 ∷ 115 ∷ 97 ∷ 108 ∷ []) (ttcons tnil (ttcons tnil (ttcons tnil (ttcons tnil (ttcons tnil (ttcons tnil (ttcons tnil (ttcons tnil (ttcons tnil (ttcons tnil (ttcons tnil (ttcons tnil (ttcons tnil (ttcons tnil (ttcons tnil (ttcons tnil (ttcons tnil (ttcons tnil (ttcons tnil (ttcons tnil (ttcons tnil (ttcons tnil (ttcons tnil (ttcons tnil (ttcons tnil (ttcons tnil (ttcons tnil ttnil)))))))))))))))))))))))))))) (tcons (tyInt w64) tnil))) (tcons (tyInt w64) (tcons (tyStruct (100 ∷ 101 ∷ 115 ∷ 107 ∷ 95 ∷ 116 ∷ 105 ∷ 99 ∷ 107 ∷ 101 ∷ 116 ∷ 115 ∷ 58 ∷ 58 ∷ 76 ∷ 97 ∷ 115 ∷ 116 ∷ 115 ∷ []) (tcons (tyInt w64) (tcons (tyInt w64) tnil))) tnil)))) (tcons (tyArray (tyStruct (100 ∷ 101 ∷ 115 ∷ 107 ∷ 95 ∷ 116 ∷ 105 ∷ 99 ∷ 107 ∷ 101 ∷ 116 ∷ 115 ∷ 58 ∷ 58 ∷ 84 ∷ 105 ∷ 99 ∷ 107 ∷ 101 ∷ 116 ∷ []) (tcons (tyInt w64) (tcons (tyInt w64) (tcons (tyInt w64) (tcons (tyInt w64) tnil))))) 32) tnil)) ∷ tyArray (tyStruct (100 ∷ 101 ∷ 115 ∷ 107 ∷ 95 ∷ 116 ∷ 105 ∷ 99 ∷ 107 ∷ 101 ∷ 116 ∷ 115 ∷ 58 ∷ 58 ∷ 84 ∷ 105 ∷ 99 ∷ 107 ∷ 101 ∷ 116 ∷ []) (tcons (tyInt w64) (tcons (tyInt w64) (tcons (tyInt w64) (tcons (tyInt w64) tnil))))) 32 ∷ tyRef erased imm (pointee (the-row .written)) ∷ tyStruct (38 ∷ 91 ∷ 93 ∷ []) (tcons (tyRef erased imm (pointee (the-row .written))) (tcons (tyInt w64) tnil)) ∷ tyUnit ∷ tyRef erased mut (pointee (the-row .written)) ∷ tyStruct (38 ∷ 91 ∷ 93 ∷ []) (tcons (tyRef erased mut (pointee (the-row .written))) (tcons (tyInt w64) tnil)) ∷ []
 
 abbrev pub m : ℕ
 m = 2
@@ -174,10 +174,10 @@ abbrev pub Claims : Type 1
 Claims = In 1 ps·0 × Out 1 ps·0 r·0 × In 0 ps·1 × Out 0 ps·1 r·1 × In 1 ps·2 × Out 1 ps·2 r·2
 
 abbrev pub t0 : List.List Entry
-t0 = (0, any-gone (tyStruct (116 ∷ 105 ∷ 99 ∷ 107 ∷ 101 ∷ 116 ∷ 115 ∷ 58 ∷ 58 ∷ 70 ∷ 105 ∷ 108 ∷ 101 ∷ 100 ∷ []) (tcons (tyStruct (114 ∷ 101 ∷ 102 ∷ 117 ∷ 115 ∷ 97 ∷ 108 ∷ 115 ∷ 58 ∷ 58 ∷ 86 ∷ 101 ∷ 114 ∷ 100 ∷ 105 ∷ 99 ∷ 116 ∷ []) (tcons (tyEnum (114 ∷ 101 ∷ 102 ∷ 117 ∷ 115 ∷ 97 ∷ 108 ∷ 115 ∷ 58 ∷ 58 ∷ 82 ∷ 101 ∷ 102 ∷ 117 ∷ 115 ∷ 97 ∷ 108 ∷ []) (ttcons tnil (ttcons tnil (ttcons tnil (ttcons tnil (ttcons tnil (ttcons tnil (ttcons tnil (ttcons tnil (ttcons tnil (ttcons tnil (ttcons tnil (ttcons tnil (ttcons tnil (ttcons tnil (ttcons tnil (ttcons tnil (ttcons tnil (ttcons tnil (ttcons tnil (ttcons tnil (ttcons tnil (ttcons tnil (ttcons tnil (ttcons tnil (ttcons tnil (ttcons tnil (ttcons tnil ttnil)))))))))))))))))))))))))))) (tcons (tyInt w64) tnil))) (tcons (tyInt w64) (tcons (tyStruct (116 ∷ 105 ∷ 99 ∷ 107 ∷ 101 ∷ 116 ∷ 115 ∷ 58 ∷ 58 ∷ 76 ∷ 97 ∷ 115 ∷ 116 ∷ 115 ∷ []) (tcons (tyInt w64) (tcons (tyInt w64) tnil))) tnil))))) ∷ (1, mslice the-row (tyRef (named 0) mut (pointee (the-row .written))) 0) ∷ (2, whole (Declared.row Filing.the-type)) ∷ (3, any-gone (tyInt w64)) ∷ (4, any-gone (tyArray (tyStruct (116 ∷ 105 ∷ 99 ∷ 107 ∷ 101 ∷ 116 ∷ 115 ∷ 58 ∷ 58 ∷ 84 ∷ 105 ∷ 99 ∷ 107 ∷ 101 ∷ 116 ∷ []) (tcons (tyInt w64) (tcons (tyInt w64) (tcons (tyInt w64) (tcons (tyInt w64) tnil))))) 32)) ∷ (5, any-gone (tyStruct (116 ∷ 105 ∷ 99 ∷ 107 ∷ 101 ∷ 116 ∷ 115 ∷ 58 ∷ 58 ∷ 70 ∷ 105 ∷ 108 ∷ 101 ∷ 100 ∷ 82 ∷ 111 ∷ 119 ∷ []) (tcons (tyStruct (116 ∷ 105 ∷ 99 ∷ 107 ∷ 101 ∷ 116 ∷ 115 ∷ 58 ∷ 58 ∷ 70 ∷ 105 ∷ 108 ∷ 101 ∷ 100 ∷ []) (tcons (tyStruct (114 ∷ 101 ∷ 102 ∷ 117 ∷ 115 ∷ 97 ∷ 108 ∷ 115 ∷ 58 ∷ 58 ∷ 86 ∷ 101 ∷ 114 ∷ 100 ∷ 105 ∷ 99 ∷ 116 ∷ []) (tcons (tyEnum (114 ∷ 101 ∷ 102 ∷ 117 ∷ 115 ∷ 97 ∷ 108 ∷ 115 ∷ 58 ∷ 58 ∷ 82 ∷ 101 ∷ 102 ∷ 117 ∷ 115 ∷ 97 ∷ 108 ∷ []) (ttcons tnil (ttcons tnil (ttcons tnil (ttcons tnil (ttcons tnil (ttcons tnil (ttcons tnil (ttcons tnil (ttcons tnil (ttcons tnil (ttcons tnil (ttcons tnil (ttcons tnil (ttcons tnil (ttcons tnil (ttcons tnil (ttcons tnil (ttcons tnil (ttcons tnil (ttcons tnil (ttcons tnil (ttcons tnil (ttcons tnil (ttcons tnil (ttcons tnil (ttcons tnil (ttcons tnil ttnil)))))))))))))))))))))))))))) (tcons (tyInt w64) tnil))) (tcons (tyInt w64) (tcons (tyStruct (116 ∷ 105 ∷ 99 ∷ 107 ∷ 101 ∷ 116 ∷ 115 ∷ 58 ∷ 58 ∷ 76 ∷ 97 ∷ 115 ∷ 116 ∷ 115 ∷ []) (tcons (tyInt w64) (tcons (tyInt w64) tnil))) tnil)))) (tcons (tyArray (tyStruct (116 ∷ 105 ∷ 99 ∷ 107 ∷ 101 ∷ 116 ∷ 115 ∷ 58 ∷ 58 ∷ 84 ∷ 105 ∷ 99 ∷ 107 ∷ 101 ∷ 116 ∷ []) (tcons (tyInt w64) (tcons (tyInt w64) (tcons (tyInt w64) (tcons (tyInt w64) tnil))))) 32) tnil)))) ∷ (6, any-gone (tyArray (tyStruct (116 ∷ 105 ∷ 99 ∷ 107 ∷ 101 ∷ 116 ∷ 115 ∷ 58 ∷ 58 ∷ 84 ∷ 105 ∷ 99 ∷ 107 ∷ 101 ∷ 116 ∷ []) (tcons (tyInt w64) (tcons (tyInt w64) (tcons (tyInt w64) (tcons (tyInt w64) tnil))))) 32)) ∷ (7, any-gone (tyRef erased imm (pointee (the-row .written)))) ∷ (8, any-gone (tyStruct (38 ∷ 91 ∷ 93 ∷ []) (tcons (tyRef erased imm (pointee (the-row .written))) (tcons (tyInt w64) tnil)))) ∷ (9, any-gone tyUnit) ∷ (10, any-gone (tyRef erased mut (pointee (the-row .written)))) ∷ (11, any-gone (tyStruct (38 ∷ 91 ∷ 93 ∷ []) (tcons (tyRef erased mut (pointee (the-row .written))) (tcons (tyInt w64) tnil)))) ∷ []
+t0 = (0, any-gone (tyStruct (100 ∷ 101 ∷ 115 ∷ 107 ∷ 95 ∷ 116 ∷ 105 ∷ 99 ∷ 107 ∷ 101 ∷ 116 ∷ 115 ∷ 58 ∷ 58 ∷ 70 ∷ 105 ∷ 108 ∷ 101 ∷ 100 ∷ []) (tcons (tyStruct (114 ∷ 101 ∷ 102 ∷ 117 ∷ 115 ∷ 97 ∷ 108 ∷ 115 ∷ 58 ∷ 58 ∷ 86 ∷ 101 ∷ 114 ∷ 100 ∷ 105 ∷ 99 ∷ 116 ∷ []) (tcons (tyEnum (114 ∷ 101 ∷ 102 ∷ 117 ∷ 115 ∷ 97 ∷ 108 ∷ 115 ∷ 58 ∷ 58 ∷ 82 ∷ 101 ∷ 102 ∷ 117 ∷ 115 ∷ 97 ∷ 108 ∷ []) (ttcons tnil (ttcons tnil (ttcons tnil (ttcons tnil (ttcons tnil (ttcons tnil (ttcons tnil (ttcons tnil (ttcons tnil (ttcons tnil (ttcons tnil (ttcons tnil (ttcons tnil (ttcons tnil (ttcons tnil (ttcons tnil (ttcons tnil (ttcons tnil (ttcons tnil (ttcons tnil (ttcons tnil (ttcons tnil (ttcons tnil (ttcons tnil (ttcons tnil (ttcons tnil (ttcons tnil ttnil)))))))))))))))))))))))))))) (tcons (tyInt w64) tnil))) (tcons (tyInt w64) (tcons (tyStruct (100 ∷ 101 ∷ 115 ∷ 107 ∷ 95 ∷ 116 ∷ 105 ∷ 99 ∷ 107 ∷ 101 ∷ 116 ∷ 115 ∷ 58 ∷ 58 ∷ 76 ∷ 97 ∷ 115 ∷ 116 ∷ 115 ∷ []) (tcons (tyInt w64) (tcons (tyInt w64) tnil))) tnil))))) ∷ (1, mslice the-row (tyRef (named 0) mut (pointee (the-row .written))) 0) ∷ (2, whole (Declared.row Filing.the-type)) ∷ (3, any-gone (tyInt w64)) ∷ (4, any-gone (tyArray (tyStruct (100 ∷ 101 ∷ 115 ∷ 107 ∷ 95 ∷ 116 ∷ 105 ∷ 99 ∷ 107 ∷ 101 ∷ 116 ∷ 115 ∷ 58 ∷ 58 ∷ 84 ∷ 105 ∷ 99 ∷ 107 ∷ 101 ∷ 116 ∷ []) (tcons (tyInt w64) (tcons (tyInt w64) (tcons (tyInt w64) (tcons (tyInt w64) tnil))))) 32)) ∷ (5, any-gone (tyStruct (100 ∷ 101 ∷ 115 ∷ 107 ∷ 95 ∷ 116 ∷ 105 ∷ 99 ∷ 107 ∷ 101 ∷ 116 ∷ 115 ∷ 58 ∷ 58 ∷ 70 ∷ 105 ∷ 108 ∷ 101 ∷ 100 ∷ 82 ∷ 111 ∷ 119 ∷ []) (tcons (tyStruct (100 ∷ 101 ∷ 115 ∷ 107 ∷ 95 ∷ 116 ∷ 105 ∷ 99 ∷ 107 ∷ 101 ∷ 116 ∷ 115 ∷ 58 ∷ 58 ∷ 70 ∷ 105 ∷ 108 ∷ 101 ∷ 100 ∷ []) (tcons (tyStruct (114 ∷ 101 ∷ 102 ∷ 117 ∷ 115 ∷ 97 ∷ 108 ∷ 115 ∷ 58 ∷ 58 ∷ 86 ∷ 101 ∷ 114 ∷ 100 ∷ 105 ∷ 99 ∷ 116 ∷ []) (tcons (tyEnum (114 ∷ 101 ∷ 102 ∷ 117 ∷ 115 ∷ 97 ∷ 108 ∷ 115 ∷ 58 ∷ 58 ∷ 82 ∷ 101 ∷ 102 ∷ 117 ∷ 115 ∷ 97 ∷ 108 ∷ []) (ttcons tnil (ttcons tnil (ttcons tnil (ttcons tnil (ttcons tnil (ttcons tnil (ttcons tnil (ttcons tnil (ttcons tnil (ttcons tnil (ttcons tnil (ttcons tnil (ttcons tnil (ttcons tnil (ttcons tnil (ttcons tnil (ttcons tnil (ttcons tnil (ttcons tnil (ttcons tnil (ttcons tnil (ttcons tnil (ttcons tnil (ttcons tnil (ttcons tnil (ttcons tnil (ttcons tnil ttnil)))))))))))))))))))))))))))) (tcons (tyInt w64) tnil))) (tcons (tyInt w64) (tcons (tyStruct (100 ∷ 101 ∷ 115 ∷ 107 ∷ 95 ∷ 116 ∷ 105 ∷ 99 ∷ 107 ∷ 101 ∷ 116 ∷ 115 ∷ 58 ∷ 58 ∷ 76 ∷ 97 ∷ 115 ∷ 116 ∷ 115 ∷ []) (tcons (tyInt w64) (tcons (tyInt w64) tnil))) tnil)))) (tcons (tyArray (tyStruct (100 ∷ 101 ∷ 115 ∷ 107 ∷ 95 ∷ 116 ∷ 105 ∷ 99 ∷ 107 ∷ 101 ∷ 116 ∷ 115 ∷ 58 ∷ 58 ∷ 84 ∷ 105 ∷ 99 ∷ 107 ∷ 101 ∷ 116 ∷ []) (tcons (tyInt w64) (tcons (tyInt w64) (tcons (tyInt w64) (tcons (tyInt w64) tnil))))) 32) tnil)))) ∷ (6, any-gone (tyArray (tyStruct (100 ∷ 101 ∷ 115 ∷ 107 ∷ 95 ∷ 116 ∷ 105 ∷ 99 ∷ 107 ∷ 101 ∷ 116 ∷ 115 ∷ 58 ∷ 58 ∷ 84 ∷ 105 ∷ 99 ∷ 107 ∷ 101 ∷ 116 ∷ []) (tcons (tyInt w64) (tcons (tyInt w64) (tcons (tyInt w64) (tcons (tyInt w64) tnil))))) 32)) ∷ (7, any-gone (tyRef erased imm (pointee (the-row .written)))) ∷ (8, any-gone (tyStruct (38 ∷ 91 ∷ 93 ∷ []) (tcons (tyRef erased imm (pointee (the-row .written))) (tcons (tyInt w64) tnil)))) ∷ (9, any-gone tyUnit) ∷ (10, any-gone (tyRef erased mut (pointee (the-row .written)))) ∷ (11, any-gone (tyStruct (38 ∷ 91 ∷ 93 ∷ []) (tcons (tyRef erased mut (pointee (the-row .written))) (tcons (tyInt w64) tnil)))) ∷ []
 
 abbrev pub t1 : List.List Entry
-t1 = setRow 2 (2, any-gone (tyStruct (116 ∷ 105 ∷ 99 ∷ 107 ∷ 101 ∷ 116 ∷ 115 ∷ 58 ∷ 58 ∷ 70 ∷ 105 ∷ 108 ∷ 105 ∷ 110 ∷ 103 ∷ []) (tcons (tyInt w64) (tcons (tyInt w64) (tcons (tyInt w64) (tcons (tyInt w64) (tcons (tyStruct (116 ∷ 105 ∷ 99 ∷ 107 ∷ 101 ∷ 116 ∷ 115 ∷ 58 ∷ 58 ∷ 76 ∷ 97 ∷ 115 ∷ 116 ∷ 115 ∷ []) (tcons (tyInt w64) (tcons (tyInt w64) tnil))) tnil))))))) (setRow 0 (0, whole (Declared.row Filed.the-type)) t0)
+t1 = setRow 2 (2, any-gone (tyStruct (100 ∷ 101 ∷ 115 ∷ 107 ∷ 95 ∷ 116 ∷ 105 ∷ 99 ∷ 107 ∷ 101 ∷ 116 ∷ 115 ∷ 58 ∷ 58 ∷ 70 ∷ 105 ∷ 108 ∷ 105 ∷ 110 ∷ 103 ∷ []) (tcons (tyInt w64) (tcons (tyInt w64) (tcons (tyInt w64) (tcons (tyInt w64) (tcons (tyStruct (100 ∷ 101 ∷ 115 ∷ 107 ∷ 95 ∷ 116 ∷ 105 ∷ 99 ∷ 107 ∷ 101 ∷ 116 ∷ 115 ∷ 58 ∷ 58 ∷ 76 ∷ 97 ∷ 115 ∷ 116 ∷ 115 ∷ []) (tcons (tyInt w64) (tcons (tyInt w64) tnil))) tnil))))))) (setRow 0 (0, whole (Declared.row Filed.the-type)) t0)
 
 abbrev pub t2 : List.List Entry
 t2 = setRow 3 (3, sc-here (sInt w64)) t0
@@ -201,10 +201,10 @@ abbrev pub t8 : List.List Entry
 t8 = setRow 5 (5, whole (Declared.row FiledRow.the-type)) t7
 
 abbrev pub t9 : List.List Entry
-t9 = setRow 2 (2, any-gone (tyStruct (116 ∷ 105 ∷ 99 ∷ 107 ∷ 101 ∷ 116 ∷ 115 ∷ 58 ∷ 58 ∷ 70 ∷ 105 ∷ 108 ∷ 105 ∷ 110 ∷ 103 ∷ []) (tcons (tyInt w64) (tcons (tyInt w64) (tcons (tyInt w64) (tcons (tyInt w64) (tcons (tyStruct (116 ∷ 105 ∷ 99 ∷ 107 ∷ 101 ∷ 116 ∷ 115 ∷ 58 ∷ 58 ∷ 76 ∷ 97 ∷ 115 ∷ 116 ∷ 115 ∷ []) (tcons (tyInt w64) (tcons (tyInt w64) tnil))) tnil))))))) t8
+t9 = setRow 2 (2, any-gone (tyStruct (100 ∷ 101 ∷ 115 ∷ 107 ∷ 95 ∷ 116 ∷ 105 ∷ 99 ∷ 107 ∷ 101 ∷ 116 ∷ 115 ∷ 58 ∷ 58 ∷ 70 ∷ 105 ∷ 108 ∷ 105 ∷ 110 ∷ 103 ∷ []) (tcons (tyInt w64) (tcons (tyInt w64) (tcons (tyInt w64) (tcons (tyInt w64) (tcons (tyStruct (100 ∷ 101 ∷ 115 ∷ 107 ∷ 95 ∷ 116 ∷ 105 ∷ 99 ∷ 107 ∷ 101 ∷ 116 ∷ 115 ∷ 58 ∷ 58 ∷ 76 ∷ 97 ∷ 115 ∷ 116 ∷ 115 ∷ []) (tcons (tyInt w64) (tcons (tyInt w64) tnil))) tnil))))))) t8
 
 abbrev pub t10 : List.List Entry
-t10 = setRow 4 (4, any-gone (tyArray (tyStruct (116 ∷ 105 ∷ 99 ∷ 107 ∷ 101 ∷ 116 ∷ 115 ∷ 58 ∷ 58 ∷ 84 ∷ 105 ∷ 99 ∷ 107 ∷ 101 ∷ 116 ∷ []) (tcons (tyInt w64) (tcons (tyInt w64) (tcons (tyInt w64) (tcons (tyInt w64) tnil))))) 32)) t9
+t10 = setRow 4 (4, any-gone (tyArray (tyStruct (100 ∷ 101 ∷ 115 ∷ 107 ∷ 95 ∷ 116 ∷ 105 ∷ 99 ∷ 107 ∷ 101 ∷ 116 ∷ 115 ∷ 58 ∷ 58 ∷ 84 ∷ 105 ∷ 99 ∷ 107 ∷ 101 ∷ 116 ∷ []) (tcons (tyInt w64) (tcons (tyInt w64) (tcons (tyInt w64) (tcons (tyInt w64) tnil))))) 32)) t9
 
 abbrev pub t11 : List.List Entry
 t11 = setRow 6 (6, arrF (Declared.row Ticket.the-type) 32 0) t10
@@ -219,7 +219,7 @@ abbrev pub t14 : List.List Entry
 t14 = setRow 11 (11, msleft the-row (tyRef erased mut (pointee (the-row .written)))) (setRow 9 (9, sc-here sUnit) t13)
 
 abbrev pub t15 : List.List Entry
-t15 = setRow 6 (6, any-gone (tyArray (tyStruct (116 ∷ 105 ∷ 99 ∷ 107 ∷ 101 ∷ 116 ∷ 115 ∷ 58 ∷ 58 ∷ 84 ∷ 105 ∷ 99 ∷ 107 ∷ 101 ∷ 116 ∷ []) (tcons (tyInt w64) (tcons (tyInt w64) (tcons (tyInt w64) (tcons (tyInt w64) tnil))))) 32)) t14
+t15 = setRow 6 (6, any-gone (tyArray (tyStruct (100 ∷ 101 ∷ 115 ∷ 107 ∷ 95 ∷ 116 ∷ 105 ∷ 99 ∷ 107 ∷ 101 ∷ 116 ∷ 115 ∷ 58 ∷ 58 ∷ 84 ∷ 105 ∷ 99 ∷ 107 ∷ 101 ∷ 116 ∷ []) (tcons (tyInt w64) (tcons (tyInt w64) (tcons (tyInt w64) (tcons (tyInt w64) tnil))))) 32)) t14
 
 abbrev pub t16 : List.List Entry
 t16 = setRow 9 (9, any-gone tyUnit) t15
@@ -307,7 +307,7 @@ module _ (claims· : Claims) where
   s3 = λ bs. k-sl-aggregate the-row (asShr the-row) T4 7 8 1 (tyRef erased imm (pointee (the-row .written))) (tyRef erased imm (pointee (the-row .written))) (λ x. x) (oFld 1 (field 1 ∷ []) (tyInt w64) 8 λ v. lenV (v .0))
 
   abbrev s4 : (bs : List.List ℕ) → Both T5 T6
-  s4 = λ bs. callB ps·0 r·0 (claims· .0) (claims· .1) T5 (record { pos = 8; ty = tyRef erased imm (pointee (the-row .written)); ref = λ x. x }, tt) 4 (1 ∷ []) (tyArray (tyStruct (116 ∷ 105 ∷ 99 ∷ 107 ∷ 101 ∷ 116 ∷ 115 ∷ 58 ∷ 58 ∷ 84 ∷ 105 ∷ 99 ∷ 107 ∷ 101 ∷ 116 ∷ []) (tcons (tyInt w64) (tcons (tyInt w64) (tcons (tyInt w64) (tcons (tyInt w64) tnil))))) 32)
+  s4 = λ bs. callB ps·0 r·0 (claims· .0) (claims· .1) T5 (record { pos = 8; ty = tyRef erased imm (pointee (the-row .written)); ref = λ x. x }, tt) 4 (1 ∷ []) (tyArray (tyStruct (100 ∷ 101 ∷ 115 ∷ 107 ∷ 95 ∷ 116 ∷ 105 ∷ 99 ∷ 107 ∷ 101 ∷ 116 ∷ 115 ∷ 58 ∷ 58 ∷ 84 ∷ 105 ∷ 99 ∷ 107 ∷ 101 ∷ 116 ∷ []) (tcons (tyInt w64) (tcons (tyInt w64) (tcons (tyInt w64) (tcons (tyInt w64) tnil))))) 32)
 
   abbrev s5 : (bs : List.List ℕ) → Mo T6 → Mo T7
   s5 = λ bs. n-room T6 8 (tyStruct (38 ∷ 91 ∷ 93 ∷ []) (tcons (tyRef erased imm (pointee (the-row .written))) (tcons (tyInt w64) tnil)))
@@ -316,13 +316,13 @@ module _ (claims· : Claims) where
   s7 = λ bs. n-back-sl-shr the-row T7 1 0 1 (tyRef (named 0) mut (pointee (the-row .written))) off λ x. x
 
   abbrev s9 : (bs : List.List ℕ) → Both T9 T11
-  s9 = λ bs. callB ps·1 r·1 (claims· .2) (claims· .3) T9 (vAt 3 λ x. x, (record { pos = 4; st = []; d = 0; at = λ x. x }, (record { pos = 2; st = []; d = 0; at = λ x. x }, tt))) 5 [] (tyStruct (116 ∷ 105 ∷ 99 ∷ 107 ∷ 101 ∷ 116 ∷ 115 ∷ 58 ∷ 58 ∷ 70 ∷ 105 ∷ 108 ∷ 101 ∷ 100 ∷ 82 ∷ 111 ∷ 119 ∷ []) (tcons (tyStruct (116 ∷ 105 ∷ 99 ∷ 107 ∷ 101 ∷ 116 ∷ 115 ∷ 58 ∷ 58 ∷ 70 ∷ 105 ∷ 108 ∷ 101 ∷ 100 ∷ []) (tcons (tyStruct (114 ∷ 101 ∷ 102 ∷ 117 ∷ 115 ∷ 97 ∷ 108 ∷ 115 ∷ 58 ∷ 58 ∷ 86 ∷ 101 ∷ 114 ∷ 100 ∷ 105 ∷ 99 ∷ 116 ∷ []) (tcons (tyEnum (114 ∷ 101 ∷ 102 ∷ 117 ∷ 115 ∷ 97 ∷ 108 ∷ 115 ∷ 58 ∷ 58 ∷ 82 ∷ 101 ∷ 102 ∷ 117 ∷ 115 ∷ 97 ∷ 108 ∷ []) (ttcons tnil (ttcons tnil (ttcons tnil (ttcons tnil (ttcons tnil (ttcons tnil (ttcons tnil (ttcons tnil (ttcons tnil (ttcons tnil (ttcons tnil (ttcons tnil (ttcons tnil (ttcons tnil (ttcons tnil (ttcons tnil (ttcons tnil (ttcons tnil (ttcons tnil (ttcons tnil (ttcons tnil (ttcons tnil (ttcons tnil (ttcons tnil (ttcons tnil (ttcons tnil (ttcons tnil ttnil)))))))))))))))))))))))))))) (tcons (tyInt w64) tnil))) (tcons (tyInt w64) (tcons (tyStruct (116 ∷ 105 ∷ 99 ∷ 107 ∷ 101 ∷ 116 ∷ 115 ∷ 58 ∷ 58 ∷ 76 ∷ 97 ∷ 115 ∷ 116 ∷ 115 ∷ []) (tcons (tyInt w64) (tcons (tyInt w64) tnil))) tnil)))) (tcons (tyArray (tyStruct (116 ∷ 105 ∷ 99 ∷ 107 ∷ 101 ∷ 116 ∷ 115 ∷ 58 ∷ 58 ∷ 84 ∷ 105 ∷ 99 ∷ 107 ∷ 101 ∷ 116 ∷ []) (tcons (tyInt w64) (tcons (tyInt w64) (tcons (tyInt w64) (tcons (tyInt w64) tnil))))) 32) tnil)))
+  s9 = λ bs. callB ps·1 r·1 (claims· .2) (claims· .3) T9 (vAt 3 λ x. x, (record { pos = 4; st = []; d = 0; at = λ x. x }, (record { pos = 2; st = []; d = 0; at = λ x. x }, tt))) 5 [] (tyStruct (100 ∷ 101 ∷ 115 ∷ 107 ∷ 95 ∷ 116 ∷ 105 ∷ 99 ∷ 107 ∷ 101 ∷ 116 ∷ 115 ∷ 58 ∷ 58 ∷ 70 ∷ 105 ∷ 108 ∷ 101 ∷ 100 ∷ 82 ∷ 111 ∷ 119 ∷ []) (tcons (tyStruct (100 ∷ 101 ∷ 115 ∷ 107 ∷ 95 ∷ 116 ∷ 105 ∷ 99 ∷ 107 ∷ 101 ∷ 116 ∷ 115 ∷ 58 ∷ 58 ∷ 70 ∷ 105 ∷ 108 ∷ 101 ∷ 100 ∷ []) (tcons (tyStruct (114 ∷ 101 ∷ 102 ∷ 117 ∷ 115 ∷ 97 ∷ 108 ∷ 115 ∷ 58 ∷ 58 ∷ 86 ∷ 101 ∷ 114 ∷ 100 ∷ 105 ∷ 99 ∷ 116 ∷ []) (tcons (tyEnum (114 ∷ 101 ∷ 102 ∷ 117 ∷ 115 ∷ 97 ∷ 108 ∷ 115 ∷ 58 ∷ 58 ∷ 82 ∷ 101 ∷ 102 ∷ 117 ∷ 115 ∷ 97 ∷ 108 ∷ []) (ttcons tnil (ttcons tnil (ttcons tnil (ttcons tnil (ttcons tnil (ttcons tnil (ttcons tnil (ttcons tnil (ttcons tnil (ttcons tnil (ttcons tnil (ttcons tnil (ttcons tnil (ttcons tnil (ttcons tnil (ttcons tnil (ttcons tnil (ttcons tnil (ttcons tnil (ttcons tnil (ttcons tnil (ttcons tnil (ttcons tnil (ttcons tnil (ttcons tnil (ttcons tnil (ttcons tnil ttnil)))))))))))))))))))))))))))) (tcons (tyInt w64) tnil))) (tcons (tyInt w64) (tcons (tyStruct (100 ∷ 101 ∷ 115 ∷ 107 ∷ 95 ∷ 116 ∷ 105 ∷ 99 ∷ 107 ∷ 101 ∷ 116 ∷ 115 ∷ 58 ∷ 58 ∷ 76 ∷ 97 ∷ 115 ∷ 116 ∷ 115 ∷ []) (tcons (tyInt w64) (tcons (tyInt w64) tnil))) tnil)))) (tcons (tyArray (tyStruct (100 ∷ 101 ∷ 115 ∷ 107 ∷ 95 ∷ 116 ∷ 105 ∷ 99 ∷ 107 ∷ 101 ∷ 116 ∷ 115 ∷ 58 ∷ 58 ∷ 84 ∷ 105 ∷ 99 ∷ 107 ∷ 101 ∷ 116 ∷ []) (tcons (tyInt w64) (tcons (tyInt w64) (tcons (tyInt w64) (tcons (tyInt w64) tnil))))) 32) tnil)))
 
   abbrev s10 : (bs : List.List ℕ) → Mo T11 → Mo T12
-  s10 = λ bs. n-room T11 2 (tyStruct (116 ∷ 105 ∷ 99 ∷ 107 ∷ 101 ∷ 116 ∷ 115 ∷ 58 ∷ 58 ∷ 70 ∷ 105 ∷ 108 ∷ 105 ∷ 110 ∷ 103 ∷ []) (tcons (tyInt w64) (tcons (tyInt w64) (tcons (tyInt w64) (tcons (tyInt w64) (tcons (tyStruct (116 ∷ 105 ∷ 99 ∷ 107 ∷ 101 ∷ 116 ∷ 115 ∷ 58 ∷ 58 ∷ 76 ∷ 97 ∷ 115 ∷ 116 ∷ 115 ∷ []) (tcons (tyInt w64) (tcons (tyInt w64) tnil))) tnil))))))
+  s10 = λ bs. n-room T11 2 (tyStruct (100 ∷ 101 ∷ 115 ∷ 107 ∷ 95 ∷ 116 ∷ 105 ∷ 99 ∷ 107 ∷ 101 ∷ 116 ∷ 115 ∷ 58 ∷ 58 ∷ 70 ∷ 105 ∷ 108 ∷ 105 ∷ 110 ∷ 103 ∷ []) (tcons (tyInt w64) (tcons (tyInt w64) (tcons (tyInt w64) (tcons (tyInt w64) (tcons (tyStruct (100 ∷ 101 ∷ 115 ∷ 107 ∷ 95 ∷ 116 ∷ 105 ∷ 99 ∷ 107 ∷ 101 ∷ 116 ∷ 115 ∷ 58 ∷ 58 ∷ 76 ∷ 97 ∷ 115 ∷ 116 ∷ 115 ∷ []) (tcons (tyInt w64) (tcons (tyInt w64) tnil))) tnil))))))
 
   abbrev s11 : (bs : List.List ℕ) → Mo T12 → Mo T13
-  s11 = λ bs. n-room T12 4 (tyArray (tyStruct (116 ∷ 105 ∷ 99 ∷ 107 ∷ 101 ∷ 116 ∷ 115 ∷ 58 ∷ 58 ∷ 84 ∷ 105 ∷ 99 ∷ 107 ∷ 101 ∷ 116 ∷ []) (tcons (tyInt w64) (tcons (tyInt w64) (tcons (tyInt w64) (tcons (tyInt w64) tnil))))) 32)
+  s11 = λ bs. n-room T12 4 (tyArray (tyStruct (100 ∷ 101 ∷ 115 ∷ 107 ∷ 95 ∷ 116 ∷ 105 ∷ 99 ∷ 107 ∷ 101 ∷ 116 ∷ 115 ∷ 58 ∷ 58 ∷ 84 ∷ 105 ∷ 99 ∷ 107 ∷ 101 ∷ 116 ∷ []) (tcons (tyInt w64) (tcons (tyInt w64) (tcons (tyInt w64) (tcons (tyInt w64) tnil))))) 32)
 
   abbrev s12 : (bs : List.List ℕ) → Both T13 T14
   s12 = λ bs. k-way-copy-out T13 (out 5 (T13 .locals)) (λ u. drop 5 (T13 .locals) u) 6 (arrF (Declared.row Ticket.the-type) 32 0) (λ u. getAt (FiledRow.the-type .parts) 1 (struct .as-values (u .1 .1 .1 .1 .1 .0))) (λ T′. record { locals = setRow 5 (5, whole (Declared.row FiledRow.the-type)) T′; slots = [] }) (λ u T′ m′. set 5 (5, whole (Declared.row FiledRow.the-type)) (u .1 .1 .1 .1 .1 .0) T′ m′) (λ u. Unit) λ u. Unit
@@ -337,7 +337,7 @@ module _ (claims· : Claims) where
   s16 = λ bs. callB ps·2 r·2 (claims· .4) (claims· .5) T17 (record { pos = 11; ty = tyRef erased mut (pointee (the-row .written)); ref = λ x. x }, (record { pos = 6; st = []; d = 0; at = λ x. x }, tt)) 9 (2 ∷ []) tyUnit
 
   abbrev s17 : (bs : List.List ℕ) → Mo T18 → Mo T19
-  s17 = λ bs. n-room T18 6 (tyArray (tyStruct (116 ∷ 105 ∷ 99 ∷ 107 ∷ 101 ∷ 116 ∷ 115 ∷ 58 ∷ 58 ∷ 84 ∷ 105 ∷ 99 ∷ 107 ∷ 101 ∷ 116 ∷ []) (tcons (tyInt w64) (tcons (tyInt w64) (tcons (tyInt w64) (tcons (tyInt w64) tnil))))) 32)
+  s17 = λ bs. n-room T18 6 (tyArray (tyStruct (100 ∷ 101 ∷ 115 ∷ 107 ∷ 95 ∷ 116 ∷ 105 ∷ 99 ∷ 107 ∷ 101 ∷ 116 ∷ 115 ∷ 58 ∷ 58 ∷ 84 ∷ 105 ∷ 99 ∷ 107 ∷ 101 ∷ 116 ∷ []) (tcons (tyInt w64) (tcons (tyInt w64) (tcons (tyInt w64) (tcons (tyInt w64) tnil))))) 32)
 
   abbrev s18 : (bs : List.List ℕ) → Mo T19 → Mo T20
   s18 = λ bs. n-room T19 9 tyUnit
@@ -352,12 +352,12 @@ module _ (claims· : Claims) where
   s23 = λ bs. n-room T24 3 (tyInt w64)
 
   abbrev s24 : (bs : List.List ℕ) → Mo T25 → Mo T26
-  s24 = λ bs. n-room T25 5 (tyStruct (116 ∷ 105 ∷ 99 ∷ 107 ∷ 101 ∷ 116 ∷ 115 ∷ 58 ∷ 58 ∷ 70 ∷ 105 ∷ 108 ∷ 101 ∷ 100 ∷ 82 ∷ 111 ∷ 119 ∷ []) (tcons (tyStruct (116 ∷ 105 ∷ 99 ∷ 107 ∷ 101 ∷ 116 ∷ 115 ∷ 58 ∷ 58 ∷ 70 ∷ 105 ∷ 108 ∷ 101 ∷ 100 ∷ []) (tcons (tyStruct (114 ∷ 101 ∷ 102 ∷ 117 ∷ 115 ∷ 97 ∷ 108 ∷ 115 ∷ 58 ∷ 58 ∷ 86 ∷ 101 ∷ 114 ∷ 100 ∷ 105 ∷ 99 ∷ 116 ∷ []) (tcons (tyEnum (114 ∷ 101 ∷ 102 ∷ 117 ∷ 115 ∷ 97 ∷ 108 ∷ 115 ∷ 58 ∷ 58 ∷ 82 ∷ 101 ∷ 102 ∷ 117 ∷ 115 ∷ 97 ∷ 108 ∷ []) (ttcons tnil (ttcons tnil (ttcons tnil (ttcons tnil (ttcons tnil (ttcons tnil (ttcons tnil (ttcons tnil (ttcons tnil (ttcons tnil (ttcons tnil (ttcons tnil (ttcons tnil (ttcons tnil (ttcons tnil (ttcons tnil (ttcons tnil (ttcons tnil (ttcons tnil (ttcons tnil (ttcons tnil (ttcons tnil (ttcons tnil (ttcons tnil (ttcons tnil (ttcons tnil (ttcons tnil ttnil)))))))))))))))))))))))))))) (tcons (tyInt w64) tnil))) (tcons (tyInt w64) (tcons (tyStruct (116 ∷ 105 ∷ 99 ∷ 107 ∷ 101 ∷ 116 ∷ 115 ∷ 58 ∷ 58 ∷ 76 ∷ 97 ∷ 115 ∷ 116 ∷ 115 ∷ []) (tcons (tyInt w64) (tcons (tyInt w64) tnil))) tnil)))) (tcons (tyArray (tyStruct (116 ∷ 105 ∷ 99 ∷ 107 ∷ 101 ∷ 116 ∷ 115 ∷ 58 ∷ 58 ∷ 84 ∷ 105 ∷ 99 ∷ 107 ∷ 101 ∷ 116 ∷ []) (tcons (tyInt w64) (tcons (tyInt w64) (tcons (tyInt w64) (tcons (tyInt w64) tnil))))) 32) tnil)))
+  s24 = λ bs. n-room T25 5 (tyStruct (100 ∷ 101 ∷ 115 ∷ 107 ∷ 95 ∷ 116 ∷ 105 ∷ 99 ∷ 107 ∷ 101 ∷ 116 ∷ 115 ∷ 58 ∷ 58 ∷ 70 ∷ 105 ∷ 108 ∷ 101 ∷ 100 ∷ 82 ∷ 111 ∷ 119 ∷ []) (tcons (tyStruct (100 ∷ 101 ∷ 115 ∷ 107 ∷ 95 ∷ 116 ∷ 105 ∷ 99 ∷ 107 ∷ 101 ∷ 116 ∷ 115 ∷ 58 ∷ 58 ∷ 70 ∷ 105 ∷ 108 ∷ 101 ∷ 100 ∷ []) (tcons (tyStruct (114 ∷ 101 ∷ 102 ∷ 117 ∷ 115 ∷ 97 ∷ 108 ∷ 115 ∷ 58 ∷ 58 ∷ 86 ∷ 101 ∷ 114 ∷ 100 ∷ 105 ∷ 99 ∷ 116 ∷ []) (tcons (tyEnum (114 ∷ 101 ∷ 102 ∷ 117 ∷ 115 ∷ 97 ∷ 108 ∷ 115 ∷ 58 ∷ 58 ∷ 82 ∷ 101 ∷ 102 ∷ 117 ∷ 115 ∷ 97 ∷ 108 ∷ []) (ttcons tnil (ttcons tnil (ttcons tnil (ttcons tnil (ttcons tnil (ttcons tnil (ttcons tnil (ttcons tnil (ttcons tnil (ttcons tnil (ttcons tnil (ttcons tnil (ttcons tnil (ttcons tnil (ttcons tnil (ttcons tnil (ttcons tnil (ttcons tnil (ttcons tnil (ttcons tnil (ttcons tnil (ttcons tnil (ttcons tnil (ttcons tnil (ttcons tnil (ttcons tnil (ttcons tnil ttnil)))))))))))))))))))))))))))) (tcons (tyInt w64) tnil))) (tcons (tyInt w64) (tcons (tyStruct (100 ∷ 101 ∷ 115 ∷ 107 ∷ 95 ∷ 116 ∷ 105 ∷ 99 ∷ 107 ∷ 101 ∷ 116 ∷ 115 ∷ 58 ∷ 58 ∷ 76 ∷ 97 ∷ 115 ∷ 116 ∷ 115 ∷ []) (tcons (tyInt w64) (tcons (tyInt w64) tnil))) tnil)))) (tcons (tyArray (tyStruct (100 ∷ 101 ∷ 115 ∷ 107 ∷ 95 ∷ 116 ∷ 105 ∷ 99 ∷ 107 ∷ 101 ∷ 116 ∷ 115 ∷ 58 ∷ 58 ∷ 84 ∷ 105 ∷ 99 ∷ 107 ∷ 101 ∷ 116 ∷ []) (tcons (tyInt w64) (tcons (tyInt w64) (tcons (tyInt w64) (tcons (tyInt w64) tnil))))) 32) tnil)))
 
   module _ (Pre· : (κs : Lfts 1) → Dens κs ps → Type 0) (Post· : (κs : Lfts 1) → (a : Dens κs ps) → Kinds.Plain 1 ps r κs) where
     module _ (M : Type 1) where
       abbrev pub Closed : Type 2
-      Closed = (𝓤 : URA.URA M) (H : Heap 𝓤) (A : Atoms.Atoms 𝓤) (W : Given 𝓤 H A) (𝓣 : Tables 𝓤 H) (known0 : Known 𝓤 H A W 𝓣 1 ps·0 r·0 (claims· .0) (claims· .1) "desk::copy_out") (known1 : Known 𝓤 H A W 𝓣 0 ps·1 r·1 (claims· .2) (claims· .3) "tickets::file_in") (known2 : Known 𝓤 H A W 𝓣 1 ps·2 r·2 (claims· .4) (claims· .5) "desk::copy_in") → Triple 𝓤 (WpFn 𝓤 H (𝓣 .C) (𝓣 .Λ) (fnOf 1 ps r xs m hs body)) (plainOf 𝓤 H A 1 ps r Pre· Post·)
+      Closed = (𝓤 : URA.URA M) (H : Heap 𝓤) (A : Atoms.Atoms 𝓤) (W : Given 𝓤 H A) (𝓣 : Tables 𝓤 H) (known0 : Known 𝓤 H A W 𝓣 1 ps·0 r·0 (claims· .0) (claims· .1) "desk_rows::copy_out") (known1 : Known 𝓤 H A W 𝓣 0 ps·1 r·1 (claims· .2) (claims· .3) "desk_tickets::file_in") (known2 : Known 𝓤 H A W 𝓣 1 ps·2 r·2 (claims· .4) (claims· .5) "desk_rows::copy_in") → Triple 𝓤 (WpFn 𝓤 H (𝓣 .C) (𝓣 .Λ) (fnOf 1 ps r xs m hs body)) (plainOf 𝓤 H A 1 ps r Pre· Post·)
 
     module _ where
       abbrev at0 : (bs : List.List ℕ) → TF T26 O0
@@ -443,35 +443,35 @@ module _ (claims· : Claims) where
 
       module _ {M : Type 1} (𝓤 : URA.URA M) (H : Heap 𝓤) (A : Atoms.Atoms 𝓤) (W : Given 𝓤 H A) (𝓣 : Tables 𝓤 H) where
         abbrev Knowns : Type 1
-        Knowns = Known 𝓤 H A W 𝓣 1 ps·0 r·0 (claims· .0) (claims· .1) "desk::copy_out" × Known 𝓤 H A W 𝓣 0 ps·1 r·1 (claims· .2) (claims· .3) "tickets::file_in" × Known 𝓤 H A W 𝓣 1 ps·2 r·2 (claims· .4) (claims· .5) "desk::copy_in"
+        Knowns = Known 𝓤 H A W 𝓣 1 ps·0 r·0 (claims· .0) (claims· .1) "desk_rows::copy_out" × Known 𝓤 H A W 𝓣 0 ps·1 r·1 (claims· .2) (claims· .3) "desk_tickets::file_in" × Known 𝓤 H A W 𝓣 1 ps·2 r·2 (claims· .4) (claims· .5) "desk_rows::copy_in"
 
       module _ (κs : Lfts 1) (qs : Shares 1) where
         abbrev g3 : List.List Entry
-        g3 = (0, any-gone (tyStruct (116 ∷ 105 ∷ 99 ∷ 107 ∷ 101 ∷ 116 ∷ 115 ∷ 58 ∷ 58 ∷ 70 ∷ 105 ∷ 108 ∷ 101 ∷ 100 ∷ []) (tcons (tyStruct (114 ∷ 101 ∷ 102 ∷ 117 ∷ 115 ∷ 97 ∷ 108 ∷ 115 ∷ 58 ∷ 58 ∷ 86 ∷ 101 ∷ 114 ∷ 100 ∷ 105 ∷ 99 ∷ 116 ∷ []) (tcons (tyEnum (114 ∷ 101 ∷ 102 ∷ 117 ∷ 115 ∷ 97 ∷ 108 ∷ 115 ∷ 58 ∷ 58 ∷ 82 ∷ 101 ∷ 102 ∷ 117 ∷ 115 ∷ 97 ∷ 108 ∷ []) (ttcons tnil (ttcons tnil (ttcons tnil (ttcons tnil (ttcons tnil (ttcons tnil (ttcons tnil (ttcons tnil (ttcons tnil (ttcons tnil (ttcons tnil (ttcons tnil (ttcons tnil (ttcons tnil (ttcons tnil (ttcons tnil (ttcons tnil (ttcons tnil (ttcons tnil (ttcons tnil (ttcons tnil (ttcons tnil (ttcons tnil (ttcons tnil (ttcons tnil (ttcons tnil (ttcons tnil ttnil)))))))))))))))))))))))))))) (tcons (tyInt w64) tnil))) (tcons (tyInt w64) (tcons (tyStruct (116 ∷ 105 ∷ 99 ∷ 107 ∷ 101 ∷ 116 ∷ 115 ∷ 58 ∷ 58 ∷ 76 ∷ 97 ∷ 115 ∷ 116 ∷ 115 ∷ []) (tcons (tyInt w64) (tcons (tyInt w64) tnil))) tnil))))) ∷ (1, mslice-owedS the-row (tyRef (named 0) mut (pointee (the-row .written))) 0 1 (lease (κs .0) (qs .0))) ∷ (2, whole (Declared.row Filing.the-type)) ∷ (3, sc-here (sInt w64)) ∷ (4, any-gone (tyArray (tyStruct (116 ∷ 105 ∷ 99 ∷ 107 ∷ 101 ∷ 116 ∷ 115 ∷ 58 ∷ 58 ∷ 84 ∷ 105 ∷ 99 ∷ 107 ∷ 101 ∷ 116 ∷ []) (tcons (tyInt w64) (tcons (tyInt w64) (tcons (tyInt w64) (tcons (tyInt w64) tnil))))) 32)) ∷ (5, any-gone (tyStruct (116 ∷ 105 ∷ 99 ∷ 107 ∷ 101 ∷ 116 ∷ 115 ∷ 58 ∷ 58 ∷ 70 ∷ 105 ∷ 108 ∷ 101 ∷ 100 ∷ 82 ∷ 111 ∷ 119 ∷ []) (tcons (tyStruct (116 ∷ 105 ∷ 99 ∷ 107 ∷ 101 ∷ 116 ∷ 115 ∷ 58 ∷ 58 ∷ 70 ∷ 105 ∷ 108 ∷ 101 ∷ 100 ∷ []) (tcons (tyStruct (114 ∷ 101 ∷ 102 ∷ 117 ∷ 115 ∷ 97 ∷ 108 ∷ 115 ∷ 58 ∷ 58 ∷ 86 ∷ 101 ∷ 114 ∷ 100 ∷ 105 ∷ 99 ∷ 116 ∷ []) (tcons (tyEnum (114 ∷ 101 ∷ 102 ∷ 117 ∷ 115 ∷ 97 ∷ 108 ∷ 115 ∷ 58 ∷ 58 ∷ 82 ∷ 101 ∷ 102 ∷ 117 ∷ 115 ∷ 97 ∷ 108 ∷ []) (ttcons tnil (ttcons tnil (ttcons tnil (ttcons tnil (ttcons tnil (ttcons tnil (ttcons tnil (ttcons tnil (ttcons tnil (ttcons tnil (ttcons tnil (ttcons tnil (ttcons tnil (ttcons tnil (ttcons tnil (ttcons tnil (ttcons tnil (ttcons tnil (ttcons tnil (ttcons tnil (ttcons tnil (ttcons tnil (ttcons tnil (ttcons tnil (ttcons tnil (ttcons tnil (ttcons tnil ttnil)))))))))))))))))))))))))))) (tcons (tyInt w64) tnil))) (tcons (tyInt w64) (tcons (tyStruct (116 ∷ 105 ∷ 99 ∷ 107 ∷ 101 ∷ 116 ∷ 115 ∷ 58 ∷ 58 ∷ 76 ∷ 97 ∷ 115 ∷ 116 ∷ 115 ∷ []) (tcons (tyInt w64) (tcons (tyInt w64) tnil))) tnil)))) (tcons (tyArray (tyStruct (116 ∷ 105 ∷ 99 ∷ 107 ∷ 101 ∷ 116 ∷ 115 ∷ 58 ∷ 58 ∷ 84 ∷ 105 ∷ 99 ∷ 107 ∷ 101 ∷ 116 ∷ []) (tcons (tyInt w64) (tcons (tyInt w64) (tcons (tyInt w64) (tcons (tyInt w64) tnil))))) 32) tnil)))) ∷ (6, any-gone (tyArray (tyStruct (116 ∷ 105 ∷ 99 ∷ 107 ∷ 101 ∷ 116 ∷ 115 ∷ 58 ∷ 58 ∷ 84 ∷ 105 ∷ 99 ∷ 107 ∷ 101 ∷ 116 ∷ []) (tcons (tyInt w64) (tcons (tyInt w64) (tcons (tyInt w64) (tcons (tyInt w64) tnil))))) 32)) ∷ (7, ssptr the-row (tyRef erased imm (pointee (the-row .written))) 1) ∷ (8, any-gone (tyStruct (38 ∷ 91 ∷ 93 ∷ []) (tcons (tyRef erased imm (pointee (the-row .written))) (tcons (tyInt w64) tnil)))) ∷ (9, any-gone tyUnit) ∷ (10, any-gone (tyRef erased mut (pointee (the-row .written)))) ∷ (11, any-gone (tyStruct (38 ∷ 91 ∷ 93 ∷ []) (tcons (tyRef erased mut (pointee (the-row .written))) (tcons (tyInt w64) tnil)))) ∷ []
+        g3 = (0, any-gone (tyStruct (100 ∷ 101 ∷ 115 ∷ 107 ∷ 95 ∷ 116 ∷ 105 ∷ 99 ∷ 107 ∷ 101 ∷ 116 ∷ 115 ∷ 58 ∷ 58 ∷ 70 ∷ 105 ∷ 108 ∷ 101 ∷ 100 ∷ []) (tcons (tyStruct (114 ∷ 101 ∷ 102 ∷ 117 ∷ 115 ∷ 97 ∷ 108 ∷ 115 ∷ 58 ∷ 58 ∷ 86 ∷ 101 ∷ 114 ∷ 100 ∷ 105 ∷ 99 ∷ 116 ∷ []) (tcons (tyEnum (114 ∷ 101 ∷ 102 ∷ 117 ∷ 115 ∷ 97 ∷ 108 ∷ 115 ∷ 58 ∷ 58 ∷ 82 ∷ 101 ∷ 102 ∷ 117 ∷ 115 ∷ 97 ∷ 108 ∷ []) (ttcons tnil (ttcons tnil (ttcons tnil (ttcons tnil (ttcons tnil (ttcons tnil (ttcons tnil (ttcons tnil (ttcons tnil (ttcons tnil (ttcons tnil (ttcons tnil (ttcons tnil (ttcons tnil (ttcons tnil (ttcons tnil (ttcons tnil (ttcons tnil (ttcons tnil (ttcons tnil (ttcons tnil (ttcons tnil (ttcons tnil (ttcons tnil (ttcons tnil (ttcons tnil (ttcons tnil ttnil)))))))))))))))))))))))))))) (tcons (tyInt w64) tnil))) (tcons (tyInt w64) (tcons (tyStruct (100 ∷ 101 ∷ 115 ∷ 107 ∷ 95 ∷ 116 ∷ 105 ∷ 99 ∷ 107 ∷ 101 ∷ 116 ∷ 115 ∷ 58 ∷ 58 ∷ 76 ∷ 97 ∷ 115 ∷ 116 ∷ 115 ∷ []) (tcons (tyInt w64) (tcons (tyInt w64) tnil))) tnil))))) ∷ (1, mslice-owedS the-row (tyRef (named 0) mut (pointee (the-row .written))) 0 1 (lease (κs .0) (qs .0))) ∷ (2, whole (Declared.row Filing.the-type)) ∷ (3, sc-here (sInt w64)) ∷ (4, any-gone (tyArray (tyStruct (100 ∷ 101 ∷ 115 ∷ 107 ∷ 95 ∷ 116 ∷ 105 ∷ 99 ∷ 107 ∷ 101 ∷ 116 ∷ 115 ∷ 58 ∷ 58 ∷ 84 ∷ 105 ∷ 99 ∷ 107 ∷ 101 ∷ 116 ∷ []) (tcons (tyInt w64) (tcons (tyInt w64) (tcons (tyInt w64) (tcons (tyInt w64) tnil))))) 32)) ∷ (5, any-gone (tyStruct (100 ∷ 101 ∷ 115 ∷ 107 ∷ 95 ∷ 116 ∷ 105 ∷ 99 ∷ 107 ∷ 101 ∷ 116 ∷ 115 ∷ 58 ∷ 58 ∷ 70 ∷ 105 ∷ 108 ∷ 101 ∷ 100 ∷ 82 ∷ 111 ∷ 119 ∷ []) (tcons (tyStruct (100 ∷ 101 ∷ 115 ∷ 107 ∷ 95 ∷ 116 ∷ 105 ∷ 99 ∷ 107 ∷ 101 ∷ 116 ∷ 115 ∷ 58 ∷ 58 ∷ 70 ∷ 105 ∷ 108 ∷ 101 ∷ 100 ∷ []) (tcons (tyStruct (114 ∷ 101 ∷ 102 ∷ 117 ∷ 115 ∷ 97 ∷ 108 ∷ 115 ∷ 58 ∷ 58 ∷ 86 ∷ 101 ∷ 114 ∷ 100 ∷ 105 ∷ 99 ∷ 116 ∷ []) (tcons (tyEnum (114 ∷ 101 ∷ 102 ∷ 117 ∷ 115 ∷ 97 ∷ 108 ∷ 115 ∷ 58 ∷ 58 ∷ 82 ∷ 101 ∷ 102 ∷ 117 ∷ 115 ∷ 97 ∷ 108 ∷ []) (ttcons tnil (ttcons tnil (ttcons tnil (ttcons tnil (ttcons tnil (ttcons tnil (ttcons tnil (ttcons tnil (ttcons tnil (ttcons tnil (ttcons tnil (ttcons tnil (ttcons tnil (ttcons tnil (ttcons tnil (ttcons tnil (ttcons tnil (ttcons tnil (ttcons tnil (ttcons tnil (ttcons tnil (ttcons tnil (ttcons tnil (ttcons tnil (ttcons tnil (ttcons tnil (ttcons tnil ttnil)))))))))))))))))))))))))))) (tcons (tyInt w64) tnil))) (tcons (tyInt w64) (tcons (tyStruct (100 ∷ 101 ∷ 115 ∷ 107 ∷ 95 ∷ 116 ∷ 105 ∷ 99 ∷ 107 ∷ 101 ∷ 116 ∷ 115 ∷ 58 ∷ 58 ∷ 76 ∷ 97 ∷ 115 ∷ 116 ∷ 115 ∷ []) (tcons (tyInt w64) (tcons (tyInt w64) tnil))) tnil)))) (tcons (tyArray (tyStruct (100 ∷ 101 ∷ 115 ∷ 107 ∷ 95 ∷ 116 ∷ 105 ∷ 99 ∷ 107 ∷ 101 ∷ 116 ∷ 115 ∷ 58 ∷ 58 ∷ 84 ∷ 105 ∷ 99 ∷ 107 ∷ 101 ∷ 116 ∷ []) (tcons (tyInt w64) (tcons (tyInt w64) (tcons (tyInt w64) (tcons (tyInt w64) tnil))))) 32) tnil)))) ∷ (6, any-gone (tyArray (tyStruct (100 ∷ 101 ∷ 115 ∷ 107 ∷ 95 ∷ 116 ∷ 105 ∷ 99 ∷ 107 ∷ 101 ∷ 116 ∷ 115 ∷ 58 ∷ 58 ∷ 84 ∷ 105 ∷ 99 ∷ 107 ∷ 101 ∷ 116 ∷ []) (tcons (tyInt w64) (tcons (tyInt w64) (tcons (tyInt w64) (tcons (tyInt w64) tnil))))) 32)) ∷ (7, ssptr the-row (tyRef erased imm (pointee (the-row .written))) 1) ∷ (8, any-gone (tyStruct (38 ∷ 91 ∷ 93 ∷ []) (tcons (tyRef erased imm (pointee (the-row .written))) (tcons (tyInt w64) tnil)))) ∷ (9, any-gone tyUnit) ∷ (10, any-gone (tyRef erased mut (pointee (the-row .written)))) ∷ (11, any-gone (tyStruct (38 ∷ 91 ∷ 93 ∷ []) (tcons (tyRef erased mut (pointee (the-row .written))) (tcons (tyInt w64) tnil)))) ∷ []
 
         abbrev g4 : List.List Entry
-        g4 = (0, any-gone (tyStruct (116 ∷ 105 ∷ 99 ∷ 107 ∷ 101 ∷ 116 ∷ 115 ∷ 58 ∷ 58 ∷ 70 ∷ 105 ∷ 108 ∷ 101 ∷ 100 ∷ []) (tcons (tyStruct (114 ∷ 101 ∷ 102 ∷ 117 ∷ 115 ∷ 97 ∷ 108 ∷ 115 ∷ 58 ∷ 58 ∷ 86 ∷ 101 ∷ 114 ∷ 100 ∷ 105 ∷ 99 ∷ 116 ∷ []) (tcons (tyEnum (114 ∷ 101 ∷ 102 ∷ 117 ∷ 115 ∷ 97 ∷ 108 ∷ 115 ∷ 58 ∷ 58 ∷ 82 ∷ 101 ∷ 102 ∷ 117 ∷ 115 ∷ 97 ∷ 108 ∷ []) (ttcons tnil (ttcons tnil (ttcons tnil (ttcons tnil (ttcons tnil (ttcons tnil (ttcons tnil (ttcons tnil (ttcons tnil (ttcons tnil (ttcons tnil (ttcons tnil (ttcons tnil (ttcons tnil (ttcons tnil (ttcons tnil (ttcons tnil (ttcons tnil (ttcons tnil (ttcons tnil (ttcons tnil (ttcons tnil (ttcons tnil (ttcons tnil (ttcons tnil (ttcons tnil (ttcons tnil ttnil)))))))))))))))))))))))))))) (tcons (tyInt w64) tnil))) (tcons (tyInt w64) (tcons (tyStruct (116 ∷ 105 ∷ 99 ∷ 107 ∷ 101 ∷ 116 ∷ 115 ∷ 58 ∷ 58 ∷ 76 ∷ 97 ∷ 115 ∷ 116 ∷ 115 ∷ []) (tcons (tyInt w64) (tcons (tyInt w64) tnil))) tnil))))) ∷ (1, mslice-owedS the-row (tyRef (named 0) mut (pointee (the-row .written))) 0 1 (lease (κs .0) (qs .0))) ∷ (2, whole (Declared.row Filing.the-type)) ∷ (3, sc-here (sInt w64)) ∷ (4, any-gone (tyArray (tyStruct (116 ∷ 105 ∷ 99 ∷ 107 ∷ 101 ∷ 116 ∷ 115 ∷ 58 ∷ 58 ∷ 84 ∷ 105 ∷ 99 ∷ 107 ∷ 101 ∷ 116 ∷ []) (tcons (tyInt w64) (tcons (tyInt w64) (tcons (tyInt w64) (tcons (tyInt w64) tnil))))) 32)) ∷ (5, any-gone (tyStruct (116 ∷ 105 ∷ 99 ∷ 107 ∷ 101 ∷ 116 ∷ 115 ∷ 58 ∷ 58 ∷ 70 ∷ 105 ∷ 108 ∷ 101 ∷ 100 ∷ 82 ∷ 111 ∷ 119 ∷ []) (tcons (tyStruct (116 ∷ 105 ∷ 99 ∷ 107 ∷ 101 ∷ 116 ∷ 115 ∷ 58 ∷ 58 ∷ 70 ∷ 105 ∷ 108 ∷ 101 ∷ 100 ∷ []) (tcons (tyStruct (114 ∷ 101 ∷ 102 ∷ 117 ∷ 115 ∷ 97 ∷ 108 ∷ 115 ∷ 58 ∷ 58 ∷ 86 ∷ 101 ∷ 114 ∷ 100 ∷ 105 ∷ 99 ∷ 116 ∷ []) (tcons (tyEnum (114 ∷ 101 ∷ 102 ∷ 117 ∷ 115 ∷ 97 ∷ 108 ∷ 115 ∷ 58 ∷ 58 ∷ 82 ∷ 101 ∷ 102 ∷ 117 ∷ 115 ∷ 97 ∷ 108 ∷ []) (ttcons tnil (ttcons tnil (ttcons tnil (ttcons tnil (ttcons tnil (ttcons tnil (ttcons tnil (ttcons tnil (ttcons tnil (ttcons tnil (ttcons tnil (ttcons tnil (ttcons tnil (ttcons tnil (ttcons tnil (ttcons tnil (ttcons tnil (ttcons tnil (ttcons tnil (ttcons tnil (ttcons tnil (ttcons tnil (ttcons tnil (ttcons tnil (ttcons tnil (ttcons tnil (ttcons tnil ttnil)))))))))))))))))))))))))))) (tcons (tyInt w64) tnil))) (tcons (tyInt w64) (tcons (tyStruct (116 ∷ 105 ∷ 99 ∷ 107 ∷ 101 ∷ 116 ∷ 115 ∷ 58 ∷ 58 ∷ 76 ∷ 97 ∷ 115 ∷ 116 ∷ 115 ∷ []) (tcons (tyInt w64) (tcons (tyInt w64) tnil))) tnil)))) (tcons (tyArray (tyStruct (116 ∷ 105 ∷ 99 ∷ 107 ∷ 101 ∷ 116 ∷ 115 ∷ 58 ∷ 58 ∷ 84 ∷ 105 ∷ 99 ∷ 107 ∷ 101 ∷ 116 ∷ []) (tcons (tyInt w64) (tcons (tyInt w64) (tcons (tyInt w64) (tcons (tyInt w64) tnil))))) 32) tnil)))) ∷ (6, any-gone (tyArray (tyStruct (116 ∷ 105 ∷ 99 ∷ 107 ∷ 101 ∷ 116 ∷ 115 ∷ 58 ∷ 58 ∷ 84 ∷ 105 ∷ 99 ∷ 107 ∷ 101 ∷ 116 ∷ []) (tcons (tyInt w64) (tcons (tyInt w64) (tcons (tyInt w64) (tcons (tyInt w64) tnil))))) 32)) ∷ (7, any-gone (tyRef erased imm (pointee (the-row .written)))) ∷ (8, sslice the-row (tyRef erased imm (pointee (the-row .written))) 1) ∷ (9, any-gone tyUnit) ∷ (10, any-gone (tyRef erased mut (pointee (the-row .written)))) ∷ (11, any-gone (tyStruct (38 ∷ 91 ∷ 93 ∷ []) (tcons (tyRef erased mut (pointee (the-row .written))) (tcons (tyInt w64) tnil)))) ∷ []
+        g4 = (0, any-gone (tyStruct (100 ∷ 101 ∷ 115 ∷ 107 ∷ 95 ∷ 116 ∷ 105 ∷ 99 ∷ 107 ∷ 101 ∷ 116 ∷ 115 ∷ 58 ∷ 58 ∷ 70 ∷ 105 ∷ 108 ∷ 101 ∷ 100 ∷ []) (tcons (tyStruct (114 ∷ 101 ∷ 102 ∷ 117 ∷ 115 ∷ 97 ∷ 108 ∷ 115 ∷ 58 ∷ 58 ∷ 86 ∷ 101 ∷ 114 ∷ 100 ∷ 105 ∷ 99 ∷ 116 ∷ []) (tcons (tyEnum (114 ∷ 101 ∷ 102 ∷ 117 ∷ 115 ∷ 97 ∷ 108 ∷ 115 ∷ 58 ∷ 58 ∷ 82 ∷ 101 ∷ 102 ∷ 117 ∷ 115 ∷ 97 ∷ 108 ∷ []) (ttcons tnil (ttcons tnil (ttcons tnil (ttcons tnil (ttcons tnil (ttcons tnil (ttcons tnil (ttcons tnil (ttcons tnil (ttcons tnil (ttcons tnil (ttcons tnil (ttcons tnil (ttcons tnil (ttcons tnil (ttcons tnil (ttcons tnil (ttcons tnil (ttcons tnil (ttcons tnil (ttcons tnil (ttcons tnil (ttcons tnil (ttcons tnil (ttcons tnil (ttcons tnil (ttcons tnil ttnil)))))))))))))))))))))))))))) (tcons (tyInt w64) tnil))) (tcons (tyInt w64) (tcons (tyStruct (100 ∷ 101 ∷ 115 ∷ 107 ∷ 95 ∷ 116 ∷ 105 ∷ 99 ∷ 107 ∷ 101 ∷ 116 ∷ 115 ∷ 58 ∷ 58 ∷ 76 ∷ 97 ∷ 115 ∷ 116 ∷ 115 ∷ []) (tcons (tyInt w64) (tcons (tyInt w64) tnil))) tnil))))) ∷ (1, mslice-owedS the-row (tyRef (named 0) mut (pointee (the-row .written))) 0 1 (lease (κs .0) (qs .0))) ∷ (2, whole (Declared.row Filing.the-type)) ∷ (3, sc-here (sInt w64)) ∷ (4, any-gone (tyArray (tyStruct (100 ∷ 101 ∷ 115 ∷ 107 ∷ 95 ∷ 116 ∷ 105 ∷ 99 ∷ 107 ∷ 101 ∷ 116 ∷ 115 ∷ 58 ∷ 58 ∷ 84 ∷ 105 ∷ 99 ∷ 107 ∷ 101 ∷ 116 ∷ []) (tcons (tyInt w64) (tcons (tyInt w64) (tcons (tyInt w64) (tcons (tyInt w64) tnil))))) 32)) ∷ (5, any-gone (tyStruct (100 ∷ 101 ∷ 115 ∷ 107 ∷ 95 ∷ 116 ∷ 105 ∷ 99 ∷ 107 ∷ 101 ∷ 116 ∷ 115 ∷ 58 ∷ 58 ∷ 70 ∷ 105 ∷ 108 ∷ 101 ∷ 100 ∷ 82 ∷ 111 ∷ 119 ∷ []) (tcons (tyStruct (100 ∷ 101 ∷ 115 ∷ 107 ∷ 95 ∷ 116 ∷ 105 ∷ 99 ∷ 107 ∷ 101 ∷ 116 ∷ 115 ∷ 58 ∷ 58 ∷ 70 ∷ 105 ∷ 108 ∷ 101 ∷ 100 ∷ []) (tcons (tyStruct (114 ∷ 101 ∷ 102 ∷ 117 ∷ 115 ∷ 97 ∷ 108 ∷ 115 ∷ 58 ∷ 58 ∷ 86 ∷ 101 ∷ 114 ∷ 100 ∷ 105 ∷ 99 ∷ 116 ∷ []) (tcons (tyEnum (114 ∷ 101 ∷ 102 ∷ 117 ∷ 115 ∷ 97 ∷ 108 ∷ 115 ∷ 58 ∷ 58 ∷ 82 ∷ 101 ∷ 102 ∷ 117 ∷ 115 ∷ 97 ∷ 108 ∷ []) (ttcons tnil (ttcons tnil (ttcons tnil (ttcons tnil (ttcons tnil (ttcons tnil (ttcons tnil (ttcons tnil (ttcons tnil (ttcons tnil (ttcons tnil (ttcons tnil (ttcons tnil (ttcons tnil (ttcons tnil (ttcons tnil (ttcons tnil (ttcons tnil (ttcons tnil (ttcons tnil (ttcons tnil (ttcons tnil (ttcons tnil (ttcons tnil (ttcons tnil (ttcons tnil (ttcons tnil ttnil)))))))))))))))))))))))))))) (tcons (tyInt w64) tnil))) (tcons (tyInt w64) (tcons (tyStruct (100 ∷ 101 ∷ 115 ∷ 107 ∷ 95 ∷ 116 ∷ 105 ∷ 99 ∷ 107 ∷ 101 ∷ 116 ∷ 115 ∷ 58 ∷ 58 ∷ 76 ∷ 97 ∷ 115 ∷ 116 ∷ 115 ∷ []) (tcons (tyInt w64) (tcons (tyInt w64) tnil))) tnil)))) (tcons (tyArray (tyStruct (100 ∷ 101 ∷ 115 ∷ 107 ∷ 95 ∷ 116 ∷ 105 ∷ 99 ∷ 107 ∷ 101 ∷ 116 ∷ 115 ∷ 58 ∷ 58 ∷ 84 ∷ 105 ∷ 99 ∷ 107 ∷ 101 ∷ 116 ∷ []) (tcons (tyInt w64) (tcons (tyInt w64) (tcons (tyInt w64) (tcons (tyInt w64) tnil))))) 32) tnil)))) ∷ (6, any-gone (tyArray (tyStruct (100 ∷ 101 ∷ 115 ∷ 107 ∷ 95 ∷ 116 ∷ 105 ∷ 99 ∷ 107 ∷ 101 ∷ 116 ∷ 115 ∷ 58 ∷ 58 ∷ 84 ∷ 105 ∷ 99 ∷ 107 ∷ 101 ∷ 116 ∷ []) (tcons (tyInt w64) (tcons (tyInt w64) (tcons (tyInt w64) (tcons (tyInt w64) tnil))))) 32)) ∷ (7, any-gone (tyRef erased imm (pointee (the-row .written)))) ∷ (8, sslice the-row (tyRef erased imm (pointee (the-row .written))) 1) ∷ (9, any-gone tyUnit) ∷ (10, any-gone (tyRef erased mut (pointee (the-row .written)))) ∷ (11, any-gone (tyStruct (38 ∷ 91 ∷ 93 ∷ []) (tcons (tyRef erased mut (pointee (the-row .written))) (tcons (tyInt w64) tnil)))) ∷ []
 
         abbrev g5 : List.List Entry
-        g5 = (0, any-gone (tyStruct (116 ∷ 105 ∷ 99 ∷ 107 ∷ 101 ∷ 116 ∷ 115 ∷ 58 ∷ 58 ∷ 70 ∷ 105 ∷ 108 ∷ 101 ∷ 100 ∷ []) (tcons (tyStruct (114 ∷ 101 ∷ 102 ∷ 117 ∷ 115 ∷ 97 ∷ 108 ∷ 115 ∷ 58 ∷ 58 ∷ 86 ∷ 101 ∷ 114 ∷ 100 ∷ 105 ∷ 99 ∷ 116 ∷ []) (tcons (tyEnum (114 ∷ 101 ∷ 102 ∷ 117 ∷ 115 ∷ 97 ∷ 108 ∷ 115 ∷ 58 ∷ 58 ∷ 82 ∷ 101 ∷ 102 ∷ 117 ∷ 115 ∷ 97 ∷ 108 ∷ []) (ttcons tnil (ttcons tnil (ttcons tnil (ttcons tnil (ttcons tnil (ttcons tnil (ttcons tnil (ttcons tnil (ttcons tnil (ttcons tnil (ttcons tnil (ttcons tnil (ttcons tnil (ttcons tnil (ttcons tnil (ttcons tnil (ttcons tnil (ttcons tnil (ttcons tnil (ttcons tnil (ttcons tnil (ttcons tnil (ttcons tnil (ttcons tnil (ttcons tnil (ttcons tnil (ttcons tnil ttnil)))))))))))))))))))))))))))) (tcons (tyInt w64) tnil))) (tcons (tyInt w64) (tcons (tyStruct (116 ∷ 105 ∷ 99 ∷ 107 ∷ 101 ∷ 116 ∷ 115 ∷ 58 ∷ 58 ∷ 76 ∷ 97 ∷ 115 ∷ 116 ∷ 115 ∷ []) (tcons (tyInt w64) (tcons (tyInt w64) tnil))) tnil))))) ∷ (1, mslice-owedS the-row (tyRef (named 0) mut (pointee (the-row .written))) 0 1 (lease (κs .0) (qs .0))) ∷ (2, whole (Declared.row Filing.the-type)) ∷ (3, sc-here (sInt w64)) ∷ (4, arrF (Declared.row Ticket.the-type) 32 0) ∷ (5, any-gone (tyStruct (116 ∷ 105 ∷ 99 ∷ 107 ∷ 101 ∷ 116 ∷ 115 ∷ 58 ∷ 58 ∷ 70 ∷ 105 ∷ 108 ∷ 101 ∷ 100 ∷ 82 ∷ 111 ∷ 119 ∷ []) (tcons (tyStruct (116 ∷ 105 ∷ 99 ∷ 107 ∷ 101 ∷ 116 ∷ 115 ∷ 58 ∷ 58 ∷ 70 ∷ 105 ∷ 108 ∷ 101 ∷ 100 ∷ []) (tcons (tyStruct (114 ∷ 101 ∷ 102 ∷ 117 ∷ 115 ∷ 97 ∷ 108 ∷ 115 ∷ 58 ∷ 58 ∷ 86 ∷ 101 ∷ 114 ∷ 100 ∷ 105 ∷ 99 ∷ 116 ∷ []) (tcons (tyEnum (114 ∷ 101 ∷ 102 ∷ 117 ∷ 115 ∷ 97 ∷ 108 ∷ 115 ∷ 58 ∷ 58 ∷ 82 ∷ 101 ∷ 102 ∷ 117 ∷ 115 ∷ 97 ∷ 108 ∷ []) (ttcons tnil (ttcons tnil (ttcons tnil (ttcons tnil (ttcons tnil (ttcons tnil (ttcons tnil (ttcons tnil (ttcons tnil (ttcons tnil (ttcons tnil (ttcons tnil (ttcons tnil (ttcons tnil (ttcons tnil (ttcons tnil (ttcons tnil (ttcons tnil (ttcons tnil (ttcons tnil (ttcons tnil (ttcons tnil (ttcons tnil (ttcons tnil (ttcons tnil (ttcons tnil (ttcons tnil ttnil)))))))))))))))))))))))))))) (tcons (tyInt w64) tnil))) (tcons (tyInt w64) (tcons (tyStruct (116 ∷ 105 ∷ 99 ∷ 107 ∷ 101 ∷ 116 ∷ 115 ∷ 58 ∷ 58 ∷ 76 ∷ 97 ∷ 115 ∷ 116 ∷ 115 ∷ []) (tcons (tyInt w64) (tcons (tyInt w64) tnil))) tnil)))) (tcons (tyArray (tyStruct (116 ∷ 105 ∷ 99 ∷ 107 ∷ 101 ∷ 116 ∷ 115 ∷ 58 ∷ 58 ∷ 84 ∷ 105 ∷ 99 ∷ 107 ∷ 101 ∷ 116 ∷ []) (tcons (tyInt w64) (tcons (tyInt w64) (tcons (tyInt w64) (tcons (tyInt w64) tnil))))) 32) tnil)))) ∷ (6, any-gone (tyArray (tyStruct (116 ∷ 105 ∷ 99 ∷ 107 ∷ 101 ∷ 116 ∷ 115 ∷ 58 ∷ 58 ∷ 84 ∷ 105 ∷ 99 ∷ 107 ∷ 101 ∷ 116 ∷ []) (tcons (tyInt w64) (tcons (tyInt w64) (tcons (tyInt w64) (tcons (tyInt w64) tnil))))) 32)) ∷ (7, any-gone (tyRef erased imm (pointee (the-row .written)))) ∷ (8, sslice the-row (tyRef erased imm (pointee (the-row .written))) 1) ∷ (9, any-gone tyUnit) ∷ (10, any-gone (tyRef erased mut (pointee (the-row .written)))) ∷ (11, any-gone (tyStruct (38 ∷ 91 ∷ 93 ∷ []) (tcons (tyRef erased mut (pointee (the-row .written))) (tcons (tyInt w64) tnil)))) ∷ []
+        g5 = (0, any-gone (tyStruct (100 ∷ 101 ∷ 115 ∷ 107 ∷ 95 ∷ 116 ∷ 105 ∷ 99 ∷ 107 ∷ 101 ∷ 116 ∷ 115 ∷ 58 ∷ 58 ∷ 70 ∷ 105 ∷ 108 ∷ 101 ∷ 100 ∷ []) (tcons (tyStruct (114 ∷ 101 ∷ 102 ∷ 117 ∷ 115 ∷ 97 ∷ 108 ∷ 115 ∷ 58 ∷ 58 ∷ 86 ∷ 101 ∷ 114 ∷ 100 ∷ 105 ∷ 99 ∷ 116 ∷ []) (tcons (tyEnum (114 ∷ 101 ∷ 102 ∷ 117 ∷ 115 ∷ 97 ∷ 108 ∷ 115 ∷ 58 ∷ 58 ∷ 82 ∷ 101 ∷ 102 ∷ 117 ∷ 115 ∷ 97 ∷ 108 ∷ []) (ttcons tnil (ttcons tnil (ttcons tnil (ttcons tnil (ttcons tnil (ttcons tnil (ttcons tnil (ttcons tnil (ttcons tnil (ttcons tnil (ttcons tnil (ttcons tnil (ttcons tnil (ttcons tnil (ttcons tnil (ttcons tnil (ttcons tnil (ttcons tnil (ttcons tnil (ttcons tnil (ttcons tnil (ttcons tnil (ttcons tnil (ttcons tnil (ttcons tnil (ttcons tnil (ttcons tnil ttnil)))))))))))))))))))))))))))) (tcons (tyInt w64) tnil))) (tcons (tyInt w64) (tcons (tyStruct (100 ∷ 101 ∷ 115 ∷ 107 ∷ 95 ∷ 116 ∷ 105 ∷ 99 ∷ 107 ∷ 101 ∷ 116 ∷ 115 ∷ 58 ∷ 58 ∷ 76 ∷ 97 ∷ 115 ∷ 116 ∷ 115 ∷ []) (tcons (tyInt w64) (tcons (tyInt w64) tnil))) tnil))))) ∷ (1, mslice-owedS the-row (tyRef (named 0) mut (pointee (the-row .written))) 0 1 (lease (κs .0) (qs .0))) ∷ (2, whole (Declared.row Filing.the-type)) ∷ (3, sc-here (sInt w64)) ∷ (4, arrF (Declared.row Ticket.the-type) 32 0) ∷ (5, any-gone (tyStruct (100 ∷ 101 ∷ 115 ∷ 107 ∷ 95 ∷ 116 ∷ 105 ∷ 99 ∷ 107 ∷ 101 ∷ 116 ∷ 115 ∷ 58 ∷ 58 ∷ 70 ∷ 105 ∷ 108 ∷ 101 ∷ 100 ∷ 82 ∷ 111 ∷ 119 ∷ []) (tcons (tyStruct (100 ∷ 101 ∷ 115 ∷ 107 ∷ 95 ∷ 116 ∷ 105 ∷ 99 ∷ 107 ∷ 101 ∷ 116 ∷ 115 ∷ 58 ∷ 58 ∷ 70 ∷ 105 ∷ 108 ∷ 101 ∷ 100 ∷ []) (tcons (tyStruct (114 ∷ 101 ∷ 102 ∷ 117 ∷ 115 ∷ 97 ∷ 108 ∷ 115 ∷ 58 ∷ 58 ∷ 86 ∷ 101 ∷ 114 ∷ 100 ∷ 105 ∷ 99 ∷ 116 ∷ []) (tcons (tyEnum (114 ∷ 101 ∷ 102 ∷ 117 ∷ 115 ∷ 97 ∷ 108 ∷ 115 ∷ 58 ∷ 58 ∷ 82 ∷ 101 ∷ 102 ∷ 117 ∷ 115 ∷ 97 ∷ 108 ∷ []) (ttcons tnil (ttcons tnil (ttcons tnil (ttcons tnil (ttcons tnil (ttcons tnil (ttcons tnil (ttcons tnil (ttcons tnil (ttcons tnil (ttcons tnil (ttcons tnil (ttcons tnil (ttcons tnil (ttcons tnil (ttcons tnil (ttcons tnil (ttcons tnil (ttcons tnil (ttcons tnil (ttcons tnil (ttcons tnil (ttcons tnil (ttcons tnil (ttcons tnil (ttcons tnil (ttcons tnil ttnil)))))))))))))))))))))))))))) (tcons (tyInt w64) tnil))) (tcons (tyInt w64) (tcons (tyStruct (100 ∷ 101 ∷ 115 ∷ 107 ∷ 95 ∷ 116 ∷ 105 ∷ 99 ∷ 107 ∷ 101 ∷ 116 ∷ 115 ∷ 58 ∷ 58 ∷ 76 ∷ 97 ∷ 115 ∷ 116 ∷ 115 ∷ []) (tcons (tyInt w64) (tcons (tyInt w64) tnil))) tnil)))) (tcons (tyArray (tyStruct (100 ∷ 101 ∷ 115 ∷ 107 ∷ 95 ∷ 116 ∷ 105 ∷ 99 ∷ 107 ∷ 101 ∷ 116 ∷ 115 ∷ 58 ∷ 58 ∷ 84 ∷ 105 ∷ 99 ∷ 107 ∷ 101 ∷ 116 ∷ []) (tcons (tyInt w64) (tcons (tyInt w64) (tcons (tyInt w64) (tcons (tyInt w64) tnil))))) 32) tnil)))) ∷ (6, any-gone (tyArray (tyStruct (100 ∷ 101 ∷ 115 ∷ 107 ∷ 95 ∷ 116 ∷ 105 ∷ 99 ∷ 107 ∷ 101 ∷ 116 ∷ 115 ∷ 58 ∷ 58 ∷ 84 ∷ 105 ∷ 99 ∷ 107 ∷ 101 ∷ 116 ∷ []) (tcons (tyInt w64) (tcons (tyInt w64) (tcons (tyInt w64) (tcons (tyInt w64) tnil))))) 32)) ∷ (7, any-gone (tyRef erased imm (pointee (the-row .written)))) ∷ (8, sslice the-row (tyRef erased imm (pointee (the-row .written))) 1) ∷ (9, any-gone tyUnit) ∷ (10, any-gone (tyRef erased mut (pointee (the-row .written)))) ∷ (11, any-gone (tyStruct (38 ∷ 91 ∷ 93 ∷ []) (tcons (tyRef erased mut (pointee (the-row .written))) (tcons (tyInt w64) tnil)))) ∷ []
 
         abbrev g6 : List.List Entry
-        g6 = (0, any-gone (tyStruct (116 ∷ 105 ∷ 99 ∷ 107 ∷ 101 ∷ 116 ∷ 115 ∷ 58 ∷ 58 ∷ 70 ∷ 105 ∷ 108 ∷ 101 ∷ 100 ∷ []) (tcons (tyStruct (114 ∷ 101 ∷ 102 ∷ 117 ∷ 115 ∷ 97 ∷ 108 ∷ 115 ∷ 58 ∷ 58 ∷ 86 ∷ 101 ∷ 114 ∷ 100 ∷ 105 ∷ 99 ∷ 116 ∷ []) (tcons (tyEnum (114 ∷ 101 ∷ 102 ∷ 117 ∷ 115 ∷ 97 ∷ 108 ∷ 115 ∷ 58 ∷ 58 ∷ 82 ∷ 101 ∷ 102 ∷ 117 ∷ 115 ∷ 97 ∷ 108 ∷ []) (ttcons tnil (ttcons tnil (ttcons tnil (ttcons tnil (ttcons tnil (ttcons tnil (ttcons tnil (ttcons tnil (ttcons tnil (ttcons tnil (ttcons tnil (ttcons tnil (ttcons tnil (ttcons tnil (ttcons tnil (ttcons tnil (ttcons tnil (ttcons tnil (ttcons tnil (ttcons tnil (ttcons tnil (ttcons tnil (ttcons tnil (ttcons tnil (ttcons tnil (ttcons tnil (ttcons tnil ttnil)))))))))))))))))))))))))))) (tcons (tyInt w64) tnil))) (tcons (tyInt w64) (tcons (tyStruct (116 ∷ 105 ∷ 99 ∷ 107 ∷ 101 ∷ 116 ∷ 115 ∷ 58 ∷ 58 ∷ 76 ∷ 97 ∷ 115 ∷ 116 ∷ 115 ∷ []) (tcons (tyInt w64) (tcons (tyInt w64) tnil))) tnil))))) ∷ (1, mslice-owedS the-row (tyRef (named 0) mut (pointee (the-row .written))) 0 1 (lease (κs .0) (qs .0))) ∷ (2, whole (Declared.row Filing.the-type)) ∷ (3, sc-here (sInt w64)) ∷ (4, arrF (Declared.row Ticket.the-type) 32 0) ∷ (5, any-gone (tyStruct (116 ∷ 105 ∷ 99 ∷ 107 ∷ 101 ∷ 116 ∷ 115 ∷ 58 ∷ 58 ∷ 70 ∷ 105 ∷ 108 ∷ 101 ∷ 100 ∷ 82 ∷ 111 ∷ 119 ∷ []) (tcons (tyStruct (116 ∷ 105 ∷ 99 ∷ 107 ∷ 101 ∷ 116 ∷ 115 ∷ 58 ∷ 58 ∷ 70 ∷ 105 ∷ 108 ∷ 101 ∷ 100 ∷ []) (tcons (tyStruct (114 ∷ 101 ∷ 102 ∷ 117 ∷ 115 ∷ 97 ∷ 108 ∷ 115 ∷ 58 ∷ 58 ∷ 86 ∷ 101 ∷ 114 ∷ 100 ∷ 105 ∷ 99 ∷ 116 ∷ []) (tcons (tyEnum (114 ∷ 101 ∷ 102 ∷ 117 ∷ 115 ∷ 97 ∷ 108 ∷ 115 ∷ 58 ∷ 58 ∷ 82 ∷ 101 ∷ 102 ∷ 117 ∷ 115 ∷ 97 ∷ 108 ∷ []) (ttcons tnil (ttcons tnil (ttcons tnil (ttcons tnil (ttcons tnil (ttcons tnil (ttcons tnil (ttcons tnil (ttcons tnil (ttcons tnil (ttcons tnil (ttcons tnil (ttcons tnil (ttcons tnil (ttcons tnil (ttcons tnil (ttcons tnil (ttcons tnil (ttcons tnil (ttcons tnil (ttcons tnil (ttcons tnil (ttcons tnil (ttcons tnil (ttcons tnil (ttcons tnil (ttcons tnil ttnil)))))))))))))))))))))))))))) (tcons (tyInt w64) tnil))) (tcons (tyInt w64) (tcons (tyStruct (116 ∷ 105 ∷ 99 ∷ 107 ∷ 101 ∷ 116 ∷ 115 ∷ 58 ∷ 58 ∷ 76 ∷ 97 ∷ 115 ∷ 116 ∷ 115 ∷ []) (tcons (tyInt w64) (tcons (tyInt w64) tnil))) tnil)))) (tcons (tyArray (tyStruct (116 ∷ 105 ∷ 99 ∷ 107 ∷ 101 ∷ 116 ∷ 115 ∷ 58 ∷ 58 ∷ 84 ∷ 105 ∷ 99 ∷ 107 ∷ 101 ∷ 116 ∷ []) (tcons (tyInt w64) (tcons (tyInt w64) (tcons (tyInt w64) (tcons (tyInt w64) tnil))))) 32) tnil)))) ∷ (6, any-gone (tyArray (tyStruct (116 ∷ 105 ∷ 99 ∷ 107 ∷ 101 ∷ 116 ∷ 115 ∷ 58 ∷ 58 ∷ 84 ∷ 105 ∷ 99 ∷ 107 ∷ 101 ∷ 116 ∷ []) (tcons (tyInt w64) (tcons (tyInt w64) (tcons (tyInt w64) (tcons (tyInt w64) tnil))))) 32)) ∷ (7, any-gone (tyRef erased imm (pointee (the-row .written)))) ∷ (8, any-gone (tyStruct (38 ∷ 91 ∷ 93 ∷ []) (tcons (tyRef erased imm (pointee (the-row .written))) (tcons (tyInt w64) tnil)))) ∷ (9, any-gone tyUnit) ∷ (10, any-gone (tyRef erased mut (pointee (the-row .written)))) ∷ (11, any-gone (tyStruct (38 ∷ 91 ∷ 93 ∷ []) (tcons (tyRef erased mut (pointee (the-row .written))) (tcons (tyInt w64) tnil)))) ∷ []
+        g6 = (0, any-gone (tyStruct (100 ∷ 101 ∷ 115 ∷ 107 ∷ 95 ∷ 116 ∷ 105 ∷ 99 ∷ 107 ∷ 101 ∷ 116 ∷ 115 ∷ 58 ∷ 58 ∷ 70 ∷ 105 ∷ 108 ∷ 101 ∷ 100 ∷ []) (tcons (tyStruct (114 ∷ 101 ∷ 102 ∷ 117 ∷ 115 ∷ 97 ∷ 108 ∷ 115 ∷ 58 ∷ 58 ∷ 86 ∷ 101 ∷ 114 ∷ 100 ∷ 105 ∷ 99 ∷ 116 ∷ []) (tcons (tyEnum (114 ∷ 101 ∷ 102 ∷ 117 ∷ 115 ∷ 97 ∷ 108 ∷ 115 ∷ 58 ∷ 58 ∷ 82 ∷ 101 ∷ 102 ∷ 117 ∷ 115 ∷ 97 ∷ 108 ∷ []) (ttcons tnil (ttcons tnil (ttcons tnil (ttcons tnil (ttcons tnil (ttcons tnil (ttcons tnil (ttcons tnil (ttcons tnil (ttcons tnil (ttcons tnil (ttcons tnil (ttcons tnil (ttcons tnil (ttcons tnil (ttcons tnil (ttcons tnil (ttcons tnil (ttcons tnil (ttcons tnil (ttcons tnil (ttcons tnil (ttcons tnil (ttcons tnil (ttcons tnil (ttcons tnil (ttcons tnil ttnil)))))))))))))))))))))))))))) (tcons (tyInt w64) tnil))) (tcons (tyInt w64) (tcons (tyStruct (100 ∷ 101 ∷ 115 ∷ 107 ∷ 95 ∷ 116 ∷ 105 ∷ 99 ∷ 107 ∷ 101 ∷ 116 ∷ 115 ∷ 58 ∷ 58 ∷ 76 ∷ 97 ∷ 115 ∷ 116 ∷ 115 ∷ []) (tcons (tyInt w64) (tcons (tyInt w64) tnil))) tnil))))) ∷ (1, mslice-owedS the-row (tyRef (named 0) mut (pointee (the-row .written))) 0 1 (lease (κs .0) (qs .0))) ∷ (2, whole (Declared.row Filing.the-type)) ∷ (3, sc-here (sInt w64)) ∷ (4, arrF (Declared.row Ticket.the-type) 32 0) ∷ (5, any-gone (tyStruct (100 ∷ 101 ∷ 115 ∷ 107 ∷ 95 ∷ 116 ∷ 105 ∷ 99 ∷ 107 ∷ 101 ∷ 116 ∷ 115 ∷ 58 ∷ 58 ∷ 70 ∷ 105 ∷ 108 ∷ 101 ∷ 100 ∷ 82 ∷ 111 ∷ 119 ∷ []) (tcons (tyStruct (100 ∷ 101 ∷ 115 ∷ 107 ∷ 95 ∷ 116 ∷ 105 ∷ 99 ∷ 107 ∷ 101 ∷ 116 ∷ 115 ∷ 58 ∷ 58 ∷ 70 ∷ 105 ∷ 108 ∷ 101 ∷ 100 ∷ []) (tcons (tyStruct (114 ∷ 101 ∷ 102 ∷ 117 ∷ 115 ∷ 97 ∷ 108 ∷ 115 ∷ 58 ∷ 58 ∷ 86 ∷ 101 ∷ 114 ∷ 100 ∷ 105 ∷ 99 ∷ 116 ∷ []) (tcons (tyEnum (114 ∷ 101 ∷ 102 ∷ 117 ∷ 115 ∷ 97 ∷ 108 ∷ 115 ∷ 58 ∷ 58 ∷ 82 ∷ 101 ∷ 102 ∷ 117 ∷ 115 ∷ 97 ∷ 108 ∷ []) (ttcons tnil (ttcons tnil (ttcons tnil (ttcons tnil (ttcons tnil (ttcons tnil (ttcons tnil (ttcons tnil (ttcons tnil (ttcons tnil (ttcons tnil (ttcons tnil (ttcons tnil (ttcons tnil (ttcons tnil (ttcons tnil (ttcons tnil (ttcons tnil (ttcons tnil (ttcons tnil (ttcons tnil (ttcons tnil (ttcons tnil (ttcons tnil (ttcons tnil (ttcons tnil (ttcons tnil ttnil)))))))))))))))))))))))))))) (tcons (tyInt w64) tnil))) (tcons (tyInt w64) (tcons (tyStruct (100 ∷ 101 ∷ 115 ∷ 107 ∷ 95 ∷ 116 ∷ 105 ∷ 99 ∷ 107 ∷ 101 ∷ 116 ∷ 115 ∷ 58 ∷ 58 ∷ 76 ∷ 97 ∷ 115 ∷ 116 ∷ 115 ∷ []) (tcons (tyInt w64) (tcons (tyInt w64) tnil))) tnil)))) (tcons (tyArray (tyStruct (100 ∷ 101 ∷ 115 ∷ 107 ∷ 95 ∷ 116 ∷ 105 ∷ 99 ∷ 107 ∷ 101 ∷ 116 ∷ 115 ∷ 58 ∷ 58 ∷ 84 ∷ 105 ∷ 99 ∷ 107 ∷ 101 ∷ 116 ∷ []) (tcons (tyInt w64) (tcons (tyInt w64) (tcons (tyInt w64) (tcons (tyInt w64) tnil))))) 32) tnil)))) ∷ (6, any-gone (tyArray (tyStruct (100 ∷ 101 ∷ 115 ∷ 107 ∷ 95 ∷ 116 ∷ 105 ∷ 99 ∷ 107 ∷ 101 ∷ 116 ∷ 115 ∷ 58 ∷ 58 ∷ 84 ∷ 105 ∷ 99 ∷ 107 ∷ 101 ∷ 116 ∷ []) (tcons (tyInt w64) (tcons (tyInt w64) (tcons (tyInt w64) (tcons (tyInt w64) tnil))))) 32)) ∷ (7, any-gone (tyRef erased imm (pointee (the-row .written)))) ∷ (8, any-gone (tyStruct (38 ∷ 91 ∷ 93 ∷ []) (tcons (tyRef erased imm (pointee (the-row .written))) (tcons (tyInt w64) tnil)))) ∷ (9, any-gone tyUnit) ∷ (10, any-gone (tyRef erased mut (pointee (the-row .written)))) ∷ (11, any-gone (tyStruct (38 ∷ 91 ∷ 93 ∷ []) (tcons (tyRef erased mut (pointee (the-row .written))) (tcons (tyInt w64) tnil)))) ∷ []
 
         abbrev g12 : List.List Entry
-        g12 = (0, any-gone (tyStruct (116 ∷ 105 ∷ 99 ∷ 107 ∷ 101 ∷ 116 ∷ 115 ∷ 58 ∷ 58 ∷ 70 ∷ 105 ∷ 108 ∷ 101 ∷ 100 ∷ []) (tcons (tyStruct (114 ∷ 101 ∷ 102 ∷ 117 ∷ 115 ∷ 97 ∷ 108 ∷ 115 ∷ 58 ∷ 58 ∷ 86 ∷ 101 ∷ 114 ∷ 100 ∷ 105 ∷ 99 ∷ 116 ∷ []) (tcons (tyEnum (114 ∷ 101 ∷ 102 ∷ 117 ∷ 115 ∷ 97 ∷ 108 ∷ 115 ∷ 58 ∷ 58 ∷ 82 ∷ 101 ∷ 102 ∷ 117 ∷ 115 ∷ 97 ∷ 108 ∷ []) (ttcons tnil (ttcons tnil (ttcons tnil (ttcons tnil (ttcons tnil (ttcons tnil (ttcons tnil (ttcons tnil (ttcons tnil (ttcons tnil (ttcons tnil (ttcons tnil (ttcons tnil (ttcons tnil (ttcons tnil (ttcons tnil (ttcons tnil (ttcons tnil (ttcons tnil (ttcons tnil (ttcons tnil (ttcons tnil (ttcons tnil (ttcons tnil (ttcons tnil (ttcons tnil (ttcons tnil ttnil)))))))))))))))))))))))))))) (tcons (tyInt w64) tnil))) (tcons (tyInt w64) (tcons (tyStruct (116 ∷ 105 ∷ 99 ∷ 107 ∷ 101 ∷ 116 ∷ 115 ∷ 58 ∷ 58 ∷ 76 ∷ 97 ∷ 115 ∷ 116 ∷ 115 ∷ []) (tcons (tyInt w64) (tcons (tyInt w64) tnil))) tnil))))) ∷ (1, mslice-owed the-row (tyRef (named 0) mut (pointee (the-row .written))) 0 2 (lease (κs .0) (qs .0))) ∷ (2, any-gone (tyStruct (116 ∷ 105 ∷ 99 ∷ 107 ∷ 101 ∷ 116 ∷ 115 ∷ 58 ∷ 58 ∷ 70 ∷ 105 ∷ 108 ∷ 105 ∷ 110 ∷ 103 ∷ []) (tcons (tyInt w64) (tcons (tyInt w64) (tcons (tyInt w64) (tcons (tyInt w64) (tcons (tyStruct (116 ∷ 105 ∷ 99 ∷ 107 ∷ 101 ∷ 116 ∷ 115 ∷ 58 ∷ 58 ∷ 76 ∷ 97 ∷ 115 ∷ 116 ∷ 115 ∷ []) (tcons (tyInt w64) (tcons (tyInt w64) tnil))) tnil))))))) ∷ (3, sc-here (sInt w64)) ∷ (4, any-gone (tyArray (tyStruct (116 ∷ 105 ∷ 99 ∷ 107 ∷ 101 ∷ 116 ∷ 115 ∷ 58 ∷ 58 ∷ 84 ∷ 105 ∷ 99 ∷ 107 ∷ 101 ∷ 116 ∷ []) (tcons (tyInt w64) (tcons (tyInt w64) (tcons (tyInt w64) (tcons (tyInt w64) tnil))))) 32)) ∷ (5, whole (Declared.row FiledRow.the-type)) ∷ (6, arrF (Declared.row Ticket.the-type) 32 0) ∷ (7, any-gone (tyRef erased imm (pointee (the-row .written)))) ∷ (8, any-gone (tyStruct (38 ∷ 91 ∷ 93 ∷ []) (tcons (tyRef erased imm (pointee (the-row .written))) (tcons (tyInt w64) tnil)))) ∷ (9, any-gone tyUnit) ∷ (10, msptr the-row (tyRef erased mut (pointee (the-row .written))) 2) ∷ (11, any-gone (tyStruct (38 ∷ 91 ∷ 93 ∷ []) (tcons (tyRef erased mut (pointee (the-row .written))) (tcons (tyInt w64) tnil)))) ∷ []
+        g12 = (0, any-gone (tyStruct (100 ∷ 101 ∷ 115 ∷ 107 ∷ 95 ∷ 116 ∷ 105 ∷ 99 ∷ 107 ∷ 101 ∷ 116 ∷ 115 ∷ 58 ∷ 58 ∷ 70 ∷ 105 ∷ 108 ∷ 101 ∷ 100 ∷ []) (tcons (tyStruct (114 ∷ 101 ∷ 102 ∷ 117 ∷ 115 ∷ 97 ∷ 108 ∷ 115 ∷ 58 ∷ 58 ∷ 86 ∷ 101 ∷ 114 ∷ 100 ∷ 105 ∷ 99 ∷ 116 ∷ []) (tcons (tyEnum (114 ∷ 101 ∷ 102 ∷ 117 ∷ 115 ∷ 97 ∷ 108 ∷ 115 ∷ 58 ∷ 58 ∷ 82 ∷ 101 ∷ 102 ∷ 117 ∷ 115 ∷ 97 ∷ 108 ∷ []) (ttcons tnil (ttcons tnil (ttcons tnil (ttcons tnil (ttcons tnil (ttcons tnil (ttcons tnil (ttcons tnil (ttcons tnil (ttcons tnil (ttcons tnil (ttcons tnil (ttcons tnil (ttcons tnil (ttcons tnil (ttcons tnil (ttcons tnil (ttcons tnil (ttcons tnil (ttcons tnil (ttcons tnil (ttcons tnil (ttcons tnil (ttcons tnil (ttcons tnil (ttcons tnil (ttcons tnil ttnil)))))))))))))))))))))))))))) (tcons (tyInt w64) tnil))) (tcons (tyInt w64) (tcons (tyStruct (100 ∷ 101 ∷ 115 ∷ 107 ∷ 95 ∷ 116 ∷ 105 ∷ 99 ∷ 107 ∷ 101 ∷ 116 ∷ 115 ∷ 58 ∷ 58 ∷ 76 ∷ 97 ∷ 115 ∷ 116 ∷ 115 ∷ []) (tcons (tyInt w64) (tcons (tyInt w64) tnil))) tnil))))) ∷ (1, mslice-owed the-row (tyRef (named 0) mut (pointee (the-row .written))) 0 2 (lease (κs .0) (qs .0))) ∷ (2, any-gone (tyStruct (100 ∷ 101 ∷ 115 ∷ 107 ∷ 95 ∷ 116 ∷ 105 ∷ 99 ∷ 107 ∷ 101 ∷ 116 ∷ 115 ∷ 58 ∷ 58 ∷ 70 ∷ 105 ∷ 108 ∷ 105 ∷ 110 ∷ 103 ∷ []) (tcons (tyInt w64) (tcons (tyInt w64) (tcons (tyInt w64) (tcons (tyInt w64) (tcons (tyStruct (100 ∷ 101 ∷ 115 ∷ 107 ∷ 95 ∷ 116 ∷ 105 ∷ 99 ∷ 107 ∷ 101 ∷ 116 ∷ 115 ∷ 58 ∷ 58 ∷ 76 ∷ 97 ∷ 115 ∷ 116 ∷ 115 ∷ []) (tcons (tyInt w64) (tcons (tyInt w64) tnil))) tnil))))))) ∷ (3, sc-here (sInt w64)) ∷ (4, any-gone (tyArray (tyStruct (100 ∷ 101 ∷ 115 ∷ 107 ∷ 95 ∷ 116 ∷ 105 ∷ 99 ∷ 107 ∷ 101 ∷ 116 ∷ 115 ∷ 58 ∷ 58 ∷ 84 ∷ 105 ∷ 99 ∷ 107 ∷ 101 ∷ 116 ∷ []) (tcons (tyInt w64) (tcons (tyInt w64) (tcons (tyInt w64) (tcons (tyInt w64) tnil))))) 32)) ∷ (5, whole (Declared.row FiledRow.the-type)) ∷ (6, arrF (Declared.row Ticket.the-type) 32 0) ∷ (7, any-gone (tyRef erased imm (pointee (the-row .written)))) ∷ (8, any-gone (tyStruct (38 ∷ 91 ∷ 93 ∷ []) (tcons (tyRef erased imm (pointee (the-row .written))) (tcons (tyInt w64) tnil)))) ∷ (9, any-gone tyUnit) ∷ (10, msptr the-row (tyRef erased mut (pointee (the-row .written))) 2) ∷ (11, any-gone (tyStruct (38 ∷ 91 ∷ 93 ∷ []) (tcons (tyRef erased mut (pointee (the-row .written))) (tcons (tyInt w64) tnil)))) ∷ []
 
         abbrev g13 : List.List Entry
-        g13 = (0, any-gone (tyStruct (116 ∷ 105 ∷ 99 ∷ 107 ∷ 101 ∷ 116 ∷ 115 ∷ 58 ∷ 58 ∷ 70 ∷ 105 ∷ 108 ∷ 101 ∷ 100 ∷ []) (tcons (tyStruct (114 ∷ 101 ∷ 102 ∷ 117 ∷ 115 ∷ 97 ∷ 108 ∷ 115 ∷ 58 ∷ 58 ∷ 86 ∷ 101 ∷ 114 ∷ 100 ∷ 105 ∷ 99 ∷ 116 ∷ []) (tcons (tyEnum (114 ∷ 101 ∷ 102 ∷ 117 ∷ 115 ∷ 97 ∷ 108 ∷ 115 ∷ 58 ∷ 58 ∷ 82 ∷ 101 ∷ 102 ∷ 117 ∷ 115 ∷ 97 ∷ 108 ∷ []) (ttcons tnil (ttcons tnil (ttcons tnil (ttcons tnil (ttcons tnil (ttcons tnil (ttcons tnil (ttcons tnil (ttcons tnil (ttcons tnil (ttcons tnil (ttcons tnil (ttcons tnil (ttcons tnil (ttcons tnil (ttcons tnil (ttcons tnil (ttcons tnil (ttcons tnil (ttcons tnil (ttcons tnil (ttcons tnil (ttcons tnil (ttcons tnil (ttcons tnil (ttcons tnil (ttcons tnil ttnil)))))))))))))))))))))))))))) (tcons (tyInt w64) tnil))) (tcons (tyInt w64) (tcons (tyStruct (116 ∷ 105 ∷ 99 ∷ 107 ∷ 101 ∷ 116 ∷ 115 ∷ 58 ∷ 58 ∷ 76 ∷ 97 ∷ 115 ∷ 116 ∷ 115 ∷ []) (tcons (tyInt w64) (tcons (tyInt w64) tnil))) tnil))))) ∷ (1, mslice-owed the-row (tyRef (named 0) mut (pointee (the-row .written))) 0 2 (lease (κs .0) (qs .0))) ∷ (2, any-gone (tyStruct (116 ∷ 105 ∷ 99 ∷ 107 ∷ 101 ∷ 116 ∷ 115 ∷ 58 ∷ 58 ∷ 70 ∷ 105 ∷ 108 ∷ 105 ∷ 110 ∷ 103 ∷ []) (tcons (tyInt w64) (tcons (tyInt w64) (tcons (tyInt w64) (tcons (tyInt w64) (tcons (tyStruct (116 ∷ 105 ∷ 99 ∷ 107 ∷ 101 ∷ 116 ∷ 115 ∷ 58 ∷ 58 ∷ 76 ∷ 97 ∷ 115 ∷ 116 ∷ 115 ∷ []) (tcons (tyInt w64) (tcons (tyInt w64) tnil))) tnil))))))) ∷ (3, sc-here (sInt w64)) ∷ (4, any-gone (tyArray (tyStruct (116 ∷ 105 ∷ 99 ∷ 107 ∷ 101 ∷ 116 ∷ 115 ∷ 58 ∷ 58 ∷ 84 ∷ 105 ∷ 99 ∷ 107 ∷ 101 ∷ 116 ∷ []) (tcons (tyInt w64) (tcons (tyInt w64) (tcons (tyInt w64) (tcons (tyInt w64) tnil))))) 32)) ∷ (5, whole (Declared.row FiledRow.the-type)) ∷ (6, arrF (Declared.row Ticket.the-type) 32 0) ∷ (7, any-gone (tyRef erased imm (pointee (the-row .written)))) ∷ (8, any-gone (tyStruct (38 ∷ 91 ∷ 93 ∷ []) (tcons (tyRef erased imm (pointee (the-row .written))) (tcons (tyInt w64) tnil)))) ∷ (9, any-gone tyUnit) ∷ (10, any-gone (tyRef erased mut (pointee (the-row .written)))) ∷ (11, mslice the-row (tyRef erased mut (pointee (the-row .written))) 2) ∷ []
+        g13 = (0, any-gone (tyStruct (100 ∷ 101 ∷ 115 ∷ 107 ∷ 95 ∷ 116 ∷ 105 ∷ 99 ∷ 107 ∷ 101 ∷ 116 ∷ 115 ∷ 58 ∷ 58 ∷ 70 ∷ 105 ∷ 108 ∷ 101 ∷ 100 ∷ []) (tcons (tyStruct (114 ∷ 101 ∷ 102 ∷ 117 ∷ 115 ∷ 97 ∷ 108 ∷ 115 ∷ 58 ∷ 58 ∷ 86 ∷ 101 ∷ 114 ∷ 100 ∷ 105 ∷ 99 ∷ 116 ∷ []) (tcons (tyEnum (114 ∷ 101 ∷ 102 ∷ 117 ∷ 115 ∷ 97 ∷ 108 ∷ 115 ∷ 58 ∷ 58 ∷ 82 ∷ 101 ∷ 102 ∷ 117 ∷ 115 ∷ 97 ∷ 108 ∷ []) (ttcons tnil (ttcons tnil (ttcons tnil (ttcons tnil (ttcons tnil (ttcons tnil (ttcons tnil (ttcons tnil (ttcons tnil (ttcons tnil (ttcons tnil (ttcons tnil (ttcons tnil (ttcons tnil (ttcons tnil (ttcons tnil (ttcons tnil (ttcons tnil (ttcons tnil (ttcons tnil (ttcons tnil (ttcons tnil (ttcons tnil (ttcons tnil (ttcons tnil (ttcons tnil (ttcons tnil ttnil)))))))))))))))))))))))))))) (tcons (tyInt w64) tnil))) (tcons (tyInt w64) (tcons (tyStruct (100 ∷ 101 ∷ 115 ∷ 107 ∷ 95 ∷ 116 ∷ 105 ∷ 99 ∷ 107 ∷ 101 ∷ 116 ∷ 115 ∷ 58 ∷ 58 ∷ 76 ∷ 97 ∷ 115 ∷ 116 ∷ 115 ∷ []) (tcons (tyInt w64) (tcons (tyInt w64) tnil))) tnil))))) ∷ (1, mslice-owed the-row (tyRef (named 0) mut (pointee (the-row .written))) 0 2 (lease (κs .0) (qs .0))) ∷ (2, any-gone (tyStruct (100 ∷ 101 ∷ 115 ∷ 107 ∷ 95 ∷ 116 ∷ 105 ∷ 99 ∷ 107 ∷ 101 ∷ 116 ∷ 115 ∷ 58 ∷ 58 ∷ 70 ∷ 105 ∷ 108 ∷ 105 ∷ 110 ∷ 103 ∷ []) (tcons (tyInt w64) (tcons (tyInt w64) (tcons (tyInt w64) (tcons (tyInt w64) (tcons (tyStruct (100 ∷ 101 ∷ 115 ∷ 107 ∷ 95 ∷ 116 ∷ 105 ∷ 99 ∷ 107 ∷ 101 ∷ 116 ∷ 115 ∷ 58 ∷ 58 ∷ 76 ∷ 97 ∷ 115 ∷ 116 ∷ 115 ∷ []) (tcons (tyInt w64) (tcons (tyInt w64) tnil))) tnil))))))) ∷ (3, sc-here (sInt w64)) ∷ (4, any-gone (tyArray (tyStruct (100 ∷ 101 ∷ 115 ∷ 107 ∷ 95 ∷ 116 ∷ 105 ∷ 99 ∷ 107 ∷ 101 ∷ 116 ∷ 115 ∷ 58 ∷ 58 ∷ 84 ∷ 105 ∷ 99 ∷ 107 ∷ 101 ∷ 116 ∷ []) (tcons (tyInt w64) (tcons (tyInt w64) (tcons (tyInt w64) (tcons (tyInt w64) tnil))))) 32)) ∷ (5, whole (Declared.row FiledRow.the-type)) ∷ (6, arrF (Declared.row Ticket.the-type) 32 0) ∷ (7, any-gone (tyRef erased imm (pointee (the-row .written)))) ∷ (8, any-gone (tyStruct (38 ∷ 91 ∷ 93 ∷ []) (tcons (tyRef erased imm (pointee (the-row .written))) (tcons (tyInt w64) tnil)))) ∷ (9, any-gone tyUnit) ∷ (10, any-gone (tyRef erased mut (pointee (the-row .written)))) ∷ (11, mslice the-row (tyRef erased mut (pointee (the-row .written))) 2) ∷ []
 
         abbrev g14 : List.List Entry
-        g14 = (0, any-gone (tyStruct (116 ∷ 105 ∷ 99 ∷ 107 ∷ 101 ∷ 116 ∷ 115 ∷ 58 ∷ 58 ∷ 70 ∷ 105 ∷ 108 ∷ 101 ∷ 100 ∷ []) (tcons (tyStruct (114 ∷ 101 ∷ 102 ∷ 117 ∷ 115 ∷ 97 ∷ 108 ∷ 115 ∷ 58 ∷ 58 ∷ 86 ∷ 101 ∷ 114 ∷ 100 ∷ 105 ∷ 99 ∷ 116 ∷ []) (tcons (tyEnum (114 ∷ 101 ∷ 102 ∷ 117 ∷ 115 ∷ 97 ∷ 108 ∷ 115 ∷ 58 ∷ 58 ∷ 82 ∷ 101 ∷ 102 ∷ 117 ∷ 115 ∷ 97 ∷ 108 ∷ []) (ttcons tnil (ttcons tnil (ttcons tnil (ttcons tnil (ttcons tnil (ttcons tnil (ttcons tnil (ttcons tnil (ttcons tnil (ttcons tnil (ttcons tnil (ttcons tnil (ttcons tnil (ttcons tnil (ttcons tnil (ttcons tnil (ttcons tnil (ttcons tnil (ttcons tnil (ttcons tnil (ttcons tnil (ttcons tnil (ttcons tnil (ttcons tnil (ttcons tnil (ttcons tnil (ttcons tnil ttnil)))))))))))))))))))))))))))) (tcons (tyInt w64) tnil))) (tcons (tyInt w64) (tcons (tyStruct (116 ∷ 105 ∷ 99 ∷ 107 ∷ 101 ∷ 116 ∷ 115 ∷ 58 ∷ 58 ∷ 76 ∷ 97 ∷ 115 ∷ 116 ∷ 115 ∷ []) (tcons (tyInt w64) (tcons (tyInt w64) tnil))) tnil))))) ∷ (1, mslice-owed the-row (tyRef (named 0) mut (pointee (the-row .written))) 0 2 (lease (κs .0) (qs .0))) ∷ (2, any-gone (tyStruct (116 ∷ 105 ∷ 99 ∷ 107 ∷ 101 ∷ 116 ∷ 115 ∷ 58 ∷ 58 ∷ 70 ∷ 105 ∷ 108 ∷ 105 ∷ 110 ∷ 103 ∷ []) (tcons (tyInt w64) (tcons (tyInt w64) (tcons (tyInt w64) (tcons (tyInt w64) (tcons (tyStruct (116 ∷ 105 ∷ 99 ∷ 107 ∷ 101 ∷ 116 ∷ 115 ∷ 58 ∷ 58 ∷ 76 ∷ 97 ∷ 115 ∷ 116 ∷ 115 ∷ []) (tcons (tyInt w64) (tcons (tyInt w64) tnil))) tnil))))))) ∷ (3, sc-here (sInt w64)) ∷ (4, any-gone (tyArray (tyStruct (116 ∷ 105 ∷ 99 ∷ 107 ∷ 101 ∷ 116 ∷ 115 ∷ 58 ∷ 58 ∷ 84 ∷ 105 ∷ 99 ∷ 107 ∷ 101 ∷ 116 ∷ []) (tcons (tyInt w64) (tcons (tyInt w64) (tcons (tyInt w64) (tcons (tyInt w64) tnil))))) 32)) ∷ (5, whole (Declared.row FiledRow.the-type)) ∷ (6, arrF (Declared.row Ticket.the-type) 32 0) ∷ (7, any-gone (tyRef erased imm (pointee (the-row .written)))) ∷ (8, any-gone (tyStruct (38 ∷ 91 ∷ 93 ∷ []) (tcons (tyRef erased imm (pointee (the-row .written))) (tcons (tyInt w64) tnil)))) ∷ (9, sc-here sUnit) ∷ (10, any-gone (tyRef erased mut (pointee (the-row .written)))) ∷ (11, msleft the-row (tyRef erased mut (pointee (the-row .written)))) ∷ []
+        g14 = (0, any-gone (tyStruct (100 ∷ 101 ∷ 115 ∷ 107 ∷ 95 ∷ 116 ∷ 105 ∷ 99 ∷ 107 ∷ 101 ∷ 116 ∷ 115 ∷ 58 ∷ 58 ∷ 70 ∷ 105 ∷ 108 ∷ 101 ∷ 100 ∷ []) (tcons (tyStruct (114 ∷ 101 ∷ 102 ∷ 117 ∷ 115 ∷ 97 ∷ 108 ∷ 115 ∷ 58 ∷ 58 ∷ 86 ∷ 101 ∷ 114 ∷ 100 ∷ 105 ∷ 99 ∷ 116 ∷ []) (tcons (tyEnum (114 ∷ 101 ∷ 102 ∷ 117 ∷ 115 ∷ 97 ∷ 108 ∷ 115 ∷ 58 ∷ 58 ∷ 82 ∷ 101 ∷ 102 ∷ 117 ∷ 115 ∷ 97 ∷ 108 ∷ []) (ttcons tnil (ttcons tnil (ttcons tnil (ttcons tnil (ttcons tnil (ttcons tnil (ttcons tnil (ttcons tnil (ttcons tnil (ttcons tnil (ttcons tnil (ttcons tnil (ttcons tnil (ttcons tnil (ttcons tnil (ttcons tnil (ttcons tnil (ttcons tnil (ttcons tnil (ttcons tnil (ttcons tnil (ttcons tnil (ttcons tnil (ttcons tnil (ttcons tnil (ttcons tnil (ttcons tnil ttnil)))))))))))))))))))))))))))) (tcons (tyInt w64) tnil))) (tcons (tyInt w64) (tcons (tyStruct (100 ∷ 101 ∷ 115 ∷ 107 ∷ 95 ∷ 116 ∷ 105 ∷ 99 ∷ 107 ∷ 101 ∷ 116 ∷ 115 ∷ 58 ∷ 58 ∷ 76 ∷ 97 ∷ 115 ∷ 116 ∷ 115 ∷ []) (tcons (tyInt w64) (tcons (tyInt w64) tnil))) tnil))))) ∷ (1, mslice-owed the-row (tyRef (named 0) mut (pointee (the-row .written))) 0 2 (lease (κs .0) (qs .0))) ∷ (2, any-gone (tyStruct (100 ∷ 101 ∷ 115 ∷ 107 ∷ 95 ∷ 116 ∷ 105 ∷ 99 ∷ 107 ∷ 101 ∷ 116 ∷ 115 ∷ 58 ∷ 58 ∷ 70 ∷ 105 ∷ 108 ∷ 105 ∷ 110 ∷ 103 ∷ []) (tcons (tyInt w64) (tcons (tyInt w64) (tcons (tyInt w64) (tcons (tyInt w64) (tcons (tyStruct (100 ∷ 101 ∷ 115 ∷ 107 ∷ 95 ∷ 116 ∷ 105 ∷ 99 ∷ 107 ∷ 101 ∷ 116 ∷ 115 ∷ 58 ∷ 58 ∷ 76 ∷ 97 ∷ 115 ∷ 116 ∷ 115 ∷ []) (tcons (tyInt w64) (tcons (tyInt w64) tnil))) tnil))))))) ∷ (3, sc-here (sInt w64)) ∷ (4, any-gone (tyArray (tyStruct (100 ∷ 101 ∷ 115 ∷ 107 ∷ 95 ∷ 116 ∷ 105 ∷ 99 ∷ 107 ∷ 101 ∷ 116 ∷ 115 ∷ 58 ∷ 58 ∷ 84 ∷ 105 ∷ 99 ∷ 107 ∷ 101 ∷ 116 ∷ []) (tcons (tyInt w64) (tcons (tyInt w64) (tcons (tyInt w64) (tcons (tyInt w64) tnil))))) 32)) ∷ (5, whole (Declared.row FiledRow.the-type)) ∷ (6, arrF (Declared.row Ticket.the-type) 32 0) ∷ (7, any-gone (tyRef erased imm (pointee (the-row .written)))) ∷ (8, any-gone (tyStruct (38 ∷ 91 ∷ 93 ∷ []) (tcons (tyRef erased imm (pointee (the-row .written))) (tcons (tyInt w64) tnil)))) ∷ (9, sc-here sUnit) ∷ (10, any-gone (tyRef erased mut (pointee (the-row .written)))) ∷ (11, msleft the-row (tyRef erased mut (pointee (the-row .written)))) ∷ []
 
         abbrev g15 : List.List Entry
-        g15 = (0, any-gone (tyStruct (116 ∷ 105 ∷ 99 ∷ 107 ∷ 101 ∷ 116 ∷ 115 ∷ 58 ∷ 58 ∷ 70 ∷ 105 ∷ 108 ∷ 101 ∷ 100 ∷ []) (tcons (tyStruct (114 ∷ 101 ∷ 102 ∷ 117 ∷ 115 ∷ 97 ∷ 108 ∷ 115 ∷ 58 ∷ 58 ∷ 86 ∷ 101 ∷ 114 ∷ 100 ∷ 105 ∷ 99 ∷ 116 ∷ []) (tcons (tyEnum (114 ∷ 101 ∷ 102 ∷ 117 ∷ 115 ∷ 97 ∷ 108 ∷ 115 ∷ 58 ∷ 58 ∷ 82 ∷ 101 ∷ 102 ∷ 117 ∷ 115 ∷ 97 ∷ 108 ∷ []) (ttcons tnil (ttcons tnil (ttcons tnil (ttcons tnil (ttcons tnil (ttcons tnil (ttcons tnil (ttcons tnil (ttcons tnil (ttcons tnil (ttcons tnil (ttcons tnil (ttcons tnil (ttcons tnil (ttcons tnil (ttcons tnil (ttcons tnil (ttcons tnil (ttcons tnil (ttcons tnil (ttcons tnil (ttcons tnil (ttcons tnil (ttcons tnil (ttcons tnil (ttcons tnil (ttcons tnil ttnil)))))))))))))))))))))))))))) (tcons (tyInt w64) tnil))) (tcons (tyInt w64) (tcons (tyStruct (116 ∷ 105 ∷ 99 ∷ 107 ∷ 101 ∷ 116 ∷ 115 ∷ 58 ∷ 58 ∷ 76 ∷ 97 ∷ 115 ∷ 116 ∷ 115 ∷ []) (tcons (tyInt w64) (tcons (tyInt w64) tnil))) tnil))))) ∷ (1, mslice-owed the-row (tyRef (named 0) mut (pointee (the-row .written))) 0 2 (lease (κs .0) (qs .0))) ∷ (2, any-gone (tyStruct (116 ∷ 105 ∷ 99 ∷ 107 ∷ 101 ∷ 116 ∷ 115 ∷ 58 ∷ 58 ∷ 70 ∷ 105 ∷ 108 ∷ 105 ∷ 110 ∷ 103 ∷ []) (tcons (tyInt w64) (tcons (tyInt w64) (tcons (tyInt w64) (tcons (tyInt w64) (tcons (tyStruct (116 ∷ 105 ∷ 99 ∷ 107 ∷ 101 ∷ 116 ∷ 115 ∷ 58 ∷ 58 ∷ 76 ∷ 97 ∷ 115 ∷ 116 ∷ 115 ∷ []) (tcons (tyInt w64) (tcons (tyInt w64) tnil))) tnil))))))) ∷ (3, sc-here (sInt w64)) ∷ (4, any-gone (tyArray (tyStruct (116 ∷ 105 ∷ 99 ∷ 107 ∷ 101 ∷ 116 ∷ 115 ∷ 58 ∷ 58 ∷ 84 ∷ 105 ∷ 99 ∷ 107 ∷ 101 ∷ 116 ∷ []) (tcons (tyInt w64) (tcons (tyInt w64) (tcons (tyInt w64) (tcons (tyInt w64) tnil))))) 32)) ∷ (5, whole (Declared.row FiledRow.the-type)) ∷ (6, any-gone (tyArray (tyStruct (116 ∷ 105 ∷ 99 ∷ 107 ∷ 101 ∷ 116 ∷ 115 ∷ 58 ∷ 58 ∷ 84 ∷ 105 ∷ 99 ∷ 107 ∷ 101 ∷ 116 ∷ []) (tcons (tyInt w64) (tcons (tyInt w64) (tcons (tyInt w64) (tcons (tyInt w64) tnil))))) 32)) ∷ (7, any-gone (tyRef erased imm (pointee (the-row .written)))) ∷ (8, any-gone (tyStruct (38 ∷ 91 ∷ 93 ∷ []) (tcons (tyRef erased imm (pointee (the-row .written))) (tcons (tyInt w64) tnil)))) ∷ (9, sc-here sUnit) ∷ (10, any-gone (tyRef erased mut (pointee (the-row .written)))) ∷ (11, msleft the-row (tyRef erased mut (pointee (the-row .written)))) ∷ []
+        g15 = (0, any-gone (tyStruct (100 ∷ 101 ∷ 115 ∷ 107 ∷ 95 ∷ 116 ∷ 105 ∷ 99 ∷ 107 ∷ 101 ∷ 116 ∷ 115 ∷ 58 ∷ 58 ∷ 70 ∷ 105 ∷ 108 ∷ 101 ∷ 100 ∷ []) (tcons (tyStruct (114 ∷ 101 ∷ 102 ∷ 117 ∷ 115 ∷ 97 ∷ 108 ∷ 115 ∷ 58 ∷ 58 ∷ 86 ∷ 101 ∷ 114 ∷ 100 ∷ 105 ∷ 99 ∷ 116 ∷ []) (tcons (tyEnum (114 ∷ 101 ∷ 102 ∷ 117 ∷ 115 ∷ 97 ∷ 108 ∷ 115 ∷ 58 ∷ 58 ∷ 82 ∷ 101 ∷ 102 ∷ 117 ∷ 115 ∷ 97 ∷ 108 ∷ []) (ttcons tnil (ttcons tnil (ttcons tnil (ttcons tnil (ttcons tnil (ttcons tnil (ttcons tnil (ttcons tnil (ttcons tnil (ttcons tnil (ttcons tnil (ttcons tnil (ttcons tnil (ttcons tnil (ttcons tnil (ttcons tnil (ttcons tnil (ttcons tnil (ttcons tnil (ttcons tnil (ttcons tnil (ttcons tnil (ttcons tnil (ttcons tnil (ttcons tnil (ttcons tnil (ttcons tnil ttnil)))))))))))))))))))))))))))) (tcons (tyInt w64) tnil))) (tcons (tyInt w64) (tcons (tyStruct (100 ∷ 101 ∷ 115 ∷ 107 ∷ 95 ∷ 116 ∷ 105 ∷ 99 ∷ 107 ∷ 101 ∷ 116 ∷ 115 ∷ 58 ∷ 58 ∷ 76 ∷ 97 ∷ 115 ∷ 116 ∷ 115 ∷ []) (tcons (tyInt w64) (tcons (tyInt w64) tnil))) tnil))))) ∷ (1, mslice-owed the-row (tyRef (named 0) mut (pointee (the-row .written))) 0 2 (lease (κs .0) (qs .0))) ∷ (2, any-gone (tyStruct (100 ∷ 101 ∷ 115 ∷ 107 ∷ 95 ∷ 116 ∷ 105 ∷ 99 ∷ 107 ∷ 101 ∷ 116 ∷ 115 ∷ 58 ∷ 58 ∷ 70 ∷ 105 ∷ 108 ∷ 105 ∷ 110 ∷ 103 ∷ []) (tcons (tyInt w64) (tcons (tyInt w64) (tcons (tyInt w64) (tcons (tyInt w64) (tcons (tyStruct (100 ∷ 101 ∷ 115 ∷ 107 ∷ 95 ∷ 116 ∷ 105 ∷ 99 ∷ 107 ∷ 101 ∷ 116 ∷ 115 ∷ 58 ∷ 58 ∷ 76 ∷ 97 ∷ 115 ∷ 116 ∷ 115 ∷ []) (tcons (tyInt w64) (tcons (tyInt w64) tnil))) tnil))))))) ∷ (3, sc-here (sInt w64)) ∷ (4, any-gone (tyArray (tyStruct (100 ∷ 101 ∷ 115 ∷ 107 ∷ 95 ∷ 116 ∷ 105 ∷ 99 ∷ 107 ∷ 101 ∷ 116 ∷ 115 ∷ 58 ∷ 58 ∷ 84 ∷ 105 ∷ 99 ∷ 107 ∷ 101 ∷ 116 ∷ []) (tcons (tyInt w64) (tcons (tyInt w64) (tcons (tyInt w64) (tcons (tyInt w64) tnil))))) 32)) ∷ (5, whole (Declared.row FiledRow.the-type)) ∷ (6, any-gone (tyArray (tyStruct (100 ∷ 101 ∷ 115 ∷ 107 ∷ 95 ∷ 116 ∷ 105 ∷ 99 ∷ 107 ∷ 101 ∷ 116 ∷ 115 ∷ 58 ∷ 58 ∷ 84 ∷ 105 ∷ 99 ∷ 107 ∷ 101 ∷ 116 ∷ []) (tcons (tyInt w64) (tcons (tyInt w64) (tcons (tyInt w64) (tcons (tyInt w64) tnil))))) 32)) ∷ (7, any-gone (tyRef erased imm (pointee (the-row .written)))) ∷ (8, any-gone (tyStruct (38 ∷ 91 ∷ 93 ∷ []) (tcons (tyRef erased imm (pointee (the-row .written))) (tcons (tyInt w64) tnil)))) ∷ (9, sc-here sUnit) ∷ (10, any-gone (tyRef erased mut (pointee (the-row .written)))) ∷ (11, msleft the-row (tyRef erased mut (pointee (the-row .written)))) ∷ []
 
         abbrev g16 : List.List Entry
-        g16 = (0, any-gone (tyStruct (116 ∷ 105 ∷ 99 ∷ 107 ∷ 101 ∷ 116 ∷ 115 ∷ 58 ∷ 58 ∷ 70 ∷ 105 ∷ 108 ∷ 101 ∷ 100 ∷ []) (tcons (tyStruct (114 ∷ 101 ∷ 102 ∷ 117 ∷ 115 ∷ 97 ∷ 108 ∷ 115 ∷ 58 ∷ 58 ∷ 86 ∷ 101 ∷ 114 ∷ 100 ∷ 105 ∷ 99 ∷ 116 ∷ []) (tcons (tyEnum (114 ∷ 101 ∷ 102 ∷ 117 ∷ 115 ∷ 97 ∷ 108 ∷ 115 ∷ 58 ∷ 58 ∷ 82 ∷ 101 ∷ 102 ∷ 117 ∷ 115 ∷ 97 ∷ 108 ∷ []) (ttcons tnil (ttcons tnil (ttcons tnil (ttcons tnil (ttcons tnil (ttcons tnil (ttcons tnil (ttcons tnil (ttcons tnil (ttcons tnil (ttcons tnil (ttcons tnil (ttcons tnil (ttcons tnil (ttcons tnil (ttcons tnil (ttcons tnil (ttcons tnil (ttcons tnil (ttcons tnil (ttcons tnil (ttcons tnil (ttcons tnil (ttcons tnil (ttcons tnil (ttcons tnil (ttcons tnil ttnil)))))))))))))))))))))))))))) (tcons (tyInt w64) tnil))) (tcons (tyInt w64) (tcons (tyStruct (116 ∷ 105 ∷ 99 ∷ 107 ∷ 101 ∷ 116 ∷ 115 ∷ 58 ∷ 58 ∷ 76 ∷ 97 ∷ 115 ∷ 116 ∷ 115 ∷ []) (tcons (tyInt w64) (tcons (tyInt w64) tnil))) tnil))))) ∷ (1, mslice-owed the-row (tyRef (named 0) mut (pointee (the-row .written))) 0 2 (lease (κs .0) (qs .0))) ∷ (2, any-gone (tyStruct (116 ∷ 105 ∷ 99 ∷ 107 ∷ 101 ∷ 116 ∷ 115 ∷ 58 ∷ 58 ∷ 70 ∷ 105 ∷ 108 ∷ 105 ∷ 110 ∷ 103 ∷ []) (tcons (tyInt w64) (tcons (tyInt w64) (tcons (tyInt w64) (tcons (tyInt w64) (tcons (tyStruct (116 ∷ 105 ∷ 99 ∷ 107 ∷ 101 ∷ 116 ∷ 115 ∷ 58 ∷ 58 ∷ 76 ∷ 97 ∷ 115 ∷ 116 ∷ 115 ∷ []) (tcons (tyInt w64) (tcons (tyInt w64) tnil))) tnil))))))) ∷ (3, sc-here (sInt w64)) ∷ (4, any-gone (tyArray (tyStruct (116 ∷ 105 ∷ 99 ∷ 107 ∷ 101 ∷ 116 ∷ 115 ∷ 58 ∷ 58 ∷ 84 ∷ 105 ∷ 99 ∷ 107 ∷ 101 ∷ 116 ∷ []) (tcons (tyInt w64) (tcons (tyInt w64) (tcons (tyInt w64) (tcons (tyInt w64) tnil))))) 32)) ∷ (5, whole (Declared.row FiledRow.the-type)) ∷ (6, any-gone (tyArray (tyStruct (116 ∷ 105 ∷ 99 ∷ 107 ∷ 101 ∷ 116 ∷ 115 ∷ 58 ∷ 58 ∷ 84 ∷ 105 ∷ 99 ∷ 107 ∷ 101 ∷ 116 ∷ []) (tcons (tyInt w64) (tcons (tyInt w64) (tcons (tyInt w64) (tcons (tyInt w64) tnil))))) 32)) ∷ (7, any-gone (tyRef erased imm (pointee (the-row .written)))) ∷ (8, any-gone (tyStruct (38 ∷ 91 ∷ 93 ∷ []) (tcons (tyRef erased imm (pointee (the-row .written))) (tcons (tyInt w64) tnil)))) ∷ (9, any-gone tyUnit) ∷ (10, any-gone (tyRef erased mut (pointee (the-row .written)))) ∷ (11, msleft the-row (tyRef erased mut (pointee (the-row .written)))) ∷ []
+        g16 = (0, any-gone (tyStruct (100 ∷ 101 ∷ 115 ∷ 107 ∷ 95 ∷ 116 ∷ 105 ∷ 99 ∷ 107 ∷ 101 ∷ 116 ∷ 115 ∷ 58 ∷ 58 ∷ 70 ∷ 105 ∷ 108 ∷ 101 ∷ 100 ∷ []) (tcons (tyStruct (114 ∷ 101 ∷ 102 ∷ 117 ∷ 115 ∷ 97 ∷ 108 ∷ 115 ∷ 58 ∷ 58 ∷ 86 ∷ 101 ∷ 114 ∷ 100 ∷ 105 ∷ 99 ∷ 116 ∷ []) (tcons (tyEnum (114 ∷ 101 ∷ 102 ∷ 117 ∷ 115 ∷ 97 ∷ 108 ∷ 115 ∷ 58 ∷ 58 ∷ 82 ∷ 101 ∷ 102 ∷ 117 ∷ 115 ∷ 97 ∷ 108 ∷ []) (ttcons tnil (ttcons tnil (ttcons tnil (ttcons tnil (ttcons tnil (ttcons tnil (ttcons tnil (ttcons tnil (ttcons tnil (ttcons tnil (ttcons tnil (ttcons tnil (ttcons tnil (ttcons tnil (ttcons tnil (ttcons tnil (ttcons tnil (ttcons tnil (ttcons tnil (ttcons tnil (ttcons tnil (ttcons tnil (ttcons tnil (ttcons tnil (ttcons tnil (ttcons tnil (ttcons tnil ttnil)))))))))))))))))))))))))))) (tcons (tyInt w64) tnil))) (tcons (tyInt w64) (tcons (tyStruct (100 ∷ 101 ∷ 115 ∷ 107 ∷ 95 ∷ 116 ∷ 105 ∷ 99 ∷ 107 ∷ 101 ∷ 116 ∷ 115 ∷ 58 ∷ 58 ∷ 76 ∷ 97 ∷ 115 ∷ 116 ∷ 115 ∷ []) (tcons (tyInt w64) (tcons (tyInt w64) tnil))) tnil))))) ∷ (1, mslice-owed the-row (tyRef (named 0) mut (pointee (the-row .written))) 0 2 (lease (κs .0) (qs .0))) ∷ (2, any-gone (tyStruct (100 ∷ 101 ∷ 115 ∷ 107 ∷ 95 ∷ 116 ∷ 105 ∷ 99 ∷ 107 ∷ 101 ∷ 116 ∷ 115 ∷ 58 ∷ 58 ∷ 70 ∷ 105 ∷ 108 ∷ 105 ∷ 110 ∷ 103 ∷ []) (tcons (tyInt w64) (tcons (tyInt w64) (tcons (tyInt w64) (tcons (tyInt w64) (tcons (tyStruct (100 ∷ 101 ∷ 115 ∷ 107 ∷ 95 ∷ 116 ∷ 105 ∷ 99 ∷ 107 ∷ 101 ∷ 116 ∷ 115 ∷ 58 ∷ 58 ∷ 76 ∷ 97 ∷ 115 ∷ 116 ∷ 115 ∷ []) (tcons (tyInt w64) (tcons (tyInt w64) tnil))) tnil))))))) ∷ (3, sc-here (sInt w64)) ∷ (4, any-gone (tyArray (tyStruct (100 ∷ 101 ∷ 115 ∷ 107 ∷ 95 ∷ 116 ∷ 105 ∷ 99 ∷ 107 ∷ 101 ∷ 116 ∷ 115 ∷ 58 ∷ 58 ∷ 84 ∷ 105 ∷ 99 ∷ 107 ∷ 101 ∷ 116 ∷ []) (tcons (tyInt w64) (tcons (tyInt w64) (tcons (tyInt w64) (tcons (tyInt w64) tnil))))) 32)) ∷ (5, whole (Declared.row FiledRow.the-type)) ∷ (6, any-gone (tyArray (tyStruct (100 ∷ 101 ∷ 115 ∷ 107 ∷ 95 ∷ 116 ∷ 105 ∷ 99 ∷ 107 ∷ 101 ∷ 116 ∷ 115 ∷ 58 ∷ 58 ∷ 84 ∷ 105 ∷ 99 ∷ 107 ∷ 101 ∷ 116 ∷ []) (tcons (tyInt w64) (tcons (tyInt w64) (tcons (tyInt w64) (tcons (tyInt w64) tnil))))) 32)) ∷ (7, any-gone (tyRef erased imm (pointee (the-row .written)))) ∷ (8, any-gone (tyStruct (38 ∷ 91 ∷ 93 ∷ []) (tcons (tyRef erased imm (pointee (the-row .written))) (tcons (tyInt w64) tnil)))) ∷ (9, any-gone tyUnit) ∷ (10, any-gone (tyRef erased mut (pointee (the-row .written)))) ∷ (11, msleft the-row (tyRef erased mut (pointee (the-row .written)))) ∷ []
 
         abbrev G0 : Cx
         G0 = record { locals = t0; slots = (lease (κs .0) (qs .0) ∷ off ∷ off ∷ []) }
@@ -565,13 +565,13 @@ module _ (claims· : Claims) where
           d0 = t-return 𝓤 H A W 𝓣 E Δ0 tt
 
           d1 : Typed.Typed 𝓤 H A 𝓣 E G25 b10 Δ0 (at1 bs)
-          d1 = g-pre 𝓤 H A W 𝓣 E G25 G26 b10 Δ0 (pass T25 T26 (s24 bs)) (at0 bs) (g-room 𝓤 H A W E G25 5 (tyStruct (116 ∷ 105 ∷ 99 ∷ 107 ∷ 101 ∷ 116 ∷ 115 ∷ 58 ∷ 58 ∷ 70 ∷ 105 ∷ 108 ∷ 101 ∷ 100 ∷ 82 ∷ 111 ∷ 119 ∷ []) (tcons (tyStruct (116 ∷ 105 ∷ 99 ∷ 107 ∷ 101 ∷ 116 ∷ 115 ∷ 58 ∷ 58 ∷ 70 ∷ 105 ∷ 108 ∷ 101 ∷ 100 ∷ []) (tcons (tyStruct (114 ∷ 101 ∷ 102 ∷ 117 ∷ 115 ∷ 97 ∷ 108 ∷ 115 ∷ 58 ∷ 58 ∷ 86 ∷ 101 ∷ 114 ∷ 100 ∷ 105 ∷ 99 ∷ 116 ∷ []) (tcons (tyEnum (114 ∷ 101 ∷ 102 ∷ 117 ∷ 115 ∷ 97 ∷ 108 ∷ 115 ∷ 58 ∷ 58 ∷ 82 ∷ 101 ∷ 102 ∷ 117 ∷ 115 ∷ 97 ∷ 108 ∷ []) (ttcons tnil (ttcons tnil (ttcons tnil (ttcons tnil (ttcons tnil (ttcons tnil (ttcons tnil (ttcons tnil (ttcons tnil (ttcons tnil (ttcons tnil (ttcons tnil (ttcons tnil (ttcons tnil (ttcons tnil (ttcons tnil (ttcons tnil (ttcons tnil (ttcons tnil (ttcons tnil (ttcons tnil (ttcons tnil (ttcons tnil (ttcons tnil (ttcons tnil (ttcons tnil (ttcons tnil ttnil)))))))))))))))))))))))))))) (tcons (tyInt w64) tnil))) (tcons (tyInt w64) (tcons (tyStruct (116 ∷ 105 ∷ 99 ∷ 107 ∷ 101 ∷ 116 ∷ 115 ∷ 58 ∷ 58 ∷ 76 ∷ 97 ∷ 115 ∷ 116 ∷ 115 ∷ []) (tcons (tyInt w64) (tcons (tyInt w64) tnil))) tnil)))) (tcons (tyArray (tyStruct (116 ∷ 105 ∷ 99 ∷ 107 ∷ 101 ∷ 116 ∷ 115 ∷ 58 ∷ 58 ∷ 84 ∷ 105 ∷ 99 ∷ 107 ∷ 101 ∷ 116 ∷ []) (tcons (tyInt w64) (tcons (tyInt w64) (tcons (tyInt w64) (tcons (tyInt w64) tnil))))) 32) tnil))) (room-whole 𝓤 H A W (Declared.row FiledRow.the-type) (tyStruct (116 ∷ 105 ∷ 99 ∷ 107 ∷ 101 ∷ 116 ∷ 115 ∷ 58 ∷ 58 ∷ 70 ∷ 105 ∷ 108 ∷ 101 ∷ 100 ∷ 82 ∷ 111 ∷ 119 ∷ []) (tcons (tyStruct (116 ∷ 105 ∷ 99 ∷ 107 ∷ 101 ∷ 116 ∷ 115 ∷ 58 ∷ 58 ∷ 70 ∷ 105 ∷ 108 ∷ 101 ∷ 100 ∷ []) (tcons (tyStruct (114 ∷ 101 ∷ 102 ∷ 117 ∷ 115 ∷ 97 ∷ 108 ∷ 115 ∷ 58 ∷ 58 ∷ 86 ∷ 101 ∷ 114 ∷ 100 ∷ 105 ∷ 99 ∷ 116 ∷ []) (tcons (tyEnum (114 ∷ 101 ∷ 102 ∷ 117 ∷ 115 ∷ 97 ∷ 108 ∷ 115 ∷ 58 ∷ 58 ∷ 82 ∷ 101 ∷ 102 ∷ 117 ∷ 115 ∷ 97 ∷ 108 ∷ []) (ttcons tnil (ttcons tnil (ttcons tnil (ttcons tnil (ttcons tnil (ttcons tnil (ttcons tnil (ttcons tnil (ttcons tnil (ttcons tnil (ttcons tnil (ttcons tnil (ttcons tnil (ttcons tnil (ttcons tnil (ttcons tnil (ttcons tnil (ttcons tnil (ttcons tnil (ttcons tnil (ttcons tnil (ttcons tnil (ttcons tnil (ttcons tnil (ttcons tnil (ttcons tnil (ttcons tnil ttnil)))))))))))))))))))))))))))) (tcons (tyInt w64) tnil))) (tcons (tyInt w64) (tcons (tyStruct (116 ∷ 105 ∷ 99 ∷ 107 ∷ 101 ∷ 116 ∷ 115 ∷ 58 ∷ 58 ∷ 76 ∷ 97 ∷ 115 ∷ 116 ∷ 115 ∷ []) (tcons (tyInt w64) (tcons (tyInt w64) tnil))) tnil)))) (tcons (tyArray (tyStruct (116 ∷ 105 ∷ 99 ∷ 107 ∷ 101 ∷ 116 ∷ 115 ∷ 58 ∷ 58 ∷ 84 ∷ 105 ∷ 99 ∷ 107 ∷ 101 ∷ 116 ∷ []) (tcons (tyInt w64) (tcons (tyInt w64) (tcons (tyInt w64) (tcons (tyInt w64) tnil))))) 32) tnil))) refl)) d0
+          d1 = g-pre 𝓤 H A W 𝓣 E G25 G26 b10 Δ0 (pass T25 T26 (s24 bs)) (at0 bs) (g-room 𝓤 H A W E G25 5 (tyStruct (100 ∷ 101 ∷ 115 ∷ 107 ∷ 95 ∷ 116 ∷ 105 ∷ 99 ∷ 107 ∷ 101 ∷ 116 ∷ 115 ∷ 58 ∷ 58 ∷ 70 ∷ 105 ∷ 108 ∷ 101 ∷ 100 ∷ 82 ∷ 111 ∷ 119 ∷ []) (tcons (tyStruct (100 ∷ 101 ∷ 115 ∷ 107 ∷ 95 ∷ 116 ∷ 105 ∷ 99 ∷ 107 ∷ 101 ∷ 116 ∷ 115 ∷ 58 ∷ 58 ∷ 70 ∷ 105 ∷ 108 ∷ 101 ∷ 100 ∷ []) (tcons (tyStruct (114 ∷ 101 ∷ 102 ∷ 117 ∷ 115 ∷ 97 ∷ 108 ∷ 115 ∷ 58 ∷ 58 ∷ 86 ∷ 101 ∷ 114 ∷ 100 ∷ 105 ∷ 99 ∷ 116 ∷ []) (tcons (tyEnum (114 ∷ 101 ∷ 102 ∷ 117 ∷ 115 ∷ 97 ∷ 108 ∷ 115 ∷ 58 ∷ 58 ∷ 82 ∷ 101 ∷ 102 ∷ 117 ∷ 115 ∷ 97 ∷ 108 ∷ []) (ttcons tnil (ttcons tnil (ttcons tnil (ttcons tnil (ttcons tnil (ttcons tnil (ttcons tnil (ttcons tnil (ttcons tnil (ttcons tnil (ttcons tnil (ttcons tnil (ttcons tnil (ttcons tnil (ttcons tnil (ttcons tnil (ttcons tnil (ttcons tnil (ttcons tnil (ttcons tnil (ttcons tnil (ttcons tnil (ttcons tnil (ttcons tnil (ttcons tnil (ttcons tnil (ttcons tnil ttnil)))))))))))))))))))))))))))) (tcons (tyInt w64) tnil))) (tcons (tyInt w64) (tcons (tyStruct (100 ∷ 101 ∷ 115 ∷ 107 ∷ 95 ∷ 116 ∷ 105 ∷ 99 ∷ 107 ∷ 101 ∷ 116 ∷ 115 ∷ 58 ∷ 58 ∷ 76 ∷ 97 ∷ 115 ∷ 116 ∷ 115 ∷ []) (tcons (tyInt w64) (tcons (tyInt w64) tnil))) tnil)))) (tcons (tyArray (tyStruct (100 ∷ 101 ∷ 115 ∷ 107 ∷ 95 ∷ 116 ∷ 105 ∷ 99 ∷ 107 ∷ 101 ∷ 116 ∷ 115 ∷ 58 ∷ 58 ∷ 84 ∷ 105 ∷ 99 ∷ 107 ∷ 101 ∷ 116 ∷ []) (tcons (tyInt w64) (tcons (tyInt w64) (tcons (tyInt w64) (tcons (tyInt w64) tnil))))) 32) tnil))) (room-whole 𝓤 H A W (Declared.row FiledRow.the-type) (tyStruct (100 ∷ 101 ∷ 115 ∷ 107 ∷ 95 ∷ 116 ∷ 105 ∷ 99 ∷ 107 ∷ 101 ∷ 116 ∷ 115 ∷ 58 ∷ 58 ∷ 70 ∷ 105 ∷ 108 ∷ 101 ∷ 100 ∷ 82 ∷ 111 ∷ 119 ∷ []) (tcons (tyStruct (100 ∷ 101 ∷ 115 ∷ 107 ∷ 95 ∷ 116 ∷ 105 ∷ 99 ∷ 107 ∷ 101 ∷ 116 ∷ 115 ∷ 58 ∷ 58 ∷ 70 ∷ 105 ∷ 108 ∷ 101 ∷ 100 ∷ []) (tcons (tyStruct (114 ∷ 101 ∷ 102 ∷ 117 ∷ 115 ∷ 97 ∷ 108 ∷ 115 ∷ 58 ∷ 58 ∷ 86 ∷ 101 ∷ 114 ∷ 100 ∷ 105 ∷ 99 ∷ 116 ∷ []) (tcons (tyEnum (114 ∷ 101 ∷ 102 ∷ 117 ∷ 115 ∷ 97 ∷ 108 ∷ 115 ∷ 58 ∷ 58 ∷ 82 ∷ 101 ∷ 102 ∷ 117 ∷ 115 ∷ 97 ∷ 108 ∷ []) (ttcons tnil (ttcons tnil (ttcons tnil (ttcons tnil (ttcons tnil (ttcons tnil (ttcons tnil (ttcons tnil (ttcons tnil (ttcons tnil (ttcons tnil (ttcons tnil (ttcons tnil (ttcons tnil (ttcons tnil (ttcons tnil (ttcons tnil (ttcons tnil (ttcons tnil (ttcons tnil (ttcons tnil (ttcons tnil (ttcons tnil (ttcons tnil (ttcons tnil (ttcons tnil (ttcons tnil ttnil)))))))))))))))))))))))))))) (tcons (tyInt w64) tnil))) (tcons (tyInt w64) (tcons (tyStruct (100 ∷ 101 ∷ 115 ∷ 107 ∷ 95 ∷ 116 ∷ 105 ∷ 99 ∷ 107 ∷ 101 ∷ 116 ∷ 115 ∷ 58 ∷ 58 ∷ 76 ∷ 97 ∷ 115 ∷ 116 ∷ 115 ∷ []) (tcons (tyInt w64) (tcons (tyInt w64) tnil))) tnil)))) (tcons (tyArray (tyStruct (100 ∷ 101 ∷ 115 ∷ 107 ∷ 95 ∷ 116 ∷ 105 ∷ 99 ∷ 107 ∷ 101 ∷ 116 ∷ 115 ∷ 58 ∷ 58 ∷ 84 ∷ 105 ∷ 99 ∷ 107 ∷ 101 ∷ 116 ∷ []) (tcons (tyInt w64) (tcons (tyInt w64) (tcons (tyInt w64) (tcons (tyInt w64) tnil))))) 32) tnil))) refl)) d0
 
           d2 : Typed.Typed 𝓤 H A 𝓣 E G24 b10 Δ0 (at2 bs)
           d2 = g-pre 𝓤 H A W 𝓣 E G24 G25 b10 Δ0 (pass T24 T25 (s23 bs)) (at1 bs) (g-room 𝓤 H A W E G24 3 (tyInt w64) (room-sc 𝓤 H A W (sInt w64))) d1
 
           d3 : Typed.Typed 𝓤 H A 𝓣 E G23 b11 Δ0 (at3 bs)
-          d3 = s-seq 𝓤 H A W 𝓣 E G23 G24 b9 b10 Δ0 (both (s22 bs)) (at2 bs) (t-way-copy-out 𝓤 H A W E 𝓣 (Declared.row Filed.the-type) refl (cStruct Filed.the-type Laws.the-laws Laws.the-copy .copy 𝓤 H A W) (λ ρ. Unit) G23 (out 5 (G23 .locals)) (λ u. drop 5 (G23 .locals) u) (G23 .slots) 5 (λ t. _∷_ (field 0) t) (tyStruct (116 ∷ 105 ∷ 99 ∷ 107 ∷ 101 ∷ 116 ∷ 115 ∷ 58 ∷ 58 ∷ 70 ∷ 105 ∷ 108 ∷ 101 ∷ 100 ∷ []) (tcons (tyStruct (114 ∷ 101 ∷ 102 ∷ 117 ∷ 115 ∷ 97 ∷ 108 ∷ 115 ∷ 58 ∷ 58 ∷ 86 ∷ 101 ∷ 114 ∷ 100 ∷ 105 ∷ 99 ∷ 116 ∷ []) (tcons (tyEnum (114 ∷ 101 ∷ 102 ∷ 117 ∷ 115 ∷ 97 ∷ 108 ∷ 115 ∷ 58 ∷ 58 ∷ 82 ∷ 101 ∷ 102 ∷ 117 ∷ 115 ∷ 97 ∷ 108 ∷ []) (ttcons tnil (ttcons tnil (ttcons tnil (ttcons tnil (ttcons tnil (ttcons tnil (ttcons tnil (ttcons tnil (ttcons tnil (ttcons tnil (ttcons tnil (ttcons tnil (ttcons tnil (ttcons tnil (ttcons tnil (ttcons tnil (ttcons tnil (ttcons tnil (ttcons tnil (ttcons tnil (ttcons tnil (ttcons tnil (ttcons tnil (ttcons tnil (ttcons tnil (ttcons tnil (ttcons tnil ttnil)))))))))))))))))))))))))))) (tcons (tyInt w64) tnil))) (tcons (tyInt w64) (tcons (tyStruct (116 ∷ 105 ∷ 99 ∷ 107 ∷ 101 ∷ 116 ∷ 115 ∷ 58 ∷ 58 ∷ 76 ∷ 97 ∷ 115 ∷ 116 ∷ 115 ∷ []) (tcons (tyInt w64) (tcons (tyInt w64) tnil))) tnil)))) (tyStruct (116 ∷ 105 ∷ 99 ∷ 107 ∷ 101 ∷ 116 ∷ 115 ∷ 58 ∷ 58 ∷ 70 ∷ 105 ∷ 108 ∷ 101 ∷ 100 ∷ []) (tcons (tyStruct (114 ∷ 101 ∷ 102 ∷ 117 ∷ 115 ∷ 97 ∷ 108 ∷ 115 ∷ 58 ∷ 58 ∷ 86 ∷ 101 ∷ 114 ∷ 100 ∷ 105 ∷ 99 ∷ 116 ∷ []) (tcons (tyEnum (114 ∷ 101 ∷ 102 ∷ 117 ∷ 115 ∷ 97 ∷ 108 ∷ 115 ∷ 58 ∷ 58 ∷ 82 ∷ 101 ∷ 102 ∷ 117 ∷ 115 ∷ 97 ∷ 108 ∷ []) (ttcons tnil (ttcons tnil (ttcons tnil (ttcons tnil (ttcons tnil (ttcons tnil (ttcons tnil (ttcons tnil (ttcons tnil (ttcons tnil (ttcons tnil (ttcons tnil (ttcons tnil (ttcons tnil (ttcons tnil (ttcons tnil (ttcons tnil (ttcons tnil (ttcons tnil (ttcons tnil (ttcons tnil (ttcons tnil (ttcons tnil (ttcons tnil (ttcons tnil (ttcons tnil (ttcons tnil ttnil)))))))))))))))))))))))))))) (tcons (tyInt w64) tnil))) (tcons (tyInt w64) (tcons (tyStruct (116 ∷ 105 ∷ 99 ∷ 107 ∷ 101 ∷ 116 ∷ 115 ∷ 58 ∷ 58 ∷ 76 ∷ 97 ∷ 115 ∷ 116 ∷ 115 ∷ []) (tcons (tyInt w64) (tcons (tyInt w64) tnil))) tnil)))) 0 (whole (Declared.row Filed.the-type)) (λ x. x) (λ u. getAt (FiledRow.the-type .parts) 0 (struct .as-values (u .1 .1 .1 .1 .1 .0))) (λ u. (hd 0 (tl (tl (tl (tl (tl bs))))), _+_ 0 0)) (λ T′. record { locals = setRow 5 (5, whole (Declared.row FiledRow.the-type)) T′; slots = G23 .slots }) (λ u T′ m′. set 5 (5, whole (Declared.row FiledRow.the-type)) (u .1 .1 .1 .1 .1 .0) T′ m′) (λ u. Unit) (λ x. Unit) (told-none 𝓤 H A (G23 .slots)) (learns-nothing 𝓤 H A (Declared.row Filed.the-type)) (λ ρ told u asked. w-partˢ 𝓤 H A W E (Declared.row FiledRow.the-type) (Declared.row Filed.the-type) (tyStruct (116 ∷ 105 ∷ 99 ∷ 107 ∷ 101 ∷ 116 ∷ 115 ∷ 58 ∷ 58 ∷ 70 ∷ 105 ∷ 108 ∷ 101 ∷ 100 ∷ 82 ∷ 111 ∷ 119 ∷ []) (tcons (tyStruct (116 ∷ 105 ∷ 99 ∷ 107 ∷ 101 ∷ 116 ∷ 115 ∷ 58 ∷ 58 ∷ 70 ∷ 105 ∷ 108 ∷ 101 ∷ 100 ∷ []) (tcons (tyStruct (114 ∷ 101 ∷ 102 ∷ 117 ∷ 115 ∷ 97 ∷ 108 ∷ 115 ∷ 58 ∷ 58 ∷ 86 ∷ 101 ∷ 114 ∷ 100 ∷ 105 ∷ 99 ∷ 116 ∷ []) (tcons (tyEnum (114 ∷ 101 ∷ 102 ∷ 117 ∷ 115 ∷ 97 ∷ 108 ∷ 115 ∷ 58 ∷ 58 ∷ 82 ∷ 101 ∷ 102 ∷ 117 ∷ 115 ∷ 97 ∷ 108 ∷ []) (ttcons tnil (ttcons tnil (ttcons tnil (ttcons tnil (ttcons tnil (ttcons tnil (ttcons tnil (ttcons tnil (ttcons tnil (ttcons tnil (ttcons tnil (ttcons tnil (ttcons tnil (ttcons tnil (ttcons tnil (ttcons tnil (ttcons tnil (ttcons tnil (ttcons tnil (ttcons tnil (ttcons tnil (ttcons tnil (ttcons tnil (ttcons tnil (ttcons tnil (ttcons tnil (ttcons tnil ttnil)))))))))))))))))))))))))))) (tcons (tyInt w64) tnil))) (tcons (tyInt w64) (tcons (tyStruct (116 ∷ 105 ∷ 99 ∷ 107 ∷ 101 ∷ 116 ∷ 115 ∷ 58 ∷ 58 ∷ 76 ∷ 97 ∷ 115 ∷ 116 ∷ 115 ∷ []) (tcons (tyInt w64) (tcons (tyInt w64) tnil))) tnil)))) (tcons (tyArray (tyStruct (116 ∷ 105 ∷ 99 ∷ 107 ∷ 101 ∷ 116 ∷ 115 ∷ 58 ∷ 58 ∷ 84 ∷ 105 ∷ 99 ∷ 107 ∷ 101 ∷ 116 ∷ []) (tcons (tyInt w64) (tcons (tyInt w64) (tcons (tyInt w64) (tcons (tyInt w64) tnil))))) 32) tnil))) (tyStruct (116 ∷ 105 ∷ 99 ∷ 107 ∷ 101 ∷ 116 ∷ 115 ∷ 58 ∷ 58 ∷ 70 ∷ 105 ∷ 108 ∷ 101 ∷ 100 ∷ []) (tcons (tyStruct (114 ∷ 101 ∷ 102 ∷ 117 ∷ 115 ∷ 97 ∷ 108 ∷ 115 ∷ 58 ∷ 58 ∷ 86 ∷ 101 ∷ 114 ∷ 100 ∷ 105 ∷ 99 ∷ 116 ∷ []) (tcons (tyEnum (114 ∷ 101 ∷ 102 ∷ 117 ∷ 115 ∷ 97 ∷ 108 ∷ 115 ∷ 58 ∷ 58 ∷ 82 ∷ 101 ∷ 102 ∷ 117 ∷ 115 ∷ 97 ∷ 108 ∷ []) (ttcons tnil (ttcons tnil (ttcons tnil (ttcons tnil (ttcons tnil (ttcons tnil (ttcons tnil (ttcons tnil (ttcons tnil (ttcons tnil (ttcons tnil (ttcons tnil (ttcons tnil (ttcons tnil (ttcons tnil (ttcons tnil (ttcons tnil (ttcons tnil (ttcons tnil (ttcons tnil (ttcons tnil (ttcons tnil (ttcons tnil (ttcons tnil (ttcons tnil (ttcons tnil (ttcons tnil ttnil)))))))))))))))))))))))))))) (tcons (tyInt w64) tnil))) (tcons (tyInt w64) (tcons (tyStruct (116 ∷ 105 ∷ 99 ∷ 107 ∷ 101 ∷ 116 ∷ 115 ∷ 58 ∷ 58 ∷ 76 ∷ 97 ∷ 115 ∷ 116 ∷ 115 ∷ []) (tcons (tyInt w64) (tcons (tyInt w64) tnil))) tnil)))) 0 0 (u .1 .1 .1 .1 .1 .0) (getAt (FiledRow.the-type .parts) 0 (struct .as-values (u .1 .1 .1 .1 .1 .0))) (hd 0 (tl (tl (tl (tl (tl bs))))), 0) (w-look 𝓤 H A W E (w-local 𝓤 H A W E G23 ρ u (G23 .slots) 5 (Declared.row FiledRow.the-type) (whole (Declared.row FiledRow.the-type)) (λ x. x) (λ x. x) (u .1 .1 .1 .1 .1 .0) (mem-whole 𝓤 H A W (Declared.row FiledRow.the-type) ρ (u .1 .1 .1 .1 .1 .0) (hd 0 (tl (tl (tl (tl (tl bs))))))) (whole-mem 𝓤 H A W (Declared.row FiledRow.the-type) ρ (u .1 .1 .1 .1 .1 .0) (hd 0 (tl (tl (tl (tl (tl bs))))))))) refl λ q. cut-record 𝓤 H A q (Declared.row FiledRow.the-type) Filed.the-type 0 (u .1 .1 .1 .1 .1 .0) (u .1 .1 .1 .1 .1 .0) (getAt (FiledRow.the-type .parts) 0 (struct .as-values (u .1 .1 .1 .1 .1 .0))) (getAt (FiledRow.the-type .parts) 0 (struct .as-values (u .1 .1 .1 .1 .1 .0))) (hd 0 (tl (tl (tl (tl (tl bs))))), 0) (look-at 𝓤 H A W q FiledRow.the-type Laws'.the-laws 0 0 refl refl (hd 0 (tl (tl (tl (tl (tl bs))))), 0) (u .1 .1 .1 .1 .1 .0) (struct .as-values (u .1 .1 .1 .1 .1 .0)) refl)) (room-gone 𝓤 H A (tyStruct (116 ∷ 105 ∷ 99 ∷ 107 ∷ 101 ∷ 116 ∷ 115 ∷ 58 ∷ 58 ∷ 70 ∷ 105 ∷ 108 ∷ 101 ∷ 100 ∷ []) (tcons (tyStruct (114 ∷ 101 ∷ 102 ∷ 117 ∷ 115 ∷ 97 ∷ 108 ∷ 115 ∷ 58 ∷ 58 ∷ 86 ∷ 101 ∷ 114 ∷ 100 ∷ 105 ∷ 99 ∷ 116 ∷ []) (tcons (tyEnum (114 ∷ 101 ∷ 102 ∷ 117 ∷ 115 ∷ 97 ∷ 108 ∷ 115 ∷ 58 ∷ 58 ∷ 82 ∷ 101 ∷ 102 ∷ 117 ∷ 115 ∷ 97 ∷ 108 ∷ []) (ttcons tnil (ttcons tnil (ttcons tnil (ttcons tnil (ttcons tnil (ttcons tnil (ttcons tnil (ttcons tnil (ttcons tnil (ttcons tnil (ttcons tnil (ttcons tnil (ttcons tnil (ttcons tnil (ttcons tnil (ttcons tnil (ttcons tnil (ttcons tnil (ttcons tnil (ttcons tnil (ttcons tnil (ttcons tnil (ttcons tnil (ttcons tnil (ttcons tnil (ttcons tnil (ttcons tnil ttnil)))))))))))))))))))))))))))) (tcons (tyInt w64) tnil))) (tcons (tyInt w64) (tcons (tyStruct (116 ∷ 105 ∷ 99 ∷ 107 ∷ 101 ∷ 116 ∷ 115 ∷ 58 ∷ 58 ∷ 76 ∷ 97 ∷ 115 ∷ 116 ∷ 115 ∷ []) (tcons (tyInt w64) (tcons (tyInt w64) tnil))) tnil))))) (makes-mem 𝓤 H A W (λ ρ. Unit) (Declared.row Filed.the-type) refl (whole (Declared.row Filed.the-type)) (λ x. x) λ ρ told. whole-mem 𝓤 H A W (Declared.row Filed.the-type) ρ) refl refl refl) d2
+          d3 = s-seq 𝓤 H A W 𝓣 E G23 G24 b9 b10 Δ0 (both (s22 bs)) (at2 bs) (t-way-copy-out 𝓤 H A W E 𝓣 (Declared.row Filed.the-type) refl (cStruct Filed.the-type Laws.the-laws Laws.the-copy .copy 𝓤 H A W) (λ ρ. Unit) G23 (out 5 (G23 .locals)) (λ u. drop 5 (G23 .locals) u) (G23 .slots) 5 (λ t. _∷_ (field 0) t) (tyStruct (100 ∷ 101 ∷ 115 ∷ 107 ∷ 95 ∷ 116 ∷ 105 ∷ 99 ∷ 107 ∷ 101 ∷ 116 ∷ 115 ∷ 58 ∷ 58 ∷ 70 ∷ 105 ∷ 108 ∷ 101 ∷ 100 ∷ []) (tcons (tyStruct (114 ∷ 101 ∷ 102 ∷ 117 ∷ 115 ∷ 97 ∷ 108 ∷ 115 ∷ 58 ∷ 58 ∷ 86 ∷ 101 ∷ 114 ∷ 100 ∷ 105 ∷ 99 ∷ 116 ∷ []) (tcons (tyEnum (114 ∷ 101 ∷ 102 ∷ 117 ∷ 115 ∷ 97 ∷ 108 ∷ 115 ∷ 58 ∷ 58 ∷ 82 ∷ 101 ∷ 102 ∷ 117 ∷ 115 ∷ 97 ∷ 108 ∷ []) (ttcons tnil (ttcons tnil (ttcons tnil (ttcons tnil (ttcons tnil (ttcons tnil (ttcons tnil (ttcons tnil (ttcons tnil (ttcons tnil (ttcons tnil (ttcons tnil (ttcons tnil (ttcons tnil (ttcons tnil (ttcons tnil (ttcons tnil (ttcons tnil (ttcons tnil (ttcons tnil (ttcons tnil (ttcons tnil (ttcons tnil (ttcons tnil (ttcons tnil (ttcons tnil (ttcons tnil ttnil)))))))))))))))))))))))))))) (tcons (tyInt w64) tnil))) (tcons (tyInt w64) (tcons (tyStruct (100 ∷ 101 ∷ 115 ∷ 107 ∷ 95 ∷ 116 ∷ 105 ∷ 99 ∷ 107 ∷ 101 ∷ 116 ∷ 115 ∷ 58 ∷ 58 ∷ 76 ∷ 97 ∷ 115 ∷ 116 ∷ 115 ∷ []) (tcons (tyInt w64) (tcons (tyInt w64) tnil))) tnil)))) (tyStruct (100 ∷ 101 ∷ 115 ∷ 107 ∷ 95 ∷ 116 ∷ 105 ∷ 99 ∷ 107 ∷ 101 ∷ 116 ∷ 115 ∷ 58 ∷ 58 ∷ 70 ∷ 105 ∷ 108 ∷ 101 ∷ 100 ∷ []) (tcons (tyStruct (114 ∷ 101 ∷ 102 ∷ 117 ∷ 115 ∷ 97 ∷ 108 ∷ 115 ∷ 58 ∷ 58 ∷ 86 ∷ 101 ∷ 114 ∷ 100 ∷ 105 ∷ 99 ∷ 116 ∷ []) (tcons (tyEnum (114 ∷ 101 ∷ 102 ∷ 117 ∷ 115 ∷ 97 ∷ 108 ∷ 115 ∷ 58 ∷ 58 ∷ 82 ∷ 101 ∷ 102 ∷ 117 ∷ 115 ∷ 97 ∷ 108 ∷ []) (ttcons tnil (ttcons tnil (ttcons tnil (ttcons tnil (ttcons tnil (ttcons tnil (ttcons tnil (ttcons tnil (ttcons tnil (ttcons tnil (ttcons tnil (ttcons tnil (ttcons tnil (ttcons tnil (ttcons tnil (ttcons tnil (ttcons tnil (ttcons tnil (ttcons tnil (ttcons tnil (ttcons tnil (ttcons tnil (ttcons tnil (ttcons tnil (ttcons tnil (ttcons tnil (ttcons tnil ttnil)))))))))))))))))))))))))))) (tcons (tyInt w64) tnil))) (tcons (tyInt w64) (tcons (tyStruct (100 ∷ 101 ∷ 115 ∷ 107 ∷ 95 ∷ 116 ∷ 105 ∷ 99 ∷ 107 ∷ 101 ∷ 116 ∷ 115 ∷ 58 ∷ 58 ∷ 76 ∷ 97 ∷ 115 ∷ 116 ∷ 115 ∷ []) (tcons (tyInt w64) (tcons (tyInt w64) tnil))) tnil)))) 0 (whole (Declared.row Filed.the-type)) (λ x. x) (λ u. getAt (FiledRow.the-type .parts) 0 (struct .as-values (u .1 .1 .1 .1 .1 .0))) (λ u. (hd 0 (tl (tl (tl (tl (tl bs))))), _+_ 0 0)) (λ T′. record { locals = setRow 5 (5, whole (Declared.row FiledRow.the-type)) T′; slots = G23 .slots }) (λ u T′ m′. set 5 (5, whole (Declared.row FiledRow.the-type)) (u .1 .1 .1 .1 .1 .0) T′ m′) (λ u. Unit) (λ x. Unit) (told-none 𝓤 H A (G23 .slots)) (learns-nothing 𝓤 H A (Declared.row Filed.the-type)) (λ ρ told u asked. w-partˢ 𝓤 H A W E (Declared.row FiledRow.the-type) (Declared.row Filed.the-type) (tyStruct (100 ∷ 101 ∷ 115 ∷ 107 ∷ 95 ∷ 116 ∷ 105 ∷ 99 ∷ 107 ∷ 101 ∷ 116 ∷ 115 ∷ 58 ∷ 58 ∷ 70 ∷ 105 ∷ 108 ∷ 101 ∷ 100 ∷ 82 ∷ 111 ∷ 119 ∷ []) (tcons (tyStruct (100 ∷ 101 ∷ 115 ∷ 107 ∷ 95 ∷ 116 ∷ 105 ∷ 99 ∷ 107 ∷ 101 ∷ 116 ∷ 115 ∷ 58 ∷ 58 ∷ 70 ∷ 105 ∷ 108 ∷ 101 ∷ 100 ∷ []) (tcons (tyStruct (114 ∷ 101 ∷ 102 ∷ 117 ∷ 115 ∷ 97 ∷ 108 ∷ 115 ∷ 58 ∷ 58 ∷ 86 ∷ 101 ∷ 114 ∷ 100 ∷ 105 ∷ 99 ∷ 116 ∷ []) (tcons (tyEnum (114 ∷ 101 ∷ 102 ∷ 117 ∷ 115 ∷ 97 ∷ 108 ∷ 115 ∷ 58 ∷ 58 ∷ 82 ∷ 101 ∷ 102 ∷ 117 ∷ 115 ∷ 97 ∷ 108 ∷ []) (ttcons tnil (ttcons tnil (ttcons tnil (ttcons tnil (ttcons tnil (ttcons tnil (ttcons tnil (ttcons tnil (ttcons tnil (ttcons tnil (ttcons tnil (ttcons tnil (ttcons tnil (ttcons tnil (ttcons tnil (ttcons tnil (ttcons tnil (ttcons tnil (ttcons tnil (ttcons tnil (ttcons tnil (ttcons tnil (ttcons tnil (ttcons tnil (ttcons tnil (ttcons tnil (ttcons tnil ttnil)))))))))))))))))))))))))))) (tcons (tyInt w64) tnil))) (tcons (tyInt w64) (tcons (tyStruct (100 ∷ 101 ∷ 115 ∷ 107 ∷ 95 ∷ 116 ∷ 105 ∷ 99 ∷ 107 ∷ 101 ∷ 116 ∷ 115 ∷ 58 ∷ 58 ∷ 76 ∷ 97 ∷ 115 ∷ 116 ∷ 115 ∷ []) (tcons (tyInt w64) (tcons (tyInt w64) tnil))) tnil)))) (tcons (tyArray (tyStruct (100 ∷ 101 ∷ 115 ∷ 107 ∷ 95 ∷ 116 ∷ 105 ∷ 99 ∷ 107 ∷ 101 ∷ 116 ∷ 115 ∷ 58 ∷ 58 ∷ 84 ∷ 105 ∷ 99 ∷ 107 ∷ 101 ∷ 116 ∷ []) (tcons (tyInt w64) (tcons (tyInt w64) (tcons (tyInt w64) (tcons (tyInt w64) tnil))))) 32) tnil))) (tyStruct (100 ∷ 101 ∷ 115 ∷ 107 ∷ 95 ∷ 116 ∷ 105 ∷ 99 ∷ 107 ∷ 101 ∷ 116 ∷ 115 ∷ 58 ∷ 58 ∷ 70 ∷ 105 ∷ 108 ∷ 101 ∷ 100 ∷ []) (tcons (tyStruct (114 ∷ 101 ∷ 102 ∷ 117 ∷ 115 ∷ 97 ∷ 108 ∷ 115 ∷ 58 ∷ 58 ∷ 86 ∷ 101 ∷ 114 ∷ 100 ∷ 105 ∷ 99 ∷ 116 ∷ []) (tcons (tyEnum (114 ∷ 101 ∷ 102 ∷ 117 ∷ 115 ∷ 97 ∷ 108 ∷ 115 ∷ 58 ∷ 58 ∷ 82 ∷ 101 ∷ 102 ∷ 117 ∷ 115 ∷ 97 ∷ 108 ∷ []) (ttcons tnil (ttcons tnil (ttcons tnil (ttcons tnil (ttcons tnil (ttcons tnil (ttcons tnil (ttcons tnil (ttcons tnil (ttcons tnil (ttcons tnil (ttcons tnil (ttcons tnil (ttcons tnil (ttcons tnil (ttcons tnil (ttcons tnil (ttcons tnil (ttcons tnil (ttcons tnil (ttcons tnil (ttcons tnil (ttcons tnil (ttcons tnil (ttcons tnil (ttcons tnil (ttcons tnil ttnil)))))))))))))))))))))))))))) (tcons (tyInt w64) tnil))) (tcons (tyInt w64) (tcons (tyStruct (100 ∷ 101 ∷ 115 ∷ 107 ∷ 95 ∷ 116 ∷ 105 ∷ 99 ∷ 107 ∷ 101 ∷ 116 ∷ 115 ∷ 58 ∷ 58 ∷ 76 ∷ 97 ∷ 115 ∷ 116 ∷ 115 ∷ []) (tcons (tyInt w64) (tcons (tyInt w64) tnil))) tnil)))) 0 0 (u .1 .1 .1 .1 .1 .0) (getAt (FiledRow.the-type .parts) 0 (struct .as-values (u .1 .1 .1 .1 .1 .0))) (hd 0 (tl (tl (tl (tl (tl bs))))), 0) (w-look 𝓤 H A W E (w-local 𝓤 H A W E G23 ρ u (G23 .slots) 5 (Declared.row FiledRow.the-type) (whole (Declared.row FiledRow.the-type)) (λ x. x) (λ x. x) (u .1 .1 .1 .1 .1 .0) (mem-whole 𝓤 H A W (Declared.row FiledRow.the-type) ρ (u .1 .1 .1 .1 .1 .0) (hd 0 (tl (tl (tl (tl (tl bs))))))) (whole-mem 𝓤 H A W (Declared.row FiledRow.the-type) ρ (u .1 .1 .1 .1 .1 .0) (hd 0 (tl (tl (tl (tl (tl bs))))))))) refl λ q. cut-record 𝓤 H A q (Declared.row FiledRow.the-type) Filed.the-type 0 (u .1 .1 .1 .1 .1 .0) (u .1 .1 .1 .1 .1 .0) (getAt (FiledRow.the-type .parts) 0 (struct .as-values (u .1 .1 .1 .1 .1 .0))) (getAt (FiledRow.the-type .parts) 0 (struct .as-values (u .1 .1 .1 .1 .1 .0))) (hd 0 (tl (tl (tl (tl (tl bs))))), 0) (look-at 𝓤 H A W q FiledRow.the-type Laws'.the-laws 0 0 refl refl (hd 0 (tl (tl (tl (tl (tl bs))))), 0) (u .1 .1 .1 .1 .1 .0) (struct .as-values (u .1 .1 .1 .1 .1 .0)) refl)) (room-gone 𝓤 H A (tyStruct (100 ∷ 101 ∷ 115 ∷ 107 ∷ 95 ∷ 116 ∷ 105 ∷ 99 ∷ 107 ∷ 101 ∷ 116 ∷ 115 ∷ 58 ∷ 58 ∷ 70 ∷ 105 ∷ 108 ∷ 101 ∷ 100 ∷ []) (tcons (tyStruct (114 ∷ 101 ∷ 102 ∷ 117 ∷ 115 ∷ 97 ∷ 108 ∷ 115 ∷ 58 ∷ 58 ∷ 86 ∷ 101 ∷ 114 ∷ 100 ∷ 105 ∷ 99 ∷ 116 ∷ []) (tcons (tyEnum (114 ∷ 101 ∷ 102 ∷ 117 ∷ 115 ∷ 97 ∷ 108 ∷ 115 ∷ 58 ∷ 58 ∷ 82 ∷ 101 ∷ 102 ∷ 117 ∷ 115 ∷ 97 ∷ 108 ∷ []) (ttcons tnil (ttcons tnil (ttcons tnil (ttcons tnil (ttcons tnil (ttcons tnil (ttcons tnil (ttcons tnil (ttcons tnil (ttcons tnil (ttcons tnil (ttcons tnil (ttcons tnil (ttcons tnil (ttcons tnil (ttcons tnil (ttcons tnil (ttcons tnil (ttcons tnil (ttcons tnil (ttcons tnil (ttcons tnil (ttcons tnil (ttcons tnil (ttcons tnil (ttcons tnil (ttcons tnil ttnil)))))))))))))))))))))))))))) (tcons (tyInt w64) tnil))) (tcons (tyInt w64) (tcons (tyStruct (100 ∷ 101 ∷ 115 ∷ 107 ∷ 95 ∷ 116 ∷ 105 ∷ 99 ∷ 107 ∷ 101 ∷ 116 ∷ 115 ∷ 58 ∷ 58 ∷ 76 ∷ 97 ∷ 115 ∷ 116 ∷ 115 ∷ []) (tcons (tyInt w64) (tcons (tyInt w64) tnil))) tnil))))) (makes-mem 𝓤 H A W (λ ρ. Unit) (Declared.row Filed.the-type) refl (whole (Declared.row Filed.the-type)) (λ x. x) λ ρ told. whole-mem 𝓤 H A W (Declared.row Filed.the-type) ρ) refl refl refl) d2
 
           d4 : Typed.Typed 𝓤 H A 𝓣 E G22 b11 Δ0 (at4 bs)
           d4 = g-pre 𝓤 H A W 𝓣 E G22 G23 b11 Δ0 (λ Ψ. Ψ) (at3 bs) (g-forget 𝓤 H A W E G22 2 dead refl) d3
@@ -586,10 +586,10 @@ module _ (claims· : Claims) where
           d7 = g-pre 𝓤 H A W 𝓣 E G19 G20 b11 Δ0 (pass T19 T20 (s18 bs)) (at6 bs) (g-room 𝓤 H A W E G19 9 tyUnit (room-sc 𝓤 H A W sUnit)) d6
 
           d8 : Typed.Typed 𝓤 H A 𝓣 E G18 b11 Δ0 (at8 bs)
-          d8 = g-pre 𝓤 H A W 𝓣 E G18 G19 b11 Δ0 (pass T18 T19 (s17 bs)) (at7 bs) (g-room 𝓤 H A W E G18 6 (tyArray (tyStruct (116 ∷ 105 ∷ 99 ∷ 107 ∷ 101 ∷ 116 ∷ 115 ∷ 58 ∷ 58 ∷ 84 ∷ 105 ∷ 99 ∷ 107 ∷ 101 ∷ 116 ∷ []) (tcons (tyInt w64) (tcons (tyInt w64) (tcons (tyInt w64) (tcons (tyInt w64) tnil))))) 32) (room-arr 𝓤 H A W (Declared.row Ticket.the-type) 32 0 32 refl)) d7
+          d8 = g-pre 𝓤 H A W 𝓣 E G18 G19 b11 Δ0 (pass T18 T19 (s17 bs)) (at7 bs) (g-room 𝓤 H A W E G18 6 (tyArray (tyStruct (100 ∷ 101 ∷ 115 ∷ 107 ∷ 95 ∷ 116 ∷ 105 ∷ 99 ∷ 107 ∷ 101 ∷ 116 ∷ 115 ∷ 58 ∷ 58 ∷ 84 ∷ 105 ∷ 99 ∷ 107 ∷ 101 ∷ 116 ∷ []) (tcons (tyInt w64) (tcons (tyInt w64) (tcons (tyInt w64) (tcons (tyInt w64) tnil))))) 32) (room-arr 𝓤 H A W (Declared.row Ticket.the-type) 32 0 32 refl)) d7
 
           d9 : Typed.Typed 𝓤 H A 𝓣 E G17 b12 Δ0 (at9 bs)
-          d9 = s-seq 𝓤 H A W 𝓣 E G17 G18 b8 b11 Δ0 (both (s16 bs)) (at8 bs) (t-call-plain 𝓤 H A W 𝓣 1 ps·2 r·2 (claims· .4) (claims· .5) "desk::copy_in" (known .2) E (λ pos β. β) G17 (record { pos = 11; ty = tyRef erased mut (pointee (the-row .written)); ref = λ x. x }, (record { pos = 6; st = []; d = 0; at = λ x. x }, tt)) 9 (2 ∷ []) (sub-id 𝓤 H A W (G17 .slots)) (as-is 𝓤 H A (mslice the-row (tyRef erased mut (pointee (the-row .written))) 2), reads-mslice 𝓤 H A W the-row (tyRef erased mut (pointee (the-row .written))) 2, refl, ((arr-yields 𝓤 H A W (eStruct Ticket.the-type Laws'3.the-laws Laws'3.the-copy) (eStruct-laws Ticket.the-type Laws'3.the-laws Laws'3.the-copy Laws'3.the-plain) 32, refl), tt)) (room-gone 𝓤 H A tyUnit) (tt, tt) refl) d8
+          d9 = s-seq 𝓤 H A W 𝓣 E G17 G18 b8 b11 Δ0 (both (s16 bs)) (at8 bs) (t-call-plain 𝓤 H A W 𝓣 1 ps·2 r·2 (claims· .4) (claims· .5) "desk_rows::copy_in" (known .2) E (λ pos β. β) G17 (record { pos = 11; ty = tyRef erased mut (pointee (the-row .written)); ref = λ x. x }, (record { pos = 6; st = []; d = 0; at = λ x. x }, tt)) 9 (2 ∷ []) (sub-id 𝓤 H A W (G17 .slots)) (as-is 𝓤 H A (mslice the-row (tyRef erased mut (pointee (the-row .written))) 2), reads-mslice 𝓤 H A W the-row (tyRef erased mut (pointee (the-row .written))) 2, refl, ((arr-yields 𝓤 H A W (eStruct Ticket.the-type Laws'3.the-laws Laws'3.the-copy) (eStruct-laws Ticket.the-type Laws'3.the-laws Laws'3.the-copy Laws'3.the-plain) 32, refl), tt)) (room-gone 𝓤 H A tyUnit) (tt, tt) refl) d8
 
           d10 : Typed.Typed 𝓤 H A 𝓣 E G16 b13 Δ0 (at10 bs)
           d10 = s-seq 𝓤 H A W 𝓣 E G16 G17 b7 b12 Δ0 (ask (s15 bs)) (at9 bs) (t-sl-aggregate 𝓤 H A W E the-row 𝓣 (asMut the-row) G16 10 11 2 (tyRef erased mut (pointee (the-row .written))) (tyRef erased mut (pointee (the-row .written))) (λ x. x) (oFld 1 (field 1 ∷ []) (tyInt w64) 8 λ v. lenV (v .0)) (as-is 𝓤 H A (msptr the-row (tyRef erased mut (pointee (the-row .written))) 2)) (room-gone 𝓤 H A (tyStruct (38 ∷ 91 ∷ 93 ∷ []) (tcons (tyRef erased mut (pointee (the-row .written))) (tcons (tyInt w64) tnil)))) (reads-owed-len 𝓤 H A W the-row (tyRef (named 0) mut (pointee (the-row .written))) 0 2 (lease (κs .0) (qs .0)) 8 refl, refl) refl refl λ b o k. tt) d9
@@ -601,16 +601,16 @@ module _ (claims· : Claims) where
           d12 = g-pre 𝓤 H A W 𝓣 E G14 G15 b14 Δ0 (λ Ψ. Ψ) (at11 bs) (g-begin 𝓤 H A W E G14 2 (tt, (tt, (tt, (tt, (tt, (tt, (tt, (tt, (tt, (tt, (tt, (tt, tt))))))))))))) d11
 
           d13 : Typed.Typed 𝓤 H A 𝓣 E G13 b15 Δ0 (at13 bs)
-          d13 = s-seq 𝓤 H A W 𝓣 E G13 G14 b5 b14 Δ0 (both (s12 bs)) (at12 bs) (t-way-copy-out 𝓤 H A W E 𝓣 (Array'.Array (Declared.row Ticket.the-type) 32) refl (cArr (Declared.row Ticket.the-type) (cStruct Ticket.the-type Laws'3.the-laws Laws'3.the-copy) 32 .copy 𝓤 H A W) (λ ρ. Unit) G13 (out 5 (G13 .locals)) (λ u. drop 5 (G13 .locals) u) (G13 .slots) 5 (λ t. _∷_ (field 1) t) (tyArray (tyStruct (116 ∷ 105 ∷ 99 ∷ 107 ∷ 101 ∷ 116 ∷ 115 ∷ 58 ∷ 58 ∷ 84 ∷ 105 ∷ 99 ∷ 107 ∷ 101 ∷ 116 ∷ []) (tcons (tyInt w64) (tcons (tyInt w64) (tcons (tyInt w64) (tcons (tyInt w64) tnil))))) 32) (tyArray (tyStruct (116 ∷ 105 ∷ 99 ∷ 107 ∷ 101 ∷ 116 ∷ 115 ∷ 58 ∷ 58 ∷ 84 ∷ 105 ∷ 99 ∷ 107 ∷ 101 ∷ 116 ∷ []) (tcons (tyInt w64) (tcons (tyInt w64) (tcons (tyInt w64) (tcons (tyInt w64) tnil))))) 32) 6 (arrF (Declared.row Ticket.the-type) 32 0) (λ x. x) (λ u. getAt (FiledRow.the-type .parts) 1 (struct .as-values (u .1 .1 .1 .1 .1 .0))) (λ u. (hd 0 (tl (tl (tl (tl (tl bs))))), _+_ 0 40)) (λ T′. record { locals = setRow 5 (5, whole (Declared.row FiledRow.the-type)) T′; slots = G13 .slots }) (λ u T′ m′. set 5 (5, whole (Declared.row FiledRow.the-type)) (u .1 .1 .1 .1 .1 .0) T′ m′) (λ u. Unit) (λ x. Unit) (told-none 𝓤 H A (G13 .slots)) (learns-nothing 𝓤 H A (Array'.Array (Declared.row Ticket.the-type) 32)) (λ ρ told u asked. w-partˢ 𝓤 H A W E (Declared.row FiledRow.the-type) (Array'.Array (Declared.row Ticket.the-type) 32) (tyStruct (116 ∷ 105 ∷ 99 ∷ 107 ∷ 101 ∷ 116 ∷ 115 ∷ 58 ∷ 58 ∷ 70 ∷ 105 ∷ 108 ∷ 101 ∷ 100 ∷ 82 ∷ 111 ∷ 119 ∷ []) (tcons (tyStruct (116 ∷ 105 ∷ 99 ∷ 107 ∷ 101 ∷ 116 ∷ 115 ∷ 58 ∷ 58 ∷ 70 ∷ 105 ∷ 108 ∷ 101 ∷ 100 ∷ []) (tcons (tyStruct (114 ∷ 101 ∷ 102 ∷ 117 ∷ 115 ∷ 97 ∷ 108 ∷ 115 ∷ 58 ∷ 58 ∷ 86 ∷ 101 ∷ 114 ∷ 100 ∷ 105 ∷ 99 ∷ 116 ∷ []) (tcons (tyEnum (114 ∷ 101 ∷ 102 ∷ 117 ∷ 115 ∷ 97 ∷ 108 ∷ 115 ∷ 58 ∷ 58 ∷ 82 ∷ 101 ∷ 102 ∷ 117 ∷ 115 ∷ 97 ∷ 108 ∷ []) (ttcons tnil (ttcons tnil (ttcons tnil (ttcons tnil (ttcons tnil (ttcons tnil (ttcons tnil (ttcons tnil (ttcons tnil (ttcons tnil (ttcons tnil (ttcons tnil (ttcons tnil (ttcons tnil (ttcons tnil (ttcons tnil (ttcons tnil (ttcons tnil (ttcons tnil (ttcons tnil (ttcons tnil (ttcons tnil (ttcons tnil (ttcons tnil (ttcons tnil (ttcons tnil (ttcons tnil ttnil)))))))))))))))))))))))))))) (tcons (tyInt w64) tnil))) (tcons (tyInt w64) (tcons (tyStruct (116 ∷ 105 ∷ 99 ∷ 107 ∷ 101 ∷ 116 ∷ 115 ∷ 58 ∷ 58 ∷ 76 ∷ 97 ∷ 115 ∷ 116 ∷ 115 ∷ []) (tcons (tyInt w64) (tcons (tyInt w64) tnil))) tnil)))) (tcons (tyArray (tyStruct (116 ∷ 105 ∷ 99 ∷ 107 ∷ 101 ∷ 116 ∷ 115 ∷ 58 ∷ 58 ∷ 84 ∷ 105 ∷ 99 ∷ 107 ∷ 101 ∷ 116 ∷ []) (tcons (tyInt w64) (tcons (tyInt w64) (tcons (tyInt w64) (tcons (tyInt w64) tnil))))) 32) tnil))) (tyArray (tyStruct (116 ∷ 105 ∷ 99 ∷ 107 ∷ 101 ∷ 116 ∷ 115 ∷ 58 ∷ 58 ∷ 84 ∷ 105 ∷ 99 ∷ 107 ∷ 101 ∷ 116 ∷ []) (tcons (tyInt w64) (tcons (tyInt w64) (tcons (tyInt w64) (tcons (tyInt w64) tnil))))) 32) 1 40 (u .1 .1 .1 .1 .1 .0) (getAt (FiledRow.the-type .parts) 1 (struct .as-values (u .1 .1 .1 .1 .1 .0))) (hd 0 (tl (tl (tl (tl (tl bs))))), 0) (w-look 𝓤 H A W E (w-local 𝓤 H A W E G13 ρ u (G13 .slots) 5 (Declared.row FiledRow.the-type) (whole (Declared.row FiledRow.the-type)) (λ x. x) (λ x. x) (u .1 .1 .1 .1 .1 .0) (mem-whole 𝓤 H A W (Declared.row FiledRow.the-type) ρ (u .1 .1 .1 .1 .1 .0) (hd 0 (tl (tl (tl (tl (tl bs))))))) (whole-mem 𝓤 H A W (Declared.row FiledRow.the-type) ρ (u .1 .1 .1 .1 .1 .0) (hd 0 (tl (tl (tl (tl (tl bs))))))))) refl λ q. cut-records 𝓤 H A q (Declared.row FiledRow.the-type) Ticket.the-type 32 40 (u .1 .1 .1 .1 .1 .0) (u .1 .1 .1 .1 .1 .0) (getAt (FiledRow.the-type .parts) 1 (struct .as-values (u .1 .1 .1 .1 .1 .0))) (getAt (FiledRow.the-type .parts) 1 (struct .as-values (u .1 .1 .1 .1 .1 .0))) (hd 0 (tl (tl (tl (tl (tl bs))))), 0) (look-at 𝓤 H A W q FiledRow.the-type Laws'.the-laws 1 40 refl refl (hd 0 (tl (tl (tl (tl (tl bs))))), 0) (u .1 .1 .1 .1 .1 .0) (struct .as-values (u .1 .1 .1 .1 .1 .0)) refl)) (room-gone 𝓤 H A (tyArray (tyStruct (116 ∷ 105 ∷ 99 ∷ 107 ∷ 101 ∷ 116 ∷ 115 ∷ 58 ∷ 58 ∷ 84 ∷ 105 ∷ 99 ∷ 107 ∷ 101 ∷ 116 ∷ []) (tcons (tyInt w64) (tcons (tyInt w64) (tcons (tyInt w64) (tcons (tyInt w64) tnil))))) 32)) (makes-mem 𝓤 H A W (λ ρ. Unit) (Array'.Array (Declared.row Ticket.the-type) 32) refl (arrF (Declared.row Ticket.the-type) 32 0) (λ x. x) λ ρ told. arr-mem 𝓤 H A W (Declared.row Ticket.the-type) 32 tt ρ) refl refl refl) d12
+          d13 = s-seq 𝓤 H A W 𝓣 E G13 G14 b5 b14 Δ0 (both (s12 bs)) (at12 bs) (t-way-copy-out 𝓤 H A W E 𝓣 (Array'.Array (Declared.row Ticket.the-type) 32) refl (cArr (Declared.row Ticket.the-type) (cStruct Ticket.the-type Laws'3.the-laws Laws'3.the-copy) 32 .copy 𝓤 H A W) (λ ρ. Unit) G13 (out 5 (G13 .locals)) (λ u. drop 5 (G13 .locals) u) (G13 .slots) 5 (λ t. _∷_ (field 1) t) (tyArray (tyStruct (100 ∷ 101 ∷ 115 ∷ 107 ∷ 95 ∷ 116 ∷ 105 ∷ 99 ∷ 107 ∷ 101 ∷ 116 ∷ 115 ∷ 58 ∷ 58 ∷ 84 ∷ 105 ∷ 99 ∷ 107 ∷ 101 ∷ 116 ∷ []) (tcons (tyInt w64) (tcons (tyInt w64) (tcons (tyInt w64) (tcons (tyInt w64) tnil))))) 32) (tyArray (tyStruct (100 ∷ 101 ∷ 115 ∷ 107 ∷ 95 ∷ 116 ∷ 105 ∷ 99 ∷ 107 ∷ 101 ∷ 116 ∷ 115 ∷ 58 ∷ 58 ∷ 84 ∷ 105 ∷ 99 ∷ 107 ∷ 101 ∷ 116 ∷ []) (tcons (tyInt w64) (tcons (tyInt w64) (tcons (tyInt w64) (tcons (tyInt w64) tnil))))) 32) 6 (arrF (Declared.row Ticket.the-type) 32 0) (λ x. x) (λ u. getAt (FiledRow.the-type .parts) 1 (struct .as-values (u .1 .1 .1 .1 .1 .0))) (λ u. (hd 0 (tl (tl (tl (tl (tl bs))))), _+_ 0 40)) (λ T′. record { locals = setRow 5 (5, whole (Declared.row FiledRow.the-type)) T′; slots = G13 .slots }) (λ u T′ m′. set 5 (5, whole (Declared.row FiledRow.the-type)) (u .1 .1 .1 .1 .1 .0) T′ m′) (λ u. Unit) (λ x. Unit) (told-none 𝓤 H A (G13 .slots)) (learns-nothing 𝓤 H A (Array'.Array (Declared.row Ticket.the-type) 32)) (λ ρ told u asked. w-partˢ 𝓤 H A W E (Declared.row FiledRow.the-type) (Array'.Array (Declared.row Ticket.the-type) 32) (tyStruct (100 ∷ 101 ∷ 115 ∷ 107 ∷ 95 ∷ 116 ∷ 105 ∷ 99 ∷ 107 ∷ 101 ∷ 116 ∷ 115 ∷ 58 ∷ 58 ∷ 70 ∷ 105 ∷ 108 ∷ 101 ∷ 100 ∷ 82 ∷ 111 ∷ 119 ∷ []) (tcons (tyStruct (100 ∷ 101 ∷ 115 ∷ 107 ∷ 95 ∷ 116 ∷ 105 ∷ 99 ∷ 107 ∷ 101 ∷ 116 ∷ 115 ∷ 58 ∷ 58 ∷ 70 ∷ 105 ∷ 108 ∷ 101 ∷ 100 ∷ []) (tcons (tyStruct (114 ∷ 101 ∷ 102 ∷ 117 ∷ 115 ∷ 97 ∷ 108 ∷ 115 ∷ 58 ∷ 58 ∷ 86 ∷ 101 ∷ 114 ∷ 100 ∷ 105 ∷ 99 ∷ 116 ∷ []) (tcons (tyEnum (114 ∷ 101 ∷ 102 ∷ 117 ∷ 115 ∷ 97 ∷ 108 ∷ 115 ∷ 58 ∷ 58 ∷ 82 ∷ 101 ∷ 102 ∷ 117 ∷ 115 ∷ 97 ∷ 108 ∷ []) (ttcons tnil (ttcons tnil (ttcons tnil (ttcons tnil (ttcons tnil (ttcons tnil (ttcons tnil (ttcons tnil (ttcons tnil (ttcons tnil (ttcons tnil (ttcons tnil (ttcons tnil (ttcons tnil (ttcons tnil (ttcons tnil (ttcons tnil (ttcons tnil (ttcons tnil (ttcons tnil (ttcons tnil (ttcons tnil (ttcons tnil (ttcons tnil (ttcons tnil (ttcons tnil (ttcons tnil ttnil)))))))))))))))))))))))))))) (tcons (tyInt w64) tnil))) (tcons (tyInt w64) (tcons (tyStruct (100 ∷ 101 ∷ 115 ∷ 107 ∷ 95 ∷ 116 ∷ 105 ∷ 99 ∷ 107 ∷ 101 ∷ 116 ∷ 115 ∷ 58 ∷ 58 ∷ 76 ∷ 97 ∷ 115 ∷ 116 ∷ 115 ∷ []) (tcons (tyInt w64) (tcons (tyInt w64) tnil))) tnil)))) (tcons (tyArray (tyStruct (100 ∷ 101 ∷ 115 ∷ 107 ∷ 95 ∷ 116 ∷ 105 ∷ 99 ∷ 107 ∷ 101 ∷ 116 ∷ 115 ∷ 58 ∷ 58 ∷ 84 ∷ 105 ∷ 99 ∷ 107 ∷ 101 ∷ 116 ∷ []) (tcons (tyInt w64) (tcons (tyInt w64) (tcons (tyInt w64) (tcons (tyInt w64) tnil))))) 32) tnil))) (tyArray (tyStruct (100 ∷ 101 ∷ 115 ∷ 107 ∷ 95 ∷ 116 ∷ 105 ∷ 99 ∷ 107 ∷ 101 ∷ 116 ∷ 115 ∷ 58 ∷ 58 ∷ 84 ∷ 105 ∷ 99 ∷ 107 ∷ 101 ∷ 116 ∷ []) (tcons (tyInt w64) (tcons (tyInt w64) (tcons (tyInt w64) (tcons (tyInt w64) tnil))))) 32) 1 40 (u .1 .1 .1 .1 .1 .0) (getAt (FiledRow.the-type .parts) 1 (struct .as-values (u .1 .1 .1 .1 .1 .0))) (hd 0 (tl (tl (tl (tl (tl bs))))), 0) (w-look 𝓤 H A W E (w-local 𝓤 H A W E G13 ρ u (G13 .slots) 5 (Declared.row FiledRow.the-type) (whole (Declared.row FiledRow.the-type)) (λ x. x) (λ x. x) (u .1 .1 .1 .1 .1 .0) (mem-whole 𝓤 H A W (Declared.row FiledRow.the-type) ρ (u .1 .1 .1 .1 .1 .0) (hd 0 (tl (tl (tl (tl (tl bs))))))) (whole-mem 𝓤 H A W (Declared.row FiledRow.the-type) ρ (u .1 .1 .1 .1 .1 .0) (hd 0 (tl (tl (tl (tl (tl bs))))))))) refl λ q. cut-records 𝓤 H A q (Declared.row FiledRow.the-type) Ticket.the-type 32 40 (u .1 .1 .1 .1 .1 .0) (u .1 .1 .1 .1 .1 .0) (getAt (FiledRow.the-type .parts) 1 (struct .as-values (u .1 .1 .1 .1 .1 .0))) (getAt (FiledRow.the-type .parts) 1 (struct .as-values (u .1 .1 .1 .1 .1 .0))) (hd 0 (tl (tl (tl (tl (tl bs))))), 0) (look-at 𝓤 H A W q FiledRow.the-type Laws'.the-laws 1 40 refl refl (hd 0 (tl (tl (tl (tl (tl bs))))), 0) (u .1 .1 .1 .1 .1 .0) (struct .as-values (u .1 .1 .1 .1 .1 .0)) refl)) (room-gone 𝓤 H A (tyArray (tyStruct (100 ∷ 101 ∷ 115 ∷ 107 ∷ 95 ∷ 116 ∷ 105 ∷ 99 ∷ 107 ∷ 101 ∷ 116 ∷ 115 ∷ 58 ∷ 58 ∷ 84 ∷ 105 ∷ 99 ∷ 107 ∷ 101 ∷ 116 ∷ []) (tcons (tyInt w64) (tcons (tyInt w64) (tcons (tyInt w64) (tcons (tyInt w64) tnil))))) 32)) (makes-mem 𝓤 H A W (λ ρ. Unit) (Array'.Array (Declared.row Ticket.the-type) 32) refl (arrF (Declared.row Ticket.the-type) 32 0) (λ x. x) λ ρ told. arr-mem 𝓤 H A W (Declared.row Ticket.the-type) 32 tt ρ) refl refl refl) d12
 
           d14 : Typed.Typed 𝓤 H A 𝓣 E G12 b15 Δ0 (at14 bs)
-          d14 = g-pre 𝓤 H A W 𝓣 E G12 G13 b15 Δ0 (pass T12 T13 (s11 bs)) (at13 bs) (g-room 𝓤 H A W E G12 4 (tyArray (tyStruct (116 ∷ 105 ∷ 99 ∷ 107 ∷ 101 ∷ 116 ∷ 115 ∷ 58 ∷ 58 ∷ 84 ∷ 105 ∷ 99 ∷ 107 ∷ 101 ∷ 116 ∷ []) (tcons (tyInt w64) (tcons (tyInt w64) (tcons (tyInt w64) (tcons (tyInt w64) tnil))))) 32) (room-arr 𝓤 H A W (Declared.row Ticket.the-type) 32 0 32 refl)) d13
+          d14 = g-pre 𝓤 H A W 𝓣 E G12 G13 b15 Δ0 (pass T12 T13 (s11 bs)) (at13 bs) (g-room 𝓤 H A W E G12 4 (tyArray (tyStruct (100 ∷ 101 ∷ 115 ∷ 107 ∷ 95 ∷ 116 ∷ 105 ∷ 99 ∷ 107 ∷ 101 ∷ 116 ∷ 115 ∷ 58 ∷ 58 ∷ 84 ∷ 105 ∷ 99 ∷ 107 ∷ 101 ∷ 116 ∷ []) (tcons (tyInt w64) (tcons (tyInt w64) (tcons (tyInt w64) (tcons (tyInt w64) tnil))))) 32) (room-arr 𝓤 H A W (Declared.row Ticket.the-type) 32 0 32 refl)) d13
 
           d15 : Typed.Typed 𝓤 H A 𝓣 E G11 b15 Δ0 (at15 bs)
-          d15 = g-pre 𝓤 H A W 𝓣 E G11 G12 b15 Δ0 (pass T11 T12 (s10 bs)) (at14 bs) (g-room 𝓤 H A W E G11 2 (tyStruct (116 ∷ 105 ∷ 99 ∷ 107 ∷ 101 ∷ 116 ∷ 115 ∷ 58 ∷ 58 ∷ 70 ∷ 105 ∷ 108 ∷ 105 ∷ 110 ∷ 103 ∷ []) (tcons (tyInt w64) (tcons (tyInt w64) (tcons (tyInt w64) (tcons (tyInt w64) (tcons (tyStruct (116 ∷ 105 ∷ 99 ∷ 107 ∷ 101 ∷ 116 ∷ 115 ∷ 58 ∷ 58 ∷ 76 ∷ 97 ∷ 115 ∷ 116 ∷ 115 ∷ []) (tcons (tyInt w64) (tcons (tyInt w64) tnil))) tnil)))))) (room-whole 𝓤 H A W (Declared.row Filing.the-type) (tyStruct (116 ∷ 105 ∷ 99 ∷ 107 ∷ 101 ∷ 116 ∷ 115 ∷ 58 ∷ 58 ∷ 70 ∷ 105 ∷ 108 ∷ 105 ∷ 110 ∷ 103 ∷ []) (tcons (tyInt w64) (tcons (tyInt w64) (tcons (tyInt w64) (tcons (tyInt w64) (tcons (tyStruct (116 ∷ 105 ∷ 99 ∷ 107 ∷ 101 ∷ 116 ∷ 115 ∷ 58 ∷ 58 ∷ 76 ∷ 97 ∷ 115 ∷ 116 ∷ 115 ∷ []) (tcons (tyInt w64) (tcons (tyInt w64) tnil))) tnil)))))) refl)) d14
+          d15 = g-pre 𝓤 H A W 𝓣 E G11 G12 b15 Δ0 (pass T11 T12 (s10 bs)) (at14 bs) (g-room 𝓤 H A W E G11 2 (tyStruct (100 ∷ 101 ∷ 115 ∷ 107 ∷ 95 ∷ 116 ∷ 105 ∷ 99 ∷ 107 ∷ 101 ∷ 116 ∷ 115 ∷ 58 ∷ 58 ∷ 70 ∷ 105 ∷ 108 ∷ 105 ∷ 110 ∷ 103 ∷ []) (tcons (tyInt w64) (tcons (tyInt w64) (tcons (tyInt w64) (tcons (tyInt w64) (tcons (tyStruct (100 ∷ 101 ∷ 115 ∷ 107 ∷ 95 ∷ 116 ∷ 105 ∷ 99 ∷ 107 ∷ 101 ∷ 116 ∷ 115 ∷ 58 ∷ 58 ∷ 76 ∷ 97 ∷ 115 ∷ 116 ∷ 115 ∷ []) (tcons (tyInt w64) (tcons (tyInt w64) tnil))) tnil)))))) (room-whole 𝓤 H A W (Declared.row Filing.the-type) (tyStruct (100 ∷ 101 ∷ 115 ∷ 107 ∷ 95 ∷ 116 ∷ 105 ∷ 99 ∷ 107 ∷ 101 ∷ 116 ∷ 115 ∷ 58 ∷ 58 ∷ 70 ∷ 105 ∷ 108 ∷ 105 ∷ 110 ∷ 103 ∷ []) (tcons (tyInt w64) (tcons (tyInt w64) (tcons (tyInt w64) (tcons (tyInt w64) (tcons (tyStruct (100 ∷ 101 ∷ 115 ∷ 107 ∷ 95 ∷ 116 ∷ 105 ∷ 99 ∷ 107 ∷ 101 ∷ 116 ∷ 115 ∷ 58 ∷ 58 ∷ 76 ∷ 97 ∷ 115 ∷ 116 ∷ 115 ∷ []) (tcons (tyInt w64) (tcons (tyInt w64) tnil))) tnil)))))) refl)) d14
 
           d16 : Typed.Typed 𝓤 H A 𝓣 E G10 b16 Δ0 (at16 bs)
-          d16 = s-seq 𝓤 H A W 𝓣 E G10 G11 b4 b15 Δ0 (both (s9 bs)) (at15 bs) (t-call-plain 𝓤 H A W 𝓣 0 ps·1 r·1 (claims· .2) (claims· .3) "tickets::file_in" (known .1) E (λ pos β. β) G10 (vAt 3 λ x. x, (record { pos = 4; st = []; d = 0; at = λ x. x }, (record { pos = 2; st = []; d = 0; at = λ x. x }, tt))) 5 [] (sub-id 𝓤 H A W (G10 .slots)) ((reads-sc 𝓤 H A W (sInt w64), refl), ((arr-yields 𝓤 H A W (eStruct Ticket.the-type Laws'3.the-laws Laws'3.the-copy) (eStruct-laws Ticket.the-type Laws'3.the-laws Laws'3.the-copy Laws'3.the-plain) 32, refl), ((yields-copy 𝓤 H A W (λ ρ. Unit) (Declared.row Filing.the-type) refl (cStruct Filing.the-type Laws''.the-laws Laws''.the-copy .copy 𝓤 H A W) (whole (Declared.row Filing.the-type)) (λ x. x) (λ x. x) (λ ρ told. mem-whole 𝓤 H A W (Declared.row Filing.the-type) ρ) λ ρ told. whole-mem 𝓤 H A W (Declared.row Filing.the-type) ρ, refl), tt))) (room-gone 𝓤 H A (tyStruct (116 ∷ 105 ∷ 99 ∷ 107 ∷ 101 ∷ 116 ∷ 115 ∷ 58 ∷ 58 ∷ 70 ∷ 105 ∷ 108 ∷ 101 ∷ 100 ∷ 82 ∷ 111 ∷ 119 ∷ []) (tcons (tyStruct (116 ∷ 105 ∷ 99 ∷ 107 ∷ 101 ∷ 116 ∷ 115 ∷ 58 ∷ 58 ∷ 70 ∷ 105 ∷ 108 ∷ 101 ∷ 100 ∷ []) (tcons (tyStruct (114 ∷ 101 ∷ 102 ∷ 117 ∷ 115 ∷ 97 ∷ 108 ∷ 115 ∷ 58 ∷ 58 ∷ 86 ∷ 101 ∷ 114 ∷ 100 ∷ 105 ∷ 99 ∷ 116 ∷ []) (tcons (tyEnum (114 ∷ 101 ∷ 102 ∷ 117 ∷ 115 ∷ 97 ∷ 108 ∷ 115 ∷ 58 ∷ 58 ∷ 82 ∷ 101 ∷ 102 ∷ 117 ∷ 115 ∷ 97 ∷ 108 ∷ []) (ttcons tnil (ttcons tnil (ttcons tnil (ttcons tnil (ttcons tnil (ttcons tnil (ttcons tnil (ttcons tnil (ttcons tnil (ttcons tnil (ttcons tnil (ttcons tnil (ttcons tnil (ttcons tnil (ttcons tnil (ttcons tnil (ttcons tnil (ttcons tnil (ttcons tnil (ttcons tnil (ttcons tnil (ttcons tnil (ttcons tnil (ttcons tnil (ttcons tnil (ttcons tnil (ttcons tnil ttnil)))))))))))))))))))))))))))) (tcons (tyInt w64) tnil))) (tcons (tyInt w64) (tcons (tyStruct (116 ∷ 105 ∷ 99 ∷ 107 ∷ 101 ∷ 116 ∷ 115 ∷ 58 ∷ 58 ∷ 76 ∷ 97 ∷ 115 ∷ 116 ∷ 115 ∷ []) (tcons (tyInt w64) (tcons (tyInt w64) tnil))) tnil)))) (tcons (tyArray (tyStruct (116 ∷ 105 ∷ 99 ∷ 107 ∷ 101 ∷ 116 ∷ 115 ∷ 58 ∷ 58 ∷ 84 ∷ 105 ∷ 99 ∷ 107 ∷ 101 ∷ 116 ∷ []) (tcons (tyInt w64) (tcons (tyInt w64) (tcons (tyInt w64) (tcons (tyInt w64) tnil))))) 32) tnil)))) tt refl) d15
+          d16 = s-seq 𝓤 H A W 𝓣 E G10 G11 b4 b15 Δ0 (both (s9 bs)) (at15 bs) (t-call-plain 𝓤 H A W 𝓣 0 ps·1 r·1 (claims· .2) (claims· .3) "desk_tickets::file_in" (known .1) E (λ pos β. β) G10 (vAt 3 λ x. x, (record { pos = 4; st = []; d = 0; at = λ x. x }, (record { pos = 2; st = []; d = 0; at = λ x. x }, tt))) 5 [] (sub-id 𝓤 H A W (G10 .slots)) ((reads-sc 𝓤 H A W (sInt w64), refl), ((arr-yields 𝓤 H A W (eStruct Ticket.the-type Laws'3.the-laws Laws'3.the-copy) (eStruct-laws Ticket.the-type Laws'3.the-laws Laws'3.the-copy Laws'3.the-plain) 32, refl), ((yields-copy 𝓤 H A W (λ ρ. Unit) (Declared.row Filing.the-type) refl (cStruct Filing.the-type Laws''.the-laws Laws''.the-copy .copy 𝓤 H A W) (whole (Declared.row Filing.the-type)) (λ x. x) (λ x. x) (λ ρ told. mem-whole 𝓤 H A W (Declared.row Filing.the-type) ρ) λ ρ told. whole-mem 𝓤 H A W (Declared.row Filing.the-type) ρ, refl), tt))) (room-gone 𝓤 H A (tyStruct (100 ∷ 101 ∷ 115 ∷ 107 ∷ 95 ∷ 116 ∷ 105 ∷ 99 ∷ 107 ∷ 101 ∷ 116 ∷ 115 ∷ 58 ∷ 58 ∷ 70 ∷ 105 ∷ 108 ∷ 101 ∷ 100 ∷ 82 ∷ 111 ∷ 119 ∷ []) (tcons (tyStruct (100 ∷ 101 ∷ 115 ∷ 107 ∷ 95 ∷ 116 ∷ 105 ∷ 99 ∷ 107 ∷ 101 ∷ 116 ∷ 115 ∷ 58 ∷ 58 ∷ 70 ∷ 105 ∷ 108 ∷ 101 ∷ 100 ∷ []) (tcons (tyStruct (114 ∷ 101 ∷ 102 ∷ 117 ∷ 115 ∷ 97 ∷ 108 ∷ 115 ∷ 58 ∷ 58 ∷ 86 ∷ 101 ∷ 114 ∷ 100 ∷ 105 ∷ 99 ∷ 116 ∷ []) (tcons (tyEnum (114 ∷ 101 ∷ 102 ∷ 117 ∷ 115 ∷ 97 ∷ 108 ∷ 115 ∷ 58 ∷ 58 ∷ 82 ∷ 101 ∷ 102 ∷ 117 ∷ 115 ∷ 97 ∷ 108 ∷ []) (ttcons tnil (ttcons tnil (ttcons tnil (ttcons tnil (ttcons tnil (ttcons tnil (ttcons tnil (ttcons tnil (ttcons tnil (ttcons tnil (ttcons tnil (ttcons tnil (ttcons tnil (ttcons tnil (ttcons tnil (ttcons tnil (ttcons tnil (ttcons tnil (ttcons tnil (ttcons tnil (ttcons tnil (ttcons tnil (ttcons tnil (ttcons tnil (ttcons tnil (ttcons tnil (ttcons tnil ttnil)))))))))))))))))))))))))))) (tcons (tyInt w64) tnil))) (tcons (tyInt w64) (tcons (tyStruct (100 ∷ 101 ∷ 115 ∷ 107 ∷ 95 ∷ 116 ∷ 105 ∷ 99 ∷ 107 ∷ 101 ∷ 116 ∷ 115 ∷ 58 ∷ 58 ∷ 76 ∷ 97 ∷ 115 ∷ 116 ∷ 115 ∷ []) (tcons (tyInt w64) (tcons (tyInt w64) tnil))) tnil)))) (tcons (tyArray (tyStruct (100 ∷ 101 ∷ 115 ∷ 107 ∷ 95 ∷ 116 ∷ 105 ∷ 99 ∷ 107 ∷ 101 ∷ 116 ∷ 115 ∷ 58 ∷ 58 ∷ 84 ∷ 105 ∷ 99 ∷ 107 ∷ 101 ∷ 116 ∷ []) (tcons (tyInt w64) (tcons (tyInt w64) (tcons (tyInt w64) (tcons (tyInt w64) tnil))))) 32) tnil)))) tt refl) d15
 
           d17 : Typed.Typed 𝓤 H A 𝓣 E G9 b16 Δ0 (at17 bs)
           d17 = g-pre 𝓤 H A W 𝓣 E G9 G10 b16 Δ0 (λ Ψ. Ψ) (at16 bs) (g-forget 𝓤 H A W E G9 1 dead refl) d16
@@ -625,7 +625,7 @@ module _ (claims· : Claims) where
           d20 = g-pre 𝓤 H A W 𝓣 E G6 G7 b16 Δ0 (pass T6 T7 (s5 bs)) (at19 bs) (g-room 𝓤 H A W E G6 8 (tyStruct (38 ∷ 91 ∷ 93 ∷ []) (tcons (tyRef erased imm (pointee (the-row .written))) (tcons (tyInt w64) tnil))) (room-sslice 𝓤 H A W the-row (tyRef erased imm (pointee (the-row .written))) 1)) d19
 
           d21 : Typed.Typed 𝓤 H A 𝓣 E G5 b17 Δ0 (at21 bs)
-          d21 = s-seq 𝓤 H A W 𝓣 E G5 G6 b3 b16 Δ0 (both (s4 bs)) (at20 bs) (t-call-plain 𝓤 H A W 𝓣 1 ps·0 r·0 (claims· .0) (claims· .1) "desk::copy_out" (known .0) E (λ pos β. β) G5 (record { pos = 8; ty = tyRef erased imm (pointee (the-row .written)); ref = λ x. x }, tt) 4 (1 ∷ []) (sub-id 𝓤 H A W (G5 .slots)) (spares-sslice 𝓤 H A W the-row (tyRef erased imm (pointee (the-row .written))) 1, reads-sslice 𝓤 H A W the-row (tyRef erased imm (pointee (the-row .written))) 1, refl, tt) (room-gone 𝓤 H A (tyArray (tyStruct (116 ∷ 105 ∷ 99 ∷ 107 ∷ 101 ∷ 116 ∷ 115 ∷ 58 ∷ 58 ∷ 84 ∷ 105 ∷ 99 ∷ 107 ∷ 101 ∷ 116 ∷ []) (tcons (tyInt w64) (tcons (tyInt w64) (tcons (tyInt w64) (tcons (tyInt w64) tnil))))) 32)) (tt, tt) refl) d20
+          d21 = s-seq 𝓤 H A W 𝓣 E G5 G6 b3 b16 Δ0 (both (s4 bs)) (at20 bs) (t-call-plain 𝓤 H A W 𝓣 1 ps·0 r·0 (claims· .0) (claims· .1) "desk_rows::copy_out" (known .0) E (λ pos β. β) G5 (record { pos = 8; ty = tyRef erased imm (pointee (the-row .written)); ref = λ x. x }, tt) 4 (1 ∷ []) (sub-id 𝓤 H A W (G5 .slots)) (spares-sslice 𝓤 H A W the-row (tyRef erased imm (pointee (the-row .written))) 1, reads-sslice 𝓤 H A W the-row (tyRef erased imm (pointee (the-row .written))) 1, refl, tt) (room-gone 𝓤 H A (tyArray (tyStruct (100 ∷ 101 ∷ 115 ∷ 107 ∷ 95 ∷ 116 ∷ 105 ∷ 99 ∷ 107 ∷ 101 ∷ 116 ∷ 115 ∷ 58 ∷ 58 ∷ 84 ∷ 105 ∷ 99 ∷ 107 ∷ 101 ∷ 116 ∷ []) (tcons (tyInt w64) (tcons (tyInt w64) (tcons (tyInt w64) (tcons (tyInt w64) tnil))))) 32)) (tt, tt) refl) d20
 
           d22 : Typed.Typed 𝓤 H A 𝓣 E G4 b18 Δ0 (at22 bs)
           d22 = s-seq 𝓤 H A W 𝓣 E G4 G5 b2 b17 Δ0 (ask (s3 bs)) (at21 bs) (t-sl-aggregate 𝓤 H A W E the-row 𝓣 (asShr the-row) G4 7 8 1 (tyRef erased imm (pointee (the-row .written))) (tyRef erased imm (pointee (the-row .written))) (λ x. x) (oFld 1 (field 1 ∷ []) (tyInt w64) 8 λ v. lenV (v .0)) (as-is 𝓤 H A (ssptr the-row (tyRef erased imm (pointee (the-row .written))) 1)) (room-gone 𝓤 H A (tyStruct (38 ∷ 91 ∷ 93 ∷ []) (tcons (tyRef erased imm (pointee (the-row .written))) (tcons (tyInt w64) tnil)))) (reads-owedS-len 𝓤 H A W the-row (tyRef (named 0) mut (pointee (the-row .written))) 0 1 (lease (κs .0) (qs .0)) 8 refl, refl) refl refl λ b o k. tt) d21
@@ -825,6 +825,6 @@ module _ (claims· : Claims) where
           pub asked : (a : Dens κs ps) → (good : GoodsP κs ps a) → (pre : Pre· κs a) → (bs : List.List ℕ) → Φ bs (wantQ 1 ps r xs m κs qs a (Post· κs a)) (init 1 ps r xs m κs qs a)
           asked = λ a good pre bs. laid record { κs = κs; args = record { ts = a .0; filing = a .1 .0 }; blocks = bs; good = good; pre = pre }
 
-        module _ {M : Type 1} (𝓤 : URA.URA M) (H : Heap 𝓤) (A : Atoms.Atoms 𝓤) (W : Given 𝓤 H A) (𝓣 : Tables 𝓤 H) (known0 : Known 𝓤 H A W 𝓣 1 ps·0 r·0 (claims· .0) (claims· .1) "desk::copy_out") (known1 : Known 𝓤 H A W 𝓣 0 ps·1 r·1 (claims· .2) (claims· .3) "tickets::file_in") (known2 : Known 𝓤 H A W 𝓣 1 ps·2 r·2 (claims· .4) (claims· .5) "desk::copy_in") where
+        module _ {M : Type 1} (𝓤 : URA.URA M) (H : Heap 𝓤) (A : Atoms.Atoms 𝓤) (W : Given 𝓤 H A) (𝓣 : Tables 𝓤 H) (known0 : Known 𝓤 H A W 𝓣 1 ps·0 r·0 (claims· .0) (claims· .1) "desk_rows::copy_out") (known1 : Known 𝓤 H A W 𝓣 0 ps·1 r·1 (claims· .2) (claims· .3) "desk_tickets::file_in") (known2 : Known 𝓤 H A W 𝓣 1 ps·2 r·2 (claims· .4) (claims· .5) "desk_rows::copy_in") where
           pub spec : Triple 𝓤 (WpFn 𝓤 H (𝓣 .C) (𝓣 .Λ) (fnOf 1 ps r xs m hs body)) (plainOf 𝓤 H A 1 ps r Pre· Post·)
           spec = t-fn-plain 𝓤 H A W 𝓣 1 ps r xs m hs body (λ κs qs bs. Φ bs) (λ κs qs bs bd. typed κs qs 𝓤 H A W 𝓣 (known0, known1, known2) bs bd) Pre· Post· asked

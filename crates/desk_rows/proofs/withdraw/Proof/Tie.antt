@@ -6,7 +6,7 @@ use Rattle.desk_rows.proofs.copy_out.Met as Met'
 use Rattle.desk_rows.proofs.Walks.CopyOutReads as Reads'
 use Rattle.desk_rows.proofs.copy_out.Symbol as Symbol'
 use Rattle.desk_rows.proofs.withdraw.Code
-use Rattle.desk_rows.proofs.withdraw.Code.{calls-desk·copy-in, calls-desk·copy-out, calls-tickets·withdraw-in, env, function, unfolded}
+use Rattle.desk_rows.proofs.withdraw.Code.{calls-desk-rows·copy-in, calls-desk-rows·copy-out, calls-desk-tickets·withdraw-in, env, function, unfolded}
 use Rattle.desk_rows.proofs.withdraw.Key
 use Rattle.desk_rows.proofs.Walks.WithdrawKinds.{ps, r}
 use Rattle.desk_rows.proofs.withdraw.Proof.Lts
@@ -68,4 +68,4 @@ module _ {M : Type 1} where
 
   pub close : Closed (Reads'.Asked, Reads'.Learnt, Reads'3.Asked, Reads'3.Learnt, Reads.Asked, Reads.Learnt) Pre Post M → statement M
   unfolding Code.routine tablesOf
-  close = λ closed 𝓤 H 𝓜 𝓖 𝓡. Written.close 1 ps r Ghost requires ensures pre-read Pinned Owned post-read record { M = M; 𝓤 = 𝓤; H = H; 𝓜 = 𝓜; 𝓖 = 𝓖; 𝓡 = 𝓡 } env Key.name function (unfolded 𝓤 H 𝓜 𝓡) (λ κs a g. tt) (λ κs. owns κs record { M = M; 𝓤 = 𝓤; H = H; 𝓜 = 𝓜; 𝓖 = 𝓖; 𝓡 = 𝓡 }) (passes record { M = M; 𝓤 = 𝓤; H = H; 𝓜 = 𝓜; 𝓖 = 𝓖; 𝓡 = 𝓡 }) λ g. closed 𝓤 H (𝓖 .A) (givenOf 𝓤 H 𝓜 𝓖) (Over 𝓤 H 𝓜 𝓖 𝓡 env) (Reads'.known record { M = M; 𝓤 = 𝓤; H = H; 𝓜 = 𝓜; 𝓖 = 𝓖; 𝓡 = 𝓡 } env Symbol'.name Symbol'.routine calls-desk·copy-out (Met'.met 𝓤 H 𝓜 𝓖 𝓡)) (Reads'3.known record { M = M; 𝓤 = 𝓤; H = H; 𝓜 = 𝓜; 𝓖 = 𝓖; 𝓡 = 𝓡 } env Symbol''.name Symbol''.routine calls-tickets·withdraw-in (Met''.met 𝓤 H 𝓜 𝓖 𝓡)) (Reads.known record { M = M; 𝓤 = 𝓤; H = H; 𝓜 = 𝓜; 𝓖 = 𝓖; 𝓡 = 𝓡 } env Symbol.name Symbol.routine calls-desk·copy-in (Met.met 𝓤 H 𝓜 𝓖 𝓡))
+  close = λ closed 𝓤 H 𝓜 𝓖 𝓡. Written.close 1 ps r Ghost requires ensures pre-read Pinned Owned post-read record { M = M; 𝓤 = 𝓤; H = H; 𝓜 = 𝓜; 𝓖 = 𝓖; 𝓡 = 𝓡 } env Key.name function (unfolded 𝓤 H 𝓜 𝓡) (λ κs a g. tt) (λ κs. owns κs record { M = M; 𝓤 = 𝓤; H = H; 𝓜 = 𝓜; 𝓖 = 𝓖; 𝓡 = 𝓡 }) (passes record { M = M; 𝓤 = 𝓤; H = H; 𝓜 = 𝓜; 𝓖 = 𝓖; 𝓡 = 𝓡 }) λ g. closed 𝓤 H (𝓖 .A) (givenOf 𝓤 H 𝓜 𝓖) (Over 𝓤 H 𝓜 𝓖 𝓡 env) (Reads'.known record { M = M; 𝓤 = 𝓤; H = H; 𝓜 = 𝓜; 𝓖 = 𝓖; 𝓡 = 𝓡 } env Symbol'.name Symbol'.routine calls-desk-rows·copy-out (Met'.met 𝓤 H 𝓜 𝓖 𝓡)) (Reads'3.known record { M = M; 𝓤 = 𝓤; H = H; 𝓜 = 𝓜; 𝓖 = 𝓖; 𝓡 = 𝓡 } env Symbol''.name Symbol''.routine calls-desk-tickets·withdraw-in (Met''.met 𝓤 H 𝓜 𝓖 𝓡)) (Reads.known record { M = M; 𝓤 = 𝓤; H = H; 𝓜 = 𝓜; 𝓖 = 𝓖; 𝓡 = 𝓡 } env Symbol.name Symbol.routine calls-desk-rows·copy-in (Met.met 𝓤 H 𝓜 𝓖 𝓡))
