@@ -26,13 +26,15 @@ slice-aggregate-board-in-4 c = search needs
 board-in-requires : tie.Need-board-in-requires
 board-in-requires c κs = search needs
 
+-- From the boarding back to the start.
+abbrev start : tie.After-board-in → tie.Start
+start b = b .before .before .before .before .before .before .before .before .before .before .before
+
 say-boarding-requires : tie.Need-say-boarding-requires
 say-boarding-requires c κs =
-    let back = c .before .before .before .before .before .before in
-    let at-board-in = back .before .before .before .before in
-    let back-2 = at-board-in .before .before .before .before .before .before in
-    let at-long = back-2 .before .before .before .before .before in
-    leaves _ _ (long at-long) _ _ _ _ (at-board-in .board-in .ensures)
+    let rows = c .before .before .before .before .before .before in
+    let b = rows .before .before .before .before in
+    leaves _ _ (long (start b)) _ _ _ _ (b .board-in .ensures)
 
 same-length : tie.Need-same-length
 same-length c = search needs
@@ -40,8 +42,15 @@ same-length c = search needs
 same-length-2 : tie.Need-same-length-2
 same-length-2 c = search needs
 
+-- From the text of the answer back to the boarding.
+abbrev boarded : tie.After-say-boarding → tie.After-board-in
+boarded s = s .before .before .before .before .before .before .before .before .before .before .before
+
 returns : tie.Need-returns
-returns c = let a = c .before .before .before .before .before .before .before .before .before .before .before .before .before .before .before .before .before .before .before .before .before .before .before .before .before .before .args in boarding-said (a .row) _ _ _ _ (a .boarding) _ (c .before .before .before .before .before .before .before .before .before .before .before .before .before .before .before .board-in .result) _ (c .before .before .before .before .before .before .before .before .before .before .before .before .before .before .before .board-in .ensures) (c .before .before .before .before .say-boarding .ensures)
+returns c =
+    let s = c .before .before .before .before in
+    let b = boarded s in
+    boarding-said (start b .args .row) _ _ _ _ (start b .args .boarding) _ (b .board-in .result) _ (b .board-in .ensures) (s .say-boarding .ensures)
 
 pub board-spec : {M : Type 1} → statement M
 board-spec =
