@@ -24,13 +24,13 @@ use Rattle.demands.proofs.Checks.{Decides, refused, passed, found-at}
 use Rattle.demands.proofs.Lines.{tells-tape, tells-turn, tells-rule, tells-number, tells-count, tells-pair-line, tells-triple-line, tells-end}
 
 -- What a search says: the number of the first bad line, or 0; and bad lines lie in its stretch only.
-record Search (Bad : ℕ → Type 0) (x lo hi : ℕ) : Type 0 where
-  within : (i : ℕ) → Bad i → (lo ≤ i) × (i < hi)
-  none : x ≡ 0 → (i : ℕ) → Bad i → ⊥
-  some : (i : ℕ) → x ≡ suc i → Bad i × ((j : ℕ) → j < i → Bad j → ⊥)
+pub record Search (Bad : ℕ → Type 0) (x lo hi : ℕ) : Type 0 where
+  pub within : (i : ℕ) → Bad i → (lo ≤ i) × (i < hi)
+  pub none : x ≡ 0 → (i : ℕ) → Bad i → ⊥
+  pub some : (i : ℕ) → x ≡ suc i → Bad i × ((j : ℕ) → j < i → Bad j → ⊥)
 
 -- One stretch, then others behind it.
-joined : {A B : ℕ → Type 0} {lo mid next hi : ℕ} (x : ℕ) (xs : List ℕ) → lo ≤ mid → mid ≤ next → next ≤ hi → Search A x lo mid → Search B (firstSome xs) next hi
+pub joined : {A B : ℕ → Type 0} {lo mid next hi : ℕ} (x : ℕ) (xs : List ℕ) → lo ≤ mid → mid ≤ next → next ≤ hi → Search A x lo mid → Search B (firstSome xs) next hi
     → Search (λ i. A i ⊎ B i) (firstSome (x ∷ xs)) lo hi
 joined zero xs l m h a b =
     record {
@@ -45,11 +45,11 @@ joined (suc n) xs l m h a b =
       some = λ i e. let found = a .some i e in (inl (found .0), λ j k. ⊎-elim (found .1 j k) (λ q. omega (arith, b .within j q .0, a .within i (found .0) .1)));
     }
 
-ended : (hi : ℕ) → Search (λ i. ⊥) 0 hi hi
+pub ended : (hi : ℕ) → Search (λ i. ⊥) 0 hi hi
 ended hi = record { within = λ i h. absurd h; none = λ e i h. h; some = λ i e. absurd (omega arith) }
 
 -- One line.
-one-line : (Good : ℕ → Type 0) (b : Bool) (i number : ℕ) → number ≡ suc i → Tells b (Good i) → Search (λ j. (j ≡ i) × (Good j → ⊥)) (unless b number) i (suc i)
+pub one-line : (Good : ℕ → Type 0) (b : Bool) (i number : ℕ) → number ≡ suc i → Tells b (Good i) → Search (λ j. (j ≡ i) × (Good j → ⊥)) (unless b number) i (suc i)
 one-line Good true i number e t =
     record {
       within = λ j h. omega (arith, h .0);
@@ -101,7 +101,7 @@ module _ (Good : ℕ → Type 0) (good : ℕ → Bool) (lo count : ℕ) (tells :
           }
 
 -- Lines behind lines.
-after-both : (m n k : ℕ) (sheet : List ℕ) → n + m ≡ k → afterLines m (afterLines n sheet) ≡ afterLines k sheet
+pub after-both : (m n k : ℕ) (sheet : List ℕ) → n + m ≡ k → afterLines m (afterLines n sheet) ≡ afterLines k sheet
 unfolding afterLines
 after-both zero n k sheet e = let same : n ≡ k = omega arith in rw same
 after-both (suc m) n zero sheet e = absurd (omega arith)

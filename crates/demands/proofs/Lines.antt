@@ -94,7 +94,7 @@ tells-pair : (text : List ℕ) → Tells (isPair text) (Pair text)
 unfolding isPair isNumber
 tells-pair = tells-number-and Number isNumber (λ v. tells-true (isNumber v)) (number-flat lineFeed refl) refl
 
-pair-flat : (text : List ℕ) → Pair text → has lineFeed text ≡ false
+pub pair-flat : (text : List ℕ) → Pair text → has lineFeed text ≡ false
 unfolding isNumber
 pair-flat = number-and-flat Number isNumber (λ v. tells-true (isNumber v)) (number-flat lineFeed refl) refl
 

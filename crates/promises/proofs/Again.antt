@@ -301,7 +301,7 @@ module _ (sheet : List ℕ) (good : firstBadLoose sheet ≡ 0) (few : length (sh
   pub upper-again : firstLines 2 (mendedText sheet) ≡ firstLines 2 sheet
   upper-again = ap (firstLines 2) mended-is ∙ copied-again 2 sheet r₂ upper-ended
 
-  line₂ : lineAfter 2 (mendedText sheet) ≡ turnKey ++ decimal (sheetTurn sheet)
+  pub line₂ : lineAfter 2 (mendedText sheet) ≡ turnKey ++ decimal (sheetTurn sheet)
   line₂ = ap lineOf text₂ ∙ line-first turnKey (decimal (sheetTurn sheet)) r₃ plain-turn (flat (sheetTurn sheet))
 
   text₃ : afterLines 3 (mendedText sheet) ≡ r₃
@@ -318,7 +318,7 @@ module _ (sheet : List ℕ) (good : firstBadLoose sheet ≡ 0) (few : length (sh
   line₄ : lineAfter 4 (mendedText sheet) ≡ filesKey ++ decimal count
   line₄ = ap lineOf text₄ ∙ line-first filesKey (decimal count) r₅ plain-files (flat count)
 
-  text₅ : fileText (mendedText sheet) ≡ r₅
+  pub text₅ : fileText (mendedText sheet) ≡ r₅
   unfolding afterLines fileText
   text₅ = ap (behind lineFeed) text₄ ∙ line-behind filesKey (decimal count) r₅ plain-files (flat count)
 
@@ -354,7 +354,7 @@ module _ (sheet : List ℕ) (good : firstBadLoose sheet ≡ 0) (few : length (sh
       not-false (isTripleLine fileKey (lineAfter i (fileText sheet)))
       (first-zero (λ j. not (isTripleLine fileKey (lineAfter j (fileText sheet)))) count (lines-good (isTripleLine fileKey) mostSheetFiles (fileText sheet)) i l)
 
-  table-ended : Ended count (fileText sheet)
+  pub table-ended : Ended count (fileText sheet)
   unfolding isTripleLine
   table-ended =
       ended-all count (fileText sheet)

@@ -44,7 +44,7 @@ remaining-rising files counts (suc n) = go (remaining-rising files counts n) (eq
     go p true = p
     go p false = enter-rising 0 (getD files n 0) (remaining files counts n) (omega arith) p
 
-rising-least : (b : ℕ) (files : List ℕ) → Rising b files → (i : ℕ) → i < length files → b ≤ getD files i 0
+pub rising-least : (b : ℕ) (files : List ℕ) → Rising b files → (i : ℕ) → i < length files → b ≤ getD files i 0
 rising-least b [] p i l = absurd (omega arith)
 rising-least b (g ∷ files) p zero l = p .0
 rising-least b (g ∷ files) p (suc i) l = omega (arith, rising-least (suc g) files (p .1) i (omega arith), p .0)
@@ -109,7 +109,7 @@ in-remaining files counts x (suc n) = go (in-remaining files counts x n) (eqb (g
     go p false z true s = rw (in-enter x (getD files n 0) (remaining files counts n), z, or-true, eq-eqb x (getD files n 0) (sym (eqb-true (getD files n 0) x s)))
     go p false z false s = rw (in-enter x (getD files n 0) (remaining files counts n), or-false, ne-eqb x (getD files n 0) (λ e. eqb-false (getD files n 0) x s (sym e)), p)
 
-in-at : (files : List ℕ) (i : ℕ) → i < length files → isIn (getD files i 0) files ≡ true
+pub in-at : (files : List ℕ) (i : ℕ) → i < length files → isIn (getD files i 0) files ≡ true
 in-at [] i l = absurd (omega arith)
 in-at (g ∷ files) zero l = rw (eq-eqb g g refl)
 in-at (g ∷ files) (suc i) l = rw (in-at files i (omega arith), or-true)
@@ -117,7 +117,7 @@ in-at (g ∷ files) (suc i) l = rw (in-at files i (omega arith), or-true)
 not-in : (x : ℕ) (files : List ℕ) → isIn x files ≡ false → (i : ℕ) → i < length files → getD files i 0 ≡ x → ⊥
 not-in x files e i l same = true≢false (sym (in-at files i l) ∙ rw same e)
 
-find-in : (x : ℕ) (files : List ℕ) → isIn x files ≡ true → (i : ℕ) × ((i < length files) × (getD files i 0 ≡ x))
+pub find-in : (x : ℕ) (files : List ℕ) → isIn x files ≡ true → (i : ℕ) × ((i < length files) × (getD files i 0 ≡ x))
 find-in x [] e = absurd (true≢false (sym e))
 find-in x (g ∷ files) e = go (eqb x g) refl (find-in x files)
   where

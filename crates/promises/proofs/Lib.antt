@@ -1,5 +1,5 @@
 -- The proofs of the promises. Requests L6 and L7: by single calls (DeskSteps), by days (Desk), their refusals, wants and worked cases. Request L11: laws
--- of what is gathered, copied and read again, then its promises (Mends). Request L13: totals, names, the input's division, the order of the sheets. The
+-- of what is gathered, copied and read again, then its promises (Mends) and its refusals (Mender). Request L13: totals, names, the input's division, the order of the sheets. The
 -- auditor's commands: Checks.
 pub mod DeskSteps
 pub mod Desk
@@ -20,6 +20,9 @@ pub mod Taken
 pub mod Described
 pub mod Strict
 pub mod Mends
+pub mod MenderLines
+pub mod MenderWants
+pub mod Mender
 pub mod MonthTotals
 pub mod MonthNames
 pub mod MonthInput

@@ -7,6 +7,7 @@ pub mod DeskRows
 pub mod DeskWhole
 pub mod DeskCases
 pub mod Mends
+pub mod Mender
 pub mod Months
 pub mod MonthLongest
 pub mod Checks
