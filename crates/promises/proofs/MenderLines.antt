@@ -277,6 +277,9 @@ module _ (sheet : List ℕ) where
     end : 6 + F + W ≤ i → afterLines i sheet ≡ [] → LineIs i
 
   module _ (good : firstBadLoose sheet ≡ 0) where
+    pub nothing-behind : afterLines (6 + F + W) sheet ≡ []
+    nothing-behind = tells-end sheet (6 + F + W) .when-true (rw end-behind at (described sheet good .end))
+
     line-below : (i : ℕ) → 5 ≤ i → LineIs i
     unfolding has
     line-below i five =
@@ -287,9 +290,7 @@ module _ (sheet : List ℕ) where
         wants (rw is at (tells-number sheet (5 + F) wantsKey (omega arith) refl .when-true (rw tail-behind at (described sheet good .wants)))))
         (λ m. by-cases (decLt i (6 + F + W))
         (λ l. let is : 6 + F + (i - (6 + F)) ≡ i = omega arith in want (i - (6 + F)) (sym is) (omega arith) (rw is at (want-lines (i - (6 + F)) (omega arith))))
-        (λ l.
-        let last : afterLines (6 + F + W) sheet ≡ [] = tells-end sheet (6 + F + W) .when-true (rw end-behind at (described sheet good .end)) in
-        end (omega arith) (sym (after-both (i - (6 + F + W)) (6 + F + W) i sheet (omega arith)) ∙ after-nothing (i - (6 + F + W)) (afterLines (6 + F + W) sheet) last))))
+        (λ l. end (omega arith) (sym (after-both (i - (6 + F + W)) (6 + F + W) i sheet (omega arith)) ∙ after-nothing (i - (6 + F + W)) (afterLines (6 + F + W) sheet) nothing-behind))))
 
     pub line-is : (i : ℕ) → LineIs i
     unfolding has

@@ -31,7 +31,7 @@ unfolding sumBelow
 sum-front value zero = omega arith
 sum-front value (suc n) = omega (arith, sum-front value n)
 
-reads-total : (counts : List ℕ) → readsInAll counts ≡ total counts
+pub reads-total : (counts : List ℕ) → readsInAll counts ≡ total counts
 unfolding readsInAll sumBelow
 reads-total [] = refl
 reads-total (c ∷ counts) = sum-front (λ i. getD (c ∷ counts) i 0) (length counts) ∙ ap (λ n. c + n) (reads-total counts)
