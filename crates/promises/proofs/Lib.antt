@@ -22,6 +22,7 @@ pub mod Strict
 pub mod Mends
 pub mod MenderLines
 pub mod MenderWants
+pub mod MenderKept
 pub mod Mender
 pub mod MonthTotals
 pub mod MonthNames

@@ -36,7 +36,7 @@ use Rattle.promises.proofs.Gathered.{rising-at, Clean, remaining-clean,
 use Rattle.runs.specs.Judging.{judgeOf}
 use Rattle.text_lines.specs.Lines.{afterLines, lineAfter, valueText}
 use Rattle.sheet_reader.specs.Reading.{sheetVerdict, ruleVerdict}
-use Rattle.promises.proofs.Same.{empty-is, old-sheet, new-sheet, same-sheet, one-change}
+use Rattle.promises.proofs.Same.{empty-is, fair-wants, old-sheet, new-sheet, same-sheet, one-change}
 use Rattle.promises.proofs.Written.{written-so, mended-short}
 use Rattle.promises.proofs.Taken.{taken, five-longer}
 use Rattle.promises.proofs.Strict.{strict, numbers-read, counts-read}
@@ -73,6 +73,7 @@ mending-determined = mend-determined
 
 -- What an accepted mending says of the sheet.
 pub record Facts (sheet : List ℕ) : Type 0 where
+  pub within : length sheet ≤ longestSheet
   pub good : firstBadLoose sheet ≡ 0
   pub few : length (sheetRemaining sheet) ≤ mostWants
   pub reads : readsInAll (wantedCounts sheet) ≤ mostReads
@@ -96,6 +97,7 @@ facts sheet out notes passed =
     let wants = all-accept (wantsVerdicts sheet) (all .1 .0) in
     let texts = all-accept (textsVerdicts (mendedText sheet) (changesText sheet) out notes) (all .1 .1 .0) in
     record {
+      within = ltb-false longestSheet (length sheet) (accepts-if (ltb longestSheet (length sheet)) LongSheet refl (read .0));
       good = accepts-at (firstBadLoose sheet) BadLine refl (read .1 .0);
       few = ltb-false mostWants (length (sheetRemaining sheet)) (accepts-if (ltb mostWants (length (sheetRemaining sheet))) WantRows refl (wants .0));
       reads = ltb-false mostReads (readsInAll (wantedCounts sheet)) (accepts-if (ltb mostReads (readsInAll (wantedCounts sheet))) TooManyReads refl (wants .1 .0));
@@ -103,10 +105,10 @@ facts sheet out notes passed =
     }
 
 module _ (sheet text : List ℕ) (m : WasMended sheet text) where
-  known : Facts sheet
+  pub known : Facts sheet
   known = facts sheet (m .out) (m .notes) (accepted-verdict sheet (m .out) (m .notes) (m .answer) (m .out′) (m .notes′) (m .contract) (m .accepted))
 
-  text-mended : text ≡ mendedText sheet
+  pub text-mended : text ≡ mendedText sheet
   text-mended = sym (m .text-is) ∙ mended-rows sheet (m .out) (m .notes) (m .answer) (m .out′) (m .notes′) (m .contract) (m .accepted) .text
 
   abbrev row : List ℕ
@@ -388,10 +390,10 @@ accepted-comes-back sheet read least nothing =
     record {
       above = firstLines 2 sheet;
       back = afterLines 3 sheet;
-      old = old-sheet sheet good run least;
-      new = new-sheet sheet good run least;
-      given = same-sheet sheet good run least;
-      listed = one-change sheet good run least;
+      old = old-sheet sheet good (fair-wants sheet run) least;
+      new = new-sheet sheet good (fair-wants sheet run) least;
+      given = same-sheet sheet good (fair-wants sheet run) least;
+      listed = one-change sheet good (fair-wants sheet run) least;
     }
 
 pub accepted-as-written : AcceptedAsWritten
@@ -412,6 +414,6 @@ accepted-taken sheet read least nothing out notes answer out′ notes′ h row l
 
     given : priceLeftOut sheet ≡ false → answer ≡ record { refusal = Accepted; place = 0; bytes = length sheet; noted = 0 }
     given there =
-        let same = same-sheet sheet good run least there in
-        let none : changesText sheet ≡ [] = one-change sheet good run least ∙ rw there in
+        let same = same-sheet sheet good (fair-wants sheet run) least there in
+        let none : changesText sheet ≡ [] = one-change sheet good (fair-wants sheet run) least ∙ rw there in
         fits ∙ rw (same, none)

@@ -109,11 +109,11 @@ module _ (text : List ℕ) where
       ∙ ap (λ t. t ++ behind lineFeed (afterLines n text)) (sym (pairs-last wantKey (firsts n) (seconds n) (firstIn wantKey (lineAfter n text)) (secondIn wantKey (lineAfter n text)) even))
 
 -- Ascending, step by step.
-abbrev floor : ℕ → List ℕ → ℕ → ℕ
+abbrev pub floor : ℕ → List ℕ → ℕ → ℕ
 floor b files zero = b
 floor b files (suc i) = suc (getD files i 0)
 
-rising-steps : (b : ℕ) (files : List ℕ) → ((i : ℕ) → i < length files → floor b files i ≤ getD files i 0) → Rising b files
+pub rising-steps : (b : ℕ) (files : List ℕ) → ((i : ℕ) → i < length files → floor b files i ≤ getD files i 0) → Rising b files
 rising-steps b [] h = tt
 rising-steps b (g ∷ files) h = (h 0 (omega arith), rising-steps (suc g) files (λ i l. go i l))
   where
@@ -151,10 +151,22 @@ a-number true true c e f = absurd (true≢false f)
 a-number true false c e f = e
 a-number false b c e f = absurd (true≢false (sym e))
 
+-- A price that stands is written as it stood.
+pub price-value : (text : List ℕ) → isTurnLine text ≡ true → isEmpty (valueText turnKey text) ≡ false → decimal (turnWith emptyTurn text) ≡ valueText turnKey text
+unfolding turnWith isTurnLine
+price-value text turn given =
+    rw given (number-text (valueText turnKey text) (a-number (startsWith turnKey text) (isEmpty (valueText turnKey text)) (isNumber (valueText turnKey text)) turn given))
+
 no-more : (a : List ℕ) → a ++ [] ++ [] ++ [] ++ [] ≡ a
 no-more a = simp append-nil
 
-module _ (sheet : List ℕ) (good : refuses (sheetVerdict sheet) ≡ false) (fair : refuses (judgeOf (sheetRun sheet)) ≡ false) (least : saysSweep sheet ≡ false) where
+-- The wants of an accepted run are in order.
+pub fair-wants : (sheet : List ℕ) → refuses (judgeOf (sheetRun sheet)) ≡ false → Clean (sheetRun sheet .numbers) (sheetRun sheet .counts)
+fair-wants sheet fair =
+    let wants = accepted-run (sheetRun sheet) fair .wants in
+    record { even = wants .equal; rising = wants-rising _ (sheetRun sheet .numbers) (sheetRun sheet .counts) wants; some = λ i l z. omega (arith, wants .each i l .counted, z) }
+
+module _ (sheet : List ℕ) (good : refuses (sheetVerdict sheet) ≡ false) (fair : Clean (sheetRun sheet .numbers) (sheetRun sheet .counts)) (least : saysSweep sheet ≡ false) where
   pub g : GoodLines sheet
   g = good-lines sheet good
 
@@ -225,9 +237,7 @@ module _ (sheet : List ℕ) (good : refuses (sheetVerdict sheet) ≡ false) (fai
 
   -- Its wants are in order already.
   clean : Clean (wantedFiles sheet) (wantedCounts sheet)
-  clean =
-      let wants = accepted-run (sheetRun sheet) fair .wants in
-      rw (named, counted) (record { even = wants .equal; rising = wants-rising _ (sheetRun sheet .numbers) (sheetRun sheet .counts) wants; some = λ i l z. omega (arith, wants .each i l .counted, z) })
+  clean = rw (named, counted) fair
 
   pub remain : sheetRemaining sheet ≡ wantedFiles sheet
   remain = remaining-once sheet (wantedFiles sheet) (wantedCounts sheet) refl refl (clean-remaining (wantedFiles sheet) (wantedCounts sheet) clean)
@@ -313,10 +323,8 @@ module _ (sheet : List ℕ) (good : refuses (sheetVerdict sheet) ≡ false) (fai
       ∙ ap (λ t. firstLines 2 sheet ++ (numberLine turnKey (sheetTurn sheet) ++ t)) (sym lower-is)
 
   price-text : priceLeftOut sheet ≡ false → decimal (sheetTurn sheet) ≡ valueText turnKey (lineAfter 2 sheet)
-  unfolding priceLeftOut sheetTurnWith turnWith isTurnLine
-  price-text given =
-      let number = a-number (startsWith turnKey (lineAfter 2 sheet)) (isEmpty (valueText turnKey (lineAfter 2 sheet))) (isNumber (valueText turnKey (lineAfter 2 sheet))) (g .turn) given in
-      rw given (number-text (valueText turnKey (lineAfter 2 sheet)) number)
+  unfolding priceLeftOut sheetTurnWith
+  price-text given = price-value (lineAfter 2 sheet) (g .turn) given
 
   pub same-sheet : priceLeftOut sheet ≡ false → mendedText sheet ≡ sheet
   same-sheet given = new-sheet ∙ ap (λ t. firstLines 2 sheet ++ (line turnKey t ++ afterLines 3 sheet)) (price-text given) ∙ sym old-sheet

@@ -23,7 +23,7 @@ use Rattle.sheet_loose.specs.Reading.{looseVerdict}
 use Rattle.answer_mend.specs.Wants.{sumBelow, readsInAll}
 use Rattle.answer_mend.specs.Mending.{firstLines, sheetRemaining, mendedText, changesText, mendVerdict}
 use Rattle.promises.proofs.Canonical.{number-text}
-use Rattle.promises.proofs.Same.{empty-is, g, below, wants-number, files-number, tail-same, body-same, wants-same, named, counted, remain, old-sheet, new-sheet}
+use Rattle.promises.proofs.Same.{fair-wants, empty-is, g, below, wants-number, files-number, tail-same, body-same, wants-same, named, counted, remain, old-sheet, new-sheet}
 
 -- The reads of all lines are the total of their counts.
 sum-front : (value : ℕ → ℕ) (n : ℕ) → sumBelow value (suc n) ≡ value 0 + sumBelow (λ i. value (suc i)) n
@@ -53,16 +53,16 @@ module _ (sheet : List ℕ) (good : refuses (sheetVerdict sheet) ≡ false) (fai
   described : firstBadLoose sheet ≡ 0
   unfolding firstBadLoose firstBadLooseTop firstBadLooseBelow looseEnd endText
   described =
-      let lines = g sheet good fair least in
-      let wants : isNumberLine wantsKey (lineOf (looseWantsText sheet)) ≡ true = ap (λ t. isNumberLine wantsKey (lineOf t)) (tail-same sheet good fair least) ∙ wants-number sheet good fair least in
-      let end : looseEnd sheet ≡ [] = rw (wants-same sheet good fair least, body-same sheet good fair least) (below sheet good fair least .1 .1) in
-      rw (lines .tape, lines .head, lines .turn, lines .rule, files-number sheet good fair least, wants, end)
+      let lines = g sheet good (fair-wants sheet fair) least in
+      let wants : isNumberLine wantsKey (lineOf (looseWantsText sheet)) ≡ true = ap (λ t. isNumberLine wantsKey (lineOf t)) (tail-same sheet good (fair-wants sheet fair) least) ∙ wants-number sheet good (fair-wants sheet fair) least in
+      let end : looseEnd sheet ≡ [] = rw (wants-same sheet good (fair-wants sheet fair) least, body-same sheet good (fair-wants sheet fair) least) (below sheet good (fair-wants sheet fair) least .1 .1) in
+      rw (lines .tape, lines .head, lines .turn, lines .rule, files-number sheet good (fair-wants sheet fair) least, wants, end)
 
   few : length (sheetRemaining sheet) ≤ mostWants
-  few = rw (remain sheet good fair least, named sheet good fair least) (accepted-run (sheetRun sheet) fair .wants .few)
+  few = rw (remain sheet good (fair-wants sheet fair) least, named sheet good (fair-wants sheet fair) least) (accepted-run (sheetRun sheet) fair .wants .few)
 
   reads : readsInAll (wantedCounts sheet) ≤ mostReads
-  reads = rw (reads-total (wantedCounts sheet), counted sheet good fair least) (accepted-run (sheetRun sheet) fair .wants .reads)
+  reads = rw (reads-total (wantedCounts sheet), counted sheet good (fair-wants sheet fair) least) (accepted-run (sheetRun sheet) fair .wants .reads)
 
   pub taken : (out notes : List ℕ) → length (mendedText sheet) ≤ longestSheet → length (mendedText sheet) ≤ length out → length (changesText sheet) ≤ length notes → mendVerdict sheet out notes ≡ accepted
   unfolding mendVerdict looseVerdict
@@ -82,6 +82,6 @@ module _ (sheet : List ℕ) (good : refuses (sheetVerdict sheet) ≡ false) (fai
   five-longer out =
       let none = empty-is (valueText turnKey (lineAfter 2 sheet)) out in
       let price : decimal (sheetTurn sheet) ≡ bytes "12000" = rw out empty-price in
-      let new = ap length (new-sheet sheet good fair least) ∙ third-long (firstLines 2 sheet) (decimal (sheetTurn sheet)) (afterLines 3 sheet) in
-      let old = ap length (old-sheet sheet good fair least) ∙ third-long (firstLines 2 sheet) (valueText turnKey (lineAfter 2 sheet)) (afterLines 3 sheet) in
+      let new = ap length (new-sheet sheet good (fair-wants sheet fair) least) ∙ third-long (firstLines 2 sheet) (decimal (sheetTurn sheet)) (afterLines 3 sheet) in
+      let old = ap length (old-sheet sheet good (fair-wants sheet fair) least) ∙ third-long (firstLines 2 sheet) (valueText turnKey (lineAfter 2 sheet)) (afterLines 3 sheet) in
       omega (arith, new, old, ap length price, ap length none)

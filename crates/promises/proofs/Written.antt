@@ -28,7 +28,7 @@ use Rattle.sheet_loose.specs.Loose.{looseFiles}
 use Rattle.answer_mend.specs.Mending.{firstLines, sheetRemaining, sheetReads, mendedText}
 use Rattle.demands.proofs.Judged.{judged-accepted}
 use Rattle.promises.proofs.Canonical.{number-text}
-use Rattle.promises.proofs.Same.{text-line, number-line, behind-none, no-number, pair-value, g, below, files-same, named, counted, remain, ask, lower-is, new-sheet}
+use Rattle.promises.proofs.Same.{fair-wants, text-line, number-line, behind-none, no-number, pair-value, g, below, files-same, named, counted, remain, ask, lower-is, new-sheet}
 
 no-pair : isPair [] ≡ false
 unfolding isPair before
@@ -111,7 +111,7 @@ module _ (sheet : List ℕ) (good : refuses (sheetVerdict sheet) ≡ false) (fai
   top-two : firstLines 2 sheet ≡ line tapeKey (sheetName sheet) ++ numberLine headKey (sheetHead sheet)
   unfolding afterLines isTapeLine isNumberLine sheetName sheetHead
   top-two =
-      let lines = g sheet good fair least in
+      let lines = g sheet good (fair-wants sheet fair) least in
       let named-so = and-true-both (startsWith tapeKey (lineAfter 0 sheet)) (isName (valueText tapeKey (lineAfter 0 sheet))) (lines .tape) .0 in
       let begun = and-true-both (startsWith headKey (lineAfter 1 sheet)) (isNumber (valueText headKey (lineAfter 1 sheet))) (lines .head) .0 in
       let one = text-line 116 (drop 1 tapeKey) (valueText tapeKey (lineAfter 0 sheet)) sheet named-so (key-split tapeKey (lineAfter 0 sheet) named-so) in
@@ -121,23 +121,23 @@ module _ (sheet : List ℕ) (good : refuses (sheetVerdict sheet) ≡ false) (fai
 
   file-good : (i : ℕ) → i < sheetFiles sheet → isTripleLine fileKey (lineAfter i (fileText sheet)) ≡ true
   unfolding firstBadOf
-  file-good i l = not-false (isTripleLine fileKey (lineAfter i (fileText sheet))) (first-zero (λ j. not (isTripleLine fileKey (lineAfter j (fileText sheet)))) (sheetFiles sheet) (below sheet good fair least .0) i l)
+  file-good i l = not-false (isTripleLine fileKey (lineAfter i (fileText sheet))) (first-zero (λ j. not (isTripleLine fileKey (lineAfter j (fileText sheet)))) (sheetFiles sheet) (below sheet good (fair-wants sheet fair) least .0) i l)
 
   table-lines : firstLines (looseFiles sheet) (fileText sheet) ≡ tripleLines fileKey (sheetRun sheet .starts) (sheetRun sheet .lengths) (sheetRun sheet .aggregates)
   unfolding sheetRun
   table-lines =
-      ap (λ n. firstLines n (fileText sheet)) (files-same sheet good fair least)
+      ap (λ n. firstLines n (fileText sheet)) (files-same sheet good (fair-wants sheet fair) least)
       ∙ first-are (sheetFiles sheet) (fileText sheet) _ (files-text (fileText sheet) (sheetFiles sheet) file-good)
 
   files-many : looseFiles sheet ≡ length (sheetRun sheet .starts)
   unfolding sheetRun
-  files-many = files-same sheet good fair least ∙ sym (length-each (λ i. firstIn fileKey (lineAfter i (fileText sheet))) (sheetFiles sheet))
+  files-many = files-same sheet good (fair-wants sheet fair) least ∙ sym (length-each (λ i. firstIn fileKey (lineAfter i (fileText sheet))) (sheetFiles sheet))
 
   remain-is : sheetRemaining sheet ≡ sheetRun sheet .numbers
-  remain-is = remain sheet good fair least ∙ named sheet good fair least
+  remain-is = remain sheet good (fair-wants sheet fair) least ∙ named sheet good (fair-wants sheet fair) least
 
   reads-are : sheetReads sheet ≡ sheetRun sheet .counts
-  reads-are = ask sheet good fair least ∙ counted sheet good fair least
+  reads-are = ask sheet good (fair-wants sheet fair) least ∙ counted sheet good (fair-wants sheet fair) least
 
   regrouped : (a b c d e f h i : List ℕ) → (a ++ b) ++ (c ++ (d ++ (e ++ (f ++ (h ++ i))))) ≡ (((((((a ++ b) ++ c) ++ d) ++ e) ++ f) ++ h) ++ i)
   regrouped a b c d e f h i = simp append-assoc
@@ -149,10 +149,10 @@ module _ (sheet : List ℕ) (good : refuses (sheetVerdict sheet) ≡ false) (fai
   pub written-so : mendedText sheet ≡ sheetText (sheetName sheet) (sheetRun sheet)
   unfolding sheetText topText
   written-so =
-      new-sheet sheet good fair least
+      new-sheet sheet good (fair-wants sheet fair) least
       ∙ rw (
         top-two,
-        lower-is sheet good fair least,
+        lower-is sheet good (fair-wants sheet fair) least,
         table-lines,
         files-many,
         remain-is,
@@ -167,4 +167,4 @@ module _ (sheet : List ℕ) (good : refuses (sheetVerdict sheet) ≡ false) (fai
   pub mended-short : length (mendedText sheet) ≤ longestSheet
   mended-short =
       rw written-so
-      (round-trip (sheetName sheet) (sheetRun sheet) (judged-accepted (sheetRun sheet) fair) (omega (arith, files-many, files-same sheet good fair least, few-files sheet good)) (good-name sheet good) .short)
+      (round-trip (sheetName sheet) (sheetRun sheet) (judged-accepted (sheetRun sheet) fair) (omega (arith, files-many, files-same sheet good (fair-wants sheet fair) least, few-files sheet good)) (good-name sheet good) .short)
