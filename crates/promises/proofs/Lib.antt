@@ -24,6 +24,7 @@ pub mod MenderLines
 pub mod MenderWants
 pub mod MenderKept
 pub mod Mender
+pub mod MenderCases
 pub mod MonthTotals
 pub mod MonthNames
 pub mod MonthInput

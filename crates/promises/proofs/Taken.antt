@@ -37,7 +37,7 @@ reads-total [] = refl
 reads-total (c ∷ counts) = sum-front (λ i. getD (c ∷ counts) i 0) (length counts) ∙ ap (λ n. c + n) (reads-total counts)
 
 -- The price that an empty one means has five digits.
-empty-price : decimal emptyTurn ≡ bytes "12000"
+pub empty-price : decimal emptyTurn ≡ bytes "12000"
 unfolding isNumber valueFrom allOf
 empty-price = number-text (bytes "12000") refl
 

@@ -4,7 +4,7 @@ use Prim.Native.Nat.{ℕ, suc, _+_, _≤_, _<_}
 use mathlib.Core.Path.{_≡_}
 use mathlib.Core.Logic.{_⊎_, _↔_}
 use mathlib.Core.List.{List, [], _∷_}
-use lib.ListN.{length, getD, replicate}
+use lib.ListN.{length, getD}
 use Rattle.refusals.specs.declared.Refusal.{Refusal}
 use Rattle.refusals.specs.declared.Refusal.the-variants.{Accepted, WantRows, TooManyReads, ShortRow, BadLine, LongSheet}
 use Rattle.text_bytes.specs.Text.{bytes, valueOf}
@@ -113,3 +113,23 @@ MenderLeavesAlone = (sheet text : List ℕ) → WasMended sheet text → LeftAlo
 -- Where no change is listed the mended sheet is the old one, byte for byte.
 abbrev pub UnlistedIsSame : Type 0
 UnlistedIsSame = (sheet text : List ℕ) → WasMended sheet text → changesText sheet ≡ [] → text ≡ sheet
+
+-- A disordered sheet: an empty price, the retired rule, two wrong counts, wants out of order, repeated and with count 0; mended; and what is listed.
+abbrev pub disordered : List ℕ
+disordered = bytes "tape=T1\nhead=900\nturn=\nrule=sweep\nfiles=3\nfile=0,10,0\nfile=10,20,0\nwants=9\nwant=2,1\nwant=1,0\nwant=1,2\nwant=2,3\n"
+
+abbrev pub inOrder : List ℕ
+inOrder = bytes "tape=T1\nhead=900\nturn=12000\nrule=least\nfiles=2\nfile=0,10,0\nfile=10,20,0\nwants=2\nwant=1,2\nwant=2,4\n"
+
+abbrev pub listed : List ℕ
+listed = bytes "change=3,turn\nchange=4,rule\nchange=5,files\nchange=8,wants\nchange=10,dropped\nchange=11,moved\nchange=12,added\n"
+
+abbrev pub MendsADisorderedSheet : Type 0
+MendsADisorderedSheet = WasMended disordered inOrder × (changesText disordered ≡ listed)
+
+-- 11 for a head that is no number, at its line; 5 for 1,000 reads and 25 of one file, whatever rows are lent.
+abbrev pub RefusedCases : Type 0
+RefusedCases =
+    (out notes : List ℕ)
+    → (mendVerdict (bytes "tape=T1\nhead=+9\n") out notes ≡ record { refusal = BadLine; place = 2 })
+    × (mendVerdict (bytes "tape=T1\nhead=900\nturn=\nrule=least\nfiles=0\nwants=1\nwant=1,1000\nwant=1,25\n") out notes ≡ record { refusal = TooManyReads; place = 0 })
