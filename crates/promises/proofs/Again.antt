@@ -308,7 +308,7 @@ module _ (sheet : List ℕ) (good : firstBadLoose sheet ≡ 0) (few : length (sh
   unfolding afterLines
   text₃ = ap (behind lineFeed) text₂ ∙ line-behind turnKey (decimal (sheetTurn sheet)) r₃ plain-turn (flat (sheetTurn sheet))
 
-  line₃ : lineAfter 3 (mendedText sheet) ≡ ruleKey ++ leastText
+  pub line₃ : lineAfter 3 (mendedText sheet) ≡ ruleKey ++ leastText
   line₃ = ap lineOf text₃ ∙ line-first ruleKey leastText r₄ plain-rule plain-least
 
   text₄ : afterLines 4 (mendedText sheet) ≡ r₄

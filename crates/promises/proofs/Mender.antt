@@ -2,9 +2,10 @@
 use Prim.Native.Nat.{ℕ, zero, suc, _+_, _≤_, _<_}
 use mathlib.Core.Path.{_≡_, refl, ap, sym, _∙_}
 use mathlib.Core.Bool.{Bool, true, false, true≢false, cond, _||_}
-use mathlib.Core.Logic.{_⊎_, inl, inr, ⊎-elim}
+use mathlib.Core.Logic.{_⊎_, inl, inr, ⊎-elim, by-cases}
 use mathlib.Core.List.{List, [], _∷_}
 use native.Mathlib.Omega.{arith}
+use native.Mathlib.Decide.{decLt}
 use lib.ListN.{length}
 use lib.Dec.{ltb}
 use borrow.Author.Tests.{ltb-false}
@@ -12,7 +13,7 @@ use Rattle.refusals.specs.declared.Refusal.{Refusal}
 use Rattle.refusals.specs.declared.Refusal.the-variants.{Accepted, WantRows, TooManyReads, ShortRow, BadLine, LongSheet}
 use Rattle.refusals.specs.declared.Verdict.{Verdict}
 use Rattle.refusals.specs.Refusals.{isRefusal, accepted, refuseIf, refuseAt, firstOf}
-use Rattle.refusals.proofs.Verdicts.{refuses, none-refuses, first-alone, accepts-if, accepts-at}
+use Rattle.refusals.proofs.Verdicts.{refuses, all-accept, none-refuses, first-alone, accepts-if, accepts-at}
 use Rattle.runs.specs.Run.{mostWants, mostReads}
 use Rattle.runs.proofs.Search.{true-or-false}
 use Rattle.sheet_reader.specs.Sheet.{longestSheet}
@@ -21,12 +22,14 @@ use Rattle.sheet_loose.specs.Reading.{looseVerdict}
 use Rattle.answer_mend.specs.declared.Mended.{Mended}
 use Rattle.answer_mend.specs.Wants.{readsInAll}
 use Rattle.answer_mend.specs.Mending.{sheetRemaining, mendedText, changesText, wantsVerdicts, textsVerdicts, mendVerdict, SheetMended}
-use Rattle.demands.specs.RefusalTable.{FirstBad, FirstThatApplies, SomeApplies}
+use Rattle.demands.specs.RefusalTable.{FirstBad, FirstThatApplies, here, later, SomeApplies}
 use Rattle.demands.proofs.Tests.{Tells, tells-below, tells-either}
 use Rattle.demands.proofs.Checks.{Decides, decides-if, decides-reworded, Finds, finds-none, finds-first, first-of-joined, refused-iff}
-use Rattle.promises.specs.Mender.{NotMended, WantsRemain, CountsFrom, SheetApplies, long-sheet, bad-line, many-wants, many-reads, sheetOrder, TextsApply, long-text, short-row, textsOrder, MenderAnswers, MenderRefuses}
+use Rattle.promises.specs.Mender.{FileLine, NotMended, WantsRemain, CountsFrom, SheetApplies, long-sheet, bad-line, many-wants, many-reads, sheetOrder, TextsApply, long-text, short-row, textsOrder, MenderAnswers, MenderRefuses, TopStands, OneFileTooMany, LongTextIsMended}
 use Rattle.promises.proofs.DeskSteps.{not-accepted}
 use Rattle.promises.proofs.MenderLines.{decides-line}
+use Rattle.promises.proofs.Mends.{Facts, same-reads, in-order}
+use Rattle.promises.proofs.MenderKept.{left-alone}
 use Rattle.promises.proofs.MenderWants.{tells-remain, tells-reads}
 
 -- The sheet's refusals.
@@ -163,3 +166,51 @@ mender-refuses sheet out notes r out′ notes′ h =
       iff = (λ n. inr (both .0 n), λ s. ⊎-elim (λ t. absurd (none t)) (both .1) s);
     })
     (true-or-false (refuses (ofSheet sheet out notes)))
+
+-- A 257th file line.
+module _ (sheet : List ℕ) (short : length sheet ≤ 16384) (top : TopStands sheet) (all : (j : ℕ) → j ≤ 256 → FileLine sheet (5 + j)) where
+  none-before : (j : ℕ) → j < 261 → NotMended sheet j → ⊥
+  none-before j l (NotMended.tape e n) = n (rw e (top .tape))
+  none-before j l (NotMended.head e n) = n (rw e (top .head))
+  none-before j l (NotMended.turn e n) = n (rw e (top .turn))
+  none-before j l (NotMended.rule e n) = n (rw e (top .rule))
+  none-before j l (NotMended.files e n) = n (rw e (top .files))
+  none-before j l (NotMended.file-257 e every) = omega arith
+  none-before j l (NotMended.wants {n} come e other) = come .0 .no-more (all n (omega arith))
+  none-before j l (NotMended.beyond {n} {m} come more e other) = come .0 .no-more (all n (omega arith))
+
+  the-last : FirstBad (NotMended sheet) 262 262
+  the-last = record { index = 261; within = omega arith; at = refl; here = NotMended.file-257 refl all; before = none-before }
+
+  its-place : (p : ℕ) → FirstBad (NotMended sheet) p p → p ≡ 262
+  its-place p f =
+      by-cases (decLt (f .index) 261) (λ l. absurd (none-before (f .index) l (f .here)))
+      (λ n. by-cases (decLt 261 (f .index)) (λ l. absurd (f .before 261 l (NotMended.file-257 refl all))) (λ m. omega (arith, f .at)))
+
+  at-that-line : {kind : Refusal} {place : ℕ} → FirstThatApplies (SheetApplies sheet) sheetOrder kind place → (kind ≡ BadLine) × (place ≡ 262)
+  at-that-line (here h) = absurd (omega (arith, short, long-back sheet _ h .1))
+  at-that-line (later skipped (here h)) = (refl, its-place _ (line-back sheet _ h))
+  at-that-line (later skipped (later passes rest)) = absurd (passes 262 (bad-line the-last))
+
+pub one-file-too-many : OneFileTooMany
+one-file-too-many sheet out notes r out′ notes′ h short top all =
+    at-that-line sheet short top all (mender-refuses sheet out notes r out′ notes′ h .of-sheet (inr (inl (262, bad-line (the-last sheet short top all)))))
+
+-- What 12, 11, 3 and 5 say of a sheet where none of them applies.
+nothing-applies : (sheet : List ℕ) → (SomeApplies (SheetApplies sheet) sheetOrder → ⊥) → Facts sheet
+nothing-applies sheet none =
+    let passes : refuses (firstOf (long sheet ∷ line sheet ∷ wants sheet ∷ reads sheet ∷ [])) ≡ false =
+    ⊎-elim (λ t. absurd (none (refused-iff (SheetApplies sheet) (sheet-finds sheet) (refl, (refl, (refl, (refl, tt)))) .0 (λ a. true≢false (sym t ∙ ap isRefusal a))))) (λ f. f)
+    (true-or-false (refuses (firstOf (long sheet ∷ line sheet ∷ wants sheet ∷ reads sheet ∷ [])))) in
+    let all = all-accept (long sheet ∷ line sheet ∷ wants sheet ∷ reads sheet ∷ []) passes in
+    record {
+      within = ltb-false longestSheet (length sheet) (accepts-if (ltb longestSheet (length sheet)) LongSheet refl (all .0));
+      good = accepts-at (firstBadLoose sheet) BadLine refl (all .1 .0);
+      few = ltb-false mostWants (length (sheetRemaining sheet)) (accepts-if (ltb mostWants (length (sheetRemaining sheet))) WantRows refl (all .1 .1 .0));
+      reads = ltb-false mostReads (readsInAll (wantedCounts sheet)) (accepts-if (ltb mostReads (readsInAll (wantedCounts sheet))) TooManyReads refl (all .1 .1 .1 .0));
+    }
+
+pub long-text-is-mended : LongTextIsMended
+long-text-is-mended sheet none =
+    let k = nothing-applies sheet none in
+    record { order = in-order sheet (mendedText sheet) k refl; reads = same-reads sheet (mendedText sheet) k refl; alone = left-alone sheet (mendedText sheet) k refl }

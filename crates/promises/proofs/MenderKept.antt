@@ -25,13 +25,14 @@ use Rattle.answer_mend.specs.declared.wants.Fate.{Fate}
 use Rattle.answer_mend.specs.declared.wants.Fate.the-variants.{Stays, Moved, Added, Dropped}
 use Rattle.answer_mend.specs.Wants.{fateOf}
 use Rattle.answer_mend.specs.Mending.{sheetRemaining, mendedText, changeIf, changesText, fateLine, fateLines}
-use Rattle.promises.specs.Mends.{WasMended, SameFile, HigherFile}
+use Rattle.promises.specs.Mends.{SameFile, HigherFile}
 use Rattle.promises.specs.Mender.{FileLine, LeftAlone, MenderLeavesAlone, UnlistedIsSame}
 use Rattle.promises.proofs.Gathered.{Clean, clean-remaining}
 use Rattle.promises.proofs.Copied.{copied-line}
-use Rattle.promises.proofs.Again.{lines-even, line₀, line₁, line₂, text₅, table-ended, files-again, good-again, remaining-once}
+use Rattle.promises.proofs.Again.{lines-even, line₀, line₁, line₂, line₃, text₅, table-ended, files-again, good-again, remaining-once}
 use Rattle.promises.proofs.Described.{described}
 use Rattle.promises.proofs.Same.{empty-is, floor, rising-steps, price-value, same-sheet}
+use Rattle.promises.proofs.Taken.{empty-price}
 use Rattle.promises.proofs.Strict.{strict, numbers-read, counts-read}
 use Rattle.promises.proofs.Mends.{Facts, known, text-mended, fates-by-conditions}
 use Rattle.promises.proofs.MenderLines.{file-at, file-among}
@@ -43,13 +44,7 @@ turn-line text turn given =
     key-split turnKey text (and-true-both (startsWith turnKey text) (isEmpty (valueText turnKey text) || isNumber (valueText turnKey text)) turn .0)
     ∙ ap (λ t. turnKey ++ t) (sym (price-value text turn some))
 
-module _ (sheet text : List ℕ) (m : WasMended sheet text) where
-  abbrev k : Facts sheet
-  k = known sheet text m
-
-  mended : text ≡ mendedText sheet
-  mended = text-mended sheet text m
-
+module _ (sheet text : List ℕ) (k : Facts sheet) (mended : text ≡ mendedText sheet) where
   price-kept : (valueText turnKey (lineAfter 2 sheet) ≡ [] → ⊥) → lineAfter 2 text ≡ lineAfter 2 sheet
   unfolding sheetTurnWith
   price-kept given = ap (lineAfter 2) mended ∙ line₂ sheet (k .good) (k .few) (k .reads) ∙ sym (turn-line (lineAfter 2 sheet) (described sheet (k .good) .turn) given)
@@ -67,15 +62,26 @@ module _ (sheet text : List ℕ) (m : WasMended sheet text) where
       let among = file-among (mendedText sheet) (good-again sheet (k .good) (k .few) (k .reads)) i (rw mended at s) in
       rw (among .2) (file-kept (among .0) (omega (arith, among .1, files-again sheet (k .good) (k .few) (k .reads))))
 
+  -- The price of an empty one.
+  price-written : valueText turnKey (lineAfter 2 sheet) ≡ [] → lineAfter 2 text ≡ bytes "turn=12000"
+  unfolding sheetTurnWith turnWith
+  price-written none =
+      let price : decimal (sheetTurn sheet) ≡ bytes "12000" = rw none empty-price in
+      ap (lineAfter 2) mended ∙ line₂ sheet (k .good) (k .few) (k .reads) ∙ ap (λ t. turnKey ++ t) price
+
+  pub left-alone : LeftAlone sheet text
+  left-alone =
+      record {
+        tape = ap (lineAfter 0) mended ∙ line₀ sheet (k .good) (k .few) (k .reads);
+        head = ap (lineAfter 1) mended ∙ line₁ sheet (k .good) (k .few) (k .reads);
+        price = price-kept;
+        written-out = price-written;
+        rule = ap (lineAfter 3) mended ∙ line₃ sheet (k .good) (k .few) (k .reads);
+        files = λ i. ⊎-elim (old-file i) (new-file i);
+      }
+
 pub mender-leaves-alone : MenderLeavesAlone
-mender-leaves-alone sheet text m =
-    let k = known sheet text m in
-    record {
-      tape = ap (lineAfter 0) (mended sheet text m) ∙ line₀ sheet (k .good) (k .few) (k .reads);
-      head = ap (lineAfter 1) (mended sheet text m) ∙ line₁ sheet (k .good) (k .few) (k .reads);
-      price = price-kept sheet text m;
-      files = λ i. ⊎-elim (old-file sheet text m i) (new-file sheet text m i);
-    }
+mender-leaves-alone sheet text m = left-alone sheet text (known sheet text m) (text-mended sheet text m)
 
 -- Nothing is listed.
 both-empty : (s t : List ℕ) → s ++ t ≡ [] → (s ≡ []) × (t ≡ [])
@@ -180,4 +186,4 @@ module _ (sheet : List ℕ) (k : Facts sheet) (u : Unlisted sheet) where
   same = same-sheet sheet taken in-order (u .rule) (u .price)
 
 pub unlisted-is-same : UnlistedIsSame
-unlisted-is-same sheet text m none = mended sheet text m ∙ same sheet (known sheet text m) (unlisted sheet none)
+unlisted-is-same sheet text m none = text-mended sheet text m ∙ same sheet (known sheet text m) (unlisted sheet none)

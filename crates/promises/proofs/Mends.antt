@@ -71,13 +71,12 @@ mended-rows sheet out notes answer out′ notes′ h e = go (isRefusal (v .refus
 pub mending-determined : MendingDetermined
 mending-determined = mend-determined
 
--- What an accepted mending says of the sheet.
+-- What it says of a sheet that 12, 11, 3 and 5 do not apply to it.
 pub record Facts (sheet : List ℕ) : Type 0 where
   pub within : length sheet ≤ longestSheet
   pub good : firstBadLoose sheet ≡ 0
   pub few : length (sheetRemaining sheet) ≤ mostWants
   pub reads : readsInAll (wantedCounts sheet) ≤ mostReads
-  pub short : length (mendedText sheet) ≤ longestSheet
 
 accepted-verdict : (sheet out notes : List ℕ) (answer : Mended) (out′ notes′ : List ℕ) → SheetMended sheet out notes answer out′ notes′ → answer .refusal ≡ Accepted
     → isRefusal (mendVerdict sheet out notes .refusal) ≡ false
@@ -89,28 +88,36 @@ accepted-verdict sheet out notes answer out′ notes′ h e = go (isRefusal (men
         accepted-passes (mendVerdict sheet out notes .refusal) (sym kind ∙ e)
     go false passed = passed
 
-facts : (sheet out notes : List ℕ) → isRefusal (mendVerdict sheet out notes .refusal) ≡ false → Facts sheet
+facts : (sheet out notes : List ℕ) → isRefusal (mendVerdict sheet out notes .refusal) ≡ false → Facts sheet × (length (mendedText sheet) ≤ longestSheet)
 unfolding mendVerdict looseVerdict
 facts sheet out notes passed =
     let all = all-accept (looseVerdict sheet ∷ firstOf (wantsVerdicts sheet) ∷ firstOf (textsVerdicts (mendedText sheet) (changesText sheet) out notes) ∷ []) passed in
     let read = all-accept (refuseIf (ltb longestSheet (length sheet)) LongSheet ∷ refuseAt (firstBadLoose sheet) BadLine ∷ []) (all .0) in
     let wants = all-accept (wantsVerdicts sheet) (all .1 .0) in
     let texts = all-accept (textsVerdicts (mendedText sheet) (changesText sheet) out notes) (all .1 .1 .0) in
-    record {
+    (record {
       within = ltb-false longestSheet (length sheet) (accepts-if (ltb longestSheet (length sheet)) LongSheet refl (read .0));
       good = accepts-at (firstBadLoose sheet) BadLine refl (read .1 .0);
       few = ltb-false mostWants (length (sheetRemaining sheet)) (accepts-if (ltb mostWants (length (sheetRemaining sheet))) WantRows refl (wants .0));
       reads = ltb-false mostReads (readsInAll (wantedCounts sheet)) (accepts-if (ltb mostReads (readsInAll (wantedCounts sheet))) TooManyReads refl (wants .1 .0));
-      short = ltb-false longestSheet (length (mendedText sheet)) (accepts-if (ltb longestSheet (length (mendedText sheet))) LongSheet refl (texts .0));
-    }
+    },
+    ltb-false longestSheet (length (mendedText sheet)) (accepts-if (ltb longestSheet (length (mendedText sheet))) LongSheet refl (texts .0)))
 
 module _ (sheet text : List ℕ) (m : WasMended sheet text) where
+  judged : Facts sheet × (length (mendedText sheet) ≤ longestSheet)
+  judged = facts sheet (m .out) (m .notes) (accepted-verdict sheet (m .out) (m .notes) (m .answer) (m .out′) (m .notes′) (m .contract) (m .accepted))
+
   pub known : Facts sheet
-  known = facts sheet (m .out) (m .notes) (accepted-verdict sheet (m .out) (m .notes) (m .answer) (m .out′) (m .notes′) (m .contract) (m .accepted))
+  known = judged .0
+
+  pub not-long : length (mendedText sheet) ≤ longestSheet
+  not-long = judged .1
 
   pub text-mended : text ≡ mendedText sheet
   text-mended = sym (m .text-is) ∙ mended-rows sheet (m .out) (m .notes) (m .answer) (m .out′) (m .notes′) (m .contract) (m .accepted) .text
 
+-- What the mended sheet of such a sheet is.
+module _ (sheet text : List ℕ) (k : Facts sheet) (e : text ≡ mendedText sheet) where
   abbrev row : List ℕ
   row = sheetRemaining sheet
 
@@ -118,14 +125,14 @@ module _ (sheet text : List ℕ) (m : WasMended sheet text) where
   asked = sheetReads sheet
 
   named : wantedFiles text ≡ row
-  named = ap wantedFiles text-mended ∙ named-again sheet (known .good) (known .few) (known .reads)
+  named = ap wantedFiles e ∙ named-again sheet (k .good) (k .few) (k .reads)
 
   counted : wantedCounts text ≡ asked
-  counted = ap wantedCounts text-mended ∙ asked-again sheet (known .good) (known .few) (known .reads)
+  counted = ap wantedCounts e ∙ asked-again sheet (k .good) (k .few) (k .reads)
 
   total-is : readsInAll asked ≡ readsInAll (wantedCounts sheet)
   unfolding sheetRemaining sheetReads
-  total-is = total-kept (wantedFiles sheet) (wantedCounts sheet) (lines-even sheet (known .good) (known .few) (known .reads))
+  total-is = total-kept (wantedFiles sheet) (wantedCounts sheet) (lines-even sheet (k .good) (k .few) (k .reads))
 
   row-clean : Clean row asked
   unfolding sheetRemaining sheetReads
@@ -135,33 +142,32 @@ module _ (sheet text : List ℕ) (m : WasMended sheet text) where
   unfolding sheetRemaining sheetReads
   file-kept file = reads-kept (wantedFiles sheet) (wantedCounts sheet) file
 
-  same-reads : SameReads sheet text
+  pub same-reads : SameReads sheet text
   same-reads = record { each = λ file. rw (named, counted) (file-kept file); in-all = rw counted total-is }
 
-  in-order : SheetInOrder text
+  pub in-order : SheetInOrder text
   in-order =
-      let k = known in
       record {
-        described = ap firstBadLoose text-mended ∙ good-again sheet (k .good) (k .few) (k .reads);
+        described = ap firstBadLoose e ∙ good-again sheet (k .good) (k .few) (k .reads);
         wants = rw (named, counted) (record { even = row-clean .even; ascending = λ i j. rising-at 0 row (row-clean .rising) i j; some = row-clean .some });
         few = rw named (k .few);
-        files-said = rw text-mended (files-said sheet (k .good) (k .few) (k .reads) ∙ sym (files-again sheet (k .good) (k .few) (k .reads)));
-        wants-said = rw text-mended (wants-said sheet (k .good) (k .few) (k .reads) ∙ sym (wants-again sheet (k .good) (k .few) (k .reads)));
+        files-said = rw e (files-said sheet (k .good) (k .few) (k .reads) ∙ sym (files-again sheet (k .good) (k .few) (k .reads)));
+        wants-said = rw e (wants-said sheet (k .good) (k .few) (k .reads) ∙ sym (wants-again sheet (k .good) (k .few) (k .reads)));
       }
 
 pub reads-are-kept : ReadsKept
-reads-are-kept sheet text m = same-reads sheet text m
+reads-are-kept sheet text m = same-reads sheet text (known sheet text m) (text-mended sheet text m)
 
 pub mended-in-order : MendedInOrder
-mended-in-order sheet text m = in-order sheet text m
+mended-in-order sheet text m = in-order sheet text (known sheet text m) (text-mended sheet text m)
 
 pub mended-is-read : MendedIsRead
 unfolding sheetVerdict ruleVerdict
 mended-is-read sheet text m =
     let k = known sheet text m in
     let e = text-mended sheet text m in
-    let order = in-order sheet text m in
-    let short : length text ≤ longestSheet = rw e (k .short) in
+    let order = in-order sheet text k e in
+    let short : length text ≤ longestSheet = rw e (not-long sheet text m) in
     let few : looseWants text ≤ mostWants = rw (e, wants-again sheet (k .good) (k .few) (k .reads)) (k .few) in
     let least : saysSweep text ≡ false = ap saysSweep e ∙ rule-there sheet (k .good) (k .few) (k .reads) in
     record {
@@ -187,10 +193,10 @@ module _ (sheet text : List ℕ) (m : WasMended sheet text) where
   known₂ = known sheet text m
 
   wants-same : sheetRemaining text ≡ sheetRemaining sheet
-  wants-same = remaining-once text (sheetRemaining sheet) (sheetReads sheet) (named sheet text m) (counted sheet text m) (clean-remaining (sheetRemaining sheet) (sheetReads sheet) (row-clean sheet text m))
+  wants-same = remaining-once text (sheetRemaining sheet) (sheetReads sheet) (named sheet text (known sheet text m) (text-mended sheet text m)) (counted sheet text (known sheet text m) (text-mended sheet text m)) (clean-remaining (sheetRemaining sheet) (sheetReads sheet) (row-clean sheet text (known sheet text m) (text-mended sheet text m)))
 
   reads-same : sheetReads text ≡ sheetReads sheet
-  reads-same = reads-once text (sheetRemaining sheet) (sheetReads sheet) (named sheet text m) (counted sheet text m) wants-same (clean-each (sheetRemaining sheet) (sheetReads sheet) (row-clean sheet text m))
+  reads-same = reads-once text (sheetRemaining sheet) (sheetReads sheet) (named sheet text (known sheet text m) (text-mended sheet text m)) (counted sheet text (known sheet text m) (text-mended sheet text m)) wants-same (clean-each (sheetRemaining sheet) (sheetReads sheet) (row-clean sheet text (known sheet text m) (text-mended sheet text m)))
 
   mended-again : mendedText text ≡ text
   mended-again =
@@ -204,22 +210,23 @@ module _ (sheet text : List ℕ) (m : WasMended sheet text) where
   unchanged =
       let k = known₂ in
       let e = text-mended sheet text m in
-      let order = in-order sheet text m in
+      let order = in-order sheet text k e in
       no-changes text (ap priceLeftOut e ∙ price-there sheet (k .good) (k .few) (k .reads)) (ap saysSweep e ∙ rule-there sheet (k .good) (k .few) (k .reads)) (order .files-said)
       (ap wantsSaid e ∙ wants-said sheet (k .good) (k .few) (k .reads) ∙ ap length (sym wants-same))
-      (rw (named sheet text m, counted sheet text m)
-      (fates-none (looseFiles text + 6) (sheetRemaining sheet) (sheetReads sheet) (length (sheetRemaining sheet)) (clean-stays (sheetRemaining sheet) (sheetReads sheet) (row-clean sheet text m))))
+      (rw (named sheet text k e, counted sheet text k e)
+      (fates-none (looseFiles text + 6) (sheetRemaining sheet) (sheetReads sheet) (length (sheetRemaining sheet)) (clean-stays (sheetRemaining sheet) (sheetReads sheet) (row-clean sheet text k e))))
 
   -- Given a row that takes it, it is accepted.
   accepted-again : (out notes : List ℕ) → length text ≤ length out → mendVerdict text out notes ≡ accepted
   unfolding mendVerdict looseVerdict
   accepted-again out notes fits =
       let k = known₂ in
-      let short : length text ≤ longestSheet = rw (text-mended sheet text m) (k .short) in
-      let reads : readsInAll (wantedCounts text) ≤ mostReads = rw (counted sheet text m, total-is sheet text m) (k .reads) in
+      let e = text-mended sheet text m in
+      let short : length text ≤ longestSheet = rw e (not-long sheet text m) in
+      let reads : readsInAll (wantedCounts text) ≤ mostReads = rw (counted sheet text k e, total-is sheet text k e) (k .reads) in
       rw (
         le-ltb longestSheet (length text) short,
-        in-order sheet text m .described,
+        in-order sheet text k e .described,
         wants-same,
         le-ltb mostWants (length (sheetRemaining sheet)) (k .few),
         le-ltb mostReads (readsInAll (wantedCounts text)) reads,

@@ -14,7 +14,7 @@ use Rattle.answer_mend.specs.declared.Mended.{Mended}
 use Rattle.answer_mend.specs.Mending.{mendedText, changesText, mendVerdict, SheetMended}
 use Rattle.demands.specs.RefusalTable.{FirstBad, FirstThatApplies, SomeApplies}
 use Rattle.demands.specs.Lines.{Stands, Name, Number, NumberOrNothing, RuleName, Pair, Triple}
-use Rattle.promises.specs.Mends.{WasMended}
+use Rattle.promises.specs.Mends.{WasMended, SameReads, SheetInOrder}
 
 -- Line i is a `file` line, a `want` line. It is the one behind i others, so it has number i + 1.
 abbrev pub FileLine : List ℕ → ℕ → Type 0
@@ -100,15 +100,44 @@ MenderRefuses =
     → SheetMended sheet out notes r out′ notes′
     → MenderAnswers (SheetApplies sheet) (TextsApply (mendedText sheet) (changesText sheet) out notes) r
 
--- What the mender leaves alone, byte for byte: the tape's and the head's line, the price's where one stands, and every file line, of either sheet.
+-- So a 257th file line is refused by 11 at its own line, which is line 262.
+pub record TopStands (sheet : List ℕ) : Type 0 where
+  pub tape : Stands tapeKey Name sheet 0
+  pub head : Stands headKey Number sheet 1
+  pub turn : Stands turnKey NumberOrNothing sheet 2
+  pub rule : Stands ruleKey RuleName sheet 3
+  pub files : Stands filesKey Number sheet 4
+
+abbrev pub OneFileTooMany : Type 0
+OneFileTooMany =
+    (sheet out notes : List ℕ) (r : Mended) (out′ notes′ : List ℕ)
+    → SheetMended sheet out notes r out′ notes′
+    → length sheet ≤ 16384
+    → TopStands sheet
+    → ((j : ℕ) → j ≤ 256 → FileLine sheet (5 + j))
+    → (r .refusal ≡ BadLine) × (r .place ≡ 262)
+
+-- What the mender leaves alone, byte for byte: the tape's and the head's line, the price's where one stands, and every file line, of either sheet. An empty
+-- price is written out, and the rule is the least.
 pub record LeftAlone (old new : List ℕ) : Type 0 where
   pub tape : lineAfter 0 new ≡ lineAfter 0 old
   pub head : lineAfter 1 new ≡ lineAfter 1 old
   pub price : (valueText turnKey (lineAfter 2 old) ≡ [] → ⊥) → lineAfter 2 new ≡ lineAfter 2 old
+  pub written-out : valueText turnKey (lineAfter 2 old) ≡ [] → lineAfter 2 new ≡ bytes "turn=12000"
+  pub rule : lineAfter 3 new ≡ bytes "rule=least"
   pub files : (i : ℕ) → FileLine old i ⊎ FileLine new i → lineAfter i new ≡ lineAfter i old
 
 abbrev pub MenderLeavesAlone : Type 0
 MenderLeavesAlone = (sheet text : List ℕ) → WasMended sheet text → LeftAlone sheet text
+
+-- The text whose length the last 12 goes by is the mended sheet also where it is too long: of every sheet to which 12, 11, 3 and 5 do not apply, the same holds.
+pub record TextIsMended (sheet text : List ℕ) : Type 0 where
+  pub order : SheetInOrder text
+  pub reads : SameReads sheet text
+  pub alone : LeftAlone sheet text
+
+abbrev pub LongTextIsMended : Type 0
+LongTextIsMended = (sheet : List ℕ) → (SomeApplies (SheetApplies sheet) sheetOrder → ⊥) → TextIsMended sheet (mendedText sheet)
 
 -- Where no change is listed the mended sheet is the old one, byte for byte.
 abbrev pub UnlistedIsSame : Type 0
