@@ -94,14 +94,15 @@ facts sheet out notes passed =
     let all = all-accept (looseVerdict sheet ∷ firstOf (wantsVerdicts sheet) ∷ firstOf (textsVerdicts (mendedText sheet) (changesText sheet) out notes) ∷ []) passed in
     let read = all-accept (refuseIf (ltb longestSheet (length sheet)) LongSheet ∷ refuseAt (firstBadLoose sheet) BadLine ∷ []) (all .0) in
     let wants = all-accept (wantsVerdicts sheet) (all .1 .0) in
-    let texts = all-accept (textsVerdicts (mendedText sheet) (changesText sheet) out notes) (all .1 .1 .0) in
-    (record {
-      within = ltb-false longestSheet (length sheet) (accepts-if (ltb longestSheet (length sheet)) LongSheet refl (read .0));
-      good = accepts-at (firstBadLoose sheet) BadLine refl (read .1 .0);
-      few = ltb-false mostWants (length (sheetRemaining sheet)) (accepts-if (ltb mostWants (length (sheetRemaining sheet))) WantRows refl (wants .0));
-      reads = ltb-false mostReads (readsInAll (wantedCounts sheet)) (accepts-if (ltb mostReads (readsInAll (wantedCounts sheet))) TooManyReads refl (wants .1 .0));
-    },
-    ltb-false longestSheet (length (mendedText sheet)) (accepts-if (ltb longestSheet (length (mendedText sheet))) LongSheet refl (texts .0)))
+    let texts = all-accept (textsVerdicts (mendedText sheet) (changesText sheet) out notes) (all .1 .1 .0) in (
+      record {
+        within = ltb-false longestSheet (length sheet) (accepts-if (ltb longestSheet (length sheet)) LongSheet refl (read .0));
+        good = accepts-at (firstBadLoose sheet) BadLine refl (read .1 .0);
+        few = ltb-false mostWants (length (sheetRemaining sheet)) (accepts-if (ltb mostWants (length (sheetRemaining sheet))) WantRows refl (wants .0));
+        reads = ltb-false mostReads (readsInAll (wantedCounts sheet)) (accepts-if (ltb mostReads (readsInAll (wantedCounts sheet))) TooManyReads refl (wants .1 .0));
+      },
+      ltb-false longestSheet (length (mendedText sheet)) (accepts-if (ltb longestSheet (length (mendedText sheet))) LongSheet refl (texts .0)),
+    )
 
 module _ (sheet text : List ℕ) (m : WasMended sheet text) where
   judged : Facts sheet × (length (mendedText sheet) ≤ longestSheet)
