@@ -161,13 +161,18 @@ module _ (sheet : List ℕ) (good : firstBadLoose sheet ≡ 0) where
       let k = found .0 in
       record { at = 6 + F + k; count = getD counts k 0; asks = rw (found .2 .0) at (asks-at k (omega (arith, found .1, files-long))); some = found .2 .1 }
 
+  remain-there : 64 < length row → WantsRemain sheet
+  remain-there over =
+      record { files = row; over = over; ascending = rising-at 0 row (remaining-rising files counts (length files)); each = λ i l. has-reads (getD row i 0) (in-at row i l) }
+
+  remain-back : WantsRemain sheet → 64 < length row
+  remain-back r =
+      let few = no-more-files 0 row (r .files) (remaining-rising files counts (length files)) (r .ascending) (λ i l. remains (getD (r .files) i 0) (r .each i l)) in
+      omega (arith, r .over)
+
   pub tells-remain : Tells (ltb mostWants (length (sheetRemaining sheet))) (WantsRemain sheet)
   unfolding sheetRemaining
-  tells-remain =
-      tells-reworded
-      (λ l. record { files = row; over = l; ascending = rising-at 0 row (remaining-rising files counts (length files)); each = λ i m. has-reads (getD row i 0) (in-at row i m) })
-      (λ r. let few = no-more-files 0 row (r .files) (remaining-rising files counts (length files)) (r .ascending) (λ i l. remains (getD (r .files) i 0) (r .each i l)) in omega (arith, r .over))
-      (tells-below mostWants (length row))
+  tells-remain = tells-reworded remain-there remain-back (tells-below mostWants (length row))
 
   -- The counts of the want lines, from the last one up, and those of the lines above, which are no want lines.
   wants-counted : (d k : ℕ) → k + d ≡ W → CountsFrom sheet (6 + F + k) (total (drop k counts))
