@@ -141,7 +141,7 @@ module _ (sheet : List ℕ) where
       (true-or-false (isTripleLine fileKey (lineAfter F (fileText sheet)))))
 
   module _ (short : length sheet ≤ 16384) where
-    no-want : WantLine sheet (6 + F + W) → ⊥
+    pub no-want : WantLine sheet (6 + F + W) → ⊥
     unfolding looseWants
     no-want = tells-want W .when-false (come-end (isPairLine wantKey) longestSheet (looseWantText sheet) (omega (arith, short, wants-few sheet)))
 
@@ -264,6 +264,13 @@ module _ (sheet : List ℕ) where
               before = λ j l h. found .1 j l (in-stretch j h);
             })
 
+    pub all-mended : ((i : ℕ) → NotMended sheet i → ⊥) → firstBadLoose sheet ≡ 0
+    all-mended none = go (firstBadLoose sheet) refl
+      where
+        go : (n : ℕ) → firstBadLoose sheet ≡ n → firstBadLoose sheet ≡ 0
+        go zero e = e
+        go (suc n) e = let found = line-search .some n e in absurd (none n (found-line n (found .0) (found .1)))
+
   -- What each line is, of a sheet that is as described.
   pub data LineIs (i : ℕ) : Type 0 where
     tape : Stands tapeKey Name sheet i → LineIs i
@@ -280,14 +287,21 @@ module _ (sheet : List ℕ) where
     pub nothing-behind : afterLines (6 + F + W) sheet ≡ []
     nothing-behind = tells-end sheet (6 + F + W) .when-true (rw end-behind at (described sheet good .end))
 
-    line-below : (i : ℕ) → 5 ≤ i → LineIs i
+    wants-there : Stands wantsKey Number sheet (5 + F)
     unfolding has
+    wants-there = tells-number sheet (5 + F) wantsKey (omega arith) refl .when-true (rw tail-behind at (described sheet good .wants))
+
+    pub files-come : FileLines sheet F
+    files-come =
+        ⊎-elim (λ come. come) (λ more. let there : 5 + 256 ≡ 5 + F = omega (arith, more .0) in absurd (keys-apart fileKey wantsKey refl (rw there at (more .1)) wants-there)) files-or-more
+
+    line-below : (i : ℕ) → 5 ≤ i → LineIs i
     line-below i five =
         by-cases (decLt i (5 + F))
         (λ l. let is : 5 + (i - 5) ≡ i = omega arith in file (i - 5) (sym is) (omega arith) (rw is at (file-lines (i - 5) (omega arith))))
         (λ n. by-cases (decLt i (6 + F))
         (λ l. let is : 5 + F ≡ i = omega arith in
-        wants (rw is at (tells-number sheet (5 + F) wantsKey (omega arith) refl .when-true (rw tail-behind at (described sheet good .wants)))))
+        wants (rw is at wants-there))
         (λ m. by-cases (decLt i (6 + F + W))
         (λ l. let is : 6 + F + (i - (6 + F)) ≡ i = omega arith in want (i - (6 + F)) (sym is) (omega arith) (rw is at (want-lines (i - (6 + F)) (omega arith))))
         (λ l. end (omega arith) (sym (after-both (i - (6 + F + W)) (6 + F + W) i sheet (omega arith)) ∙ after-nothing (i - (6 + F + W)) (afterLines (6 + F + W) sheet) nothing-behind))))

@@ -24,10 +24,10 @@ use Rattle.answer_mend.specs.Wants.{remaining, readsInAll, askedOf}
 use Rattle.answer_mend.specs.Mending.{sheetRemaining}
 use Rattle.demands.proofs.Tests.{Tells, tells-equal, tells-below, tells-not, tells-both, tells-some, tells-reworded}
 use Rattle.demands.proofs.Lines.{number-flat, pair-flat, line-read}
-use Rattle.promises.specs.Mender.{WantLine, Asks, HasReads, WantsRemain, CountsFrom, end, want, other}
+use Rattle.promises.specs.Mender.{WantLine, Asks, HasReads, WantsRemain, CountsFrom, end, want, other, WantsRead, WantLinesAreRead}
 use Rattle.promises.proofs.Gathered.{Rising, remaining-rising, rising-least, rising-at, isIn, in-at, find-in, asks, in-remaining}
 use Rattle.promises.proofs.Taken.{reads-total}
-use Rattle.promises.proofs.MenderLines.{want-lines, want-at, want-among, nothing-stands, nothing-behind}
+use Rattle.promises.proofs.MenderLines.{all-mended, files-come, no-want, want-lines, want-at, want-among, nothing-stands, nothing-behind}
 
 -- One of many values.
 each-value : (value : ℕ → ℕ) (n i : ℕ) → i < n → getD (eachOf value n) i 0 ≡ value i
@@ -133,6 +133,16 @@ module _ (sheet : List ℕ) (good : firstBadLoose sheet ≡ 0) where
   asks-at : (k : ℕ) → k < W → Asks sheet (6 + F + k) (getD files k 0) (getD counts k 0)
   asks-at k l = rw (named-at k l, counted-at k l) (line-asks sheet (6 + F + k) (want-lines sheet k l))
 
+  wants-read : length sheet ≤ 16384 → WantsRead sheet files counts
+  wants-read short =
+      record {
+        above = F;
+        table = files-come sheet good;
+        lines = rw files-long (record { each = want-lines sheet; no-more = no-want sheet short });
+        even = counts-long ∙ sym files-long;
+        each = λ k l. asks-at k (omega (arith, files-long));
+      }
+
   -- A file has reads exactly when it is among those that remain.
   tells-asks : (x i : ℕ) → Tells (asks files counts x i) ((getD files i 0 ≡ x) × (getD counts i 0 ≡ 0 → ⊥))
   tells-asks x i = go (eqb (getD files i 0) x) refl
@@ -197,3 +207,6 @@ module _ (sheet : List ℕ) (good : firstBadLoose sheet ≡ 0) where
   tells-reads =
       tells-reworded (λ l. (total counts, all-counted, omega (arith, reads-total counts, l))) (λ h. omega (arith, counts-once (h .1) all-counted, reads-total counts, h .2))
       (tells-below mostReads (readsInAll counts))
+
+pub want-lines-are-read : WantLinesAreRead
+want-lines-are-read sheet short none = wants-read sheet (all-mended sheet short none) short

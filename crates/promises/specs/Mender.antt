@@ -10,6 +10,7 @@ use Rattle.refusals.specs.declared.Refusal.the-variants.{Accepted, WantRows, To
 use Rattle.text_bytes.specs.Text.{bytes, valueOf}
 use Rattle.text_lines.specs.Lines.{afterLines, lineAfter, valueText}
 use Rattle.sheet_reader.specs.Lines.{tapeKey, headKey, turnKey, ruleKey, filesKey, fileKey, wantsKey, wantKey}
+use Rattle.sheet_loose.specs.Loose.{wantedFiles, wantedCounts}
 use Rattle.answer_mend.specs.declared.Mended.{Mended}
 use Rattle.answer_mend.specs.Mending.{mendedText, changesText, mendVerdict, SheetMended}
 use Rattle.demands.specs.RefusalTable.{FirstBad, FirstThatApplies, SomeApplies}
@@ -129,6 +130,17 @@ pub record LeftAlone (old new : List ℕ) : Type 0 where
 
 abbrev pub MenderLeavesAlone : Type 0
 MenderLeavesAlone = (sheet text : List ℕ) → WasMended sheet text → LeftAlone sheet text
+
+-- The want lines that the other promises speak of (`wantedFiles`, `wantedCounts`) are those of the sheet, in their order, with the file and the count on each.
+pub record WantsRead (sheet files counts : List ℕ) : Type 0 where
+  pub above : ℕ
+  pub table : FileLines sheet above
+  pub lines : Come (WantLine sheet) (6 + above) (length files)
+  pub even : length counts ≡ length files
+  pub each : (k : ℕ) → k < length files → Asks sheet (6 + above + k) (getD files k 0) (getD counts k 0)
+
+abbrev pub WantLinesAreRead : Type 0
+WantLinesAreRead = (sheet : List ℕ) → length sheet ≤ 16384 → ((i : ℕ) → NotMended sheet i → ⊥) → WantsRead sheet (wantedFiles sheet) (wantedCounts sheet)
 
 -- The text whose length the last 12 goes by is the mended sheet also where it is too long: of every sheet to which 12, 11, 3 and 5 do not apply, the same holds.
 pub record TextIsMended (sheet text : List ℕ) : Type 0 where
