@@ -85,7 +85,7 @@ module _ (sheet : List ℕ) where
   abbrev W : ℕ
   W = looseWants sheet
 
-  tail-behind : looseWantsText sheet ≡ afterLines (5 + F) sheet
+  pub tail-behind : looseWantsText sheet ≡ afterLines (5 + F) sheet
   unfolding looseWantsText fileText
   tail-behind = after-both F 5 (5 + F) sheet refl
 
@@ -141,7 +141,7 @@ module _ (sheet : List ℕ) where
       (true-or-false (isTripleLine fileKey (lineAfter F (fileText sheet)))))
 
   module _ (short : length sheet ≤ 16384) where
-    pub no-want : WantLine sheet (6 + F + W) → ⊥
+    no-want : WantLine sheet (6 + F + W) → ⊥
     unfolding looseWants
     no-want = tells-want W .when-false (come-end (isPairLine wantKey) longestSheet (looseWantText sheet) (omega (arith, short, wants-few sheet)))
 
@@ -264,13 +264,6 @@ module _ (sheet : List ℕ) where
               before = λ j l h. found .1 j l (in-stretch j h);
             })
 
-    pub all-mended : ((i : ℕ) → NotMended sheet i → ⊥) → firstBadLoose sheet ≡ 0
-    all-mended none = go (firstBadLoose sheet) refl
-      where
-        go : (n : ℕ) → firstBadLoose sheet ≡ n → firstBadLoose sheet ≡ 0
-        go zero e = e
-        go (suc n) e = let found = line-search .some n e in absurd (none n (found-line n (found .0) (found .1)))
-
   -- What each line is, of a sheet that is as described.
   pub data LineIs (i : ℕ) : Type 0 where
     tape : Stands tapeKey Name sheet i → LineIs i
@@ -287,7 +280,7 @@ module _ (sheet : List ℕ) where
     pub nothing-behind : afterLines (6 + F + W) sheet ≡ []
     nothing-behind = tells-end sheet (6 + F + W) .when-true (rw end-behind at (described sheet good .end))
 
-    wants-there : Stands wantsKey Number sheet (5 + F)
+    pub wants-there : Stands wantsKey Number sheet (5 + F)
     unfolding has
     wants-there = tells-number sheet (5 + F) wantsKey (omega arith) refl .when-true (rw tail-behind at (described sheet good .wants))
 
@@ -343,3 +336,27 @@ module _ (sheet : List ℕ) where
         go (wants t) = absurd (keys-apart wantsKey fileKey refl t s)
         go (want k e l t) = absurd (keys-apart wantKey fileKey refl t s)
         go (end l e) = absurd (nothing-stands e s)
+
+    -- So each of them is mended.
+    pub wants-come : Come (WantLine sheet) (6 + F) W
+    wants-come = record { each = want-lines; no-more = nothing-stands nothing-behind }
+
+    pub all-mended : (i : ℕ) → NotMended sheet i → ⊥
+    unfolding has
+    all-mended i (NotMended.tape e n) = n (rw e (tells-tape sheet 0 .when-true (described sheet good .tape)))
+    all-mended i (NotMended.head e n) = n (rw e (tells-number sheet 1 headKey (omega arith) refl .when-true (described sheet good .head)))
+    all-mended i (NotMended.turn e n) = n (rw e (tells-turn sheet 2 .when-true (described sheet good .turn)))
+    all-mended i (NotMended.rule e n) = n (rw e (tells-rule sheet 3 .when-true (described sheet good .rule)))
+    all-mended i (NotMended.files e n) = n (rw e (tells-number sheet 4 filesKey (omega arith) refl .when-true (described sheet good .files)))
+    all-mended i (NotMended.file-257 e all) = let last = file-among (5 + 256) (all 256 (omega arith)) in omega (arith, last .1, last .2, few-files sheet)
+    all-mended i (NotMended.wants {n} come e other) =
+        let many : F ≡ n = so-many-files n (come .1) (come .0 .each) (λ l. come .0 .no-more) in
+        let here : i ≡ 5 + F = omega arith in
+        other (rw here wants-there)
+    all-mended i (NotMended.beyond {n} {m} come below e more) =
+        let many : F ≡ n = so-many-files n (come .1) (come .0 .each) (λ l. come .0 .no-more) in
+        let lines : Come (WantLine sheet) (6 + F) m = rw (← many) at below in
+        let few : W < m → ⊥ = λ l. nothing-stands nothing-behind (lines .each W l) in
+        let all : m < W → ⊥ = λ l. lines .no-more (want-lines m l) in
+        let here : i ≡ 6 + F + W = omega arith in
+        more (rw here nothing-behind)

@@ -15,19 +15,22 @@ use Rattle.runs.specs.Lists.{anyBelow}
 use Rattle.runs.proofs.Search.{true-or-false, any-here}
 use Rattle.text_bytes.specs.Text.{comma, lineFeed, has, before, behind, valueOf}
 use Rattle.text_bytes.proofs.Split.{before-here, behind-here}
-use Rattle.text_lines.specs.Lines.{afterLines, lineAfter, valueText, firstIn, secondIn, eachOf}
-use Rattle.sheet_reader.specs.Lines.{wantKey}
+use Rattle.text_lines.specs.Lines.{lineOf, afterLines, lineAfter, valueText, numberBehind, firstIn, secondIn, eachOf}
+use Rattle.sheet_reader.specs.Lines.{filesKey, wantsKey, wantKey}
+use Rattle.sheet_reader.specs.Sheet.{sheetFiles}
 use Rattle.sheet_reader.proofs.Rows.{length-each}
 use Rattle.sheet_writer.proofs.Reread.{key-value}
-use Rattle.sheet_loose.specs.Loose.{looseFiles, looseWants, looseWantText, firstBadLoose, wantedFiles, wantedCounts}
+use Rattle.sheet_loose.specs.Loose.{looseFiles, looseWants, looseWantsText, looseWantText, wantsSaid, firstBadLoose, wantedFiles, wantedCounts}
 use Rattle.answer_mend.specs.Wants.{remaining, readsInAll, askedOf}
 use Rattle.answer_mend.specs.Mending.{sheetRemaining}
 use Rattle.demands.proofs.Tests.{Tells, tells-equal, tells-below, tells-not, tells-both, tells-some, tells-reworded}
-use Rattle.demands.proofs.Lines.{number-flat, pair-flat, line-read}
-use Rattle.promises.specs.Mender.{WantLine, Asks, HasReads, WantsRemain, CountsFrom, end, want, other, WantsRead, WantLinesAreRead}
+use Rattle.demands.specs.Lines.{Stands, Number}
+use Rattle.demands.proofs.Lines.{tells-number, number-flat, pair-flat, line-read}
+use Rattle.promises.specs.Mender.{WantLine, Asks, HasReads, WantsRemain, CountsFrom, end, want, other, PartsRead, PartsAreRead}
 use Rattle.promises.proofs.Gathered.{Rising, remaining-rising, rising-least, rising-at, isIn, in-at, find-in, asks, in-remaining}
 use Rattle.promises.proofs.Taken.{reads-total}
-use Rattle.promises.proofs.MenderLines.{all-mended, files-come, no-want, want-lines, want-at, want-among, nothing-stands, nothing-behind}
+use Rattle.promises.proofs.MenderLines.{tail-behind, all-mended, files-come, wants-come, wants-there, want-lines, want-at, want-among, nothing-stands, nothing-behind}
+use Rattle.promises.proofs.Described.{described}
 
 -- One of many values.
 each-value : (value : ℕ → ℕ) (n i : ℕ) → i < n → getD (eachOf value n) i 0 ≡ value i
@@ -101,6 +104,12 @@ no-more-files b (g ∷ row) (f ∷ files) rising up each =
         let here = each (suc i) (omega arith) in
         rw (ne-eqb (getD files i 0) g (λ e. omega (arith, least))) at here
 
+-- The number on a line.
+said : (key : List ℕ) → has lineFeed key ≡ false → (sheet : List ℕ) (i n : ℕ) → n ≡ numberBehind key (lineAfter i sheet) → Stands key Number sheet i → Stands key (λ value. valueOf value ≡ n) sheet i
+said key plain sheet i n is s =
+    let line = line-read key (s .value) (s .rest) (afterLines i sheet) plain (number-flat lineFeed refl (s .value) (s .kind)) (s .is) in
+    record { value = s .value; rest = s .rest; is = s .is; kind = sym (is ∙ ap (numberBehind key) line ∙ ap valueOf (key-value key (s .value))) }
+
 module _ (sheet : List ℕ) (good : firstBadLoose sheet ≡ 0) where
   abbrev F : ℕ
   F = looseFiles sheet
@@ -133,14 +142,18 @@ module _ (sheet : List ℕ) (good : firstBadLoose sheet ≡ 0) where
   asks-at : (k : ℕ) → k < W → Asks sheet (6 + F + k) (getD files k 0) (getD counts k 0)
   asks-at k l = rw (named-at k l, counted-at k l) (line-asks sheet (6 + F + k) (want-lines sheet k l))
 
-  wants-read : length sheet ≤ 16384 → WantsRead sheet files counts
-  wants-read short =
+  parts-read : PartsRead sheet
+  unfolding sheetFiles wantsSaid has
+  parts-read =
+      let top = tells-number sheet 4 filesKey (omega arith) refl .when-true (described sheet good .files) in
       record {
-        above = F;
+        mended = all-mended sheet good;
         table = files-come sheet good;
-        lines = rw files-long (record { each = want-lines sheet; no-more = no-want sheet short });
-        even = counts-long ∙ sym files-long;
-        each = λ k l. asks-at k (omega (arith, files-long));
+        wants = wants-come sheet good;
+        even = (files-long, counts-long);
+        each = asks-at;
+        files-said = said filesKey refl sheet 4 (numberBehind filesKey (lineAfter 4 sheet)) refl top;
+        wants-said = said wantsKey refl sheet (5 + F) (numberBehind wantsKey (lineOf (looseWantsText sheet))) (ap (λ t. numberBehind wantsKey (lineOf t)) (tail-behind sheet)) (wants-there sheet good);
       }
 
   -- A file has reads exactly when it is among those that remain.
@@ -208,5 +221,5 @@ module _ (sheet : List ℕ) (good : firstBadLoose sheet ≡ 0) where
       tells-reworded (λ l. (total counts, all-counted, omega (arith, reads-total counts, l))) (λ h. omega (arith, counts-once (h .1) all-counted, reads-total counts, h .2))
       (tells-below mostReads (readsInAll counts))
 
-pub want-lines-are-read : WantLinesAreRead
-want-lines-are-read sheet short none = wants-read sheet (all-mended sheet short none) short
+pub parts-are-read : PartsAreRead
+parts-are-read sheet good = parts-read sheet good

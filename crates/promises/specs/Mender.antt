@@ -10,7 +10,8 @@ use Rattle.refusals.specs.declared.Refusal.the-variants.{Accepted, WantRows, To
 use Rattle.text_bytes.specs.Text.{bytes, valueOf}
 use Rattle.text_lines.specs.Lines.{afterLines, lineAfter, valueText}
 use Rattle.sheet_reader.specs.Lines.{tapeKey, headKey, turnKey, ruleKey, filesKey, fileKey, wantsKey, wantKey}
-use Rattle.sheet_loose.specs.Loose.{wantedFiles, wantedCounts}
+use Rattle.sheet_reader.specs.Sheet.{sheetFiles}
+use Rattle.sheet_loose.specs.Loose.{looseFiles, looseWants, wantsSaid, firstBadLoose, wantedFiles, wantedCounts}
 use Rattle.answer_mend.specs.declared.Mended.{Mended}
 use Rattle.answer_mend.specs.Mending.{mendedText, changesText, mendVerdict, SheetMended}
 use Rattle.demands.specs.RefusalTable.{FirstBad, FirstThatApplies, SomeApplies}
@@ -131,16 +132,19 @@ pub record LeftAlone (old new : List ℕ) : Type 0 where
 abbrev pub MenderLeavesAlone : Type 0
 MenderLeavesAlone = (sheet text : List ℕ) → WasMended sheet text → LeftAlone sheet text
 
--- The want lines that the other promises speak of (`wantedFiles`, `wantedCounts`) are those of the sheet, in their order, with the file and the count on each.
-pub record WantsRead (sheet files counts : List ℕ) : Type 0 where
-  pub above : ℕ
-  pub table : FileLines sheet above
-  pub lines : Come (WantLine sheet) (6 + above) (length files)
-  pub even : length counts ≡ length files
-  pub each : (k : ℕ) → k < length files → Asks sheet (6 + above + k) (getD files k 0) (getD counts k 0)
+-- What the definitions in these promises mean on a sheet that is as described (`firstBadLoose` is 0), of any length: every line is mended; so many file lines
+-- come and so many want lines, in their order, with the file and the count on each; what the two counts say.
+pub record PartsRead (sheet : List ℕ) : Type 0 where
+  pub mended : (i : ℕ) → NotMended sheet i → ⊥
+  pub table : FileLines sheet (looseFiles sheet)
+  pub wants : Come (WantLine sheet) (6 + looseFiles sheet) (looseWants sheet)
+  pub even : (length (wantedFiles sheet) ≡ looseWants sheet) × (length (wantedCounts sheet) ≡ looseWants sheet)
+  pub each : (k : ℕ) → k < looseWants sheet → Asks sheet (6 + looseFiles sheet + k) (getD (wantedFiles sheet) k 0) (getD (wantedCounts sheet) k 0)
+  pub files-said : Stands filesKey (λ value. valueOf value ≡ sheetFiles sheet) sheet 4
+  pub wants-said : Stands wantsKey (λ value. valueOf value ≡ wantsSaid sheet) sheet (5 + looseFiles sheet)
 
-abbrev pub WantLinesAreRead : Type 0
-WantLinesAreRead = (sheet : List ℕ) → length sheet ≤ 16384 → ((i : ℕ) → NotMended sheet i → ⊥) → WantsRead sheet (wantedFiles sheet) (wantedCounts sheet)
+abbrev pub PartsAreRead : Type 0
+PartsAreRead = (sheet : List ℕ) → firstBadLoose sheet ≡ 0 → PartsRead sheet
 
 -- The text whose length the last 12 goes by is the mended sheet also where it is too long: of every sheet to which 12, 11, 3 and 5 do not apply, the same holds.
 pub record TextIsMended (sheet text : List ℕ) : Type 0 where
