@@ -1,5 +1,5 @@
 -- What the mender refuses, each exactly when its reason holds and in their order; what it leaves alone; and the worked cases.
-use Prim.Native.Nat.{ℕ, zero, suc, _+_, _≤_, _<_}
+use Prim.Native.Nat.{ℕ, _+_, _≤_, _<_}
 use mathlib.Core.Path.{_≡_, refl, ap, sym, _∙_}
 use mathlib.Core.Bool.{Bool, true, false, true≢false, cond, _||_}
 use mathlib.Core.Logic.{_⊎_, inl, inr, ⊎-elim, by-cases}
@@ -10,7 +10,7 @@ use lib.ListN.{length}
 use lib.Dec.{ltb}
 use borrow.Author.Tests.{ltb-false}
 use Rattle.refusals.specs.declared.Refusal.{Refusal}
-use Rattle.refusals.specs.declared.Refusal.the-variants.{Accepted, WantRows, TooManyReads, ShortRow, BadLine, LongSheet}
+use Rattle.refusals.specs.declared.Refusal.the-variants.{WantRows, TooManyReads, ShortRow, BadLine, LongSheet}
 use Rattle.refusals.specs.declared.Verdict.{Verdict}
 use Rattle.refusals.specs.Refusals.{isRefusal, accepted, refuseIf, refuseAt, firstOf}
 use Rattle.refusals.proofs.Verdicts.{refuses, all-accept, none-refuses, first-alone, accepts-if, accepts-at}
@@ -21,11 +21,11 @@ use Rattle.sheet_loose.specs.Loose.{firstBadLoose, wantedCounts}
 use Rattle.sheet_loose.specs.Reading.{looseVerdict}
 use Rattle.answer_mend.specs.declared.Mended.{Mended}
 use Rattle.answer_mend.specs.Wants.{readsInAll}
-use Rattle.answer_mend.specs.Mending.{sheetRemaining, mendedText, changesText, wantsVerdicts, textsVerdicts, mendVerdict, SheetMended}
+use Rattle.answer_mend.specs.Mending.{sheetRemaining, mendedText, changesText, textsVerdicts, mendVerdict, SheetMended}
 use Rattle.demands.specs.RefusalTable.{FirstBad, FirstThatApplies, here, later, SomeApplies}
-use Rattle.demands.proofs.Tests.{Tells, tells-below, tells-either}
-use Rattle.demands.proofs.Checks.{Decides, decides-if, decides-reworded, Finds, finds-none, finds-first, first-of-joined, refused-iff}
-use Rattle.promises.specs.Mender.{FileLine, NotMended, WantsRemain, CountsFrom, SheetApplies, long-sheet, bad-line, many-wants, many-reads, sheetOrder, TextsApply, long-text, short-row, textsOrder, MenderAnswers, MenderRefuses, TopStands, OneFileTooMany, LongTextIsMended}
+use Rattle.demands.proofs.Tests.{tells-below, tells-either}
+use Rattle.demands.proofs.Checks.{decides-if, decides-reworded, Finds, finds-none, finds-first, first-of-joined, refused-iff}
+use Rattle.promises.specs.Mender.{FileLine, NotMended, WantsRemain, CountsFrom, SheetApplies, long-sheet, bad-line, many-wants, many-reads, sheetOrder, TextsApply, long-text, short-row, textsOrder, MenderRefuses, TopStands, OneFileTooMany, LongTextIsMended}
 use Rattle.promises.proofs.DeskSteps.{not-accepted}
 use Rattle.promises.proofs.MenderLines.{decides-line}
 use Rattle.promises.proofs.Mends.{Facts, same-reads, in-order}

@@ -1,10 +1,10 @@
 -- The worked cases of mending: how many lines of a kind come is found by looking at as many and one more; the rest computes.
 use Prim.Native.Nat.{ℕ, _≤_}
-use mathlib.Core.Path.{_≡_, refl, ap, sym, _∙_}
+use mathlib.Core.Path.{_≡_, refl, ap, _∙_}
 use mathlib.Core.Bool.{Bool, true, false, not, cond}
 use mathlib.Core.List.{List, [], _∷_, _++_}
 use native.Mathlib.Omega.{arith}
-use lib.ListN.{length, take, drop}
+use lib.ListN.{length}
 use borrow.Author.Tests.{not-false}
 use Rattle.refusals.specs.declared.Refusal.the-variants.{Accepted}
 use Rattle.refusals.specs.Refusals.{accepted, isRefusal, firstWhere}
@@ -20,7 +20,7 @@ use Rattle.sheet_loose.specs.Loose.{linesBefore, looseFiles, looseWantsText, lo
 use Rattle.sheet_loose.specs.Reading.{looseVerdict}
 use Rattle.answer_mend.specs.declared.Mended.{Mended}
 use Rattle.answer_mend.specs.Wants.{sumBelow, enter, remaining, readsInAll, readsOfWant, readsEach, sameAbove, higherAbove, fateOf}
-use Rattle.answer_mend.specs.Mending.{firstLines, sheetRemaining, sheetReads, mendedText, fateLines, changesText, mendVerdict, refusedMending}
+use Rattle.answer_mend.specs.Mending.{sheetRemaining, sheetReads, mendedText, fateLines, changesText, mendVerdict, refusedMending}
 use Rattle.promises.specs.Mends.{WasMended}
 use Rattle.promises.specs.Mender.{disordered, inOrder, listed, MendsADisorderedSheet, RefusedCases}
 use Rattle.promises.proofs.Again.{come-so-many}

@@ -1,6 +1,6 @@
 -- The mender's 11: the search for the first line that is not as described finds the first line that is not mended; and what each line of a sheet is that has
 -- no such line.
-use Prim.Native.Nat.{ℕ, zero, suc, _+_, _-_, _*_, _≤_, _<_}
+use Prim.Native.Nat.{ℕ, zero, suc, _+_, _-_, _≤_, _<_}
 use mathlib.Core.Path.{_≡_, refl, ap, sym, _∙_}
 use mathlib.Core.Bool.{Bool, true, false, true≢false, not, _||_}
 use mathlib.Core.Logic.{_⊎_, inl, inr, ⊎-elim, by-cases}
@@ -16,13 +16,13 @@ use Rattle.runs.proofs.Search.{true-or-false, first-zero, first-all}
 use Rattle.text_bytes.specs.Text.{lineFeed, isEmpty, has, behind}
 use Rattle.text_lines.specs.Lines.{lineOf, afterLines, lineAfter, isNumberLine, isPairLine, isTripleLine, firstBadOf}
 use Rattle.sheet_reader.specs.Lines.{tapeKey, headKey, turnKey, ruleKey, filesKey, fileKey, wantsKey, wantKey, isTapeLine, isTurnLine, isRuleLine}
-use Rattle.sheet_reader.specs.Sheet.{longestSheet, mostSheetFiles, fileText, unless, firstSome}
+use Rattle.sheet_reader.specs.Sheet.{longestSheet, mostSheetFiles, fileText, unless}
 use Rattle.sheet_loose.specs.Loose.{linesBefore, looseFiles, looseWantsText, looseWantText, looseWants, looseEnd, firstBadLooseTop, firstBadLooseBelow, firstBadLoose}
 use Rattle.sheet_loose.proofs.Passing.{wants-long}
 use Rattle.sheet_loose.proofs.Wants.{lines-good, want-text-ends, wants-few}
 use Rattle.answer_mend.proofs.Texts.{few-files}
 use Rattle.demands.specs.RefusalTable.{FirstBad}
-use Rattle.demands.specs.Lines.{Stands, Name, Number, NumberOrNothing, RuleName, Pair, Triple}
+use Rattle.demands.specs.Lines.{Stands, Name, Number, NumberOrNothing, RuleName}
 use Rattle.demands.proofs.Tests.{Tells, tells-not, tells-holds}
 use Rattle.demands.proofs.Checks.{Decides, refused, passed, found-at}
 use Rattle.demands.proofs.Lines.{tells-tape, tells-turn, tells-rule, tells-number, tells-pair-line, tells-triple-line, tells-end}

@@ -1,8 +1,7 @@
 -- The mender's 3 and 5: the files with reads on some want line are those that remain, and the counts of the want lines add up to the reads in all.
-use Prim.Native.Nat.{ℕ, zero, suc, _+_, _-_, _≤_, _<_}
+use Prim.Native.Nat.{ℕ, zero, suc, _+_, _≤_, _<_}
 use mathlib.Core.Path.{_≡_, refl, ap, sym, _∙_}
-use mathlib.Core.Bool.{Bool, true, false, true≢false, not, cond, _||_}
-use mathlib.Core.Logic.{inl, inr, ⊎-elim, by-cases}
+use mathlib.Core.Bool.{Bool, true, false, true≢false, not, cond}
 use mathlib.Core.List.{List, [], _∷_, _++_}
 use native.Mathlib.Omega.{arith}
 use native.Mathlib.Decide.{decLt}
@@ -11,8 +10,7 @@ use lib.Seq.{getD-append-seam, drop-cons, drop-length}
 use lib.Dec.{eqb, ltb}
 use borrow.Author.Tests.{eq-eqb, ne-eqb, eqb-true}
 use Rattle.runs.specs.Run.{mostWants, mostReads, total}
-use Rattle.runs.specs.Lists.{anyBelow}
-use Rattle.runs.proofs.Search.{true-or-false, any-here}
+use Rattle.runs.proofs.Search.{any-here}
 use Rattle.text_bytes.specs.Text.{comma, lineFeed, has, before, behind, valueOf}
 use Rattle.text_bytes.proofs.Split.{before-here, behind-here}
 use Rattle.text_lines.specs.Lines.{lineOf, afterLines, lineAfter, valueText, numberBehind, firstIn, secondIn, eachOf}
@@ -21,9 +19,9 @@ use Rattle.sheet_reader.specs.Sheet.{sheetFiles}
 use Rattle.sheet_reader.proofs.Rows.{length-each}
 use Rattle.sheet_writer.proofs.Reread.{key-value}
 use Rattle.sheet_loose.specs.Loose.{looseFiles, looseWants, looseWantsText, looseWantText, wantsSaid, firstBadLoose, wantedFiles, wantedCounts}
-use Rattle.answer_mend.specs.Wants.{remaining, readsInAll, askedOf}
+use Rattle.answer_mend.specs.Wants.{remaining, readsInAll}
 use Rattle.answer_mend.specs.Mending.{sheetRemaining}
-use Rattle.demands.proofs.Tests.{Tells, tells-equal, tells-below, tells-not, tells-both, tells-some, tells-reworded}
+use Rattle.demands.proofs.Tests.{Tells, tells-equal, tells-below, tells-not, tells-some, tells-reworded}
 use Rattle.demands.specs.Lines.{Stands, Number}
 use Rattle.demands.proofs.Lines.{tells-number, number-flat, pair-flat, line-read}
 use Rattle.promises.specs.Mender.{WantLine, Asks, HasReads, WantsRemain, CountsFrom, end, want, other, PartsRead, PartsAreRead}
