@@ -11,12 +11,12 @@ use Rattle.refusals.specs.Refusals.{accepted, isRefusal, firstWhere}
 use Rattle.runs.specs.Lists.{anyBelow}
 use Rattle.runs.proofs.Search.{first-zero}
 use Rattle.text_bytes.specs.Text.{bytes, has, before, behind, startsWith, allOf, valueFrom, isNumber, isName, decimalIn, decimal}
-use Rattle.text_lines.specs.Lines.{lineOf, afterLines, lineAfter, isNumberLine, isPair, isPairLine, isTriple, isTripleLine, firstBadOf, eachOf}
+use Rattle.text_lines.specs.Lines.{lineOf, afterLines, lineAfter, isNumberLine, isPair, isPairLine, isTriple, isTripleLine, firstBadOf, eachOf, linesBefore}
 use Rattle.sheet_reader.specs.Lines.{fileKey, wantKey, isTapeLine, isTurnLine, isRuleLine, turnWith, namesSweep}
 use Rattle.sheet_reader.specs.Sheet.{longestSheet, mostSheetFiles, sheetTurn, sheetTurnWith, saysSweep, sheetFiles, fileText}
 use Rattle.sheet_reader.specs.Reading.{readRow}
 use Rattle.text_pages.specs.Printing.{pairLines}
-use Rattle.sheet_loose.specs.Loose.{linesBefore, looseFiles, looseWantsText, looseWantText, looseWants, looseEnd, wantsSaid, priceLeftOut, firstBadLooseTop, firstBadLooseBelow, firstBadLoose, wantedFiles, wantedCounts}
+use Rattle.sheet_loose.specs.Loose.{looseFiles, looseWantsText, looseWantText, looseWants, looseEnd, wantsSaid, priceLeftOut, firstBadLooseTop, firstBadLooseBelow, firstBadLoose, wantedFiles, wantedCounts}
 use Rattle.sheet_loose.specs.Reading.{looseVerdict}
 use Rattle.answer_mend.specs.declared.Mended.{Mended}
 use Rattle.answer_mend.specs.Wants.{sumBelow, enter, remaining, readsInAll, readsOfWant, readsEach, sameAbove, higherAbove, fateOf}

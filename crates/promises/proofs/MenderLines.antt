@@ -14,10 +14,10 @@ use Rattle.refusals.specs.declared.Refusal.the-variants.{BadLine}
 use Rattle.refusals.specs.Refusals.{refuseAt, firstWhere}
 use Rattle.runs.proofs.Search.{true-or-false, first-zero, first-all}
 use Rattle.text_bytes.specs.Text.{lineFeed, isEmpty, has, behind}
-use Rattle.text_lines.specs.Lines.{lineOf, afterLines, lineAfter, isNumberLine, isPairLine, isTripleLine, firstBadOf}
+use Rattle.text_lines.specs.Lines.{lineOf, afterLines, lineAfter, isNumberLine, isPairLine, isTripleLine, firstBadOf, linesBefore}
 use Rattle.sheet_reader.specs.Lines.{tapeKey, headKey, turnKey, ruleKey, filesKey, fileKey, wantsKey, wantKey, isTapeLine, isTurnLine, isRuleLine}
 use Rattle.sheet_reader.specs.Sheet.{longestSheet, mostSheetFiles, fileText, unless}
-use Rattle.sheet_loose.specs.Loose.{linesBefore, looseFiles, looseWantsText, looseWantText, looseWants, looseEnd, firstBadLooseTop, firstBadLooseBelow, firstBadLoose}
+use Rattle.sheet_loose.specs.Loose.{looseFiles, looseWantsText, looseWantText, looseWants, looseEnd, firstBadLooseTop, firstBadLooseBelow, firstBadLoose}
 use Rattle.sheet_loose.proofs.Passing.{wants-long}
 use Rattle.sheet_loose.proofs.Wants.{lines-good, want-text-ends, wants-few}
 use Rattle.answer_mend.proofs.Texts.{few-files}
