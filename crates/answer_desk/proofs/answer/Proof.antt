@@ -39,14 +39,28 @@ unknown-requires c κs = search needs
 same-length : tie.Need-same-length
 same-length c = search needs
 
+-- The way back from a place in the code to the one that the name says.
+abbrev at-start : tie.After-read-event → tie.Start
+at-start c = c .before .before .before .before .before .before .before .before .before
+
 returns : tie.Need-returns
-returns c = let s = c .before .before .before .before .before .before .before .before .before .before .before .before .before .before .before .before in file-answered (tape s) (s .args .day) (s .args .room .now) (s .args .out .now) _ _ (c .before .before .before .before .before .before .before .read-event .ensures) _ _ _ _ _ (c .before .before .before .before .before .office .given .1) (c .before .before .file .ensures)
+returns c =
+    let f = c .before .before in
+    let o = f .before .before .before in
+    let re = o .before .before in
+    let s = at-start re in
+    file-answered (tape s) (s .args .day) (s .args .room .now) (s .args .out .now) _ _ (re .read-event .ensures) _ _ _ _ _ (o .office .given .1) (f .file .ensures)
 
 same-length-2 : tie.Need-same-length-2
 same-length-2 c = search needs
 
 returns-2 : tie.Need-returns-2
-returns-2 c = let s = c .before .before .before .before .before .before .before .before .before .before .before .before .before .before .before .before in withdraw-answered (tape s) (s .args .day) (s .args .room .now) (s .args .out .now) _ _ (c .before .before .before .before .before .before .before .read-event .ensures) _ _ _ _ (c .before .before .before .before .before .office2 .given .1) (c .before .before .withdraw .ensures)
+returns-2 c =
+    let w = c .before .before in
+    let o2 = w .before .before .before in
+    let re = o2 .before .before in
+    let s = at-start re in
+    withdraw-answered (tape s) (s .args .day) (s .args .room .now) (s .args .out .now) _ _ (re .read-event .ensures) _ _ _ _ (o2 .office2 .given .1) (w .withdraw .ensures)
 
 same-length-3 : tie.Need-same-length-3
 same-length-3 c = search needs
@@ -55,10 +69,18 @@ same-length-4 : tie.Need-same-length-4
 same-length-4 c = search needs
 
 returns-3 : tie.Need-returns-3
-returns-3 c = let s = c .before .before .before .before .before .before .before .before .before .before .before .before .before .before .before .before .before .before .before in board-answered (tape s) (s .args .day) (s .args .room .now) (s .args .out .now) _ _ (c .before .before .before .before .before .before .before .before .before .before .read-event .ensures) _ _ _ _ (c .before .before .before .before .before .before .before .before .head .given .1) _ (c .before .before .before .before .board .ensures)
+returns-3 c =
+    let b = c .before .before .before .before in
+    let h = b .before .before .before .before in
+    let re = h .before .before in
+    let s = at-start re in
+    board-answered (tape s) (s .args .day) (s .args .room .now) (s .args .out .now) _ _ (re .read-event .ensures) _ _ _ _ (h .head .given .1) _ (b .board .ensures)
 
 returns-4 : tie.Need-returns-4
-returns-4 c = let s = c .before .before .before .before .before .before .before .before .before .before .before .before in not-answered (tape s) (s .args .day) (s .args .room .now) (s .args .out .now) _ _ (c .before .before .before .read-event .ensures) (c .before .enum-told .given .1) _ (c .unknown .ensures)
+returns-4 c =
+    let re = c .before .before .before in
+    let s = at-start re in
+    not-answered (tape s) (s .args .day) (s .args .room .now) (s .args .out .now) _ _ (re .read-event .ensures) (c .before .enum-told .given .1) _ (c .unknown .ensures)
 
 pub answer-spec : {M : Type 1} → statement M
 answer-spec =

@@ -18,7 +18,10 @@ same-length : tie.Need-same-length
 same-length c = search needs
 
 returns : tie.Need-returns
-returns c = let a = c .before .before .before .before .before .before .before .before .before .before .before .before .args in filing-said (a .day) _ _ _ (a .filing) (c .before .before .before .before .before .before .before .before .before .file-in .result) (c .before .before .before .before .before .before .before .before .before .file-in .ensures) (c .before .before .before .before .say-pair .ensures)
+returns c =
+    let sp = c .before .before .before .before in
+    let fi = sp .before .before .before .before .before in
+    let a = fi .before .before .before .args in filing-said (a .day) _ _ _ (a .filing) (fi .file-in .result) (fi .file-in .ensures) (sp .say-pair .ensures)
 
 pub file-spec : {M : Type 1} → statement M
 file-spec =

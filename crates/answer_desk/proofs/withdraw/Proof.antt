@@ -18,7 +18,10 @@ same-length : tie.Need-same-length
 same-length c = search needs
 
 returns : tie.Need-returns
-returns c = let a = c .before .before .before .before .before .before .before .before .before .before .before .before .args in withdrawal-said (a .day) _ _ _ (a .withdrawal) (c .before .before .before .before .before .before .before .before .before .withdraw-in .result) (c .before .before .before .before .before .before .before .before .before .withdraw-in .ensures) (c .before .before .before .before .say-pair .ensures)
+returns c =
+    let sp = c .before .before .before .before in
+    let wi = sp .before .before .before .before .before in
+    let a = wi .before .before .before .args in withdrawal-said (a .day) _ _ _ (a .withdrawal) (wi .withdraw-in .result) (wi .withdraw-in .ensures) (sp .say-pair .ensures)
 
 pub withdraw-spec : {M : Type 1} → statement M
 withdraw-spec =

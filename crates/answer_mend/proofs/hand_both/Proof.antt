@@ -30,7 +30,11 @@ same-length-2 : tie.Need-same-length-2
 same-length-2 c = search needs
 
 returns-2 : tie.Need-returns-2
-returns-2 c = both-put _ _ _ _ _ (c .before .before .before .before .before .before .before .before .before .before .judge-texts .ensures) _ (c .before .before .before .before .before .before .before .before .before .refused .ensures) (c .before .before .before .before .before .before .before .before .if1 .left) _ _ _ _ (c .before .before .before .before .before .before .put .ensures) (c .before .before .put2 .ensures)
+returns-2 c =
+    let p2 = c .before .before in
+    let p = p2 .before .before .before .before in
+    let r = p .before .before .before in
+    both-put _ _ _ _ _ (r .before .judge-texts .ensures) _ (r .refused .ensures) (p .before .before .if1 .left) _ _ _ _ (p .put .ensures) (p2 .put2 .ensures)
 
 pub hand-both-spec : {M : Type 1} → statement M
 hand-both-spec =

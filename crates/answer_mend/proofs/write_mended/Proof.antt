@@ -20,6 +20,10 @@ put-changes-requires c κs = search needs
 array-share-prefix-page : tie.Need-array-share-prefix-page
 array-share-prefix-page c = search needs
 
+-- The way back from a place in the code to the one that the name says.
+abbrev at-put-changes : tie.After-hand-both → tie.After-put-changes
+at-put-changes c = c .before .before .before .before .before .before
+
 slice-aggregate-hand-both : tie.Need-slice-aggregate-hand-both
 slice-aggregate-hand-both c = page-part _ _ _ _ _ (c .before .before .before .before .before .put-sheet .ensures)
 
@@ -39,7 +43,10 @@ same-length-2 : tie.Need-same-length-2
 same-length-2 c = search needs
 
 returns : tie.Need-returns
-returns c = texts-handed _ _ _ _ _ _ _ _ _ (page-text _ _ _ _ _ (c .before .before .before .before .before .before .before .before .before .before .before .before .before .put-sheet .ensures)) (page-text _ _ _ _ _ (c .before .before .before .before .before .before .before .before .before .before .put-changes .ensures)) (c .before .before .before .before .hand-both .ensures)
+returns c =
+    let hb = c .before .before .before .before in
+    let pc = at-put-changes hb in
+    texts-handed _ _ _ _ _ _ _ _ _ (page-text _ _ _ _ _ (pc .before .before .before .put-sheet .ensures)) (page-text _ _ _ _ _ (pc .put-changes .ensures)) (hb .hand-both .ensures)
 
 pub write-mended-spec : {M : Type 1} → statement M
 write-mended-spec =

@@ -16,11 +16,17 @@ refused-requires c κs = search needs
 unwritten-requires : tie.Need-unwritten-requires
 unwritten-requires c κs = search needs
 
+-- The way back from a place in the code to the one that the name says.
+abbrev at-start : tie.After-refused → tie.Start
+at-start c = c .before .before .before .before
+
 returns : tie.Need-returns
-returns c = unread _ (c .before .before .before .before .before .before .args .out .now) _ (c .before .before .before .judge .ensures) _ (c .before .before .refused .ensures) (c .before .if1 .taken) _ (c .unwritten .ensures)
+returns c =
+    unread _ (at-start (c .before .before) .args .out .now) _ (c .before .before .before .judge .ensures) _ (c .before .before .refused .ensures) (c .before .if1 .taken) _
+    (c .unwritten .ensures)
 
 find-price-requires : tie.Need-find-price-requires
-find-price-requires c κs = readable _ (c .before .before .before .before .before .args .out .now) _ (c .before .before .judge .ensures) _ (c .before .refused .ensures) (c .if1 .left)
+find-price-requires c κs = readable _ (at-start (c .before) .args .out .now) _ (c .before .before .judge .ensures) _ (c .before .refused .ensures) (c .if1 .left)
 
 judge-result-requires : tie.Need-judge-result-requires
 judge-result-requires c κs = search needs
@@ -32,18 +38,36 @@ unwritten-requires-2 : tie.Need-unwritten-requires-2
 unwritten-requires-2 c κs = search needs
 
 returns-2 : tie.Need-returns-2
-returns-2 c = refused-result _ (c .before .before .before .before .before .before .before .before .before .before .args .out .now) _ (c .before .before .before .before .before .before .before .judge .ensures) _ (c .before .before .before .before .before .before .refused .ensures) (c .before .before .before .before .before .if1 .left) _ (c .before .before .before .before .find-price .ensures .long) _ (c .before .before .before .judge-result .ensures) _ (c .before .before .refused2 .ensures) (c .before .if2 .taken) _ (c .unwritten2 .ensures)
+returns-2 c =
+    let jr = c .before .before .before in
+    let r = jr .before .before .before in
+    refused-result _ (at-start r .args .out .now) _ (r .before .judge .ensures) _ (r .refused .ensures) (jr .before .before .if1 .left) _
+    (jr .before .find-price .ensures .long) _ (jr .judge-result .ensures) _ (c .before .before .refused2 .ensures) (c .before .if2 .taken) _ (c .unwritten2 .ensures)
 
 fill-requires : tie.Need-fill-requires
 fill-requires c κs =
-    let found = c .before .before .before .before .find-price .ensures in
-    (found .within, (found .long ∙ ap length (sym (found .result)), result-fits _ (c .before .before .before .before .before .before .before .before .before .before .args .out .now) _ (c .before .before .before .before .before .before .before .judge .ensures) _ (c .before .before .before .before .before .before .refused .ensures) (c .before .before .before .before .before .if1 .left) _ (c .before .before .before .before .find-price .ensures .long) _ (c .before .before .before .judge-result .ensures) _ (c .before .before .refused2 .ensures) (c .before .if2 .left)))
+    let jr = c .before .before .before in
+    let r = jr .before .before .before in
+    let found = jr .before .find-price .ensures in (
+      found .within,
+      (
+        found .long ∙ ap length (sym (found .result)),
+        result-fits _ (at-start r .args .out .now) _ (r .before .judge .ensures) _ (r .refused .ensures) (jr .before .before .if1 .left) _ (jr .before .find-price .ensures .long)
+            _ (jr .judge-result .ensures) _ (c .before .before .refused2 .ensures) (c .before .if2 .left),
+      ),
+    )
 
 same-length : tie.Need-same-length
 same-length c = search needs
 
 returns-3 : tie.Need-returns-3
-returns-3 c = rewritten-so _ (c .before .before .before .before .before .before .before .before .before .before .before .before .before .args .out .now) _ (c .before .before .before .before .before .before .before .before .before .before .judge .ensures) _ (c .before .before .before .before .before .before .before .before .before .refused .ensures) (c .before .before .before .before .before .before .before .before .if1 .left) _ (c .before .before .before .before .before .before .before .find-price .ensures .long) _ (c .before .before .before .before .before .before .judge-result .ensures) _ (c .before .before .before .before .before .refused2 .ensures) (c .before .before .before .before .if2 .left) _ _ (c .before .before .before .before .before .before .before .find-price .ensures .result) (c .before .before .fill .ensures)
+returns-3 c =
+    let f = c .before .before in
+    let r2 = f .before .before .before in
+    let fp = r2 .before .before in
+    rewritten-so _ (at-start (fp .before .before) .args .out .now) _ (fp .before .before .before .judge .ensures) _ (fp .before .before .refused .ensures)
+    (fp .before .if1 .left) _ (fp .find-price .ensures .long) _ (r2 .before .judge-result .ensures) _ (r2 .refused2 .ensures) (f .before .before .if2 .left) _ _
+    (fp .find-price .ensures .result) (f .fill .ensures)
 
 pub rewrite-spec : {M : Type 1} → statement M
 rewrite-spec =

@@ -19,13 +19,19 @@ returns : tie.Need-returns
 returns c = absurd (first-found _ (c .before .before .before .before .pre) _ (c .before .before .find .ensures) (c .enum-told .given .1))
 
 add-next : tie.Need-add-next
-add-next c = let h = first-within _ (c .before .before .before .before .before .pre) _ (c .before .before .before .find .ensures) _ (c .before .first .given .1) in omega (arith, h)
+add-next c =
+    let f = c .before .before .before in
+    let h = first-within _ (f .before .before .pre) _ (f .find .ensures) _ (c .before .first .given .1) in omega (arith, h)
 
 sub-find : tie.Need-sub-find
-sub-find c = first-within _ (c .before .before .before .before .before .pre) _ (c .before .before .before .find .ensures) _ (c .before .first .given .1)
+sub-find c =
+    let f = c .before .before .before in
+    first-within _ (f .before .before .pre) _ (f .find .ensures) _ (c .before .first .given .1)
 
 part-find-start : tie.Need-part-find-start
-part-find-start c = first-within _ (c .before .before .before .before .before .pre) _ (c .before .before .before .find .ensures) _ (c .before .first .given .1)
+part-find-start c =
+    let f = c .before .before .before in
+    first-within _ (f .before .before .pre) _ (f .find .ensures) _ (c .before .first .given .1)
 
 part-find-end : tie.Need-part-find-end
 part-find-end c = search needs
@@ -40,16 +46,32 @@ enum-told-2 : tie.Need-enum-told-2
 enum-told-2 c = search needs
 
 returns-2 : tie.Need-returns-2
-returns-2 c = absurd (second-found _ (c .before .before .before .before .before .before .before .before .before .pre) _ (c .before .before .before .before .before .before .before .find .ensures) _ (c .before .before .before .before .before .first .given .1) _ (c .before .before .find2 .ensures) (c .enum-told2 .given .1))
+returns-2 c =
+    let f2 = c .before .before in
+    let f = f2 .before .before .before in
+    let find = f .before .before in
+    absurd (second-found _ (find .before .before .pre) _ (find .find .ensures) _ (f .first .given .1) _ (f2 .find2 .ensures) (c .enum-told2 .given .1))
 
 add-result : tie.Need-add-result
-add-result c = let h = second-within _ (c .before .before .before .before .before .before .before .before .before .before .pre) _ (c .before .before .before .before .before .before .before .before .find .ensures) _ (c .before .before .before .before .before .before .first .given .1) _ (c .before .before .before .find2 .ensures) _ (c .before .second .given .1) in omega (arith, h)
+add-result c =
+    let f2 = c .before .before .before in
+    let f = f2 .before .before .before in
+    let find = f .before .before in
+    let h = second-within _ (find .before .before .pre) _ (find .find .ensures) _ (f .first .given .1) _ (f2 .find2 .ensures) _ (c .before .second .given .1) in omega (arith, h)
 
 add-result-2 : tie.Need-add-result-2
-add-result-2 c = let h = second-within _ (c .before .before .before .before .before .before .before .before .before .before .pre) _ (c .before .before .before .before .before .before .before .before .find .ensures) _ (c .before .before .before .before .before .before .first .given .1) _ (c .before .before .before .find2 .ensures) _ (c .before .second .given .1) in omega (arith, h)
+add-result-2 c =
+    let f2 = c .before .before .before in
+    let f = f2 .before .before .before in
+    let find = f .before .before in
+    let h = second-within _ (find .before .before .pre) _ (find .find .ensures) _ (f .first .given .1) _ (f2 .find2 .ensures) _ (c .before .second .given .1) in omega (arith, h)
 
 returns-3 : tie.Need-returns-3
-returns-3 c = third-at _ (c .before .before .before .before .before .before .before .before .before .before .pre) _ (c .before .before .before .before .before .before .before .before .find .ensures) _ (c .before .before .before .before .before .before .first .given .1) _ (c .before .before .before .find2 .ensures) _ (c .before .second .given .1)
+returns-3 c =
+    let f2 = c .before .before .before in
+    let f = f2 .before .before .before in
+    let find = f .before .before in
+    third-at _ (find .before .before .pre) _ (find .find .ensures) _ (f .first .given .1) _ (f2 .find2 .ensures) _ (c .before .second .given .1)
 
 pub third-line-spec : {M : Type 1} → statement M
 third-line-spec =

@@ -32,17 +32,35 @@ enum-known-line c = search needs
 enum-known-next : tie.Need-enum-known-next
 enum-known-next c = search needs
 
+-- The way back from a place in the code to the one that the name says.
+abbrev at-lines-up-to : tie.Then1 → tie.After-lines-up-to
+at-lines-up-to c = c .before .before .before .before .before .before
+
 add-result : tie.Need-add-result
-add-result c = omega (arith, up-to-is _ _ _ (c .before .before .before .before .before .before .lines-up-to .ensures))
+add-result c = omega (arith, up-to-is _ _ _ (at-lines-up-to c .lines-up-to .ensures))
 
 returns : tie.Need-returns
-returns c = to-end-bad _ _ _ _ _ (part-up-to _ (c .before .before .before .before .before .before .before .before .args .plan .now) (c .before .before .before .before .before .before .before .before .args .at) _ (c .before .before .before .before .before .lines-up-to .ensures)) _ (lines-failed _ _ _ _ _ (c .before .before .before .triple-lines .ensures) _ (c .before .line .given .1))
+returns c =
+    let tl = c .before .before .before in
+    let lut = tl .before .before in
+    let s = lut .before .before .before in
+    to-end-bad _ _ _ _ _ (part-up-to _ (s .args .plan .now) (s .args .at) _ (lut .lines-up-to .ensures)) _ (lines-failed _ _ _ _ _ (tl .triple-lines .ensures) _ (c .before .line .given .1))
 
 returns-2 : tie.Need-returns-2
-returns-2 c = to-end-more _ _ _ _ _ (part-up-to _ (c .before .before .before .before .before .before .before .before .before .args .plan .now) (c .before .before .before .before .before .before .before .before .before .args .at) _ (c .before .before .before .before .before .before .lines-up-to .ensures)) _ (lines-ended _ _ _ _ _ (c .before .before .before .before .triple-lines .ensures) _ (c .before .before .next .given .1)) (c .if1 .taken)
+returns-2 c =
+    let n = c .before .before in
+    let tl = n .before .before in
+    let lut = tl .before .before in
+    let s = lut .before .before .before in
+    to-end-more _ _ _ _ _ (part-up-to _ (s .args .plan .now) (s .args .at) _ (lut .lines-up-to .ensures)) _ (lines-ended _ _ _ _ _ (tl .triple-lines .ensures) _ (n .next .given .1)) (c .if1 .taken)
 
 returns-3 : tie.Need-returns-3
-returns-3 c = to-end-good _ _ _ _ _ (part-up-to _ (c .before .before .before .before .before .before .before .before .before .args .plan .now) (c .before .before .before .before .before .before .before .before .before .args .at) _ (c .before .before .before .before .before .before .lines-up-to .ensures)) _ (lines-ended _ _ _ _ _ (c .before .before .before .before .triple-lines .ensures) _ (c .before .before .next .given .1)) (c .if1 .left)
+returns-3 c =
+    let n = c .before .before in
+    let tl = n .before .before in
+    let lut = tl .before .before in
+    let s = lut .before .before .before in
+    to-end-good _ _ _ _ _ (part-up-to _ (s .args .plan .now) (s .args .at) _ (lut .lines-up-to .ensures)) _ (lines-ended _ _ _ _ _ (tl .triple-lines .ensures) _ (n .next .given .1)) (c .if1 .left)
 
 pub bad-time-spec : {M : Type 1} → statement M
 bad-time-spec =

@@ -47,8 +47,9 @@ refuse-if-requires-3 c κs = search needs
 returns-3 : tie.Need-returns-3
 returns-3 c =
     let f = c .before .before in
-    let a = f .before .before .before .before .before .args in
-    read-bad (a .list .now) (a .form) (a .froms .now) (a .tos .now) (f .before .before .before .before .before .pre) _ (f .form .given .1) _ (c .refuse-at .ensures)
+    let s = f .before .before .before .before .before in
+    let a = s .args in
+    read-bad (a .list .now) (a .form) (a .froms .now) (a .tos .now) (s .pre) _ (f .form .given .1) _ (c .refuse-at .ensures)
 
 same-length : tie.Need-same-length
 same-length c = search needs
@@ -58,10 +59,12 @@ same-length-2 c = search needs
 
 returns-4 : tie.Need-returns-4
 returns-4 c =
-    let e = c .before .before .before .before .before .before .before .before .before in
+    let fp = c .before .before .before .before .before in
+    let e = fp .before .before .before .before in
     let f = e .before .before .before in
-    let a = start f .args in
-    read-whole (a .list .now) (a .form) (a .froms .now) (a .tos .now) (start f .pre) _ _ (f .form2 .given .1) (e .before .if1 .left) (e .if2 .left) _ (c .refuse-if3 .ensures) _ _ (c .before .before .before .before .before .fill-pairs .ensures)
+    let s = start f in
+    let a = s .args in
+    read-whole (a .list .now) (a .form) (a .froms .now) (a .tos .now) (s .pre) _ _ (f .form2 .given .1) (e .before .if1 .left) (e .if2 .left) _ (c .refuse-if3 .ensures) _ _ (fp .fill-pairs .ensures)
 
 pub read-as-spec : {M : Type 1} → statement M
 read-as-spec =

@@ -13,15 +13,27 @@ refuse-if-requires c κs = search needs
 refused-requires : tie.Need-refused-requires
 refused-requires c κs = search needs
 
+-- The way back from a place in the code to the one that the name says.
+abbrev at-start : tie.After-refuse-if → tie.Start
+at-start c = c .before .before .before .before
+
 returns : tie.Need-returns
 unfolding listForm
-returns c = read-long (listBadLine (c .before .before .before .before .before .before .args .list .now)) (listDetours (c .before .before .before .before .before .before .args .list .now)) (listText (c .before .before .before .before .before .before .args .list .now)) (c .before .before .before .before .before .before .args .list .now) (c .before .before .before .before .before .before .args .froms .now) (c .before .before .before .before .before .before .args .tos .now) _ (c .before .before .refuse-if .ensures) _ (c .before .refused .ensures) (c .if1 .taken)
+returns c =
+    let ri = c .before .before in
+    let s = at-start ri in
+    read-long (listBadLine (s .args .list .now)) (listDetours (s .args .list .now)) (listText (s .args .list .now)) (s .args .list .now) (s .args .froms .now)
+    (s .args .tos .now) _ (ri .refuse-if .ensures) _ (c .before .refused .ensures) (c .if1 .taken)
 
 judge-list-requires : tie.Need-judge-list-requires
 judge-list-requires c κs = search needs
 
 read-as-requires : tie.Need-read-as-requires
-read-as-requires c κs = form-within (listBadLine (c .before .before .before .before .before .before .before .before .before .args .list .now)) (listDetours (c .before .before .before .before .before .before .before .before .before .args .list .now)) (listText (c .before .before .before .before .before .before .before .before .before .args .list .now)) (c .before .before .before .before .before .before .before .before .before .args .list .now) (c .before .before .before .before .before .before .before .before .before .args .froms .now) (c .before .before .before .before .before .before .before .before .before .args .tos .now) (c .before .before .judge-list .result) (c .before .before .judge-list .ensures)
+read-as-requires c κs =
+    let jl = c .before .before in
+    let s = at-start (jl .before .before .before) in
+    form-within (listBadLine (s .args .list .now)) (listDetours (s .args .list .now)) (listText (s .args .list .now)) (s .args .list .now) (s .args .froms .now)
+    (s .args .tos .now) (jl .judge-list .result) (jl .judge-list .ensures)
 
 same-length : tie.Need-same-length
 same-length c = search needs
@@ -31,7 +43,14 @@ same-length-2 c = search needs
 
 returns-2 : tie.Need-returns-2
 unfolding listForm
-returns-2 c = read-formed (listBadLine (c .before .before .before .before .before .before .before .before .before .before .before .before .before .before .args .list .now)) (listDetours (c .before .before .before .before .before .before .before .before .before .before .before .before .before .before .args .list .now)) (listText (c .before .before .before .before .before .before .before .before .before .before .before .before .before .before .args .list .now)) (c .before .before .before .before .before .before .before .before .before .before .before .before .before .before .args .list .now) (c .before .before .before .before .before .before .before .before .before .before .before .before .before .before .args .froms .now) (c .before .before .before .before .before .before .before .before .before .before .before .before .before .before .args .tos .now) _ (c .before .before .before .before .before .before .before .before .before .before .refuse-if .ensures) _ (c .before .before .before .before .before .before .before .before .before .refused .ensures) (c .before .before .before .before .before .before .before .before .if1 .left) (c .before .before .before .before .before .before .before .judge-list .result) (c .before .before .before .before .before .before .before .judge-list .ensures) _ _ _ (c .before .before .before .before .read-as .ensures)
+returns-2 c =
+    let ra = c .before .before .before .before in
+    let jl = ra .before .before .before in
+    let ri = jl .before .before .before in
+    let s = at-start ri in
+    read-formed (listBadLine (s .args .list .now)) (listDetours (s .args .list .now)) (listText (s .args .list .now)) (s .args .list .now) (s .args .froms .now)
+    (s .args .tos .now) _ (ri .refuse-if .ensures) _ (jl .before .before .refused .ensures) (jl .before .if1 .left) (jl .judge-list .result) (jl .judge-list .ensures) _ _ _
+    (ra .read-as .ensures)
 
 pub read-list-spec : {M : Type 1} → statement M
 read-list-spec =

@@ -32,8 +32,10 @@ enum-told-2 c = search needs
 
 returns-2 : tie.Need-returns-2
 returns-2 c =
-    let r1 = tape-good _ _ (c .before .before .before .before .before .before .before .tape-line .ensures) _ _ (c .before .before .before .before .before .next .given .1) in
-    number-bad _ 1 sumKey _ _ r1 _ (c .before .before .number-line .ensures) (c .enum-told2 .given .1)
+    let nl = c .before .before in
+    let n = nl .before .before .before in
+    let r1 = tape-good _ _ (n .before .before .tape-line .ensures) _ _ (n .next .given .1) in
+    number-bad _ 1 sumKey _ _ r1 _ (nl .number-line .ensures) (c .enum-told2 .given .1)
 
 slice-aggregate-number-line-2 : tie.Need-slice-aggregate-number-line-2
 slice-aggregate-number-line-2 c = search needs
@@ -49,9 +51,13 @@ enum-told-3 c = search needs
 
 returns-3 : tie.Need-returns-3
 returns-3 c =
-    let r1 = tape-good _ _ (c .before .before .before .before .before .before .before .before .before .before .before .before .tape-line .ensures) _ _ (c .before .before .before .before .before .before .before .before .before .before .next .given .1) in
-    let r2 = number-good _ 1 sumKey _ _ r1 _ (c .before .before .before .before .before .before .before .number-line .ensures) _ _ (c .before .before .before .before .before .next2 .given .1) in
-    number-bad _ 2 readsKey _ _ r2 _ (c .before .before .number-line2 .ensures) (c .enum-told3 .given .1)
+    let nl2 = c .before .before in
+    let n2 = nl2 .before .before .before in
+    let nl = n2 .before .before in
+    let n = nl .before .before .before in
+    let r1 = tape-good _ _ (n .before .before .tape-line .ensures) _ _ (n .next .given .1) in
+    let r2 = number-good _ 1 sumKey _ _ r1 _ (nl .number-line .ensures) _ _ (n2 .next2 .given .1) in
+    number-bad _ 2 readsKey _ _ r2 _ (nl2 .number-line2 .ensures) (c .enum-told3 .given .1)
 
 slice-aggregate-number-line-3 : tie.Need-slice-aggregate-number-line-3
 slice-aggregate-number-line-3 c = search needs
@@ -67,10 +73,16 @@ enum-told-4 c = search needs
 
 returns-4 : tie.Need-returns-4
 returns-4 c =
-    let r1 = tape-good _ _ (c .before .before .before .before .before .before .before .before .before .before .before .before .before .before .before .before .before .tape-line .ensures) _ _ (c .before .before .before .before .before .before .before .before .before .before .before .before .before .before .before .next .given .1) in
-    let r2 = number-good _ 1 sumKey _ _ r1 _ (c .before .before .before .before .before .before .before .before .before .before .before .before .number-line .ensures) _ _ (c .before .before .before .before .before .before .before .before .before .before .next2 .given .1) in
-    let r3 = number-good _ 2 readsKey _ _ r2 _ (c .before .before .before .before .before .before .before .number-line2 .ensures) _ _ (c .before .before .before .before .before .next3 .given .1) in
-    number-bad _ 3 finishKey _ _ r3 _ (c .before .before .number-line3 .ensures) (c .enum-told4 .given .1)
+    let nl3 = c .before .before in
+    let n3 = nl3 .before .before .before in
+    let nl2 = n3 .before .before in
+    let n2 = nl2 .before .before .before in
+    let nl = n2 .before .before in
+    let n = nl .before .before .before in
+    let r1 = tape-good _ _ (n .before .before .tape-line .ensures) _ _ (n .next .given .1) in
+    let r2 = number-good _ 1 sumKey _ _ r1 _ (nl .number-line .ensures) _ _ (n2 .next2 .given .1) in
+    let r3 = number-good _ 2 readsKey _ _ r2 _ (nl2 .number-line2 .ensures) _ _ (n3 .next3 .given .1) in
+    number-bad _ 3 finishKey _ _ r3 _ (nl3 .number-line3 .ensures) (c .enum-told4 .given .1)
 
 slice-aggregate-number-line-4 : tie.Need-slice-aggregate-number-line-4
 slice-aggregate-number-line-4 c = search needs
@@ -86,11 +98,19 @@ enum-told-5 c = search needs
 
 returns-5 : tie.Need-returns-5
 returns-5 c =
-    let r1 = tape-good _ _ (c .before .before .before .before .before .before .before .before .before .before .before .before .before .before .before .before .before .before .before .before .before .before .tape-line .ensures) _ _ (c .before .before .before .before .before .before .before .before .before .before .before .before .before .before .before .before .before .before .before .before .next .given .1) in
-    let r2 = number-good _ 1 sumKey _ _ r1 _ (c .before .before .before .before .before .before .before .before .before .before .before .before .before .before .before .before .before .number-line .ensures) _ _ (c .before .before .before .before .before .before .before .before .before .before .before .before .before .before .before .next2 .given .1) in
-    let r3 = number-good _ 2 readsKey _ _ r2 _ (c .before .before .before .before .before .before .before .before .before .before .before .before .number-line2 .ensures) _ _ (c .before .before .before .before .before .before .before .before .before .before .next3 .given .1) in
-    let r4 = number-good _ 3 finishKey _ _ r3 _ (c .before .before .before .before .before .before .before .number-line3 .ensures) _ _ (c .before .before .before .before .before .next4 .given .1) in
-    number-bad _ 4 endKey _ _ r4 _ (c .before .before .number-line4 .ensures) (c .enum-told5 .given .1)
+    let nl4 = c .before .before in
+    let n4 = nl4 .before .before .before in
+    let nl3 = n4 .before .before in
+    let n3 = nl3 .before .before .before in
+    let nl2 = n3 .before .before in
+    let n2 = nl2 .before .before .before in
+    let nl = n2 .before .before in
+    let n = nl .before .before .before in
+    let r1 = tape-good _ _ (n .before .before .tape-line .ensures) _ _ (n .next .given .1) in
+    let r2 = number-good _ 1 sumKey _ _ r1 _ (nl .number-line .ensures) _ _ (n2 .next2 .given .1) in
+    let r3 = number-good _ 2 readsKey _ _ r2 _ (nl2 .number-line2 .ensures) _ _ (n3 .next3 .given .1) in
+    let r4 = number-good _ 3 finishKey _ _ r3 _ (nl3 .number-line3 .ensures) _ _ (n4 .next4 .given .1) in
+    number-bad _ 4 endKey _ _ r4 _ (nl4 .number-line4 .ensures) (c .enum-told5 .given .1)
 
 slice-aggregate-number-line-5 : tie.Need-slice-aggregate-number-line-5
 slice-aggregate-number-line-5 c = search needs
@@ -106,30 +126,62 @@ enum-told-6 c = search needs
 
 returns-6 : tie.Need-returns-6
 returns-6 c =
-    let r1 = tape-good _ _ (c .before .before .before .before .before .before .before .before .before .before .before .before .before .before .before .before .before .before .before .before .before .before .before .before .before .before .before .tape-line .ensures) _ _ (c .before .before .before .before .before .before .before .before .before .before .before .before .before .before .before .before .before .before .before .before .before .before .before .before .before .next .given .1) in
-    let r2 = number-good _ 1 sumKey _ _ r1 _ (c .before .before .before .before .before .before .before .before .before .before .before .before .before .before .before .before .before .before .before .before .before .before .number-line .ensures) _ _ (c .before .before .before .before .before .before .before .before .before .before .before .before .before .before .before .before .before .before .before .before .next2 .given .1) in
-    let r3 = number-good _ 2 readsKey _ _ r2 _ (c .before .before .before .before .before .before .before .before .before .before .before .before .before .before .before .before .before .number-line2 .ensures) _ _ (c .before .before .before .before .before .before .before .before .before .before .before .before .before .before .before .next3 .given .1) in
-    let r4 = number-good _ 3 finishKey _ _ r3 _ (c .before .before .before .before .before .before .before .before .before .before .before .before .number-line3 .ensures) _ _ (c .before .before .before .before .before .before .before .before .before .before .next4 .given .1) in
-    let r5 = number-good _ 4 endKey _ _ r4 _ (c .before .before .before .before .before .before .before .number-line4 .ensures) _ _ (c .before .before .before .before .before .next5 .given .1) in
-    detours-bad _ _ r5 _ (c .before .before .number-line5 .ensures) (c .enum-told6 .given .1)
+    let nl5 = c .before .before in
+    let n5 = nl5 .before .before .before in
+    let nl4 = n5 .before .before in
+    let n4 = nl4 .before .before .before in
+    let nl3 = n4 .before .before in
+    let n3 = nl3 .before .before .before in
+    let nl2 = n3 .before .before in
+    let n2 = nl2 .before .before .before in
+    let nl = n2 .before .before in
+    let n = nl .before .before .before in
+    let r1 = tape-good _ _ (n .before .before .tape-line .ensures) _ _ (n .next .given .1) in
+    let r2 = number-good _ 1 sumKey _ _ r1 _ (nl .number-line .ensures) _ _ (n2 .next2 .given .1) in
+    let r3 = number-good _ 2 readsKey _ _ r2 _ (nl2 .number-line2 .ensures) _ _ (n3 .next3 .given .1) in
+    let r4 = number-good _ 3 finishKey _ _ r3 _ (nl3 .number-line3 .ensures) _ _ (n4 .next4 .given .1) in
+    let r5 = number-good _ 4 endKey _ _ r4 _ (nl4 .number-line4 .ensures) _ _ (n5 .next5 .given .1) in
+    detours-bad _ _ r5 _ (nl5 .number-line5 .ensures) (c .enum-told6 .given .1)
 
 returns-7 : tie.Need-returns-7
 returns-7 c =
-    let r1 = tape-good _ _ (c .before .before .before .before .before .before .before .before .before .before .before .before .before .before .before .before .before .before .before .before .before .before .before .before .before .before .before .before .before .tape-line .ensures) _ _ (c .before .before .before .before .before .before .before .before .before .before .before .before .before .before .before .before .before .before .before .before .before .before .before .before .before .before .before .next .given .1) in
-    let r2 = number-good _ 1 sumKey _ _ r1 _ (c .before .before .before .before .before .before .before .before .before .before .before .before .before .before .before .before .before .before .before .before .before .before .before .before .number-line .ensures) _ _ (c .before .before .before .before .before .before .before .before .before .before .before .before .before .before .before .before .before .before .before .before .before .before .next2 .given .1) in
-    let r3 = number-good _ 2 readsKey _ _ r2 _ (c .before .before .before .before .before .before .before .before .before .before .before .before .before .before .before .before .before .before .before .number-line2 .ensures) _ _ (c .before .before .before .before .before .before .before .before .before .before .before .before .before .before .before .before .before .next3 .given .1) in
-    let r4 = number-good _ 3 finishKey _ _ r3 _ (c .before .before .before .before .before .before .before .before .before .before .before .before .before .before .number-line3 .ensures) _ _ (c .before .before .before .before .before .before .before .before .before .before .before .before .next4 .given .1) in
-    let r5 = number-good _ 4 endKey _ _ r4 _ (c .before .before .before .before .before .before .before .before .before .number-line4 .ensures) _ _ (c .before .before .before .before .before .before .before .next5 .given .1) in
-    detours-over _ _ r5 _ (c .before .before .before .before .number-line5 .ensures) _ _ (c .before .before .detours .given .1) (c .if1 .taken)
+    let d = c .before .before in
+    let nl5 = d .before .before in
+    let n5 = nl5 .before .before .before in
+    let nl4 = n5 .before .before in
+    let n4 = nl4 .before .before .before in
+    let nl3 = n4 .before .before in
+    let n3 = nl3 .before .before .before in
+    let nl2 = n3 .before .before in
+    let n2 = nl2 .before .before .before in
+    let nl = n2 .before .before in
+    let n = nl .before .before .before in
+    let r1 = tape-good _ _ (n .before .before .tape-line .ensures) _ _ (n .next .given .1) in
+    let r2 = number-good _ 1 sumKey _ _ r1 _ (nl .number-line .ensures) _ _ (n2 .next2 .given .1) in
+    let r3 = number-good _ 2 readsKey _ _ r2 _ (nl2 .number-line2 .ensures) _ _ (n3 .next3 .given .1) in
+    let r4 = number-good _ 3 finishKey _ _ r3 _ (nl3 .number-line3 .ensures) _ _ (n4 .next4 .given .1) in
+    let r5 = number-good _ 4 endKey _ _ r4 _ (nl4 .number-line4 .ensures) _ _ (n5 .next5 .given .1) in
+    detours-over _ _ r5 _ (nl5 .number-line5 .ensures) _ _ (d .detours .given .1) (c .if1 .taken)
 
 returns-8 : tie.Need-returns-8
 returns-8 c =
-    let r1 = tape-good _ _ (c .before .before .before .before .before .before .before .before .before .before .before .before .before .before .before .before .before .before .before .before .before .before .before .before .before .before .before .before .before .tape-line .ensures) _ _ (c .before .before .before .before .before .before .before .before .before .before .before .before .before .before .before .before .before .before .before .before .before .before .before .before .before .before .before .next .given .1) in
-    let r2 = number-good _ 1 sumKey _ _ r1 _ (c .before .before .before .before .before .before .before .before .before .before .before .before .before .before .before .before .before .before .before .before .before .before .before .before .number-line .ensures) _ _ (c .before .before .before .before .before .before .before .before .before .before .before .before .before .before .before .before .before .before .before .before .before .before .next2 .given .1) in
-    let r3 = number-good _ 2 readsKey _ _ r2 _ (c .before .before .before .before .before .before .before .before .before .before .before .before .before .before .before .before .before .before .before .number-line2 .ensures) _ _ (c .before .before .before .before .before .before .before .before .before .before .before .before .before .before .before .before .before .next3 .given .1) in
-    let r4 = number-good _ 3 finishKey _ _ r3 _ (c .before .before .before .before .before .before .before .before .before .before .before .before .before .before .number-line3 .ensures) _ _ (c .before .before .before .before .before .before .before .before .before .before .before .before .next4 .given .1) in
-    let r5 = number-good _ 4 endKey _ _ r4 _ (c .before .before .before .before .before .before .before .before .before .number-line4 .ensures) _ _ (c .before .before .before .before .before .before .before .next5 .given .1) in
-    detours-good _ _ r5 _ (c .before .before .before .before .number-line5 .ensures) _ _ (c .before .before .detours .given .1) (c .if1 .left)
+    let d = c .before .before in
+    let nl5 = d .before .before in
+    let n5 = nl5 .before .before .before in
+    let nl4 = n5 .before .before in
+    let n4 = nl4 .before .before .before in
+    let nl3 = n4 .before .before in
+    let n3 = nl3 .before .before .before in
+    let nl2 = n3 .before .before in
+    let n2 = nl2 .before .before .before in
+    let nl = n2 .before .before in
+    let n = nl .before .before .before in
+    let r1 = tape-good _ _ (n .before .before .tape-line .ensures) _ _ (n .next .given .1) in
+    let r2 = number-good _ 1 sumKey _ _ r1 _ (nl .number-line .ensures) _ _ (n2 .next2 .given .1) in
+    let r3 = number-good _ 2 readsKey _ _ r2 _ (nl2 .number-line2 .ensures) _ _ (n3 .next3 .given .1) in
+    let r4 = number-good _ 3 finishKey _ _ r3 _ (nl3 .number-line3 .ensures) _ _ (n4 .next4 .given .1) in
+    let r5 = number-good _ 4 endKey _ _ r4 _ (nl4 .number-line4 .ensures) _ _ (n5 .next5 .given .1) in
+    detours-good _ _ r5 _ (nl5 .number-line5 .ensures) _ _ (d .detours .given .1) (c .if1 .left)
 
 pub read-top-spec : {M : Type 1} → statement M
 read-top-spec =

@@ -31,8 +31,14 @@ triple-lines-requires-2 c κs = search needs
 enum-known-next-2 : tie.Need-enum-known-next-2
 enum-known-next-2 c = search needs
 
+-- The way back from a place in the code to the one that the name says.
+abbrev at-line : tie.After-known-told3 → tie.After-line
+at-line c = c .before .before .before .before .before .before
+
 sub-t17 : tie.Need-sub-t17
-sub-t17 c = let b = (lines-failed _ _ _ _ _ (c .before .before .before .before .before .before .before .before .triple-lines .ensures) _ (c .before .before .before .before .before .before .line .given .1)) in omega (arith, b .some)
+sub-t17 c =
+    let l = at-line c in
+    let b = (lines-failed _ _ _ _ _ (l .before .before .triple-lines .ensures) _ (l .line .given .1)) in omega (arith, b .some)
 
 enum-told : tie.Need-enum-told
 enum-told c = search needs
@@ -41,10 +47,18 @@ returns : tie.Need-returns
 returns c = block-full _ _ _ _ _ (lines-ended _ _ _ _ _ (c .before .before .before .triple-lines .ensures) _ (c .before .next .given .1))
 
 returns-2 : tie.Need-returns-2
-returns-2 c = block-part _ _ _ _ _ (lines-failed _ _ _ _ _ (c .before .before .before .before .before .before .before .before .triple-lines .ensures) _ (c .before .before .before .before .before .before .line .given .1)) _ (lines-ended _ _ _ _ _ (c .before .before .before .triple-lines2 .ensures) _ (c .before .next2 .given .1))
+returns-2 c =
+    let l = at-line c in
+    block-part _ _ _ _ _ (lines-failed _ _ _ _ _ (l .before .before .triple-lines .ensures) _ (l .line .given .1)) _
+    (lines-ended _ _ _ _ _ (c .before .before .before .triple-lines2 .ensures) _ (c .before .next2 .given .1))
 
 returns-3 : tie.Need-returns-3
-returns-3 c = absurd (block-never _ _ _ _ _ (lines-failed _ _ _ _ _ (c .before .before .before .before .before .before .before .triple-lines .ensures) _ (c .before .before .before .before .before .line .given .1)) _ (lines-failed _ _ _ _ _ (c .before .before .triple-lines2 .ensures) _ (c .enum-told .given .1)))
+returns-3 c =
+    let tl2 = c .before .before in
+    let l = tl2 .before .before .before in
+    absurd
+    (block-never _ _ _ _ _ (lines-failed _ _ _ _ _ (l .before .before .triple-lines .ensures) _ (l .line .given .1)) _
+    (lines-failed _ _ _ _ _ (tl2 .triple-lines2 .ensures) _ (c .enum-told .given .1)))
 
 pub file-lines-spec : {M : Type 1} → statement M
 file-lines-spec =

@@ -19,26 +19,44 @@ enum-known-said c = search needs
 enum-told : tie.Need-enum-told
 enum-told c = search needs
 
+-- The way back from a place in the code to the one that the name says.
+abbrev at-start : tie.After-want-lines → tie.Start
+at-start c = c .before .before .before .before .before .before .before
+
 add-t11 : tie.Need-add-t11
 add-t11 c = omega (arith, c .before .before .before .before .before .pre .few)
 
 returns : tie.Need-returns
-returns c = wants-bad _ _ _ (c .before .before .before .before .before .pre) (number-unread _ _ _ _ _ (c .before .before .number-line .ensures) (c .enum-told .given .1))
+returns c =
+    let nl = c .before .before in
+    wants-bad _ _ _ (nl .before .before .before .pre) (number-unread _ _ _ _ _ (nl .number-line .ensures) (c .enum-told .given .1))
 
 want-lines-requires : tie.Need-want-lines-requires
 want-lines-requires c κs = (number-read _ _ _ _ _ (c .before .before .before .number-line .ensures) _ _ (c .before .said .given .1)) .0 .within
 
 add-t14 : tie.Need-add-t14
-add-t14 c = omega (arith, c .before .before .before .before .before .before .before .before .before .before .pre .few, c .before .before .before .want-lines .ensures .few)
+add-t14 c =
+    let wl = c .before .before .before in
+    omega (arith, at-start wl .pre .few, wl .want-lines .ensures .few)
 
 add-t15 : tie.Need-add-t15
-add-t15 c = omega (arith, c .before .before .before .before .before .before .before .before .before .before .pre .few, c .before .before .before .want-lines .ensures .few)
+add-t15 c =
+    let wl = c .before .before .before in
+    omega (arith, at-start wl .pre .few, wl .want-lines .ensures .few)
 
 returns-2 : tie.Need-returns-2
-returns-2 c = text-behind _ _ _ (c .before .before .before .before .before .before .before .before .before .before .pre) _ _ (number-read _ _ _ _ _ (c .before .before .before .before .before .before .before .number-line .ensures) _ _ (c .before .before .before .before .before .said .given .1)) _ (c .before .before .before .want-lines .ensures) (c .before .if1 .taken)
+returns-2 c =
+    let wl = c .before .before .before in
+    let s = wl .before .before in
+    let nl = s .before .before in
+    text-behind _ _ _ (nl .before .before .before .pre) _ _ (number-read _ _ _ _ _ (nl .number-line .ensures) _ _ (s .said .given .1)) _ (wl .want-lines .ensures) (c .before .if1 .taken)
 
 returns-3 : tie.Need-returns-3
-returns-3 c = below-good _ _ _ (c .before .before .before .before .before .before .before .before .before .pre) _ _ (number-read _ _ _ _ _ (c .before .before .before .before .before .before .number-line .ensures) _ _ (c .before .before .before .before .said .given .1)) _ (c .before .before .want-lines .ensures) (c .if1 .left)
+returns-3 c =
+    let wl = c .before .before in
+    let s = wl .before .before in
+    let nl = s .before .before in
+    below-good _ _ _ (nl .before .before .before .pre) _ _ (number-read _ _ _ _ _ (nl .number-line .ensures) _ _ (s .said .given .1)) _ (wl .want-lines .ensures) (c .if1 .left)
 
 pub read-below-spec : {M : Type 1} → statement M
 read-below-spec =

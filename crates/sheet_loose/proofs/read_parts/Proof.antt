@@ -52,13 +52,30 @@ enum-known-said : tie.Need-enum-known-said
 enum-known-said c = search needs
 
 returns-2 : tie.Need-returns-2
-returns-2 c = top-refuses _ _ _ (c .before .before .before .before .before .before .before .before .refuse-if .ensures) (c .before .before .before .before .before .before .before .refused .ensures) (c .before .before .before .before .before .before .if1 .left) _ (top-failed _ _ (c .before .before .before .before .before .read-top .ensures) _ (c .before .before .before .line .given .1)) _ (c .before .refuse-at .ensures) _ (c .refused-parts2 .ensures)
+returns-2 c =
+    let l = c .before .before .before in
+    let e1 = l .before .before .before in
+    top-refuses _ _ _ (e1 .before .before .refuse-if .ensures) (e1 .before .refused .ensures) (e1 .if1 .left) _
+    (top-failed _ _ (l .before .before .read-top .ensures) _ (l .line .given .1)) _ (c .before .refuse-at .ensures) _ (c .refused-parts2 .ensures)
 
 returns-3 : tie.Need-returns-3
-returns-3 c = below-refuses _ _ _ (c .before .before .before .before .before .before .before .before .before .before .before .before .before .refuse-if .ensures) (c .before .before .before .before .before .before .before .before .before .before .before .before .refused .ensures) (c .before .before .before .before .before .before .before .before .before .before .before .if1 .left) _ (top-read _ _ (c .before .before .before .before .before .before .before .before .before .before .read-top .ensures) _ (c .before .before .before .before .before .before .before .before .top .given .1)) _ (below-failed _ _ (c .before .before .before .before .before .read-below .ensures) _ (c .before .before .before .line2 .given .1)) _ (c .before .refuse-at2 .ensures) _ (c .refused-parts3 .ensures)
+returns-3 c =
+    let l2 = c .before .before .before in
+    let rb = l2 .before .before in
+    let t = rb .before .before .before in
+    let e1 = t .before .before .before in
+    below-refuses _ _ _ (e1 .before .before .refuse-if .ensures) (e1 .before .refused .ensures) (e1 .if1 .left) _
+    (top-read _ _ (t .before .before .read-top .ensures) _ (t .top .given .1)) _ (below-failed _ _ (rb .read-below .ensures) _ (l2 .line2 .given .1)) _
+    (c .before .refuse-at2 .ensures) _ (c .refused-parts3 .ensures)
 
 returns-4 : tie.Need-returns-4
-returns-4 c = parts-good _ _ _ (c .before .before .before .before .before .before .before .before .before .before .before .refuse-if .ensures) (c .before .before .before .before .before .before .before .before .before .before .refused .ensures) (c .before .before .before .before .before .before .before .before .before .if1 .left) _ (top-read _ _ (c .before .before .before .before .before .before .before .before .read-top .ensures) _ (c .before .before .before .before .before .before .top .given .1)) _ (c .before .before .before .before .file-lines .ensures) _ _ _ (below-read _ _ (c .before .before .before .read-below .ensures) _ _ _ (c .before .said .given .1))
+returns-4 c =
+    let rb = c .before .before .before in
+    let t = rb .before .before .before in
+    let e1 = t .before .before .before in
+    parts-good _ _ _ (e1 .before .before .refuse-if .ensures) (e1 .before .refused .ensures) (e1 .if1 .left) _
+    (top-read _ _ (t .before .before .read-top .ensures) _ (t .top .given .1)) _ (rb .before .file-lines .ensures) _ _ _
+    (below-read _ _ (rb .read-below .ensures) _ _ _ (c .before .said .given .1))
 
 pub read-parts-spec : {M : Type 1} → statement M
 read-parts-spec =

@@ -30,8 +30,15 @@ enum-known-turn-at c = search needs
 enum-told-2 : tie.Need-enum-told-2
 enum-told-2 c = search needs
 
+-- The way back from a place in the code to the one that the name says.
+abbrev at-turn : tie.After-known-told5 → tie.After-turn
+at-turn c = c .before .before .before .before .before .before .before .before .before .before
+
 returns-2 : tie.Need-returns-2
-returns-2 c = head-bad _ _ (name-read _ _ (c .before .before .before .before .before .before .before .tape-line .ensures) _ _ (c .before .before .before .before .before .head-at .given .1)) (number-unread _ _ _ _ _ (c .before .before .number-line .ensures) (c .enum-told2 .given .1))
+returns-2 c =
+    let nl = c .before .before in
+    let ha = nl .before .before .before in
+    head-bad _ _ (name-read _ _ (ha .before .before .tape-line .ensures) _ _ (ha .head-at .given .1)) (number-unread _ _ _ _ _ (nl .number-line .ensures) (c .enum-told2 .given .1))
 
 turn-line-requires : tie.Need-turn-line-requires
 turn-line-requires c κs = search needs
@@ -43,7 +50,13 @@ enum-told-3 : tie.Need-enum-told-3
 enum-told-3 c = search needs
 
 returns-3 : tie.Need-returns-3
-returns-3 c = turn-bad _ _ (name-read _ _ (c .before .before .before .before .before .before .before .before .before .before .before .tape-line .ensures) _ _ (c .before .before .before .before .before .before .before .before .before .head-at .given .1)) _ ((number-read _ _ _ _ _ (c .before .before .before .before .before .before .number-line .ensures) _ _ (c .before .before .before .before .turn-at .given .1)) .0) (number-unread _ _ _ _ _ (c .before .before .turn-line .ensures) (c .enum-told3 .given .1))
+returns-3 c =
+    let tl = c .before .before in
+    let ta = tl .before .before in
+    let nl = ta .before .before in
+    let ha = nl .before .before .before in
+    turn-bad _ _ (name-read _ _ (ha .before .before .tape-line .ensures) _ _ (ha .head-at .given .1)) _
+    ((number-read _ _ _ _ _ (nl .number-line .ensures) _ _ (ta .turn-at .given .1)) .0) (number-unread _ _ _ _ _ (tl .turn-line .ensures) (c .enum-told3 .given .1))
 
 rule-line-requires : tie.Need-rule-line-requires
 rule-line-requires c κs = search needs
@@ -55,7 +68,16 @@ enum-told-4 : tie.Need-enum-told-4
 enum-told-4 c = search needs
 
 returns-4 : tie.Need-returns-4
-returns-4 c = rule-bad _ _ (name-read _ _ (c .before .before .before .before .before .before .before .before .before .before .before .before .before .before .before .tape-line .ensures) _ _ (c .before .before .before .before .before .before .before .before .before .before .before .before .before .head-at .given .1)) _ ((number-read _ _ _ _ _ (c .before .before .before .before .before .before .before .before .before .before .number-line .ensures) _ _ (c .before .before .before .before .before .before .before .before .turn-at .given .1)) .0) _ _ (number-read _ _ _ _ _ (c .before .before .before .before .before .before .turn-line .ensures) _ _ (c .before .before .before .before .turn .given .1)) (rule-unread _ _ _ (c .before .before .rule-line .ensures) (c .enum-told4 .given .1))
+returns-4 c =
+    let rl = c .before .before in
+    let t = rl .before .before in
+    let tl = t .before .before in
+    let ta = tl .before .before in
+    let nl = ta .before .before in
+    let ha = nl .before .before .before in
+    rule-bad _ _ (name-read _ _ (ha .before .before .tape-line .ensures) _ _ (ha .head-at .given .1)) _
+    ((number-read _ _ _ _ _ (nl .number-line .ensures) _ _ (ta .turn-at .given .1)) .0) _ _ (number-read _ _ _ _ _ (tl .turn-line .ensures) _ _ (t .turn .given .1))
+    (rule-unread _ _ _ (rl .rule-line .ensures) (c .enum-told4 .given .1))
 
 slice-aggregate-number-line-2 : tie.Need-slice-aggregate-number-line-2
 slice-aggregate-number-line-2 c = search needs
@@ -70,13 +92,42 @@ enum-told-5 : tie.Need-enum-told-5
 enum-told-5 c = search needs
 
 returns-5 : tie.Need-returns-5
-returns-5 c = files-bad _ _ (name-read _ _ (c .before .before .before .before .before .before .before .before .before .before .before .before .before .before .before .before .before .before .before .before .tape-line .ensures) _ _ (c .before .before .before .before .before .before .before .before .before .before .before .before .before .before .before .before .before .before .head-at .given .1)) _ ((number-read _ _ _ _ _ (c .before .before .before .before .before .before .before .before .before .before .before .before .before .before .before .number-line .ensures) _ _ (c .before .before .before .before .before .before .before .before .before .before .before .before .before .turn-at .given .1)) .0) _ _ (number-read _ _ _ _ _ (c .before .before .before .before .before .before .before .before .before .before .before .turn-line .ensures) _ _ (c .before .before .before .before .before .before .before .before .before .turn .given .1)) _ _ (rule-read _ _ _ (c .before .before .before .before .before .before .before .rule-line .ensures) _ _ (c .before .before .before .before .before .sweep .given .1)) (number-unread _ _ _ _ _ (c .before .before .number-line2 .ensures) (c .enum-told5 .given .1))
+returns-5 c =
+    let nl2 = c .before .before in
+    let s = nl2 .before .before .before in
+    let rl = s .before .before in
+    let t = rl .before .before in
+    let tl = t .before .before in
+    let ta = tl .before .before in
+    let nl = ta .before .before in
+    let ha = nl .before .before .before in
+    files-bad _ _ (name-read _ _ (ha .before .before .tape-line .ensures) _ _ (ha .head-at .given .1)) _
+    ((number-read _ _ _ _ _ (nl .number-line .ensures) _ _ (ta .turn-at .given .1)) .0) _ _ (number-read _ _ _ _ _ (tl .turn-line .ensures) _ _ (t .turn .given .1)) _ _
+    (rule-read _ _ _ (rl .rule-line .ensures) _ _ (s .sweep .given .1)) (number-unread _ _ _ _ _ (nl2 .number-line2 .ensures) (c .enum-told5 .given .1))
 
 sub-t21 : tie.Need-sub-t21
-sub-t21 c = rule-after _ _ (name-read _ _ (c .before .before .before .before .before .before .before .before .before .before .before .before .before .before .before .before .before .before .before .before .before .tape-line .ensures) _ _ (c .before .before .before .before .before .before .before .before .before .before .before .before .before .before .before .before .before .before .before .head-at .given .1)) _ ((number-read _ _ _ _ _ (c .before .before .before .before .before .before .before .before .before .before .before .before .before .before .before .before .number-line .ensures) _ _ (c .before .before .before .before .before .before .before .before .before .before .before .before .before .before .turn-at .given .1)) .0) _ _ (number-read _ _ _ _ _ (c .before .before .before .before .before .before .before .before .before .before .before .before .turn-line .ensures) _ _ (c .before .before .before .before .before .before .before .before .before .before .turn .given .1))
+sub-t21 c =
+    let t = at-turn c in
+    let tl = t .before .before in
+    let ta = tl .before .before in
+    let nl = ta .before .before in
+    let ha = nl .before .before .before in
+    rule-after _ _ (name-read _ _ (ha .before .before .tape-line .ensures) _ _ (ha .head-at .given .1)) _
+    ((number-read _ _ _ _ _ (nl .number-line .ensures) _ _ (ta .turn-at .given .1)) .0) _ _ (number-read _ _ _ _ _ (tl .turn-line .ensures) _ _ (t .turn .given .1))
 
 returns-6 : tie.Need-returns-6
-returns-6 c = top-good _ _ (name-read _ _ (c .before .before .before .before .before .before .before .before .before .before .before .before .before .before .before .before .before .before .before .before .before .tape-line .ensures) _ _ (c .before .before .before .before .before .before .before .before .before .before .before .before .before .before .before .before .before .before .before .head-at .given .1)) _ ((number-read _ _ _ _ _ (c .before .before .before .before .before .before .before .before .before .before .before .before .before .before .before .before .number-line .ensures) _ _ (c .before .before .before .before .before .before .before .before .before .before .before .before .before .before .turn-at .given .1)) .0) _ _ (number-read _ _ _ _ _ (c .before .before .before .before .before .before .before .before .before .before .before .before .turn-line .ensures) _ _ (c .before .before .before .before .before .before .before .before .before .before .turn .given .1)) _ _ (rule-read _ _ _ (c .before .before .before .before .before .before .before .before .rule-line .ensures) _ _ (c .before .before .before .before .before .before .sweep .given .1)) _ _ (number-read _ _ _ _ _ (c .before .before .before .number-line2 .ensures) _ _ (c .before .said .given .1))
+returns-6 c =
+    let nl2 = c .before .before .before in
+    let s = nl2 .before .before .before in
+    let rl = s .before .before in
+    let t = rl .before .before in
+    let tl = t .before .before in
+    let ta = tl .before .before in
+    let nl = ta .before .before in
+    let ha = nl .before .before .before in
+    top-good _ _ (name-read _ _ (ha .before .before .tape-line .ensures) _ _ (ha .head-at .given .1)) _
+    ((number-read _ _ _ _ _ (nl .number-line .ensures) _ _ (ta .turn-at .given .1)) .0) _ _ (number-read _ _ _ _ _ (tl .turn-line .ensures) _ _ (t .turn .given .1)) _ _
+    (rule-read _ _ _ (rl .rule-line .ensures) _ _ (s .sweep .given .1)) _ _ (number-read _ _ _ _ _ (nl2 .number-line2 .ensures) _ _ (c .before .said .given .1))
 
 pub read-top-spec : {M : Type 1} → statement M
 read-top-spec =

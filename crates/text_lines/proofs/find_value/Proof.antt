@@ -29,13 +29,17 @@ enum-told c = search needs
 
 returns-2 : tie.Need-returns-2
 returns-2 c =
-    let a = c .before .before .before .before .before .before .before .args in
-    line-missing (a .key .now) (a .text .now) (a .at) (c .before .before .before .before .if1 .left) _ (c .before .before .line-end .ensures) (c .enum-told .given .1)
+    let le = c .before .before in
+    let e1 = le .before .before in
+    let a = e1 .before .before .before .args in
+    line-missing (a .key .now) (a .text .now) (a .at) (e1 .if1 .left) _ (le .line-end .ensures) (c .enum-told .given .1)
 
 add-end : tie.Need-add-end
 add-end c =
-    let a = c .before .before .before .before .before .before .before .before .args in
-    omega (arith, line-within (a .key .now) (a .text .now) (a .at) (c .before .before .before .before .before .if1 .left) _ (c .before .before .before .line-end .ensures) _ (c .before .length .given .1))
+    let le = c .before .before .before in
+    let e1 = le .before .before in
+    let a = e1 .before .before .before .args in
+    omega (arith, line-within (a .key .now) (a .text .now) (a .at) (e1 .if1 .left) _ (le .line-end .ensures) _ (c .before .length .given .1))
 
 sub-starts : tie.Need-sub-starts
 sub-starts c = search needs
@@ -45,8 +49,10 @@ part-starts-start c = search needs
 
 part-starts-end : tie.Need-part-starts-end
 part-starts-end c =
-    let a = c .before .before .before .before .before .before .before .before .args in
-    omega (arith, line-within (a .key .now) (a .text .now) (a .at) (c .before .before .before .before .before .if1 .left) _ (c .before .before .before .line-end .ensures) _ (c .before .length .given .1))
+    let le = c .before .before .before in
+    let e1 = le .before .before in
+    let a = e1 .before .before .before .args in
+    omega (arith, line-within (a .key .now) (a .text .now) (a .at) (e1 .if1 .left) _ (le .line-end .ensures) _ (c .before .length .given .1))
 
 starts-requires : tie.Need-starts-requires
 starts-requires c κs = search needs
@@ -54,20 +60,27 @@ starts-requires c κs = search needs
 add-t18 : tie.Need-add-t18
 add-t18 c =
     let c3 = c .before .before .before in
-    let a = c3 .before .before .before .before .before .before .before .before .args in
-    let v = line-keyed (a .key .now) (a .text .now) (a .at) (c3 .before .before .before .before .before .if1 .left) _ (c3 .before .before .before .line-end .ensures) _ (c3 .before .length .given .1) _ (c .before .starts .ensures) (c .if2 .taken) in omega (arith, v .ordered, v .within)
+    let le = c3 .before .before .before in
+    let e1 = le .before .before in
+    let a = e1 .before .before .before .args in
+    let v = line-keyed (a .key .now) (a .text .now) (a .at) (e1 .if1 .left) _ (le .line-end .ensures) _ (c3 .before .length .given .1) _ (c .before .starts .ensures)
+    (c .if2 .taken) in omega (arith, v .ordered, v .within)
 
 returns-3 : tie.Need-returns-3
 returns-3 c =
     let c3 = c .before .before .before in
-    let a = c3 .before .before .before .before .before .before .before .before .args in
-    line-keyed (a .key .now) (a .text .now) (a .at) (c3 .before .before .before .before .before .if1 .left) _ (c3 .before .before .before .line-end .ensures) _ (c3 .before .length .given .1) _ (c .before .starts .ensures) (c .if2 .taken)
+    let le = c3 .before .before .before in
+    let e1 = le .before .before in
+    let a = e1 .before .before .before .args in
+    line-keyed (a .key .now) (a .text .now) (a .at) (e1 .if1 .left) _ (le .line-end .ensures) _ (c3 .before .length .given .1) _ (c .before .starts .ensures) (c .if2 .taken)
 
 returns-4 : tie.Need-returns-4
 returns-4 c =
     let c3 = c .before .before .before in
-    let a = c3 .before .before .before .before .before .before .before .before .args in
-    line-unkeyed (a .key .now) (a .text .now) (a .at) (c3 .before .before .before .before .before .if1 .left) _ (c3 .before .before .before .line-end .ensures) _ (c3 .before .length .given .1) _ (c .before .starts .ensures) (c .if2 .left)
+    let le = c3 .before .before .before in
+    let e1 = le .before .before in
+    let a = e1 .before .before .before .args in
+    line-unkeyed (a .key .now) (a .text .now) (a .at) (e1 .if1 .left) _ (le .line-end .ensures) _ (c3 .before .length .given .1) _ (c .before .starts .ensures) (c .if2 .left)
 
 pub find-value-spec : {M : Type 1} → statement M
 find-value-spec =

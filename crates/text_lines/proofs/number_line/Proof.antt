@@ -36,14 +36,27 @@ enum-known-number c = search needs
 enum-told-2 : tie.Need-enum-told-2
 enum-told-2 c = search needs
 
+-- The way back from a place in the code to the one that the name says.
+abbrev at-from : tie.After-known-told2 → tie.After-from
+at-from c = c .before .before .before .before .before .before
+
 returns-2 : tie.Need-returns-2
-returns-2 c = number-line-bad _ _ _ _ (c .before .before .before .before .before .before .before .find-value .ensures) _ _ (c .before .before .before .before .before .from .given .1) _ (c .before .before .read-number .ensures) (c .enum-told2 .given .1)
+returns-2 c =
+    let rn = c .before .before in
+    let f = rn .before .before .before in
+    number-line-bad _ _ _ _ (f .before .before .find-value .ensures) _ _ (f .from .given .1) _ (rn .read-number .ensures) (c .enum-told2 .given .1)
 
 number-ending-requires : tie.Need-number-ending-requires
-number-ending-requires c κs = let v = value-at _ _ _ _ (c .before .before .before .before .before .before .before .before .find-value .ensures) _ _ (c .before .before .before .before .before .before .from .given .1) in omega (arith, v .within)
+number-ending-requires c κs =
+    let f = at-from c in
+    let v = value-at _ _ _ _ (f .before .before .find-value .ensures) _ _ (f .from .given .1) in omega (arith, v .within)
 
 returns-3 : tie.Need-returns-3
-returns-3 c = rw (c .number-ending .ensures) (number-line-good _ _ _ _ (c .before .before .before .before .before .before .before .before .before .find-value .ensures) _ _ (c .before .before .before .before .before .before .before .from .given .1) _ (c .before .before .before .before .read-number .ensures) _ (c .before .before .number .given .1))
+returns-3 c =
+    let n = c .before .before in
+    let rn = n .before .before in
+    let f = rn .before .before .before in
+    rw (c .number-ending .ensures) (number-line-good _ _ _ _ (f .before .before .find-value .ensures) _ _ (f .from .given .1) _ (rn .read-number .ensures) _ (n .number .given .1))
 
 pub number-line-spec : {M : Type 1} → statement M
 number-line-spec =

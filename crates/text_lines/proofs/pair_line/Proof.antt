@@ -36,14 +36,25 @@ enum-known-first c = search needs
 enum-told-2 : tie.Need-enum-told-2
 enum-told-2 c = search needs
 
+-- The way back from a place in the code to the one that the name says.
+abbrev at-from : tie.After-known-told2 → tie.After-from
+at-from c = c .before .before .before .before .before .before
+
 returns-2 : tie.Need-returns-2
-returns-2 c = pair-line-bad _ _ _ _ (c .before .before .before .before .before .before .before .find-value .ensures) _ _ (c .before .before .before .before .before .from .given .1) _ (c .before .before .read-pair .ensures) (c .enum-told2 .given .1)
+returns-2 c =
+    let rp = c .before .before in
+    let f = rp .before .before .before in
+    pair-line-bad _ _ _ _ (f .before .before .find-value .ensures) _ _ (f .from .given .1) _ (rp .read-pair .ensures) (c .enum-told2 .given .1)
 
 add-t11 : tie.Need-add-t11
-add-t11 c = let v = value-at _ _ _ _ (c .before .before .before .before .before .before .before .before .find-value .ensures) _ _ (c .before .before .before .before .before .before .from .given .1) in omega (arith, v .within)
+add-t11 c =
+    let f = at-from c in
+    let v = value-at _ _ _ _ (f .before .before .find-value .ensures) _ _ (f .from .given .1) in omega (arith, v .within)
 
 returns-3 : tie.Need-returns-3
-returns-3 c = pair-line-good _ _ _ _ (c .before .before .before .before .before .before .before .before .find-value .ensures) _ _ (c .before .before .before .before .before .before .from .given .1) _ (c .before .before .before .read-pair .ensures) _ _ (c .before .first .given .1)
+returns-3 c =
+    let f = at-from c in
+    pair-line-good _ _ _ _ (f .before .before .find-value .ensures) _ _ (f .from .given .1) _ (c .before .before .before .read-pair .ensures) _ _ (c .before .first .given .1)
 
 pub pair-line-spec : {M : Type 1} → statement M
 pair-line-spec =

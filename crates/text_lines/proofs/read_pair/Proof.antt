@@ -33,17 +33,30 @@ enum-known-first c = search needs
 enum-told-2 : tie.Need-enum-told-2
 enum-told-2 c = search needs
 
+-- The way back from a place in the code to the one that the name says.
+abbrev at-length : tie.After-known-told2 → tie.After-length
+at-length c = c .before .before .before .before .before .before
+
 returns-2 : tie.Need-returns-2
-returns-2 c = left-bad _ _ (c .before .before .before .before .before .before .before .find .ensures) _ (c .before .before .before .before .before .length .given .1) _ (c .before .before .read-number .ensures) (c .enum-told2 .given .1)
+returns-2 c =
+    let rn = c .before .before in
+    let l = rn .before .before .before in
+    left-bad _ _ (l .before .before .find .ensures) _ (l .length .given .1) _ (rn .read-number .ensures) (c .enum-told2 .given .1)
 
 add-from : tie.Need-add-from
-add-from c = let f = comma-at _ _ (c .before .before .before .before .before .before .before .before .find .ensures) _ (c .before .before .before .before .before .before .length .given .1) in omega (arith, f .within)
+add-from c =
+    let l = at-length c in
+    let f = comma-at _ _ (l .before .before .find .ensures) _ (l .length .given .1) in omega (arith, f .within)
 
 sub-read-number : tie.Need-sub-read-number
-sub-read-number c = let f = comma-at _ _ (c .before .before .before .before .before .before .before .before .find .ensures) _ (c .before .before .before .before .before .before .length .given .1) in omega (arith, f .within)
+sub-read-number c =
+    let l = at-length c in
+    let f = comma-at _ _ (l .before .before .find .ensures) _ (l .length .given .1) in omega (arith, f .within)
 
 part-read-number-start : tie.Need-part-read-number-start
-part-read-number-start c = let f = comma-at _ _ (c .before .before .before .before .before .before .before .before .find .ensures) _ (c .before .before .before .before .before .before .length .given .1) in omega (arith, f .within)
+part-read-number-start c =
+    let l = at-length c in
+    let f = comma-at _ _ (l .before .before .find .ensures) _ (l .length .given .1) in omega (arith, f .within)
 
 part-read-number-end : tie.Need-part-read-number-end
 part-read-number-end c = search needs
@@ -62,14 +75,16 @@ returns-3 c =
     let c4 = c .before .before .before .before in
     let c8 = c4 .before .before .before .before in
     let c12 = c8 .before .before .before .before in
-    right-bad _ _ (c12 .find .ensures) _ (c8 .before .before .length .given .1) (c4 .before .before .before .read-number .result) (c4 .before .before .before .read-number .ensures) _ (c .before .before .read-number2 .ensures) (c .enum-told3 .given .1)
+    right-bad _ _ (c12 .find .ensures) _ (c8 .before .before .length .given .1) (c4 .before .before .before .read-number .result)
+    (c4 .before .before .before .read-number .ensures) _ (c .before .before .read-number2 .ensures) (c .enum-told3 .given .1)
 
 returns-4 : tie.Need-returns-4
 returns-4 c =
     let c4 = c .before .before .before .before in
     let c8 = c4 .before .before .before .before in
     let c12 = c8 .before .before .before .before in
-    pair-is _ _ (c12 .before .find .ensures) _ (c8 .before .before .before .length .given .1) _ (c8 .read-number .ensures) _ (c .before .before .before .read-number2 .ensures) _ _ (c4 .before .before .first .given .1) (c .before .second .given .1)
+    pair-is _ _ (c12 .before .find .ensures) _ (c8 .before .before .before .length .given .1) _ (c8 .read-number .ensures) _
+    (c .before .before .before .read-number2 .ensures) _ _ (c4 .before .before .first .given .1) (c .before .second .given .1)
 
 pub read-pair-spec : {M : Type 1} → statement M
 read-pair-spec =

@@ -33,17 +33,30 @@ enum-known-first c = search needs
 enum-told-2 : tie.Need-enum-told-2
 enum-told-2 c = search needs
 
+-- The way back from a place in the code to the one that the name says.
+abbrev at-length : tie.After-known-told2 → tie.After-length
+at-length c = c .before .before .before .before .before .before
+
 returns-2 : tie.Need-returns-2
-returns-2 c = first-bad _ _ (c .before .before .before .before .before .before .before .find .ensures) _ (c .before .before .before .before .before .length .given .1) _ (c .before .before .read-number .ensures) (c .enum-told2 .given .1)
+returns-2 c =
+    let rn = c .before .before in
+    let l = rn .before .before .before in
+    first-bad _ _ (l .before .before .find .ensures) _ (l .length .given .1) _ (rn .read-number .ensures) (c .enum-told2 .given .1)
 
 add-rest : tie.Need-add-rest
-add-rest c = let f = comma-at _ _ (c .before .before .before .before .before .before .before .before .find .ensures) _ (c .before .before .before .before .before .before .length .given .1) in omega (arith, f .within)
+add-rest c =
+    let l = at-length c in
+    let f = comma-at _ _ (l .before .before .find .ensures) _ (l .length .given .1) in omega (arith, f .within)
 
 sub-read-pair : tie.Need-sub-read-pair
-sub-read-pair c = let f = comma-at _ _ (c .before .before .before .before .before .before .before .before .find .ensures) _ (c .before .before .before .before .before .before .length .given .1) in omega (arith, f .within)
+sub-read-pair c =
+    let l = at-length c in
+    let f = comma-at _ _ (l .before .before .find .ensures) _ (l .length .given .1) in omega (arith, f .within)
 
 part-read-pair-start : tie.Need-part-read-pair-start
-part-read-pair-start c = let f = comma-at _ _ (c .before .before .before .before .before .before .before .before .find .ensures) _ (c .before .before .before .before .before .before .length .given .1) in omega (arith, f .within)
+part-read-pair-start c =
+    let l = at-length c in
+    let f = comma-at _ _ (l .before .before .find .ensures) _ (l .length .given .1) in omega (arith, f .within)
 
 part-read-pair-end : tie.Need-part-read-pair-end
 part-read-pair-end c = search needs
@@ -62,14 +75,16 @@ returns-3 c =
     let c4 = c .before .before .before .before in
     let c8 = c4 .before .before .before .before in
     let c12 = c8 .before .before .before .before in
-    rest-bad _ _ (c12 .find .ensures) _ (c8 .before .before .length .given .1) (c4 .before .before .before .read-number .result) (c4 .before .before .before .read-number .ensures) _ (c .before .before .read-pair .ensures) (c .enum-told3 .given .1)
+    rest-bad _ _ (c12 .find .ensures) _ (c8 .before .before .length .given .1) (c4 .before .before .before .read-number .result)
+    (c4 .before .before .before .read-number .ensures) _ (c .before .before .read-pair .ensures) (c .enum-told3 .given .1)
 
 returns-4 : tie.Need-returns-4
 returns-4 c =
     let c4 = c .before .before .before .before in
     let c8 = c4 .before .before .before .before in
     let c12 = c8 .before .before .before .before in
-    triple-is _ _ (c12 .before .find .ensures) _ (c8 .before .before .before .length .given .1) _ (c8 .read-number .ensures) _ (c .before .before .before .read-pair .ensures) _ _ _ (c4 .before .before .first .given .1) (c .before .second .given .1)
+    triple-is _ _ (c12 .before .find .ensures) _ (c8 .before .before .before .length .given .1) _ (c8 .read-number .ensures) _ (c .before .before .before .read-pair .ensures)
+    _ _ _ (c4 .before .before .first .given .1) (c .before .second .given .1)
 
 pub read-triple-spec : {M : Type 1} → statement M
 read-triple-spec =

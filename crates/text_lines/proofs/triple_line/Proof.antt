@@ -36,14 +36,25 @@ enum-known-first c = search needs
 enum-told-2 : tie.Need-enum-told-2
 enum-told-2 c = search needs
 
+-- The way back from a place in the code to the one that the name says.
+abbrev at-from : tie.After-known-told2 → tie.After-from
+at-from c = c .before .before .before .before .before .before
+
 returns-2 : tie.Need-returns-2
-returns-2 c = triple-line-bad _ _ _ _ (c .before .before .before .before .before .before .before .find-value .ensures) _ _ (c .before .before .before .before .before .from .given .1) _ (c .before .before .read-triple .ensures) (c .enum-told2 .given .1)
+returns-2 c =
+    let rt = c .before .before in
+    let f = rt .before .before .before in
+    triple-line-bad _ _ _ _ (f .before .before .find-value .ensures) _ _ (f .from .given .1) _ (rt .read-triple .ensures) (c .enum-told2 .given .1)
 
 add-t12 : tie.Need-add-t12
-add-t12 c = let v = value-at _ _ _ _ (c .before .before .before .before .before .before .before .before .find-value .ensures) _ _ (c .before .before .before .before .before .before .from .given .1) in omega (arith, v .within)
+add-t12 c =
+    let f = at-from c in
+    let v = value-at _ _ _ _ (f .before .before .find-value .ensures) _ _ (f .from .given .1) in omega (arith, v .within)
 
 returns-3 : tie.Need-returns-3
-returns-3 c = triple-line-good _ _ _ _ (c .before .before .before .before .before .before .before .before .find-value .ensures) _ _ (c .before .before .before .before .before .before .from .given .1) _ (c .before .before .before .read-triple .ensures) _ _ _ (c .before .first .given .1)
+returns-3 c =
+    let f = at-from c in
+    triple-line-good _ _ _ _ (f .before .before .find-value .ensures) _ _ (f .from .given .1) _ (c .before .before .before .read-triple .ensures) _ _ _ (c .before .first .given .1)
 
 pub triple-line-spec : {M : Type 1} → statement M
 triple-line-spec =

@@ -20,8 +20,15 @@ put-ticket-requires c κs = search needs
 same-length : tie.Need-same-length
 same-length c = search needs
 
+-- The way back from a place in the code to the one that the name says.
+abbrev at-start : tie.After-entry → tie.Start
+at-start c = c .before .before .before .before .before .before
+
 returns : tie.Need-returns
-returns c = let a = c .before .before .before .before .before .before .before .before .before .before .before .args in closed-wrote (a .reads) (a .t) _ _ _ (c .before .before .before .before .before .before .place-in .ensures) (c .before .before .before .before .before .entry .ensures) (c .before .before .before .before .entry2 .ensures) _ _ _ _ (c .before .before .put-ticket .ensures)
+returns c =
+    let pt = c .before .before in
+    let e = pt .before .before .before in
+    let a = at-start e .args in closed-wrote (a .reads) (a .t) _ _ _ (e .before .place-in .ensures) (e .entry .ensures) (pt .before .before .entry2 .ensures) _ _ _ _ (pt .put-ticket .ensures)
 
 pub put-closed-spec : {M : Type 1} → statement M
 put-closed-spec =

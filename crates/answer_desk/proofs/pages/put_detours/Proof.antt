@@ -13,7 +13,8 @@ use Rattle.answer_desk.proofs.pages.put_detours.Statement.{statement}
 use Rattle.answer_desk.proofs.pages.put_detours.Tie as tie
 
 abbrev Inv-loop : tie.InvT-loop
-Inv-loop page₀ at n froms tos next₀ i₀ t10 page next i = LinesPut page₀ at 49 (pairLines detourKey (take n froms) (take n tos)) n (pairLines detourKey (drop i (take n froms)) (drop i (take n tos))) page next i
+Inv-loop page₀ at n froms tos next₀ i₀ t10 page next i =
+    LinesPut page₀ at 49 (pairLines detourKey (take n froms) (take n tos)) n (pairLines detourKey (drop i (take n froms)) (drop i (take n tos))) page next i
 
 abbrev μ-loop : tie.MeasureT-loop
 μ-loop page₀ at n froms tos next₀ i₀ t10 page next i = n - i
@@ -52,13 +53,21 @@ loop-less : tie.Need-loop-less Inv-loop μ-loop
 loop-less c = search needs
 
 loop-again : tie.Need-loop-again Inv-loop μ-loop
-loop-again c = let s = c .before .before .before .before .before .before .before .before in line-put _ _ _ _ _ (s .pre .1) _ _ _ _ (c .before .before .before .before .before .before .loop .inv) (search needs) _ _ (detours-left (s .args .n) (s .args .t3) (s .args .t4) (s .pre .0) (long-froms s) (long-tos s) (c .before .before .before .before .before .before .loop .i) (c .before .before .before .before .before .loop-test .taken)) _ (omega arith) _ _ (c .before .before .put-pair-line .ensures)
+loop-again c =
+    let ppl = c .before .before in
+    let il = ppl .before .before .before in
+    let s = il .before .before .before in
+    line-put _ _ _ _ _ (s .pre .1) _ _ _ _ (il .before .loop .inv) (search needs) _ _
+    (detours-left (s .args .n) (s .args .t3) (s .args .t4) (s .pre .0) (long-froms s) (long-tos s) (il .before .loop .i) (il .loop-test .taken)) _ (omega arith) _ _
+    (ppl .put-pair-line .ensures)
 
 same-length : tie.Need-same-length Inv-loop μ-loop
 same-length c = c .before .loop .inv .long
 
 returns : tie.Need-returns Inv-loop μ-loop
-returns c = let s = c .before .before .before in lines-put _ _ _ _ _ (s .pre .1) _ _ _ _ (c .before .loop .inv) (c .loop-test .left) (detours-over (s .args .n) (s .args .t3) (s .args .t4) (s .pre .0) (long-froms s) (long-tos s) (c .before .loop .i) (c .loop-test .left))
+returns c =
+    let s = c .before .before .before in lines-put _ _ _ _ _ (s .pre .1) _ _ _ _ (c .before .loop .inv) (c .loop-test .left)
+    (detours-over (s .args .n) (s .args .t3) (s .args .t4) (s .pre .0) (long-froms s) (long-tos s) (c .before .loop .i) (c .loop-test .left))
 
 pub put-detours-spec : {M : Type 1} → statement M
 put-detours-spec =

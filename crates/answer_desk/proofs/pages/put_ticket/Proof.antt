@@ -34,12 +34,18 @@ same-length : tie.Need-same-length
 same-length c = search needs
 
 returns : tie.Need-returns
-returns c = let wide = c .before .before .before .before .before .before .before .before .before .before .before .before .before .before .before .before .before .before .before .before .before .before .before .before .pre in
-    let one = c .before .before .before .before .before .before .before .before .before .before .before .before .before .before .before .before .before .before .before .before .put .ensures .room (omega arith) in
-    let two = wrote-on one (omega arith) (c .before .before .before .before .before .before .before .before .before .before .before .before .before .before .before .before .put-pair .ensures) in
-    let three = wrote-on two (omega arith) (c .before .before .before .before .before .before .before .before .before .before .before .put2 .ensures) in
-    let four = wrote-on three (omega arith) (c .before .before .before .before .before .before .before .put-number .ensures) in
-    wrote-within (wrote-on four (omega arith) (c .before .before .put-triple-line .ensures)) _ (omega arith)
+returns c =
+    let ptl = c .before .before in
+    let pn = ptl .before .before .before .before .before in
+    let p2 = pn .before .before .before .before in
+    let pp = p2 .before .before .before .before .before in
+    let p = pp .before .before .before .before in
+    let wide = p .before .before .before .before .pre in
+    let one = p .put .ensures .room (omega arith) in
+    let two = wrote-on one (omega arith) (pp .put-pair .ensures) in
+    let three = wrote-on two (omega arith) (p2 .put2 .ensures) in
+    let four = wrote-on three (omega arith) (pn .put-number .ensures) in
+    wrote-within (wrote-on four (omega arith) (ptl .put-triple-line .ensures)) _ (omega arith)
 
 pub put-ticket-spec : {M : Type 1} → statement M
 put-ticket-spec =

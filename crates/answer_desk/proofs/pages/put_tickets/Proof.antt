@@ -33,7 +33,9 @@ array-copy-out-t : tie.Need-array-copy-out-t Inv-loop μ-loop
 array-copy-out-t c = omega (arith, c .before .before .before .pre .0)
 
 put-closed-requires : tie.Need-put-closed-requires Inv-loop μ-loop
-put-closed-requires c κs = line-room _ _ _ _ _ (c .before .before .before .before .before .pre .1) _ _ _ _ (c .before .before .before .loop .inv) (c .before .before .loop-test .taken)
+put-closed-requires c κs =
+    let al = c .before .before .before in
+    line-room _ _ _ _ _ (al .before .before .pre .1) _ _ _ _ (al .loop .inv) (c .before .before .loop-test .taken)
 
 add-i : tie.Need-add-i Inv-loop μ-loop
 add-i c = search needs
@@ -42,13 +44,21 @@ loop-less : tie.Need-loop-less Inv-loop μ-loop
 loop-less c = search needs
 
 loop-again : tie.Need-loop-again Inv-loop μ-loop
-loop-again c = let s = c .before .before .before .before .before .before .before .before in line-wrote _ _ _ _ _ (s .pre .1) _ _ _ _ (c .before .before .before .before .before .before .loop .inv) (c .before .before .before .before .before .loop-test .taken) _ _ (tickets-left (s .args .reads) (s .args .t3) (long s) (s .args .first) (s .args .n) (s .pre .0) (c .before .before .before .before .before .before .loop .i) (c .before .before .before .before .before .loop-test .taken)) _ (omega arith) _ _ (c .before .before .put-closed .ensures)
+loop-again c =
+    let pc = c .before .before in
+    let il = pc .before .before .before in
+    let s = il .before .before .before in
+    line-wrote _ _ _ _ _ (s .pre .1) _ _ _ _ (il .before .loop .inv) (il .loop-test .taken) _ _
+    (tickets-left (s .args .reads) (s .args .t3) (long s) (s .args .first) (s .args .n) (s .pre .0) (il .before .loop .i) (il .loop-test .taken)) _ (omega arith) _ _
+    (pc .put-closed .ensures)
 
 same-length : tie.Need-same-length Inv-loop μ-loop
 same-length c = c .before .loop .inv .long
 
 returns : tie.Need-returns Inv-loop μ-loop
-returns c = let s = c .before .before .before in lines-put _ _ _ _ _ (s .pre .1) _ _ _ _ (c .before .loop .inv) (c .loop-test .left) (tickets-over (s .args .reads) (s .args .t3) (long s) (s .args .first) (s .args .n) (s .pre .0) (c .before .loop .i) (c .loop-test .left))
+returns c =
+    let s = c .before .before .before in lines-put _ _ _ _ _ (s .pre .1) _ _ _ _ (c .before .loop .inv) (c .loop-test .left)
+    (tickets-over (s .args .reads) (s .args .t3) (long s) (s .args .first) (s .args .n) (s .pre .0) (c .before .loop .i) (c .loop-test .left))
 
 pub put-tickets-spec : {M : Type 1} → statement M
 put-tickets-spec =

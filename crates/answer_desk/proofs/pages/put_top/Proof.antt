@@ -42,12 +42,18 @@ same-length c = search needs
 
 returns : tie.Need-returns
 unfolding boardedTop
-returns c = let wide = c .before .before .before .before .before .before .before .before .before .before .before .before .before .before .before .before .before .before .before .before .before .before .before .before .before .before .pre in
-    let one = c .before .before .before .before .before .before .before .before .before .before .before .before .before .before .before .before .before .before .before .before .before .before .put-pair-line .ensures .room (omega arith) in
-    let two = wrote-on one (omega arith) (c .before .before .before .before .before .before .before .before .before .before .before .before .before .before .before .before .before .put-number-line .ensures) in
-    let three = wrote-on two (omega arith) (c .before .before .before .before .before .before .before .before .before .before .before .before .put-number-line2 .ensures) in
-    let four = wrote-on three (omega arith) (c .before .before .before .before .before .before .before .put-number-line3 .ensures) in
-    wrote-within (wrote-on four (omega arith) (c .before .before .put-number-line4 .ensures)) _ (omega arith)
+returns c =
+    let pnl4 = c .before .before in
+    let pnl3 = pnl4 .before .before .before .before .before in
+    let pnl2 = pnl3 .before .before .before .before .before in
+    let pnl = pnl2 .before .before .before .before .before in
+    let ppl = pnl .before .before .before .before .before in
+    let wide = ppl .before .before .before .before .pre in
+    let one = ppl .put-pair-line .ensures .room (omega arith) in
+    let two = wrote-on one (omega arith) (pnl .put-number-line .ensures) in
+    let three = wrote-on two (omega arith) (pnl2 .put-number-line2 .ensures) in
+    let four = wrote-on three (omega arith) (pnl3 .put-number-line3 .ensures) in
+    wrote-within (wrote-on four (omega arith) (pnl4 .put-number-line4 .ensures)) _ (omega arith)
 
 pub put-top-spec : {M : Type 1} → statement M
 put-top-spec =

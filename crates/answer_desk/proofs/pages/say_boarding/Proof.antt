@@ -28,13 +28,19 @@ same-length : tie.Need-same-length
 same-length c = search needs
 
 returns : tie.Need-returns
-returns c = let a = c .before .before .before .before .before .before .before .before .args in says-refusal (verdictIn (a .boarded .answer)) (boardedText (a .row) (a .boarded) (a .froms) (a .tos) (a .reads)) _ _ _ _ (c .before .before .before .before .before .refused .ensures) (c .before .before .before .before .if1 .taken) (c .before .before .write-refusal .ensures)
+returns c =
+    let wr = c .before .before in
+    let r = wr .before .before .before in
+    let a = r .before .before .before .args in says-refusal (verdictIn (a .boarded .answer)) (boardedText (a .row) (a .boarded) (a .froms) (a .tos) (a .reads)) _ _ _ _
+    (r .refused .ensures) (wr .before .before .if1 .taken) (wr .write-refusal .ensures)
 
 slice-aggregate-put-boarding : tie.Need-slice-aggregate-put-boarding
 slice-aggregate-put-boarding c = search needs
 
 put-boarding-requires : tie.Need-put-boarding-requires
-put-boarding-requires c κs = let l = c .before .before .before .before .before .pre (sym (c .before .before .refused .ensures) ∙ c .before .if1 .left) in (l .one, (l .two, search needs))
+put-boarding-requires c κs =
+    let r = c .before .before in
+    let l = r .before .before .before .pre (sym (r .refused .ensures) ∙ c .before .if1 .left) in (l .one, (l .two, search needs))
 
 array-share-prefix-page : tie.Need-array-share-prefix-page
 array-share-prefix-page c = omega (arith, c .before .put-boarding .ensures .within)
@@ -50,11 +56,15 @@ same-length-2 c = search needs
 
 returns-2 : tie.Need-returns-2
 returns-2 c =
-    let s = c .before .before .before .before .before .before .before .before .before .before .before .before in
+    let ho = c .before .before in
+    let pb = ho .before .before .before .before in
+    let e1 = pb .before .before in
+    let s = e1 .before .before .before .before in
     let a = s .args in
-    let l = s .pre (sym (c .before .before .before .before .before .before .before .before .before .refused .ensures) ∙ c .before .before .before .before .before .before .before .before .if1 .left) in
-    let w = boarded-wrote (a .row) (a .boarded) (a .froms) (a .tos) (a .reads) (long-froms s) (long-tos s) l _ _ _ (c .before .before .before .before .before .before .put-boarding .ensures) in
-    says-text (verdictIn (a .boarded .answer)) (boardedText (a .row) (a .boarded) (a .froms) (a .tos) (a .reads)) _ _ _ _ (c .before .before .before .before .before .before .before .before .before .refused .ensures) (c .before .before .before .before .before .before .before .before .if1 .left) (page-handed _ _ _ _ _ w _ _ refl _ _ (c .before .before .hand-out .ensures))
+    let l = s .pre (sym (e1 .before .refused .ensures) ∙ e1 .if1 .left) in
+    let w = boarded-wrote (a .row) (a .boarded) (a .froms) (a .tos) (a .reads) (long-froms s) (long-tos s) l _ _ _ (pb .put-boarding .ensures) in
+    says-text (verdictIn (a .boarded .answer)) (boardedText (a .row) (a .boarded) (a .froms) (a .tos) (a .reads)) _ _ _ _ (e1 .before .refused .ensures) (e1 .if1 .left)
+    (page-handed _ _ _ _ _ w _ _ refl _ _ (ho .hand-out .ensures))
 
 pub say-boarding-spec : {M : Type 1} → statement M
 say-boarding-spec =

@@ -18,8 +18,14 @@ write-refusal-requires c κs = search needs
 same-length : tie.Need-same-length
 same-length c = search needs
 
+-- The way back from a place in the code to the one that the name says.
+abbrev at-start : tie.After-put-pair-line → tie.Start
+at-start c = c .before .before .before .before .before .before
+
 returns : tie.Need-returns
-returns c = says-refusal _ _ _ _ _ _ (c .before .before .before .before .before .refused .ensures) (c .before .before .before .before .if1 .taken) (c .before .before .write-refusal .ensures)
+returns c =
+    let wr = c .before .before in
+    says-refusal _ _ _ _ _ _ (wr .before .before .before .refused .ensures) (wr .before .before .if1 .taken) (wr .write-refusal .ensures)
 
 slice-aggregate-put-pair-line : tie.Need-slice-aggregate-put-pair-line
 slice-aggregate-put-pair-line c = search needs
@@ -28,10 +34,12 @@ put-pair-line-requires : tie.Need-put-pair-line-requires
 put-pair-line-requires c κs = search needs
 
 array-share-prefix-page : tie.Need-array-share-prefix-page
-array-share-prefix-page c = let short = c .before .before .before .before .before .before .before .pre in let w = c .before .put-pair-line .ensures .room (omega arith) in omega (arith, w .within)
+array-share-prefix-page c = let short = at-start (c .before) .pre in let w = c .before .put-pair-line .ensures .room (omega arith) in omega (arith, w .within)
 
 slice-aggregate-hand-out : tie.Need-slice-aggregate-hand-out
-slice-aggregate-hand-out c = let short = c .before .before .before .before .before .before .before .before .pre in part-length _ _ _ _ _ (c .before .before .put-pair-line .ensures .room (omega arith))
+slice-aggregate-hand-out c =
+    let ppl = c .before .before in
+    let short = at-start ppl .pre in part-length _ _ _ _ _ (ppl .put-pair-line .ensures .room (omega arith))
 
 hand-out-requires : tie.Need-hand-out-requires
 hand-out-requires c κs = search needs
@@ -40,7 +48,12 @@ same-length-2 : tie.Need-same-length-2
 same-length-2 c = search needs
 
 returns-2 : tie.Need-returns-2
-returns-2 c = let short = c .before .before .before .before .before .before .before .before .before .before .before .before .pre in let a = c .before .before .before .before .before .before .before .before .before .before .before .before .args in says-text (a .verdict) (pairLine (a .key .now) (a .first) (a .second)) _ _ _ _ (c .before .before .before .before .before .before .before .before .before .refused .ensures) (c .before .before .before .before .before .before .before .before .if1 .left) (page-handed _ _ _ _ _ (c .before .before .before .before .before .before .put-pair-line .ensures .room (omega arith)) _ _ refl _ _ (c .before .before .hand-out .ensures))
+returns-2 c =
+    let ho = c .before .before in
+    let ppl = ho .before .before .before .before in
+    let s = at-start ppl in
+    let short = s .pre in let a = s .args in says-text (a .verdict) (pairLine (a .key .now) (a .first) (a .second)) _ _ _ _ (ppl .before .before .before .refused .ensures)
+    (ppl .before .before .if1 .left) (page-handed _ _ _ _ _ (ppl .put-pair-line .ensures .room (omega arith)) _ _ refl _ _ (ho .hand-out .ensures))
 
 pub say-pair-spec : {M : Type 1} → statement M
 say-pair-spec =

@@ -26,10 +26,15 @@ write-sheet-requires c κs = search needs
 same-length : tie.Need-same-length
 same-length c = search needs
 
+-- The way back from a place in the code to the one that the name says.
+abbrev at-start : tie.After-write-sheet → tie.Start
+at-start c = c .before .before .before .before .before .before .before .before
+
 returns : tie.Need-returns
 returns c =
-    let c10 = c .before .before .before .before .before .before .before .before .before .before in
-    table-written _ _ _ _ _ _ _ _ (zero-row _ 256 (c10 .pre)) (c .before .before .write-sheet .ensures)
+    let ws = c .before .before in
+    let c10 = at-start ws in
+    table-written _ _ _ _ _ _ _ _ (zero-row _ 256 (c10 .pre)) (ws .write-sheet .ensures)
 
 pub write-table-spec : {M : Type 1} → statement M
 write-table-spec =

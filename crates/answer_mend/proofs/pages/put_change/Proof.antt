@@ -24,7 +24,12 @@ same-length : tie.Need-same-length
 same-length c = search needs
 
 returns : tie.Need-returns
-returns c = change-put _ _ _ (c .before .before .before .before .before .before .before .before .before .before .before .before .before .before .before .before .args .word .now) _ _ _ _ _ _ (c .before .before .before .before .before .before .before .before .before .before .before .before .before .before .before .before .pre .0) (c .before .before .before .before .before .before .before .before .before .before .before .before .before .before .before .before .pre .1) (c .before .before .before .before .before .before .before .before .before .before .before .put .ensures) (c .before .before .before .before .before .before .before .put-number .ensures) (c .before .before .put-line .ensures)
+returns c =
+    let pl = c .before .before in
+    let pn = pl .before .before .before .before .before in
+    let p = pn .before .before .before .before in
+    let s = p .before .before .before .before .before in
+    change-put _ _ _ (s .args .word .now) _ _ _ _ _ _ (s .pre .0) (s .pre .1) (p .put .ensures) (pn .put-number .ensures) (pl .put-line .ensures)
 
 pub put-change-spec : {M : Type 1} → statement M
 put-change-spec =

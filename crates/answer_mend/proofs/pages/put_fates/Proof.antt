@@ -26,8 +26,14 @@ add-put-fate c = search needs
 add-put-fate-2 : tie.Need-add-put-fate-2 Inv-loop μ-loop
 add-put-fate-2 c = search needs
 
+-- The way back from a place in the code to the one that the name says.
+abbrev at-start : tie.At-loop Inv-loop μ-loop → tie.Start Inv-loop μ-loop
+at-start c = c .before .before .before .before
+
 put-fate-requires : tie.Need-put-fate-requires Inv-loop μ-loop
-put-fate-requires c κs = fate-room _ _ _ _ _ (c .before .before .before .before .before .before .before .pre .1 .1) _ _ _ (c .before .before .before .loop .inv) (c .before .before .loop-test .taken)
+put-fate-requires c κs =
+    let al = c .before .before .before in
+    fate-room _ _ _ _ _ (at-start al .pre .1 .1) _ _ _ (al .loop .inv) (c .before .before .loop-test .taken)
 
 add-i : tie.Need-add-i Inv-loop μ-loop
 add-i c = search needs
@@ -36,13 +42,17 @@ loop-less : tie.Need-loop-less Inv-loop μ-loop
 loop-less c = search needs
 
 loop-again : tie.Need-loop-again Inv-loop μ-loop
-loop-again c = fate-more _ _ _ _ _ (c .before .before .before .before .before .before .before .before .before .before .pre .1 .1) _ _ _ (c .before .before .before .before .before .before .loop .inv) (c .before .before .before .before .before .loop-test .taken) _ _ (c .before .before .put-fate .kept .0) _ (c .before .before .before .before .fate-of .ensures) (c .before .before .put-fate .ensures)
+loop-again c =
+    let pf = c .before .before in
+    let il = pf .before .before .before in
+    fate-more _ _ _ _ _ (at-start (il .before) .pre .1 .1) _ _ _ (il .before .loop .inv) (il .loop-test .taken) _ _ (pf .put-fate .kept .0) _
+    (pf .before .before .fate-of .ensures) (pf .put-fate .ensures)
 
 same-length : tie.Need-same-length Inv-loop μ-loop
 same-length c = c .before .loop .inv .long
 
 returns : tie.Need-returns Inv-loop μ-loop
-returns c = fates-all _ _ _ _ _ (c .before .before .before .before .before .pre .1 .1) _ _ _ (c .before .loop .inv) (c .loop-test .left)
+returns c = fates-all _ _ _ _ _ (at-start (c .before) .pre .1 .1) _ _ _ (c .before .loop .inv) (c .loop-test .left)
 
 pub put-fates-spec : {M : Type 1} → statement M
 put-fates-spec =

@@ -9,8 +9,38 @@ use Rattle.answer_mend.proofs.Texts.{table-within, tail-within, third-w
 use Rattle.answer_mend.proofs.pages.put_sheet.Statement.{statement}
 use Rattle.answer_mend.proofs.pages.put_sheet.Tie as tie
 
+-- The way back from a place in the code to the one that the name says.
+abbrev at-start-from-put-arg2 : tie.After-put-arg2 → tie.Start
+at-start-from-put-arg2 c = c .before .before .before .before .before .before .before
+
+abbrev at-put : tie.After-put-number-line → tie.After-put
+at-put c = c .before .before .before .before .before
+
+abbrev at-start : tie.After-put-number-line → tie.Start
+at-start c = at-start-from-put-arg2 (at-put c .before)
+
+abbrev at-put2 : tie.After-put-number-line2 → tie.After-put2
+at-put2 c = c .before .before .before .before .before
+
+abbrev at-put-number-line : tie.After-put2 → tie.After-put-number-line
+at-put-number-line c = c .before .before .before .before .before
+
+abbrev at-start-from-put-arg5 : tie.After-put-arg5 → tie.Start
+at-start-from-put-arg5 c = at-start (at-put-number-line (at-put2 (c .before .before .before)))
+
+abbrev at-put-number-line2 : tie.After-put3 → tie.After-put-number-line2
+at-put-number-line2 c = c .before .before .before .before .before
+
+abbrev at-put3 : tie.After-put-number-line3 → tie.After-put3
+at-put3 c = c .before .before .before .before .before
+
+abbrev at-put-number-line3 : tie.After-put-wants → tie.After-put-number-line3
+at-put-number-line3 c = c .before .before .before .before
+
 slice-aggregate-put : tie.Need-slice-aggregate-put
-slice-aggregate-put c = sym (length-take-le _ (c .before .before .before .before .before .before .before .args .sheet .now) (third-within (c .before .before .before .before .before .before .before .args .page .now) _ _ _ _ _ (c .before .before .before .before .before .before .before .pre .0) (c .before .before .before .before .before .before .before .pre .1)))
+slice-aggregate-put c =
+    let s = at-start-from-put-arg2 c in
+    sym (length-take-le _ (s .args .sheet .now) (third-within (s .args .page .now) _ _ _ _ _ (s .pre .0) (s .pre .1)))
 
 put-requires : tie.Need-put-requires
 put-requires c κs = search needs
@@ -34,13 +64,19 @@ put-number-line-requires-2 : tie.Need-put-number-line-requires-2
 put-number-line-requires-2 c κs = search needs
 
 sub-put : tie.Need-sub-put
-sub-put c = table-within (c .before .before .before .before .before .before .before .before .before .before .before .before .before .before .before .before .before .before .before .before .before .before .before .before .before .before .args .page .now) _ _ _ _ _ (c .before .before .before .before .before .before .before .before .before .before .before .before .before .before .before .before .before .before .before .before .before .before .before .before .before .before .pre .0) (c .before .before .before .before .before .before .before .before .before .before .before .before .before .before .before .before .before .before .before .before .before .before .before .before .before .before .pre .1)
+sub-put c =
+    let s = at-start-from-put-arg5 c in
+    table-within (s .args .page .now) _ _ _ _ _ (s .pre .0) (s .pre .1)
 
 part-put-start : tie.Need-part-put-start
-part-put-start c = table-within (c .before .before .before .before .before .before .before .before .before .before .before .before .before .before .before .before .before .before .before .before .before .before .before .before .before .before .args .page .now) _ _ _ _ _ (c .before .before .before .before .before .before .before .before .before .before .before .before .before .before .before .before .before .before .before .before .before .before .before .before .before .before .pre .0) (c .before .before .before .before .before .before .before .before .before .before .before .before .before .before .before .before .before .before .before .before .before .before .before .before .before .before .pre .1)
+part-put-start c =
+    let s = at-start-from-put-arg5 c in
+    table-within (s .args .page .now) _ _ _ _ _ (s .pre .0) (s .pre .1)
 
 part-put-end : tie.Need-part-put-end
-part-put-end c = tail-within (c .before .before .before .before .before .before .before .before .before .before .before .before .before .before .before .before .before .before .before .before .before .before .before .before .before .before .args .page .now) _ _ _ _ _ (c .before .before .before .before .before .before .before .before .before .before .before .before .before .before .before .before .before .before .before .before .before .before .before .before .before .before .pre .0) (c .before .before .before .before .before .before .before .before .before .before .before .before .before .before .before .before .before .before .before .before .before .before .before .before .before .before .pre .1)
+part-put-end c =
+    let s = at-start-from-put-arg5 c in
+    tail-within (s .args .page .now) _ _ _ _ _ (s .pre .0) (s .pre .1)
 
 put-requires-3 : tie.Need-put-requires-3
 put-requires-3 c κs = search needs
@@ -52,13 +88,41 @@ put-number-line-requires-3 : tie.Need-put-number-line-requires-3
 put-number-line-requires-3 c κs = search needs
 
 put-wants-requires : tie.Need-put-wants-requires
-put-wants-requires c κs = wants-room (c .before .before .before .before .before .before .before .before .before .before .before .before .before .before .before .before .before .before .before .before .before .before .before .before .before .before .before .before .before .before .before .before .before .before .before .before .args .page .now) _ _ _ _ _ (c .before .before .before .before .before .before .before .before .before .before .before .before .before .before .before .before .before .before .before .before .before .before .before .before .before .before .before .before .before .before .before .before .before .before .before .before .pre .0) (c .before .before .before .before .before .before .before .before .before .before .before .before .before .before .before .before .before .before .before .before .before .before .before .before .before .before .before .before .before .before .before .before .before .before .before .before .pre .1) (c .before .before .before .before .before .before .before .before .before .before .before .before .before .before .before .before .before .before .before .before .before .before .before .before .before .before .before .before .put .ensures) (c .before .before .before .before .before .before .before .before .before .before .before .before .before .before .before .before .before .before .before .before .before .before .before .put-number-line .ensures) (c .before .before .before .before .before .before .before .before .before .before .before .before .before .before .before .before .before .before .put2 .ensures) (c .before .before .before .before .before .before .before .before .before .before .before .before .before .put-number-line2 .ensures) (c .before .before .before .before .before .before .before .before .put3 .ensures) (c .before .before .before .put-number-line3 .ensures)
+put-wants-requires c κs =
+    let pnl3 = c .before .before .before in
+    let p3 = at-put3 pnl3 in
+    let pnl2 = at-put-number-line2 p3 in
+    let p2 = at-put2 pnl2 in
+    let pnl = at-put-number-line p2 in
+    let s = at-start pnl in
+    wants-room (s .args .page .now) _ _ _ _ _ (s .pre .0) (s .pre .1) (at-put pnl .put .ensures) (pnl .put-number-line .ensures) (p2 .put2 .ensures)
+    (pnl2 .put-number-line2 .ensures) (p3 .put3 .ensures) (pnl3 .put-number-line3 .ensures)
 
 same-length : tie.Need-same-length
-same-length c = wrote-long (sheet-put (c .before .before .before .before .before .before .before .before .before .before .before .before .before .before .before .before .before .before .before .before .before .before .before .before .before .before .before .before .before .before .before .before .before .before .before .before .before .before .before .args .page .now) _ _ _ _ _ (c .before .before .before .before .before .before .before .before .before .before .before .before .before .before .before .before .before .before .before .before .before .before .before .before .before .before .before .before .before .before .before .before .before .before .before .before .before .before .before .pre .0) (c .before .before .before .before .before .before .before .before .before .before .before .before .before .before .before .before .before .before .before .before .before .before .before .before .before .before .before .before .before .before .before .before .before .before .before .before .before .before .before .pre .1) (c .before .before .before .before .before .before .before .before .before .before .before .before .before .before .before .before .before .before .before .before .before .before .before .before .before .before .before .before .before .before .before .put .ensures) (c .before .before .before .before .before .before .before .before .before .before .before .before .before .before .before .before .before .before .before .before .before .before .before .before .before .before .put-number-line .ensures) (c .before .before .before .before .before .before .before .before .before .before .before .before .before .before .before .before .before .before .before .before .before .put2 .ensures) (c .before .before .before .before .before .before .before .before .before .before .before .before .before .before .before .before .put-number-line2 .ensures) (c .before .before .before .before .before .before .before .before .before .before .before .put3 .ensures) (c .before .before .before .before .before .before .put-number-line3 .ensures) (c .before .before .put-wants .ensures)) (omega (arith, c .before .before .before .before .before .before .before .before .before .before .before .before .before .before .before .before .before .before .before .before .before .before .before .before .before .before .before .before .before .before .before .before .before .before .before .before .before .before .before .pre .1))
+same-length c =
+    let pw = c .before .before in
+    let pnl3 = at-put-number-line3 pw in
+    let p3 = at-put3 pnl3 in
+    let pnl2 = at-put-number-line2 p3 in
+    let p2 = at-put2 pnl2 in
+    let pnl = at-put-number-line p2 in
+    let s = at-start pnl in
+    wrote-long
+    (sheet-put (s .args .page .now) _ _ _ _ _ (s .pre .0) (s .pre .1) (at-put pnl .put .ensures) (pnl .put-number-line .ensures) (p2 .put2 .ensures)
+    (pnl2 .put-number-line2 .ensures) (p3 .put3 .ensures) (pnl3 .put-number-line3 .ensures) (pw .put-wants .ensures))
+    (omega (arith, s .pre .1))
 
 returns : tie.Need-returns
-returns c = sheet-put (c .before .before .before .before .before .before .before .before .before .before .before .before .before .before .before .before .before .before .before .before .before .before .before .before .before .before .before .before .before .before .before .before .before .before .before .before .before .before .before .args .page .now) _ _ _ _ _ (c .before .before .before .before .before .before .before .before .before .before .before .before .before .before .before .before .before .before .before .before .before .before .before .before .before .before .before .before .before .before .before .before .before .before .before .before .before .before .before .pre .0) (c .before .before .before .before .before .before .before .before .before .before .before .before .before .before .before .before .before .before .before .before .before .before .before .before .before .before .before .before .before .before .before .before .before .before .before .before .before .before .before .pre .1) (c .before .before .before .before .before .before .before .before .before .before .before .before .before .before .before .before .before .before .before .before .before .before .before .before .before .before .before .before .before .before .before .put .ensures) (c .before .before .before .before .before .before .before .before .before .before .before .before .before .before .before .before .before .before .before .before .before .before .before .before .before .before .put-number-line .ensures) (c .before .before .before .before .before .before .before .before .before .before .before .before .before .before .before .before .before .before .before .before .before .put2 .ensures) (c .before .before .before .before .before .before .before .before .before .before .before .before .before .before .before .before .put-number-line2 .ensures) (c .before .before .before .before .before .before .before .before .before .before .before .put3 .ensures) (c .before .before .before .before .before .before .put-number-line3 .ensures) (c .before .before .put-wants .ensures)
+returns c =
+    let pw = c .before .before in
+    let pnl3 = at-put-number-line3 pw in
+    let p3 = at-put3 pnl3 in
+    let pnl2 = at-put-number-line2 p3 in
+    let p2 = at-put2 pnl2 in
+    let pnl = at-put-number-line p2 in
+    let s = at-start pnl in
+    sheet-put (s .args .page .now) _ _ _ _ _ (s .pre .0) (s .pre .1) (at-put pnl .put .ensures) (pnl .put-number-line .ensures) (p2 .put2 .ensures)
+    (pnl2 .put-number-line2 .ensures) (p3 .put3 .ensures) (pnl3 .put-number-line3 .ensures) (pw .put-wants .ensures)
 
 pub put-sheet-spec : {M : Type 1} → statement M
 put-sheet-spec =

@@ -12,7 +12,9 @@ use Rattle.answer_mend.proofs.pages.put_wants.Statement.{statement}
 use Rattle.answer_mend.proofs.pages.put_wants.Tie as tie
 
 abbrev Inv-loop : tie.InvT-loop
-Inv-loop page₀ at row wanted counts next₀ i₀ t9 page next i = LinesPut page₀ at 47 (pairLines wantKey row (readsEach wanted counts row)) (length row) (pairLines wantKey (drop i row) (drop i (readsEach wanted counts row))) page next i
+Inv-loop page₀ at row wanted counts next₀ i₀ t9 page next i =
+    LinesPut page₀ at 47 (pairLines wantKey row (readsEach wanted counts row)) (length row)
+    (pairLines wantKey (drop i row) (drop i (readsEach wanted counts row))) page next i
 
 abbrev μ-loop : tie.MeasureT-loop
 μ-loop page₀ at row wanted counts next₀ i₀ t9 page next i = length row - i
@@ -26,8 +28,12 @@ mul-reads-of c = search needs
 shared-slice-read-reads-of : tie.Need-shared-slice-read-reads-of Inv-loop μ-loop
 shared-slice-read-reads-of c = search needs
 
+-- The way back from a place in the code to the one that the name says.
+abbrev at-start : tie.At-loop Inv-loop μ-loop → tie.Start Inv-loop μ-loop
+at-start c = c .before .before .before .before .before
+
 reads-of-requires : tie.Need-reads-of-requires Inv-loop μ-loop
-reads-of-requires c κs = c .before .before .before .before .before .before .before .pre .0
+reads-of-requires c κs = at-start (c .before .before) .pre .0
 
 slice-aggregate-put-pair-line : tie.Need-slice-aggregate-put-pair-line Inv-loop μ-loop
 slice-aggregate-put-pair-line c = search needs
@@ -48,13 +54,17 @@ loop-less : tie.Need-loop-less Inv-loop μ-loop
 loop-less c = search needs
 
 loop-again : tie.Need-loop-again Inv-loop μ-loop
-loop-again c = want-put _ _ _ _ _ (c .before .before .before .before .before .before .before .before .before .before .before .before .before .before .pre .1) _ _ _ (c .before .before .before .before .before .before .before .before .before .loop .inv) (c .before .before .before .before .before .before .before .before .loop-test .taken) _ (c .before .before .before .before .before .before .reads-of .ensures) _ _ (c .before .before .put-pair-line .ensures)
+loop-again c =
+    let ppl = c .before .before in
+    let ro = ppl .before .before .before .before in
+    let al = ro .before .before .before in
+    want-put _ _ _ _ _ (at-start al .pre .1) _ _ _ (al .loop .inv) (ro .before .before .loop-test .taken) _ (ro .reads-of .ensures) _ _ (ppl .put-pair-line .ensures)
 
 same-length : tie.Need-same-length Inv-loop μ-loop
 same-length c = c .before .loop .inv .long
 
 returns : tie.Need-returns Inv-loop μ-loop
-returns c = lines-put _ _ _ _ _ (c .before .before .before .before .before .before .pre .1) _ _ _ _ (c .before .loop .inv) (c .loop-test .left) (pairs-over wantKey _ _ (each-long _ _ _) _ (c .loop-test .left))
+returns c = lines-put _ _ _ _ _ (at-start (c .before) .pre .1) _ _ _ _ (c .before .loop .inv) (c .loop-test .left) (pairs-over wantKey _ _ (each-long _ _ _) _ (c .loop-test .left))
 
 pub put-wants-spec : {M : Type 1} → statement M
 put-wants-spec =

@@ -12,14 +12,24 @@ use Rattle.engine_table.proofs.filling.detour_row.Tie as tie
 add-trip-of : tie.Need-add-trip-of
 add-trip-of c = search needs
 
+-- The way back from a place in the code to the one that the name says.
+abbrev at-start-from-slice-known : tie.After-slice-known → tie.Start
+at-start-from-slice-known c = c .before .before .before .before .before
+
+abbrev at-start : tie.After-early-of → tie.Start
+at-start c = at-start-from-slice-known (c .before .before)
+
+abbrev at-row : tie.After-row3 → tie.After-row
+at-row c = c .before .before .before .before
+
 trip-of-requires : tie.Need-trip-of-requires
 trip-of-requires c κs =
-    let z = c .before .before .before .before .before in
+    let z = at-start-from-slice-known c in
     trip-fits _ _ _ _ _ _ (z .pre .0 .judged) _ _ (z .pre .1 .0 .up-to) (z .pre .0 .inside)
 
 mul-base : tie.Need-mul-base
 mul-base c =
-    let z = c .before .before .before .before .before .before in
+    let z = at-start-from-slice-known (c .before) in
     omega (arith, mul-le-mul (slope-small _ _ _ _ _ _ _ _ _ _ (z .pre .0) _ _ (z .pre .1 .0) _ (c .trip-of .ensures)) (waiting-few _ _ _ _ _ _ _ _ _ _ (z .pre .0) _ _ (z .pre .1 .0)))
 
 add-early-of : tie.Need-add-early-of
@@ -27,17 +37,17 @@ add-early-of c = search needs
 
 early-of-requires : tie.Need-early-of-requires
 early-of-requires c κs =
-    let z = c .before .before .before .before .before .before in
+    let z = at-start-from-slice-known (c .before) in
     early-fits _ _ _ _ _ _ (z .pre .0 .judged) _ _ (z .pre .1 .0 .up-to) (z .pre .0 .inside)
 
 add-base : tie.Need-add-base
 add-base c =
-    let z = c .before .before .before .before .before .before .before in
+    let z = at-start c in
     omega (arith, base-small _ _ _ _ _ _ _ _ _ _ (z .pre .0) _ _ (z .pre .1 .0) _ (c .before .trip-of .ensures) _ (c .early-of .ensures))
 
 row-requires : tie.Need-row-requires
 row-requires c κs =
-    let z = c .before .before .before .before .before .before .before in
+    let z = at-start c in
     let h = z .pre .1 .0 .up-to in
     let l = z .pre .0 .inside in
     row-fits _ _ _ _ _ _ (z .pre .0 .judged) _ _ (omega arith) (omega arith)
@@ -50,12 +60,12 @@ mul-inner c = search needs
 
 shared-slice-read-inner : tie.Need-shared-slice-read-inner
 shared-slice-read-inner c =
-    let z = c .before .before .before .before .before .before .before .before .before in
+    let z = at-start (c .before .before) in
     omega (arith, even-counts _ _ _ _ _ _ (z .pre .0 .judged), z .pre .0 .inside)
 
 add-inner-2 : tie.Need-add-inner-2
 add-inner-2 c =
-    let z = c .before .before .before .before .before .before .before .before .before in
+    let z = at-start (c .before .before) in
     let h = z .pre .1 .0 .up-to in
     let l = z .pre .0 .inside in
     omega (arith, row-part-small _ _ _ _ _ _ (z .pre .0 .judged) (z .args .c) (z .args .b) _ _ (omega arith) (omega arith) (c .before .row .ensures) (count-few _ _ _ _ _ _ (z .pre .0 .judged) _ l))
@@ -65,7 +75,7 @@ add-row c = search needs
 
 row-requires-2 : tie.Need-row-requires-2
 row-requires-2 c κs =
-    let z = c .before .before .before .before .before .before .before .before .before .before in
+    let z = at-start (c .before .before .before) in
     let h = z .pre .0 .window in
     let l = z .pre .0 .inside in
     row-fits _ _ _ _ _ _ (z .pre .0 .judged) _ _ (omega arith) l
@@ -75,7 +85,7 @@ sub-row c = search needs
 
 row-requires-3 : tie.Need-row-requires-3
 row-requires-3 c κs =
-    let z = c .before .before .before .before .before .before .before .before .before .before .before in
+    let z = at-start (c .before .before .before .before) in
     let h = z .pre .0 .window in
     let l = z .pre .0 .inside in
     let m = z .pre .1 .0 .up-to in
@@ -83,9 +93,14 @@ row-requires-3 c κs =
 
 lower-row-requires : tie.Need-lower-row-requires
 lower-row-requires c κs =
-    let e = c .before .before .before .before .before in
-    let z = e .before .before .before .before .before .before .before in
-    (detour-fits _ _ _ _ _ _ _ _ _ _ (z .pre .0) _ _ (z .pre .1 .0) _ (e .before .trip-of .ensures) _ (e .early-of .ensures) _ _ _ (c .before .row2 .ensures) (c .before .before .before .before .row .ensures) (c .row3 .ensures), detour-edges _ _ _ _ _ _ _ _ _ _ (z .pre .0) _ _ (z .pre .1 .0) _ (e .before .trip-of .ensures) _ (e .early-of .ensures) _ _ _ (c .before .row2 .ensures) (c .before .before .before .before .row .ensures) (c .row3 .ensures) (z .pre .1 .1))
+    let r = at-row c in
+    let e = r .before in
+    let z = at-start e in (
+      detour-fits _ _ _ _ _ _ _ _ _ _ (z .pre .0) _ _ (z .pre .1 .0) _ (e .before .trip-of .ensures) _ (e .early-of .ensures) _ _ _ (c .before .row2 .ensures) (r .row .ensures)
+          (c .row3 .ensures),
+      detour-edges _ _ _ _ _ _ _ _ _ _ (z .pre .0) _ _ (z .pre .1 .0) _ (e .before .trip-of .ensures) _ (e .early-of .ensures) _ _ _ (c .before .row2 .ensures)
+          (r .row .ensures) (c .row3 .ensures) (z .pre .1 .1),
+    )
 
 same-length : tie.Need-same-length
 same-length c = search needs
@@ -93,9 +108,11 @@ same-length c = search needs
 returns : tie.Need-returns
 returns c =
     let r = c .before .before .before in
-    let e = r .before .before .before .before .before in
-    let z = e .before .before .before .before .before .before .before in
-    detour-written _ _ _ _ _ _ _ _ _ _ (z .pre .0) _ _ (z .pre .1 .0) _ (e .before .trip-of .ensures) _ (e .early-of .ensures) _ _ _ (r .before .row2 .ensures) (r .before .before .before .before .row .ensures) (r .row3 .ensures) _ (c .before .before .lower-row .ensures)
+    let row = at-row r in
+    let e = row .before in
+    let z = at-start e in
+    detour-written _ _ _ _ _ _ _ _ _ _ (z .pre .0) _ _ (z .pre .1 .0) _ (e .before .trip-of .ensures) _ (e .early-of .ensures) _ _ _ (r .before .row2 .ensures)
+    (row .row .ensures) (r .row3 .ensures) _ (c .before .before .lower-row .ensures)
 
 pub detour-row-spec : {M : Type 1} → statement M
 detour-row-spec =

@@ -17,24 +17,34 @@ Inv-loop starts lengths numbers counts turn room₀ reads b₀ left₀ room b le
 abbrev μ-loop : tie.MeasureT-loop
 μ-loop starts lengths numbers counts turn room₀ reads b₀ left₀ room b left = length numbers - b
 
+-- The way back from a place in the code to the one that the name says.
+abbrev at-start-from-clear-arg : tie.After-clear-arg Inv-loop μ-loop → tie.Start Inv-loop μ-loop
+at-start-from-clear-arg c = c .before .before .before .before .before .before
+
+abbrev at-start : tie.After-shared-slice-known5 Inv-loop μ-loop → tie.Start Inv-loop μ-loop
+at-start c = at-start-from-clear-arg (c .before .before .before .before)
+
+abbrev in-loop : tie.After-slice-known3 Inv-loop μ-loop → tie.In-loop Inv-loop μ-loop
+in-loop c = c .before .before .before .before .before
+
 add-clear : tie.Need-add-clear Inv-loop μ-loop
 add-clear c =
-    let z = c .before .before .before .before .before .before in
+    let z = at-start-from-clear-arg c in
     omega (arith, few-reads _ _ _ _ _ _ (z .pre .0))
 
 clear-requires : tie.Need-clear-requires Inv-loop μ-loop
 clear-requires c κs =
-    let z = c .before .before .before .before .before .before in
+    let z = at-start-from-clear-arg c in
     first-row-fits _ _ _ (z .pre .1 .0) (z .pre .1 .1)
 
 shared-slice-read-left : tie.Need-shared-slice-read-left Inv-loop μ-loop
 shared-slice-read-left c =
-    let z = c .before .before .before .before .before .before .before .before .before .before in
+    let z = at-start c in
     omega (arith, even-counts _ _ _ _ _ _ (z .pre .0), z .pre .1 .0)
 
 loop-holds : tie.Need-loop-holds Inv-loop μ-loop
 loop-holds c =
-    let z = c .before .before .before .before .before .before .before .before .before .before in
+    let z = at-start c in
     table-starts _ _ _ _ _ _ _ _ _ (z .pre .0) (z .pre .1 .0) (z .pre .1 .1) (c .before .before .before .clear .ensures) refl
 
 add-loop : tie.Need-add-loop Inv-loop μ-loop
@@ -45,12 +55,12 @@ add-n c = search needs
 
 mul-n : tie.Need-mul-n Inv-loop μ-loop
 mul-n c =
-    let z = c .before .before .before .before .before .before .before .before .before .before .before .before in
+    let z = at-start (c .before .before) in
     omega (arith, even-counts _ _ _ _ _ _ (z .pre .0), z .good)
 
 shared-slice-read-n : tie.Need-shared-slice-read-n Inv-loop μ-loop
 shared-slice-read-n c =
-    let z = c .before .before .before .before .before .before .before .before .before .before .before .before .before in
+    let z = at-start (c .before .before .before) in
     omega (arith, even-counts _ _ _ _ _ _ (z .pre .0))
 
 add-n-2 : tie.Need-add-n-2 Inv-loop μ-loop
@@ -78,27 +88,31 @@ add-b c = search needs
 
 mul-left : tie.Need-mul-left Inv-loop μ-loop
 mul-left c =
-    let l = c .before .before .before .before .before .before in
-    let z = l .before .before .before .before .before .before .before .before .before .before .before in
-    omega (arith, even-counts _ _ _ _ _ _ (l .loop .inv .judged), z .good, c .before .before .before .before .before .loop-test .taken)
+    let il = in-loop c in
+    let l = il .before in
+    let z = at-start (l .before) in
+    omega (arith, even-counts _ _ _ _ _ _ (l .loop .inv .judged), z .good, il .loop-test .taken)
 
 shared-slice-read-left-2 : tie.Need-shared-slice-read-left-2 Inv-loop μ-loop
 shared-slice-read-left-2 c =
-    let l = c .before .before .before .before .before .before .before in
-    omega (arith, even-counts _ _ _ _ _ _ (l .loop .inv .judged), c .before .before .before .before .before .before .loop-test .taken)
+    let il = in-loop (c .before) in
+    let l = il .before in
+    omega (arith, even-counts _ _ _ _ _ _ (l .loop .inv .judged), il .loop-test .taken)
 
 add-left : tie.Need-add-left Inv-loop μ-loop
 add-left c =
-    let l = c .before .before .before .before .before .before .before in
-    omega (arith, left-within _ _ _ _ _ _ _ _ _ _ (l .loop .inv) (c .before .before .before .before .before .before .loop-test .taken), few-reads _ _ _ _ _ _ (l .loop .inv .judged))
+    let il = in-loop (c .before) in
+    let l = il .before in
+    omega (arith, left-within _ _ _ _ _ _ _ _ _ _ (l .loop .inv) (il .loop-test .taken), few-reads _ _ _ _ _ _ (l .loop .inv .judged))
 
 loop-less : tie.Need-loop-less Inv-loop μ-loop
 loop-less c = search needs
 
 loop-again : tie.Need-loop-again Inv-loop μ-loop
 loop-again c =
-    let l = c .before .before .before .before .before .before .before in
-    table-turn _ _ _ _ _ _ _ _ _ _ (l .loop .inv) _ (c .before .before .before .before .before .before .loop-test .taken) (c .before .before .before .fill-column .ensures)
+    let il = in-loop (c .before) in
+    let l = il .before in
+    table-turn _ _ _ _ _ _ _ _ _ _ (l .loop .inv) _ (il .loop-test .taken) (c .before .before .before .fill-column .ensures)
 
 same-length : tie.Need-same-length Inv-loop μ-loop
 same-length c =
@@ -108,7 +122,7 @@ same-length c =
 returns : tie.Need-returns Inv-loop μ-loop
 returns c =
     let s = c .before .before in
-    let z = s .before .before .before .before .before .before .before .before .before .before in (
+    let z = at-start s in (
       table-filled _ _ _ _ _ _ _ _ _ _ (c .before .loop .inv) (c .loop-test .left),
       table-beyond _ _ _ _ _ _ _ _ _ _ _ (z .pre .1 .0) (s .before .before .before .clear .ensures) (c .before .loop .inv),
     )

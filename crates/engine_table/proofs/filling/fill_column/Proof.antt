@@ -19,35 +19,46 @@ abbrev μ-loop : tie.MeasureT-loop
 add-row : tie.Need-add-row Inv-loop μ-loop
 add-row c = search needs
 
+-- The way back from a place in the code to the one that the name says.
+abbrev at-start-from-clear-arg : tie.After-clear-arg Inv-loop μ-loop → tie.Start Inv-loop μ-loop
+at-start-from-clear-arg c = c .before .before .before .before .before .before
+
+abbrev at-start : tie.After-row Inv-loop μ-loop → tie.Start Inv-loop μ-loop
+at-start c = at-start-from-clear-arg (c .before)
+
+abbrev at-row : tie.After-fill-row-arg Inv-loop μ-loop → tie.After-row Inv-loop μ-loop
+at-row c = c .before .before .before .before .before .before
+
 row-requires : tie.Need-row-requires Inv-loop μ-loop
 row-requires c κs =
-    let z = c .before .before .before .before .before .before in
+    let z = at-start-from-clear-arg c in
     let l = z .pre .0 .inside in
     row-fits _ _ _ _ _ _ (z .pre .0 .judged) _ _ l (omega arith)
 
 add-clear : tie.Need-add-clear Inv-loop μ-loop
 add-clear c =
-    let z = c .before .before .before .before .before .before .before in
+    let z = at-start c in
     omega (arith, few-reads _ _ _ _ _ _ (z .pre .0 .judged))
 
 mul-clear : tie.Need-mul-clear Inv-loop μ-loop
 mul-clear c =
-    let z = c .before .before .before .before .before .before .before in
+    let z = at-start c in
     omega (arith, few-reads _ _ _ _ _ _ (z .pre .0 .judged))
 
 clear-requires : tie.Need-clear-requires Inv-loop μ-loop
 clear-requires c κs =
-    let z = c .before .before .before .before .before .before .before in
+    let z = at-start c in
     clear-fits _ _ _ _ _ _ _ _ _ _ (z .pre .0) (c .row .ensures)
 
 loop-holds : tie.Need-loop-holds Inv-loop μ-loop
 loop-holds c =
-    let z = c .before .before .before .before .before .before .before .before .before .before in
-    column-starts _ _ _ _ _ _ _ _ _ _ _ (z .pre .0) (c .before .before .before .row .ensures) (c .before .before .clear .ensures)
+    let r = c .before .before .before in
+    let z = at-start r in
+    column-starts _ _ _ _ _ _ _ _ _ _ _ (z .pre .0) (r .row .ensures) (c .before .before .clear .ensures)
 
 fill-row-requires : tie.Need-fill-row-requires Inv-loop μ-loop
 fill-row-requires c κs =
-    let z = c .before .before .before .before .before .before .before .before .before .before .before .before .before in
+    let z = at-start (at-row c) in
     (row-task _ _ _ _ _ _ _ _ _ _ _ (c .before .before .loop .inv) (c .before .loop-test .taken), z .pre .1)
 
 add-a : tie.Need-add-a Inv-loop μ-loop
@@ -58,8 +69,9 @@ loop-less c = search needs
 
 loop-again : tie.Need-loop-again Inv-loop μ-loop
 loop-again c =
-    let l = c .before .before .before .before .before in
-    column-turn _ _ _ _ _ _ _ _ _ _ _ (l .loop .inv) _ (c .before .before .before .before .loop-test .taken) (c .before .before .fill-row .ensures)
+    let fr = c .before .before in
+    let l = fr .before .before .before in
+    column-turn _ _ _ _ _ _ _ _ _ _ _ (l .loop .inv) _ (fr .before .before .loop-test .taken) (fr .fill-row .ensures)
 
 same-length : tie.Need-same-length Inv-loop μ-loop
 same-length c =
@@ -69,8 +81,9 @@ same-length c =
 returns : tie.Need-returns Inv-loop μ-loop
 returns c =
     let s = c .before .before in
-    let z = s .before .before .before .before .before .before .before .before .before .before in
-    column-done _ _ _ _ _ _ _ _ _ _ _ _ _ (z .pre .0) (s .before .before .before .row .ensures) (s .before .before .clear .ensures) (c .before .loop .inv) (c .loop-test .left)
+    let r = s .before .before .before in
+    let z = at-start r in
+    column-done _ _ _ _ _ _ _ _ _ _ _ _ _ (z .pre .0) (r .row .ensures) (s .before .before .clear .ensures) (c .before .loop .inv) (c .loop-test .left)
 
 pub fill-column-spec : {M : Type 1} → statement M
 fill-column-spec =

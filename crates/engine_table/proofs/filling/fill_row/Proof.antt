@@ -14,6 +14,19 @@ Inv-loop starts lengths numbers counts turn room₀ reads a b left n k from c₀
 abbrev μ-loop : tie.MeasureT-loop
 μ-loop starts lengths numbers counts turn room₀ reads a b left n k from c₀ w₀ room c w = c
 
+-- The way back from a place in the code to the one that the name says.
+abbrev at-start : tie.After-row Inv-loop μ-loop → tie.Start Inv-loop μ-loop
+at-start c = c .before .before .before .before .before .before
+
+abbrev at-row : tie.After-early-of Inv-loop μ-loop → tie.After-row Inv-loop μ-loop
+at-row c = c .before .before .before .before
+
+abbrev at-row-from-at-loop : tie.At-loop Inv-loop μ-loop → tie.After-row Inv-loop μ-loop
+at-row-from-at-loop c = at-row (c .before .before .before .before)
+
+abbrev at-loop : tie.After-slice-known3 Inv-loop μ-loop → tie.At-loop Inv-loop μ-loop
+at-loop c = c .before .before .before .before .before
+
 row-requires : tie.Need-row-requires Inv-loop μ-loop
 row-requires c κs =
     let z = c .before .before .before .before .before in
@@ -29,12 +42,12 @@ mul-from c = search needs
 
 shared-slice-read-from : tie.Need-shared-slice-read-from Inv-loop μ-loop
 shared-slice-read-from c =
-    let z = c .before .before .before .before .before .before .before in
+    let z = at-start (c .before) in
     omega (arith, even-counts _ _ _ _ _ _ (z .pre .0 .judged), z .pre .0 .inside)
 
 add-from-2 : tie.Need-add-from-2 Inv-loop μ-loop
 add-from-2 c =
-    let z = c .before .before .before .before .before .before .before in
+    let z = at-start (c .before) in
     let h = z .pre .0 .window in
     let l = z .pre .0 .inside in
     omega (arith, row-part-small _ _ _ _ _ _ (z .pre .0 .judged) (z .args .a) (z .args .b) _ _ (omega arith) (omega arith) (c .before .row .ensures) (count-few _ _ _ _ _ _ (z .pre .0 .judged) _ l))
@@ -44,7 +57,7 @@ add-row c = search needs
 
 row-requires-2 : tie.Need-row-requires-2 Inv-loop μ-loop
 row-requires-2 c κs =
-    let z = c .before .before .before .before .before .before .before .before in
+    let z = at-start (c .before .before) in
     let h = z .pre .0 .window in
     let l = z .pre .0 .inside in
     row-fits _ _ _ _ _ _ (z .pre .0 .judged) _ _ (omega arith) l
@@ -54,14 +67,15 @@ add-early-of c = search needs
 
 early-of-requires : tie.Need-early-of-requires Inv-loop μ-loop
 early-of-requires c κs =
-    let z = c .before .before .before .before .before .before .before .before .before in
+    let z = at-start (c .before .before .before) in
     let h = z .pre .0 .window in
     early-fits _ _ _ _ _ _ (z .pre .0 .judged) _ _ (omega arith) (z .pre .0 .inside)
 
 skip-row-requires : tie.Need-skip-row-requires Inv-loop μ-loop
 skip-row-requires c κs =
-    let z = c .before .before .before .before .before .before .before .before .before .before in
-    skip-fits _ _ _ _ _ _ _ _ _ _ (z .pre .0) _ (c .early-of .ensures) _ _ (c .before .row2 .ensures) (c .before .before .before .before .row .ensures)
+    let r = at-row c in
+    let z = at-start r in
+    skip-fits _ _ _ _ _ _ _ _ _ _ (z .pre .0) _ (c .early-of .ensures) _ _ (c .before .row2 .ensures) (r .row .ensures)
 
 add-c : tie.Need-add-c Inv-loop μ-loop
 add-c c = search needs
@@ -69,8 +83,9 @@ add-c c = search needs
 loop-holds : tie.Need-loop-holds Inv-loop μ-loop
 loop-holds c =
     let q = c .before .before .before in
-    let z = q .before .before .before .before .before .before .before .before .before .before in
-    row-starts _ _ _ _ _ _ _ _ _ _ (z .pre .0) _ (q .early-of .ensures) _ _ (q .before .row2 .ensures) (q .before .before .before .before .row .ensures) _ (z .pre .1) _ (c .before .before .skip-row .ensures)
+    let r = at-row q in
+    let z = at-start r in
+    row-starts _ _ _ _ _ _ _ _ _ _ (z .pre .0) _ (q .early-of .ensures) _ _ (q .before .row2 .ensures) (r .row .ensures) _ (z .pre .1) _ (c .before .before .skip-row .ensures)
 
 detour-row-requires : tie.Need-detour-row-requires Inv-loop μ-loop
 detour-row-requires c κs =
@@ -82,18 +97,18 @@ sub-c c = search needs
 
 mul-w : tie.Need-mul-w Inv-loop μ-loop
 mul-w c =
-    let l = c .before .before .before .before .before in
-    let z = l .before .before .before .before .before .before .before .before .before .before .before .before .before .before in
+    let l = at-loop c in
+    let z = at-start (at-row-from-at-loop l) in
     omega (arith, even-counts _ _ _ _ _ _ (l .loop .inv .task .judged), l .loop .inv .up-to, l .loop .inv .task .inside, z .good)
 
 shared-slice-read-w : tie.Need-shared-slice-read-w Inv-loop μ-loop
 shared-slice-read-w c =
-    let l = c .before .before .before .before .before .before in
+    let l = at-loop (c .before) in
     omega (arith, even-counts _ _ _ _ _ _ (l .loop .inv .task .judged), l .loop .inv .up-to, l .loop .inv .task .inside)
 
 sub-w : tie.Need-sub-w Inv-loop μ-loop
 sub-w c =
-    let l = c .before .before .before .before .before .before in
+    let l = at-loop (c .before) in
     count-left _ _ _ _ _ _ _ _ _ _ _ _ _ (l .loop .inv) (c .before .before .before .before .before .loop-test .taken)
 
 loop-less : tie.Need-loop-less Inv-loop μ-loop
@@ -101,8 +116,9 @@ loop-less c = search needs
 
 loop-again : tie.Need-loop-again Inv-loop μ-loop
 loop-again c =
-    let l = c .before .before .before .before .before .before in
-    row-turn _ _ _ _ _ _ _ _ _ _ _ _ _ (l .loop .inv) _ (c .before .before .before .before .before .loop-test .taken) (c .before .before .before .detour-row .ensures)
+    let dr = c .before .before .before in
+    let l = dr .before .before .before in
+    row-turn _ _ _ _ _ _ _ _ _ _ _ _ _ (l .loop .inv) _ (dr .before .before .loop-test .taken) (dr .detour-row .ensures)
 
 same-length : tie.Need-same-length Inv-loop μ-loop
 same-length c = search needs

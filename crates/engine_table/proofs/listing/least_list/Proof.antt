@@ -7,9 +7,19 @@ use borrow.Author.Needs.{needs}
 use Rattle.engine_table.proofs.listing.least_list.Statement.{statement}
 use Rattle.engine_table.proofs.listing.least_list.Tie as tie
 
+-- The way back from a place in the code to the one that the name says.
+abbrev at-start : tie.After-slice-known3 → tie.Start
+at-start c = c .before .before .before .before .before .before .before
+
+abbrev at-fill : tie.After-read-off-arg3 → tie.After-fill
+at-fill c = c .before .before .before .before .before
+
+abbrev at-fill-from-slice-known6 : tie.After-slice-known6 → tie.After-fill
+at-fill-from-slice-known6 c = at-fill (c .before .before .before .before .before)
+
 returns : tie.Need-returns
 returns c =
-    let z = c .before .before .before .before .before .before .before .before in
+    let z = at-start (c .before) in
     (list-none-written _ _ _ (least-of-none _ _ _ _ _ _ (z .pre .0) (c .if1 .taken)), beyond-none _ _)
 
 fill-requires : tie.Need-fill-requires
@@ -17,9 +27,10 @@ fill-requires c κs = search needs
 
 read-off-requires : tie.Need-read-off-requires
 read-off-requires c κs =
-    let z = c .before .before .before .before .before .before .before .before .before .before .before .before .before .before .before in
-    let n = c .before .before .before .before .before .before .before .if1 .left in
-    (c .before .before .before .before .before .fill .ensures .0, (omega arith, (z .pre .1 .0, z .pre .1 .1 .0)))
+    let f = at-fill c in
+    let z = at-start (f .before .before .before) in
+    let n = f .before .before .if1 .left in
+    (f .fill .ensures .0, (omega arith, (z .pre .1 .0, z .pre .1 .1 .0)))
 
 same-length : tie.Need-same-length
 same-length c = search needs
@@ -32,8 +43,9 @@ same-length-3 c = search needs
 
 returns-2 : tie.Need-returns-2
 returns-2 c =
-    let z = c .before .before .before .before .before .before .before .before .before .before .before .before .before .before .before .before .before .before .before .before in
-    (list-same-written _ _ _ _ _ _ _ (least-of-some _ _ _ _ _ _ (z .pre .0) (c .before .before .before .before .before .before .before .before .before .before .before .before .if1 .left)) (c .before .before .before .before .read-off .ensures), c .before .before .before .before .before .before .before .before .before .before .fill .ensures .1)
+    let f = at-fill-from-slice-known6 c in
+    let z = at-start (f .before .before .before) in
+    (list-same-written _ _ _ _ _ _ _ (least-of-some _ _ _ _ _ _ (z .pre .0) (f .before .before .if1 .left)) (c .before .before .before .before .read-off .ensures), f .fill .ensures .1)
 
 pub least-list-spec : {M : Type 1} → statement M
 least-list-spec =

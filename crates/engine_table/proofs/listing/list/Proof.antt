@@ -94,15 +94,29 @@ least-list-requires c κs =
     let e = first d in
     (record { head = start e .args .head; accepts = passed e; whole = reads-are (d .before .before .before) }, (long d .for-starts, (long d .for-ends, big d)))
 
+-- The way back from a place in the code to the one that the name says.
+abbrev at-start : tie.After-judge-alone → tie.Start
+at-start c = c .before .before .before .before .before .before .before .before
+
+abbrev at-if2 : tie.After-least-list → tie.Else2
+at-if2 c = c .before .before .before .before
+
+abbrev at-count-reads : tie.After-clear-arg → tie.After-count-reads
+at-count-reads c = at-if2 (c .before .before .before .before .before .before .before) .before .before .before
+
+abbrev at-least-list : tie.After-table-words → tie.After-least-list
+at-least-list c = c .before .before .before .before .before .before .before .before
+
 table-words-requires : tie.Need-table-words-requires
 table-words-requires c κs =
-    let n = c .before .before .before .before .before .before .before .before .before .before .before .before .before .before in
+    let n = at-count-reads c in
     (accepted-run (run (n .before)) (passed (n .before)) .wants .few, omega (arith, reads-small (run (n .before)) (passed (n .before)), reads-are n))
 
 clear-requires : tie.Need-clear-requires
 clear-requires c κs =
-    let d = c .before .before .before .before .before .before .before .before .before .before .before .before in
-    still-fits _ _ _ _ (c .table-words .ensures) (c .before .before .before .before .before .before .before .before .least-list .ensures .1) (big d)
+    let ll = at-least-list c in
+    let d = at-if2 ll in
+    still-fits _ _ _ _ (c .table-words .ensures) (ll .least-list .ensures .1) (big d)
 
 same-length : tie.Need-same-length
 same-length c = search needs
@@ -116,17 +130,20 @@ same-length-3 c = search needs
 returns-3 : tie.Need-returns-3
 returns-3 c =
     let w = c .before .before .before in
-    let l = w .before .before .before .before .before .before .before .before in
-    let d = w .before .before .before .before .before .before .before .before .before .before .before .before in
-    let n = d .before .before .before in
+    let l = at-least-list w in
+    let d = at-if2 l in
+    let jr = d .before .before in
+    let n = jr .before in
     let e = n .before in
-    let a = start e .args in
+    let ja = e .before .before in
+    let a = at-start ja .args in
     let listed = l .least-list .ensures in
     let written = list-same-written _ _ _ _ _ _ _ (ap (leastList (a .turn)) (sym (stops-are e))) (listed .0) in
     let zeroed = rw (w .table-words .ensures) at (c .before .before .clear .ensures) in
-    let u-is = rows-accepted (run e) (rows e) _ _ (e .before .before .judge-alone .ensures) (e .before .refused .ensures) _ (reads-are n) _ (d .before .before .judge-rows .ensures) _ (d .before .refused2 .ensures) (e .if1 .left) (d .if2 .left) in
-    run-listed (run e) (rows e) _ _ (e .before .before .judge-alone .ensures) (e .before .refused .ensures)
-    _ (reads-are n) _ (d .before .before .judge-rows .ensures) _ (d .before .refused2 .ensures) (e .if1 .left) (d .if2 .left) _ _
+    let u-is = rows-accepted (run e) (rows e) _ _ (ja .judge-alone .ensures) (e .before .refused .ensures) _ (reads-are n) _ (jr .judge-rows .ensures) _
+    (d .before .refused2 .ensures) (e .if1 .left) (d .if2 .left) in
+    run-listed (run e) (rows e) _ _ (ja .judge-alone .ensures) (e .before .refused .ensures)
+    _ (reads-are n) _ (jr .judge-rows .ensures) _ (d .before .refused2 .ensures) (e .if1 .left) (d .if2 .left) _ _
     (listed-so (run e) _ (a .froms .now) (a .tos .now) (a .room .now) (passed e) (reads-are n) _ _ _ _ _ _ u-is (big d) written (listed .1) zeroed)
 
 pub list-spec : {M : Type 1} → statement M

@@ -30,12 +30,17 @@ returns-2 c =
     run-wants-decide _ _ _ (t .before .before .judge-table .ensures) (t .before .refused .ensures)
     _ _ (c .before .before .judge-wants .ensures) (c .before .refused2 .ensures) (t .if1 .left) (c .if2 .taken)
 
+-- The way back from a place in the code to the one that the name says.
+abbrev at-start : tie.After-judge-table → tie.Start
+at-start c = c .before .before .before .before .before .before
+
 right-end-joined-requires : tie.Need-right-end-joined-requires
 right-end-joined-requires c κs =
     let t = c .before .before .before in
-    let a = t .before .before .before .before .before .before .before .before .args in
+    let jt = t .before .before in
+    let a = at-start jt .args in
     let r = runOf (a .starts .now) (a .lengths .now) (a .aggregates .now) (a .numbers .now) (a .counts .now) (a .head) (a .turn) in
-    let table = run-table-good r _ _ (t .before .before .judge-table .ensures) (t .before .refused .ensures) (t .if1 .left) in
+    let table = run-table-good r _ _ (jt .judge-table .ensures) (t .before .refused .ensures) (t .if1 .left) in
     let wants = wants-passed _ (a .numbers .now) (a .counts .now) _ _ (c .before .before .judge-wants .ensures) (c .before .refused2 .ensures) (c .if2 .left) in
     (table .table, (table .rows, wants-named (a .starts .now) (a .numbers .now) (a .counts .now) wants))
 
@@ -45,13 +50,15 @@ judge-head-requires c κs = search needs
 returns-3 : tie.Need-returns-3
 returns-3 c =
     let w = c .before .before in
-    let t = w .before .before .before in
-    let a = t .before .before .before .before .before .before .before .before .args in
-    let wants = wants-passed _ (a .numbers .now) (a .counts .now) _ _ (w .before .before .judge-wants .ensures) (w .before .refused2 .ensures) (w .if2 .left) in
+    let jw = w .before .before in
+    let t = jw .before in
+    let jt = t .before .before in
+    let a = at-start jt .args in
+    let wants = wants-passed _ (a .numbers .now) (a .counts .now) _ _ (jw .judge-wants .ensures) (w .before .refused2 .ensures) (w .if2 .left) in
     c .judge-head .ensures
     ∙ ap (λ e. firstOf (headChecks (a .turn) (a .head) e)) (c .before .right-end-joined .ensures (a .counts .now) (sym (wants .equal)))
-    ∙ run-head-decides _ _ _ (t .before .before .judge-table .ensures) (t .before .refused .ensures)
-    _ _ (w .before .before .judge-wants .ensures) (w .before .refused2 .ensures) (t .if1 .left) (w .if2 .left)
+    ∙ run-head-decides _ _ _ (jt .judge-table .ensures) (t .before .refused .ensures)
+    _ _ (jw .judge-wants .ensures) (w .before .refused2 .ensures) (t .if1 .left) (w .if2 .left)
 
 pub judge-spec : {M : Type 1} → statement M
 judge-spec =

@@ -27,12 +27,24 @@ to-fill-requires-2 c κs = search needs
 slice-aggregate-fill-triple : tie.Need-slice-aggregate-fill-triple
 slice-aggregate-fill-triple c = search needs
 
+-- The way back from a place in the code to the one that the name says.
+abbrev at-start : tie.After-judge-sheet → tie.Start
+at-start c = c .before .before .before .before .before .before .before
+
+abbrev at-to-fill2 : tie.After-fill-triple-arg4 → tie.After-to-fill2
+at-to-fill2 c = c .before .before .before .before
+
+abbrev at-fill-triple : tie.After-fill-pairs → tie.After-fill-triple
+at-fill-triple c = c .before .before .before .before .before .before .before .before .before .before
+
 fill-triple-requires : tie.Need-fill-triple-requires
 fill-triple-requires c κs =
-    let f = c .before .before .before .before in
-    let a = start f .args in
-    files-ready _ _ (f .before .before .before .before .before .judge-sheet .ensures) (a .starts .now) (a .lengths .now) (a .aggregates .now) (a .numbers .now) (a .counts .now) _ _
-    (f .before .before .before .judge-files .ensures) (f .before .before .judge-pair .ensures) _ (f .before .to-fill .ensures)
+    let f = at-to-fill2 c in
+    let jf = f .before .before .before in
+    let js = jf .before .before in
+    let a = at-start js .args in
+    files-ready _ _ (js .judge-sheet .ensures) (a .starts .now) (a .lengths .now) (a .aggregates .now) (a .numbers .now) (a .counts .now) _ _
+    (jf .judge-files .ensures) (f .before .before .judge-pair .ensures) _ (f .before .to-fill .ensures)
 
 slice-aggregate-fill-pairs : tie.Need-slice-aggregate-fill-pairs
 slice-aggregate-fill-pairs c = search needs
@@ -60,11 +72,15 @@ same-length-5 c = search needs
 
 returns : tie.Need-returns
 returns c =
-    let f = c .before .before .before .before .before .before .before .before .before .before .before .before .before .before .before .before .before .before .before .before in
-    let a = start f .args in
-    sheet-read _ _ (f .before .before .before .before .before .judge-sheet .ensures) (a .starts .now) (a .lengths .now) (a .aggregates .now) (a .numbers .now) (a .counts .now) _ _
-    (f .before .before .before .judge-files .ensures) (f .before .before .judge-pair .ensures) _ (f .before .to-fill .ensures) _ (f .to-fill2 .ensures)
-    _ _ _ _ _ _ (c .reading-of .ensures) (c .before .before .before .before .before .before .before .before .before .before .before .before .before .before .before .fill-triple .ensures) (c .before .before .before .before .before .fill-pairs .ensures)
+    let fp = c .before .before .before .before .before in
+    let ft = at-fill-triple fp in
+    let f = at-to-fill2 (ft .before) in
+    let jf = f .before .before .before in
+    let js = jf .before .before in
+    let a = at-start js .args in
+    sheet-read _ _ (js .judge-sheet .ensures) (a .starts .now) (a .lengths .now) (a .aggregates .now) (a .numbers .now) (a .counts .now) _ _
+    (jf .judge-files .ensures) (f .before .before .judge-pair .ensures) _ (f .before .to-fill .ensures) _ (f .to-fill2 .ensures)
+    _ _ _ _ _ _ (c .reading-of .ensures) (ft .fill-triple .ensures) (fp .fill-pairs .ensures)
 
 pub read-sheet-spec : {M : Type 1} → statement M
 read-sheet-spec =

@@ -25,7 +25,9 @@ add-t14 : tie.Need-add-t14
 add-t14 c = search needs
 
 returns : tie.Need-returns
-returns c = wants-bad _ _ _ (c .before .before .before .before .before .pre) _ (c .before .before .count-line .ensures) (c .enum-told .given .1)
+returns c =
+    let cl = c .before .before in
+    wants-bad _ _ _ (cl .before .before .before .pre) _ (cl .count-line .ensures) (c .enum-told .given .1)
 
 slice-aggregate-pair-lines : tie.Need-slice-aggregate-pair-lines
 slice-aggregate-pair-lines c = search needs
@@ -41,9 +43,13 @@ add-t19 c = search needs
 
 add-t20 : tie.Need-add-t20
 add-t20 c =
-    let few = wants-few _ _ _ (c .before .before .before .before .before .before .before .before .before .before .before .pre) _ (c .before .before .before .before .before .before .before .before .count-line .ensures) _ _ (c .before .before .before .before .before .before .wants .given .1) in
-    let bad = lines-failed (isPairLine wantKey) _ _ _ _ (c .before .before .before .pair-lines .ensures) _ (c .before .line .given .1) in
-    omega (arith, c .before .before .before .before .before .before .before .before .before .before .before .pre .few, bad .most)
+    let pl = c .before .before .before in
+    let w = pl .before .before .before in
+    let cl = w .before .before in
+    let s = cl .before .before .before in
+    let few = wants-few _ _ _ (s .pre) _ (cl .count-line .ensures) _ _ (w .wants .given .1) in
+    let bad = lines-failed (isPairLine wantKey) _ _ _ _ (pl .pair-lines .ensures) _ (c .before .line .given .1) in
+    omega (arith, s .pre .few, bad .most)
 
 enum-known-end : tie.Need-enum-known-end
 enum-known-end c = search needs
@@ -66,21 +72,24 @@ returns-2 : tie.Need-returns-2
 returns-2 c =
     let c4 = c .before .before .before .before in
     let c8 = c4 .before .before .before .before in
-    want-bad _ _ _ (c8 .before .before .before .pre) _ (c8 .count-line .ensures) _ _ (c4 .before .before .wants .given .1) _ (lines-failed (isPairLine wantKey) _ _ _ _ (c .before .before .before .pair-lines .ensures) _ (c .before .line .given .1))
+    want-bad _ _ _ (c8 .before .before .before .pre) _ (c8 .count-line .ensures) _ _ (c4 .before .before .wants .given .1) _
+    (lines-failed (isPairLine wantKey) _ _ _ _ (c .before .before .before .pair-lines .ensures) _ (c .before .line .given .1))
 
 returns-3 : tie.Need-returns-3
 returns-3 c =
     let c4 = c .before .before .before .before in
     let c8 = c4 .before .before .before .before in
     let c12 = c8 .before .before .before .before in
-    text-behind _ _ _ (c12 .pre) _ (c8 .before .count-line .ensures) _ _ (c4 .before .before .before .wants .given .1) _ (lines-ended (isPairLine wantKey) _ _ _ _ (c4 .pair-lines .ensures) _ (c .before .before .end .given .1)) (c .if1 .taken)
+    text-behind _ _ _ (c12 .pre) _ (c8 .before .count-line .ensures) _ _ (c4 .before .before .before .wants .given .1) _
+    (lines-ended (isPairLine wantKey) _ _ _ _ (c4 .pair-lines .ensures) _ (c .before .before .end .given .1)) (c .if1 .taken)
 
 returns-4 : tie.Need-returns-4
 returns-4 c =
     let c4 = c .before .before .before .before in
     let c8 = c4 .before .before .before .before in
     let c12 = c8 .before .before .before .before in
-    below-good _ _ _ (c12 .pre) _ (c8 .before .count-line .ensures) _ _ (c4 .before .before .before .wants .given .1) _ (lines-ended (isPairLine wantKey) _ _ _ _ (c4 .pair-lines .ensures) _ (c .before .before .end .given .1)) (c .if1 .left)
+    below-good _ _ _ (c12 .pre) _ (c8 .before .count-line .ensures) _ _ (c4 .before .before .before .wants .given .1) _
+    (lines-ended (isPairLine wantKey) _ _ _ _ (c4 .pair-lines .ensures) _ (c .before .before .end .given .1)) (c .if1 .left)
 
 pub read-wants-spec : {M : Type 1} → statement M
 read-wants-spec =

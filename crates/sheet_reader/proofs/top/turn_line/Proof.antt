@@ -51,14 +51,28 @@ enum-known-number c = search needs
 enum-told-2 : tie.Need-enum-told-2
 enum-told-2 c = search needs
 
+-- The way back from a place in the code to the one that the name says.
+abbrev at-from : tie.After-known-told2 → tie.After-from
+at-from c = c .before .before .before .before .before .before .before
+
 returns-3 : tie.Need-returns-3
-returns-3 c = turn-line-bad _ _ _ (c .before .before .before .before .before .before .before .before .find-value .ensures) _ _ (c .before .before .before .before .before .before .from .given .1) (c .before .before .before .before .if1 .left) _ (c .before .before .read-number .ensures) (c .enum-told2 .given .1)
+returns-3 c =
+    let rn = c .before .before in
+    let e1 = rn .before .before in
+    let f = e1 .before .before in
+    turn-line-bad _ _ _ (f .before .before .find-value .ensures) _ _ (f .from .given .1) (e1 .if1 .left) _ (rn .read-number .ensures) (c .enum-told2 .given .1)
 
 add-t13 : tie.Need-add-t13
-add-t13 c = let v = value-at turnKey _ _ _ (c .before .before .before .before .before .before .before .before .before .find-value .ensures) _ _ (c .before .before .before .before .before .before .before .from .given .1) in omega (arith, v .within)
+add-t13 c =
+    let f = at-from c in
+    let v = value-at turnKey _ _ _ (f .before .before .find-value .ensures) _ _ (f .from .given .1) in omega (arith, v .within)
 
 returns-4 : tie.Need-returns-4
-returns-4 c = turn-line-good _ _ _ (c .before .before .before .before .before .before .before .before .before .find-value .ensures) _ _ (c .before .before .before .before .before .before .before .from .given .1) (c .before .before .before .before .before .if1 .left) _ (c .before .before .before .read-number .ensures) _ (c .before .number .given .1)
+returns-4 c =
+    let rn = c .before .before .before in
+    let e1 = rn .before .before in
+    let f = e1 .before .before in
+    turn-line-good _ _ _ (f .before .before .find-value .ensures) _ _ (f .from .given .1) (e1 .if1 .left) _ (rn .read-number .ensures) _ (c .before .number .given .1)
 
 pub turn-line-spec : {M : Type 1} → statement M
 turn-line-spec =

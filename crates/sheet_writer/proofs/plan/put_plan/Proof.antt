@@ -25,14 +25,19 @@ put-triples-requires c κs = search needs
 same-length : tie.Need-same-length
 same-length c = search needs
 
+-- The way back from a place in the code to the one that the name says.
+abbrev at-start : tie.After-put-plan-top → tie.Start
+at-start c = c .before .before .before .before .before .before .before .before .before
+
 returns : tie.Need-returns
 unfolding planLines
 returns c =
-    let c7 = c .before .before .before .before .before .before .before in
+    let pt = c .before .before in
+    let c7 = pt .before .before .before .before .before in
     let c12 = c7 .before .before .before .before .before in
-    let c21 = c12 .before .before .before .before .before .before .before .before .before in
+    let c21 = at-start c12 in
     let two = wrote-both (c12 .put-plan-top .ensures) (c7 .put-pairs .ensures) in
-    wrote-within (wrote-both two (c .before .before .put-triples .ensures)) _ (omega (arith, c21 .pre .few, c21 .pre .wants))
+    wrote-within (wrote-both two (pt .put-triples .ensures)) _ (omega (arith, c21 .pre .few, c21 .pre .wants))
 
 pub put-plan-spec : {M : Type 1} → statement M
 put-plan-spec =

@@ -30,7 +30,8 @@ returns c =
     let a = c12 .before .before .args in
     let run = runOf (a .starts .now) (a .lengths .now) (a .aggregates .now) (a .numbers .now) (a .counts .now) (a .head) (a .turn) in
     refused-handed _ _ _ _ _ _ (plan-refused (a .name .now) run (a .froms .now) (a .tos .now) (a .out .now) _ _
-    (c4 .judge .ensures) (c .before .before .before .judge-name .ensures) _ (c .before .before .refused .ensures) (c .before .if1 .taken)) (sym (c .before .before .refused .ensures) ∙ c .before .if1 .taken) (c .answer-to .ensures)
+    (c4 .judge .ensures) (c .before .before .before .judge-name .ensures) _ (c .before .before .refused .ensures) (c .before .if1 .taken)) (sym
+    (c .before .before .refused .ensures) ∙ c .before .if1 .taken) (c .answer-to .ensures)
 
 slice-aggregate-price : tie.Need-slice-aggregate-price
 slice-aggregate-price c = search needs
@@ -47,15 +48,28 @@ refused-requires-2 c κs = search needs
 answer-to-requires-2 : tie.Need-answer-to-requires-2
 answer-to-requires-2 c κs = search needs
 
+-- The way back from a place in the code to the one that the name says.
+abbrev at-start : tie.After-judge → tie.Start
+at-start c = c .before .before .before .before .before .before .before .before .before .before
+
+abbrev at-price : tie.Else2 → tie.After-price
+at-price c = c .before .before .before .before
+
+abbrev at-if2 : tie.After-legs3 → tie.Else2
+at-if2 c = c .before .before .before .before
+
 returns-2 : tie.Need-returns-2
 returns-2 c =
-    let price = c .before .before .before .before .before in
+    let r2 = c .before .before in
+    let price = r2 .before .before .before in
     let named = price .before .before .before in
-    let a = named .before .before .before .before .before .before .before .before .before .before .before .before .before .args in
+    let j = named .before .before .before in
+    let a = at-start j .args in
     let run = runOf (a .starts .now) (a .lengths .now) (a .aggregates .now) (a .numbers .now) (a .counts .now) (a .head) (a .turn) in
     refused-handed _ _ _ _ _ _ (plan-list-refused (a .name .now) run (a .froms .now) (a .tos .now) (a .out .now) _ _
-    (named .before .before .before .judge .ensures) (named .before .before .judge-name .ensures) _ (named .before .refused .ensures) (named .if1 .left)
-    _ _ (search needs) (search needs) (price .price .result) (price .price .ensures .0) _ (c .before .before .refused2 .ensures) (c .before .if2 .taken)) (sym (c .before .before .refused2 .ensures) ∙ c .before .if2 .taken) (c .answer-to2 .ensures)
+    (j .judge .ensures) (named .before .before .judge-name .ensures) _ (named .before .refused .ensures) (named .if1 .left)
+    _ _ (search needs) (search needs) (price .price .result) (price .price .ensures .0) _ (r2 .refused2 .ensures) (c .before .if2 .taken)) (sym (r2 .refused2 .ensures)
+    ∙ c .before .if2 .taken) (c .answer-to2 .ensures)
 
 slice-aggregate-put-plan : tie.Need-slice-aggregate-put-plan
 slice-aggregate-put-plan c = search needs
@@ -67,7 +81,7 @@ array-share-prefix-times : tie.Need-array-share-prefix-times
 array-share-prefix-times c =
     let price = c .before .before .before .before .before .before in
     let named = price .before .before .before in
-    let a = named .before .before .before .before .before .before .before .before .before .before .before .before .before .args in
+    let a = (named .before .before .before .before .before .before) .before .before .before .before .before .before .before .args in
     let run = runOf (a .starts .now) (a .lengths .now) (a .aggregates .now) (a .numbers .now) (a .counts .now) (a .head) (a .turn) in
     let few = plan-good (a .name .now) run (a .froms .now) (a .tos .now) (a .out .now) _ _
     (named .before .before .before .judge .ensures) (named .before .before .judge-name .ensures) _ (named .before .refused .ensures) (named .if1 .left) .wants .few in
@@ -75,19 +89,21 @@ array-share-prefix-times c =
 
 slice-aggregate-put-plan-2 : tie.Need-slice-aggregate-put-plan-2
 slice-aggregate-put-plan-2 c =
-    let price = c .before .before .before .before .before .before .before in
+    let e2 = c .before .before .before in
+    let price = at-price e2 in
     let named = price .before .before .before in
-    let a = named .before .before .before .before .before .before .before .before .before .before .before .before .before .args in
+    let j = named .before .before .before in
+    let a = at-start j .args in
     let run = runOf (a .starts .now) (a .lengths .now) (a .aggregates .now) (a .numbers .now) (a .counts .now) (a .head) (a .turn) in
     times-length (a .name .now) run (a .froms .now) (a .tos .now) (a .out .now) _ _
-    (named .before .before .before .judge .ensures) (named .before .before .judge-name .ensures) _ (named .before .refused .ensures) (named .if1 .left)
-    _ _ (search needs) (search needs) (price .price .result) (price .price .ensures .0) _ (c .before .before .before .before .refused2 .ensures) (c .before .before .before .if2 .left) _ _ (price .price .ensures .1)
+    (j .judge .ensures) (named .before .before .judge-name .ensures) _ (named .before .refused .ensures) (named .if1 .left)
+    _ _ (search needs) (search needs) (price .price .result) (price .price .ensures .0) _ (e2 .before .refused2 .ensures) (e2 .if2 .left) _ _ (price .price .ensures .1)
 
 array-share-prefix-legs : tie.Need-array-share-prefix-legs
 array-share-prefix-legs c =
     let price = c .before .before .before .before .before .before .before in
     let named = price .before .before .before in
-    let a = named .before .before .before .before .before .before .before .before .before .before .before .before .before .args in
+    let a = (named .before .before .before .before .before .before) .before .before .before .before .before .before .before .args in
     let run = runOf (a .starts .now) (a .lengths .now) (a .aggregates .now) (a .numbers .now) (a .counts .now) (a .head) (a .turn) in
     let few = plan-good (a .name .now) run (a .froms .now) (a .tos .now) (a .out .now) _ _
     (named .before .before .before .judge .ensures) (named .before .before .judge-name .ensures) _ (named .before .refused .ensures) (named .if1 .left) .wants .few in
@@ -95,23 +111,27 @@ array-share-prefix-legs c =
 
 slice-aggregate-put-plan-3 : tie.Need-slice-aggregate-put-plan-3
 slice-aggregate-put-plan-3 c =
-    let price = c .before .before .before .before .before .before .before .before in
+    let e2 = at-if2 c in
+    let price = at-price e2 in
     let named = price .before .before .before in
-    let a = named .before .before .before .before .before .before .before .before .before .before .before .before .before .args in
+    let j = named .before .before .before in
+    let a = at-start j .args in
     let run = runOf (a .starts .now) (a .lengths .now) (a .aggregates .now) (a .numbers .now) (a .counts .now) (a .head) (a .turn) in
     legs-length (a .name .now) run (a .froms .now) (a .tos .now) (a .out .now) _ _
-    (named .before .before .before .judge .ensures) (named .before .before .judge-name .ensures) _ (named .before .refused .ensures) (named .if1 .left)
-    _ _ (search needs) (search needs) (price .price .result) (price .price .ensures .0) _ (c .before .before .before .before .before .refused2 .ensures) (c .before .before .before .before .if2 .left) _ _ (price .price .ensures .1)
+    (j .judge .ensures) (named .before .before .judge-name .ensures) _ (named .before .refused .ensures) (named .if1 .left)
+    _ _ (search needs) (search needs) (price .price .result) (price .price .ensures .0) _ (e2 .before .refused2 .ensures) (e2 .if2 .left) _ _ (price .price .ensures .1)
 
 put-plan-requires : tie.Need-put-plan-requires
 put-plan-requires c κs =
-    let price = c .before .before .before .before .before .before .before .before in
+    let e2 = at-if2 c in
+    let price = at-price e2 in
     let named = price .before .before .before in
-    let a = named .before .before .before .before .before .before .before .before .before .before .before .before .before .args in
+    let j = named .before .before .before in
+    let a = at-start j .args in
     let run = runOf (a .starts .now) (a .lengths .now) (a .aggregates .now) (a .numbers .now) (a .counts .now) (a .head) (a .turn) in
     plan-fits (a .name .now) run (a .froms .now) (a .tos .now) (a .out .now) _ _
-    (named .before .before .before .judge .ensures) (named .before .before .judge-name .ensures) _ (named .before .refused .ensures) (named .if1 .left)
-    _ _ (search needs) (search needs) (price .price .result) (price .price .ensures .0) _ (c .before .before .before .before .before .refused2 .ensures) (c .before .before .before .before .if2 .left) _ _ (price .price .ensures .1) _ (search needs)
+    (j .judge .ensures) (named .before .before .judge-name .ensures) _ (named .before .refused .ensures) (named .if1 .left)
+    _ _ (search needs) (search needs) (price .price .result) (price .price .ensures .0) _ (e2 .before .refused2 .ensures) (e2 .if2 .left) _ _ (price .price .ensures .1) _ (search needs)
 
 array-share-prefix-page : tie.Need-array-share-prefix-page
 array-share-prefix-page c = search needs
@@ -127,17 +147,24 @@ same-length c = search needs
 
 returns-3 : tie.Need-returns-3
 returns-3 c =
-    let price = c .before .before .before .before .before .before .before .before .before .before .before .before .before .before .before in
+    let ho = c .before .before in
+    let pp = ho .before .before .before .before in
+    let e2 = at-if2 (pp .before) in
+    let price = at-price e2 in
     let named = price .before .before .before in
-    let a = named .before .before .before .before .before .before .before .before .before .before .before .before .before .args in
+    let jn = named .before .before in
+    let a = at-start (jn .before) .args in
     let run = runOf (a .starts .now) (a .lengths .now) (a .aggregates .now) (a .numbers .now) (a .counts .now) (a .head) (a .turn) in
-    let reads = counted-exact (a .counts .now) (plan-good (a .name .now) run (a .froms .now) (a .tos .now) (a .out .now) _ _ (named .before .before .before .judge .ensures) (named .before .before .judge-name .ensures) _ (named .before .refused .ensures) (named .if1 .left) .wants .reads) in
+    let reads = counted-exact (a .counts .now)
+    (plan-good (a .name .now) run (a .froms .now) (a .tos .now) (a .out .now) _ _ (jn .before .judge .ensures) (jn .judge-name .ensures) _ (named .before .refused .ensures)
+    (named .if1 .left) .wants .reads) in
     let wrote = plan-wrote (a .name .now) run (a .froms .now) (a .tos .now) (a .out .now) _ _
-    (named .before .before .before .judge .ensures) (named .before .before .judge-name .ensures) _ (named .before .refused .ensures) (named .if1 .left)
-    _ _ (search needs) (search needs) (price .price .result) (price .price .ensures .0) _ (c .before .before .before .before .before .before .before .before .before .before .before .before .refused2 .ensures) (c .before .before .before .before .before .before .before .before .before .before .before .if2 .left) _ _ (price .price .ensures .1) _ (c .before .before .before .before .before .before .before .before .before .count-reads .ensures ∙ reads) _ _ _ (c .before .before .before .before .before .before .put-plan .ensures) in
+    (jn .before .judge .ensures) (jn .judge-name .ensures) _ (named .before .refused .ensures) (named .if1 .left)
+    _ _ (search needs) (search needs) (price .price .result) (price .price .ensures .0) _ (e2 .before .refused2 .ensures) (e2 .if2 .left) _ _ (price .price .ensures .1) _
+    (pp .before .before .before .count-reads .ensures ∙ reads) _ _ _ (pp .put-plan .ensures) in
     page-handed _ _ _ _ _ wrote _ _ (plan-last (a .name .now) run (a .froms .now) (a .tos .now) (a .out .now) _ _
-    (named .before .before .before .judge .ensures) (named .before .before .judge-name .ensures) _ (named .before .refused .ensures) (named .if1 .left)
-    _ _ (search needs) (search needs) (price .price .result) (price .price .ensures .0) _ (c .before .before .before .before .before .before .before .before .before .before .before .before .refused2 .ensures) (c .before .before .before .before .before .before .before .before .before .before .before .if2 .left)) _ _ (c .before .before .hand-out .ensures)
+    (jn .before .judge .ensures) (jn .judge-name .ensures) _ (named .before .refused .ensures) (named .if1 .left)
+    _ _ (search needs) (search needs) (price .price .result) (price .price .ensures .0) _ (e2 .before .refused2 .ensures) (e2 .if2 .left)) _ _ (ho .hand-out .ensures)
 
 pub write-plan-spec : {M : Type 1} → statement M
 write-plan-spec =

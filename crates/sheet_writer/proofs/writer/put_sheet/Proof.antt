@@ -25,12 +25,16 @@ put-number-line-requires c κs = search needs
 slice-aggregate-put-pairs : tie.Need-slice-aggregate-put-pairs
 slice-aggregate-put-pairs c = search needs
 
+-- The way back from a place in the code to the one that the name says.
+abbrev at-start : tie.After-put-top → tie.Start
+at-start c = c .before .before .before .before .before .before .before .before .before
+
 put-pairs-requires : tie.Need-put-pairs-requires
 put-pairs-requires c κs =
     let wants = c .before .before .before .before in
     let files = wants .before .before .before .before .before in
     let top = files .before .before .before .before .before in
-    let z = top .before .before .before .before .before .before .before .before .before .pre in
+    let z = at-start top .pre in
     let w = wrote-on (wrote-both (top .put-top .ensures) (files .put-triples .ensures)) (omega arith) (wants .put-number-line .ensures) in
     let long = wrote-long w (omega arith) in
     (omega arith, (z .pairs, omega (arith, w .within, long)))
