@@ -24,7 +24,7 @@ use Rattle.text_pages.specs.Printing.{numberLine}
 use Rattle.sheet_reader.specs.Sheet.{sheetRun, sheetName}
 use Rattle.sheet_reader.specs.Reading.{readName}
 use Rattle.sheet_runs.specs.declared.SheetRun.{SheetRun}
-use Rattle.sheet_runs.specs.SheetRuns.{filledTo, runRead, runHeld}
+use Rattle.sheet_runs.specs.SheetRuns.{filledUp, runByValue, runHeld}
 use Rattle.sheet_writer.specs.declared.Written.{Written}
 use Rattle.sheet_writer.specs.Writing.{rowVerdict, writtenAnswer, writtenRow, Handed}
 use Rattle.sheet_writer.specs.PlanSheet.{planText, PlanWritten}
@@ -76,7 +76,7 @@ formed-text name run plan froms tos list none expected x same s sum e least m = 
 
 -- The least list, in two rows.
 module _ (run : Run) (least : PlannedList) (is : LeastIn run least) where
-  pub least-half : (f : Detour → ℕ) → take (length (is .list)) (filledTo 63 (map f (is .list))) ≡ map f (is .list)
+  pub least-half : (f : Detour → ℕ) → take (length (is .list)) (filledUp 63 (map f (is .list))) ≡ map f (is .list)
   least-half f = take-at (map f (is .list)) (zeros (63 - length (map f (is .list)))) (length (is .list)) (half-long f (is .list))
 
   pub least-starts : take (least .detours) (least .froms) ≡ map (λ d. d .from) (is .list)
@@ -190,7 +190,7 @@ module _ (name : List ℕ) (run : Run) (plan : List ℕ) (l least : PlannedList)
             }
 
 -- The answer to a run sheet and a plan sheet.
-module _ (sheet plan : List ℕ) (r : SheetRun) (is : r ≡ runRead sheet) (l : PlannedList) (handed : HandedIn (planForm plan) (planFroms plan) (planTos plan) l)
+module _ (sheet plan : List ℕ) (r : SheetRun) (is : r ≡ runByValue sheet) (l : PlannedList) (handed : HandedIn (planForm plan) (planFroms plan) (planTos plan) l)
     (least : PlannedList) (listed : RunListed runChecks r least) (v : Verdict) (v-is : v ≡ firstRefusal (r .verdict) (firstRefusal (l .verdict) (least .verdict))) (f : Bool) (f-is : f ≡ isRefusal (v .refusal)) where
   -- Of a run that is read the planner's verdict is that on the run.
   planner-says : refuses (r .verdict) ≡ false → least .verdict ≡ firstOf (runChecks (runHeld r))

@@ -19,7 +19,7 @@ use Rattle.text_bytes.specs.Text.{isName}
 use Rattle.sheet_reader.specs.Sheet.{sheetRun, sheetName}
 use Rattle.sheet_reader.specs.Reading.{sheetVerdict, ruleVerdict, readName}
 use Rattle.sheet_runs.specs.declared.SheetRun.{SheetRun}
-use Rattle.sheet_runs.specs.SheetRuns.{runRead, runHeld}
+use Rattle.sheet_runs.specs.SheetRuns.{runByValue, runHeld}
 use Rattle.sheet_runs.proofs.Runs.{SheetHolds, refused-first, sheet-holds}
 use Rattle.sheet_writer.specs.declared.Written.{Written}
 use Rattle.sheet_writer.specs.Writing.{rowVerdict, Handed}
@@ -103,7 +103,7 @@ pub judged-by : (r : SheetRun) (l : PlannedList) (p : Priced) → PricedList (ru
 judged-by r l p priced w e v f = rw (f, e, priced .verdict)
 
 -- The verdict on a run sheet and another text, from those on the sheet's run, on the text's form and on both together.
-module _ (sheet : List ℕ) (r : SheetRun) (is : r ≡ runRead sheet) where
+module _ (sheet : List ℕ) (r : SheetRun) (is : r ≡ runByValue sheet) where
   pub sheet-ok : refuses (r .verdict) ≡ false → SheetHolds sheet r
   sheet-ok e = sheet-holds sheet r is false (sym e) refl
 

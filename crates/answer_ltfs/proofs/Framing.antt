@@ -30,7 +30,7 @@ use Rattle.answer_ltfs.specs.declared.Told.{Told}
 use Rattle.answer_ltfs.specs.declared.input.Counted.{Counted}
 use Rattle.answer_ltfs.specs.declared.input.Texts.{Texts}
 use Rattle.answer_ltfs.specs.TapeTable.{ltfsSheet, ltfsVerdict, tapeVerdict, refusedReport, ltfsReport, ltfsRow}
-use Rattle.answer_ltfs.specs.Input.{mostInput, labelKey, indexKey, emptyKey, otherKey, isCounted, countedText, afterCounted, framedLabel, framedIndex, isFramed, badFrame, inputName, inputLabel, inputIndex, inputVerdict, answerText, leftOutText, reportText, rowsShort, BothHanded}
+use Rattle.answer_ltfs.specs.Input.{mostTapeInput, labelKey, indexKey, emptyKey, otherKey, isCounted, countedText, afterCounted, framedLabel, framedIndex, isFramed, badFrame, inputName, inputLabel, inputIndex, tapeInputVerdict, answerText, leftOutText, reportText, rowsShort, BothHanded}
 use Rattle.answer_ltfs.specs.Private.Input.{CountedAt, CountedFound, TextsAt, TextsFound, inputReport, Drafted}
 use Rattle.answer_ltfs.proofs.Promise.{tape-checks, sheet-within, row-suffices}
 
@@ -83,11 +83,11 @@ none-left (suc n) (x ∷ l) h = none-left n l (omega arith)
 
 -- The two texts behind the name's line.
 module _ (input : List ℕ) (at : ℕ) where
-  pub too-long : mostInput < length input → badFrame input (drop at input) ≡ true
-  too-long l = rw (lt-ltb mostInput (length input) l)
+  pub too-long : mostTapeInput < length input → badFrame input (drop at input) ≡ true
+  too-long l = rw (lt-ltb mostTapeInput (length input) l)
 
   unframed : isFramed (drop at input) ≡ false → badFrame input (drop at input) ≡ true
-  unframed e = rw e (or-true (ltb mostInput (length input)))
+  unframed e = rw e (or-true (ltb mostTapeInput (length input)))
 
   module _ (r : Counted) (label : CountedFound labelKey input at r) where
     pub no-label : r ≡ Counted.Missing → badFrame input (drop at input) ≡ true
@@ -114,14 +114,14 @@ module _ (input : List ℕ) (at : ℕ) where
         unfolding isFramed
         text-behind l = unframed (rw (first .good, ← first .rest, second .good, ← second .rest) (some-left over input l))
 
-        pub texts-there : length input ≤ mostInput → length input ≤ over → TextsAt input at from to start
+        pub texts-there : length input ≤ mostTapeInput → length input ≤ over → TextsAt input at from to start
         unfolding isFramed
         texts-there most l =
             let w = second .within in
             let o = second .ordered in
             let framed : isFramed (drop at input) ≡ true = rw (first .good, ← first .rest, second .good, ← second .rest) (none-left over input l) in
             record {
-              good = rw (le-ltb mostInput (length input) most, framed);
+              good = rw (le-ltb mostTapeInput (length input) most, framed);
               ordered = first .ordered;
               within = first .within;
               start = omega arith;
@@ -150,7 +150,7 @@ texts-found input next s texts from to index f = subst (λ (x : Texts). TextsFou
 -- What an input is refused with, and what else decides.
 module _ (input page : List ℕ) (r : NameLine) (found : NameLineFound input r) where
   pub no-name : r ≡ NameLine.Bad → (v : Verdict) → v ≡ refuseIf true BadName → (answer : Report) → answer ≡ refusedReport v → Drafted input page answer page
-  unfolding inputVerdict ltfsReport writtenRow
+  unfolding tapeInputVerdict ltfsReport writtenRow
   no-name e v v-is answer a =
       let bad : isTapeLine (lineOf input) ≡ false = subst (λ (x : NameLine). NameLineFound input x) e found in
       record { report = a ∙ rw (v-is, bad); left = rw bad }
@@ -160,7 +160,7 @@ module _ (input page : List ℕ) (r : NameLine) (found : NameLineFound input r) 
     line = named input r found end next e
 
     pub no-texts : s ≡ Texts.Missing → (v : Verdict) → v ≡ refuseIf true BadText → (answer : Report) → answer ≡ refusedReport v → Drafted input page answer page
-    unfolding inputVerdict ltfsReport writtenRow
+    unfolding tapeInputVerdict ltfsReport writtenRow
     no-texts f v v-is answer a =
         let bad : badFrame input (drop next input) ≡ true = subst (λ (x : Texts). TextsFound input next x) f texts in
         let here : badFrame input (behind lineFeed input) ≡ true = ap (badFrame input) (sym (line .0 .rest)) ∙ bad in
@@ -170,8 +170,8 @@ module _ (input page : List ℕ) (r : NameLine) (found : NameLineFound input r) 
       abbrev both : TextsAt input next from to index
       both = texts-found input next s texts from to index f
 
-      verdict-is : longestSheet ≤ length page → inputVerdict input ≡ ltfsVerdict (inputName input) (inputLabel input) (inputIndex input) page
-      unfolding inputVerdict
+      verdict-is : longestSheet ≤ length page → tapeInputVerdict input ≡ ltfsVerdict (inputName input) (inputLabel input) (inputIndex input) page
+      unfolding tapeInputVerdict
       verdict-is fits =
           let here : badFrame input (behind lineFeed input) ≡ false = ap (badFrame input) (sym (line .0 .rest)) ∙ both .good in
           rw (line .0 .good, here)
@@ -240,7 +240,7 @@ told-one text out notes false e w out′ h =
 
 module _ (input page page′ : List ℕ) (report : Report) (d : Drafted input page report page′) (f : Bool) (f-is : f ≡ isRefusal (report .refusal)) where
   abbrev verdict : Verdict
-  verdict = inputVerdict input
+  verdict = tapeInputVerdict input
 
   same-refusal : (b : Bool) → refuses verdict ≡ b → isRefusal ((inputReport input) .refusal) ≡ b
   unfolding ltfsReport
@@ -281,7 +281,7 @@ module _ (input page page′ : List ℕ) (report : Report) (d : Drafted input pa
     sheet-front = rw (sheet-long, page-is) (take-at sheet (drop (length sheet) page) (length sheet) refl)
 
     pub sheet-fits : report .bytes ≤ longestSheet
-    unfolding inputVerdict
+    unfolding tapeInputVerdict
     sheet-fits =
         let all = all-accept (refuseIf (not (isTapeLine (lineOf input))) BadName ∷ refuseIf (badFrame input (behind lineFeed input)) BadText ∷ tapeVerdict (inputName input) (inputLabel input) (inputIndex input) ∷ []) passed in
         rw sheet-long (sheet-within (inputName input) (inputLabel input) (inputIndex input) (all .1 .1 .0))

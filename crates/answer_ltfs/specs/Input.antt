@@ -20,8 +20,8 @@ use Rattle.answer_ltfs.specs.Index.{dataPartitionOf, indexFiles}
 use Rattle.answer_ltfs.specs.TapeTable.{isEmptyFile, liesElsewhere, howMany, ltfsSheet, tapeVerdict}
 
 -- No input has more bytes.
-abbrev pub mostInput : ℕ
-mostInput = 524288
+abbrev pub mostTapeInput : ℕ
+mostTapeInput = 524288
 
 -- The keys of the two texts in it, and those of the report.
 abbrev pub labelKey : List ℕ
@@ -70,11 +70,11 @@ inputIndex input = framedIndex (behind lineFeed input)
 
 -- 20: an input that is too long, or one whose texts are not framed so.
 abbrev pub badFrame : List ℕ → List ℕ → Bool
-badFrame input rest = ltb mostInput (length input) || not (isFramed rest)
+badFrame input rest = ltb mostTapeInput (length input) || not (isFramed rest)
 
 -- 13 for the first line, then that 20, then what the label and the index are refused with.
-unfoldable pub inputVerdict : List ℕ → Verdict
-inputVerdict input =
+unfoldable pub tapeInputVerdict : List ℕ → Verdict
+tapeInputVerdict input =
     firstOf
     (refuseIf (not (isTapeLine (lineOf input))) BadName
     ∷ refuseIf (badFrame input (behind lineFeed input)) BadText
@@ -84,7 +84,7 @@ inputVerdict input =
 -- The text for standard output: the run sheet, or the two lines of the refusal.
 unfoldable pub answerText : List ℕ → List ℕ
 answerText input =
-    cond (isRefusal ((inputVerdict input) .refusal)) (refusalText (inputVerdict input))
+    cond (isRefusal ((tapeInputVerdict input) .refusal)) (refusalText (tapeInputVerdict input))
     (ltfsSheet (inputName input) (inputLabel input) (inputIndex input))
 
 -- The report: how many files were left out, empty or in the other partition; nothing on a refusal.
@@ -93,7 +93,7 @@ leftOutText empty other = numberLine emptyKey empty ++ numberLine otherKey other
 
 unfoldable pub reportText : List ℕ → List ℕ
 reportText input =
-    cond (isRefusal ((inputVerdict input) .refusal)) []
+    cond (isRefusal ((tapeInputVerdict input) .refusal)) []
     (leftOutText (howMany isEmptyFile (indexFiles (treeOf (inputIndex input))))
     (howMany (liesElsewhere (dataPartitionOf (treeOf (inputLabel input)))) (indexFiles (treeOf (inputIndex input)))))
 

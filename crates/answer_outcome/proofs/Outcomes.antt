@@ -11,7 +11,7 @@ use Rattle.text_bytes.specs.Text.{isName}
 use Rattle.sheet_reader.specs.Sheet.{sheetRun, sheetName}
 use Rattle.sheet_reader.specs.Reading.{readName}
 use Rattle.sheet_runs.specs.declared.SheetRun.{SheetRun}
-use Rattle.sheet_runs.specs.SheetRuns.{runRead, runHeld}
+use Rattle.sheet_runs.specs.SheetRuns.{runByValue, runHeld}
 use Rattle.sheet_runs.proofs.Runs.{refused-first, sheet-holds}
 use Rattle.answer_plan.specs.Recall.{runChecks, verdictBy, recallVerdict}
 use Rattle.answer_outcome.specs.declared.Outcome.{Outcome}
@@ -19,7 +19,7 @@ use Rattle.answer_outcome.specs.Outcomes.{refusedOutcome, plannedOutcome
 use Rattle.answer_outcome.specs.Private.{RunOutcome}
 
 -- A sheet's run by value.
-module _ (sheet : List ℕ) (r : SheetRun) (is : r ≡ runRead sheet) (f : Bool) (f-is : f ≡ isRefusal (r .verdict .refusal)) where
+module _ (sheet : List ℕ) (r : SheetRun) (is : r ≡ runByValue sheet) (f : Bool) (f-is : f ≡ isRefusal (r .verdict .refusal)) where
   pub sheet-refused : f ≡ true → (o : Outcome) → o ≡ refusedOutcome (r .verdict .refusal) → OutcomeOf sheet o
   unfolding verdictBy
   sheet-refused e o says =

@@ -19,7 +19,7 @@ use Rattle.text_bytes.specs.Text.{isName}
 use Rattle.sheet_reader.specs.Sheet.{sheetRun, sheetName}
 use Rattle.sheet_reader.specs.Reading.{readName}
 use Rattle.sheet_runs.specs.declared.SheetRun.{SheetRun}
-use Rattle.sheet_runs.specs.SheetRuns.{filledTo, runRead, runHeld}
+use Rattle.sheet_runs.specs.SheetRuns.{filledUp, runByValue, runHeld}
 use Rattle.sheet_runs.proofs.Runs.{SheetHolds, refused-first, sheet-holds}
 use Rattle.sheet_writer.specs.declared.Written.{Written}
 use Rattle.sheet_writer.specs.Writing.{Handed, rowVerdict}
@@ -85,10 +85,10 @@ row-decides textOf name run list row named passes least =
     rw (passes, named, listed) (last-verdict (textOf name run (map (λ d. d .from) list) (map (λ d. d .to) list)) row)
 
 -- The entries of a list in a row.
-front : (f : Detour → ℕ) (list : List Detour) → take (length list) (filledTo 63 (map f list)) ≡ map f list
+front : (f : Detour → ℕ) (list : List Detour) → take (length list) (filledUp 63 (map f list)) ≡ map f list
 front f list = take-at (map f list) (zeros (63 - length (map f list))) (length list) (half-long f list)
 
-module _ (checks : Run → List Verdict) (judges : (run : Run) → refuses (firstOf (checks run)) ≡ false → refuses (judgeOf run) ≡ false) (sheet : List ℕ) (r : SheetRun) (is : r ≡ runRead sheet) where
+module _ (checks : Run → List Verdict) (judges : (run : Run) → refuses (firstOf (checks run)) ≡ false → refuses (judgeOf run) ≡ false) (sheet : List ℕ) (r : SheetRun) (is : r ≡ runByValue sheet) where
   abbrev v : Verdict
   v = firstOf (r .verdict ∷ checks (runHeld r))
 

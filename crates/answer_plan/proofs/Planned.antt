@@ -23,7 +23,7 @@ use Rattle.planner.specs.Plan.{Plans, Planned, planVerdict}
 use Rattle.planner.specs.Rows.{Rows, rowsOf}
 use Rattle.engine_stops.proofs.Halves.{half-long}
 use Rattle.sheet_runs.specs.declared.SheetRun.{SheetRun}
-use Rattle.sheet_runs.specs.SheetRuns.{filledTo, runHeld}
+use Rattle.sheet_runs.specs.SheetRuns.{filledUp, runHeld}
 use Rattle.sheet_runs.proofs.Filling.{filled-rest}
 use Rattle.sheet_writer.specs.declared.Written.{Written}
 use Rattle.sheet_writer.specs.Writing.{Handed, rowVerdict, writtenAnswer, writtenRow}
@@ -94,7 +94,7 @@ module _ (run : Run) (rows : Rows) (lent : Lent rows) where
       accepts = ap refuses (sym run-verdict) ∙ verdict-says ∙ passed
 
 -- A list in a row that was zeros.
-pub listed-in : (f : Detour → ℕ) (list : List Detour) (row row′ : List ℕ) → row ≡ zeros 63 → row′ ≡ map f list ++ drop (length list) row → row′ ≡ filledTo 63 (map f list)
+pub listed-in : (f : Detour → ℕ) (list : List Detour) (row row′ : List ℕ) → row ≡ zeros 63 → row′ ≡ map f list ++ drop (length list) row → row′ ≡ filledUp 63 (map f list)
 listed-in f list row row′ z is =
     is ∙ ap (λ x. map f list ++ drop (length list) x) z ∙ ap (λ n. map f list ++ drop n (zeros 63)) (sym (half-long f list)) ∙ filled-rest (map f list) 63
 

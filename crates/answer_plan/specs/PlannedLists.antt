@@ -11,7 +11,7 @@ use Rattle.runs.specs.Lists.{Detour}
 use Rattle.least.specs.Least.{LeastForRun}
 use Rattle.sheet_reader.specs.Reading.{readName}
 use Rattle.sheet_runs.specs.declared.SheetRun.{SheetRun}
-use Rattle.sheet_runs.specs.SheetRuns.{filledTo, runHeld}
+use Rattle.sheet_runs.specs.SheetRuns.{filledUp, runHeld}
 use Rattle.sheet_writer.specs.declared.Written.{Written}
 use Rattle.sheet_writer.specs.PlanSheet.{PlanWritten}
 use Rattle.sheet_writer.specs.RefusalLines.{RefusalWritten}
@@ -20,7 +20,7 @@ use Rattle.answer_plan.specs.declared.PlannedList.{PlannedList}
 -- A verdict, and a list in two rows of 63.
 abbrev pub inList : Verdict → List Detour → PlannedList
 inList v list =
-    record { verdict = v; detours = length list; froms = filledTo 63 (map (λ d. d .from) list); tos = filledTo 63 (map (λ d. d .to) list) }
+    record { verdict = v; detours = length list; froms = filledUp 63 (map (λ d. d .from) list); tos = filledUp 63 (map (λ d. d .to) list) }
 
 -- The least list of a run. There is one such list.
 pub record LeastIn (run : Run) (l : PlannedList) : Type 0 where

@@ -22,7 +22,7 @@ use Rattle.sheet_reader.specs.Reading.{sheetVerdict, ruleVerdict, readVerdict, 
 use Rattle.sheet_reader.proofs.Rows.{length-each}
 use Rattle.sheet_reader.proofs.Good.{few-files, few-wants}
 use Rattle.sheet_runs.specs.declared.SheetRun.{SheetRun}
-use Rattle.sheet_runs.specs.SheetRuns.{earlyVerdict, filledTo, inRows, runRead}
+use Rattle.sheet_runs.specs.SheetRuns.{earlyVerdict, filledUp, inRows, runByValue}
 use Rattle.sheet_runs.specs.Private.{saidBy}
 
 -- What is left of a row of zeros.
@@ -32,7 +32,7 @@ drop-zeros (suc n) zero = let none : 0 - suc n ≡ 0 = omega arith in rw none
 drop-zeros (suc n) (suc m) = simp unary-clauses (drop-zeros n m)
 
 -- Values in the first entries of a row that was zeros.
-pub filled-rest : (values : List ℕ) (room : ℕ) → values ++ drop (length values) (zeros room) ≡ filledTo room values
+pub filled-rest : (values : List ℕ) (room : ℕ) → values ++ drop (length values) (zeros room) ≡ filledUp room values
 filled-rest values room = ap (λ l. values ++ l) (drop-zeros (length values) room)
 
 -- The rows that are lent.
@@ -76,16 +76,16 @@ module _ (sheet : List ℕ) where
     unfolding readRow
     row-kept e values row row′ is = rw (verdict-said, e) at is
 
-    row-filled : refuses (earlyVerdict sheet) ≡ false → (values row′ : List ℕ) (room : ℕ) → row′ ≡ readRow (rowsVerdict sheet (lent 256 64)) values (zeros room) → row′ ≡ filledTo room values
+    row-filled : refuses (earlyVerdict sheet) ≡ false → (values row′ : List ℕ) (room : ℕ) → row′ ≡ readRow (rowsVerdict sheet (lent 256 64)) values (zeros room) → row′ ≡ filledUp room values
     unfolding readRow
     row-filled e values row′ room is = (rw (verdict-said, e) at is) ∙ filled-rest values room
 
-    pub run-read : (v : Verdict) → v ≡ saidBy r → held v (r .files) (r .wants) (r .head) (r .turn) (rows .starts) (rows .lengths) (rows .aggregates) (rows .numbers) (rows .counts) ≡ runRead sheet
-    unfolding runRead readAnswer sheetRun
+    pub run-read : (v : Verdict) → v ≡ saidBy r → held v (r .files) (r .wants) (r .head) (r .turn) (rows .starts) (rows .lengths) (rows .aggregates) (rows .numbers) (rows .counts) ≡ runByValue sheet
+    unfolding runByValue readAnswer sheetRun
     run-read v v-is = rw v-is (go (refuses (earlyVerdict sheet)) refl)
       where
         go : (b : Bool) → refuses (earlyVerdict sheet) ≡ b
-            → held (saidBy r) (r .files) (r .wants) (r .head) (r .turn) (rows .starts) (rows .lengths) (rows .aggregates) (rows .numbers) (rows .counts) ≡ runRead sheet
+            → held (saidBy r) (r .files) (r .wants) (r .head) (r .turn) (rows .starts) (rows .lengths) (rows .aggregates) (rows .numbers) (rows .counts) ≡ runByValue sheet
         go true e =
             let is : r ≡ refusedReading (earlyVerdict sheet) = rw e at said in
             rw e

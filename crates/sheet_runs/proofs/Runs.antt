@@ -18,10 +18,10 @@ use Rattle.sheet_reader.proofs.Rows.{length-each}
 use Rattle.sheet_reader.proofs.Good.{good-name, few-files, few-wants}
 use Rattle.sheet_reader.proofs.Answers.{in-turn}
 use Rattle.sheet_runs.specs.declared.SheetRun.{SheetRun}
-use Rattle.sheet_runs.specs.SheetRuns.{earlyVerdict, filledTo, inRows, runRead, runHeld}
+use Rattle.sheet_runs.specs.SheetRuns.{earlyVerdict, filledUp, inRows, runByValue, runHeld}
 
 -- Two results that fit the contract are equal.
-pub run-determined : (sheet : List ℕ) (r s : SheetRun) → r ≡ runRead sheet → s ≡ runRead sheet → r ≡ s
+pub run-determined : (sheet : List ℕ) (r s : SheetRun) → r ≡ runByValue sheet → s ≡ runByValue sheet → r ≡ s
 run-determined sheet r s p q = p ∙ sym q
 
 -- The run of the entries that are taken from the rows.
@@ -42,7 +42,7 @@ rows-hold : (v : Verdict) (run : Run) → length (run .lengths) ≡ length (run 
 rows-hold v run l a c =
     rw (front (run .starts) 256 refl, front (run .lengths) 256 (sym l), front (run .aggregates) 256 (sym a), front (run .numbers) 64 refl, front (run .counts) 64 (sym c))
   where
-    front : {n : ℕ} (values : List ℕ) (room : ℕ) → n ≡ length values → take n (filledTo room values) ≡ values
+    front : {n : ℕ} (values : List ℕ) (room : ℕ) → n ≡ length values → take n (filledUp room values) ≡ values
     front values room e = rw e (take-append-seam values (zeros (room - length values)))
 
 module _ (sheet : List ℕ) where
@@ -58,25 +58,25 @@ module _ (sheet : List ℕ) where
   unfolding sheetRun
   wants-long = length-each _ (sheetWants sheet)
 
-module _ (sheet : List ℕ) (r : SheetRun) (is : r ≡ runRead sheet) where
+module _ (sheet : List ℕ) (r : SheetRun) (is : r ≡ runByValue sheet) where
   verdict-is : r .verdict ≡ earlyVerdict sheet
-  unfolding runRead
+  unfolding runByValue
   verdict-is = ap (λ x. x .verdict) is
 
   -- There are at most 256 files and 64 wants, whatever the verdict.
   pub files-few : r .files ≤ 256
-  unfolding runRead
+  unfolding runByValue
   files-few = rw is (go (refuses (earlyVerdict sheet)) refl)
     where
-      go : (b : Bool) → refuses (earlyVerdict sheet) ≡ b → runRead sheet .files ≤ 256
+      go : (b : Bool) → refuses (earlyVerdict sheet) ≡ b → runByValue sheet .files ≤ 256
       go true e = rw e (omega arith)
       go false e = rw (e, files-long sheet) (few-files sheet (early-passes sheet e))
 
   pub wants-few : r .wants ≤ 64
-  unfolding runRead
+  unfolding runByValue
   wants-few = rw is (go (refuses (earlyVerdict sheet)) refl)
     where
-      go : (b : Bool) → refuses (earlyVerdict sheet) ≡ b → runRead sheet .wants ≤ 64
+      go : (b : Bool) → refuses (earlyVerdict sheet) ≡ b → runByValue sheet .wants ≤ 64
       go true e = rw e (omega arith)
       go false e = rw (e, wants-long sheet) (few-wants sheet (early-passes sheet e))
 
@@ -90,7 +90,7 @@ module _ (sheet : List ℕ) (r : SheetRun) (is : r ≡ runRead sheet) where
     refused-first e checks = verdict-is ∙ first-refuses (earlyVerdict sheet) checks (says true e) ∙ in-turn (sheetVerdict sheet) (ruleVerdict sheet) checks
 
     pub sheet-holds : f ≡ false → SheetHolds sheet r
-    unfolding earlyVerdict runRead readName sheetRun
+    unfolding earlyVerdict runByValue readName sheetRun
     sheet-holds e =
         let early = says false e in
         let good = early-passes sheet early in

@@ -16,8 +16,8 @@ unfoldable pub earlyVerdict : List ℕ → Verdict
 earlyVerdict sheet = firstOf (sheetVerdict sheet ∷ ruleVerdict sheet ∷ [])
 
 -- A row with room for so many: these, then zeros.
-abbrev pub filledTo : ℕ → List ℕ → List ℕ
-filledTo room values = values ++ zeros (room - length values)
+abbrev pub filledUp : ℕ → List ℕ → List ℕ
+filledUp room values = values ++ zeros (room - length values)
 
 -- A verdict, and a run in rows.
 abbrev pub inRows : Verdict → Run → SheetRun
@@ -28,16 +28,16 @@ inRows v run =
       wants = length (run .numbers);
       head = run .head;
       turn = run .turn;
-      starts = filledTo mostSheetFiles (run .starts);
-      lengths = filledTo mostSheetFiles (run .lengths);
-      aggregates = filledTo mostSheetFiles (run .aggregates);
-      numbers = filledTo mostWants (run .numbers);
-      counts = filledTo mostWants (run .counts);
+      starts = filledUp mostSheetFiles (run .starts);
+      lengths = filledUp mostSheetFiles (run .lengths);
+      aggregates = filledUp mostSheetFiles (run .aggregates);
+      numbers = filledUp mostWants (run .numbers);
+      counts = filledUp mostWants (run .counts);
     }
 
 -- The sheet's verdict and its run; on a refusal that of no files and no wants, with every number 0.
-unfoldable pub runRead : List ℕ → SheetRun
-runRead sheet =
+unfoldable pub runByValue : List ℕ → SheetRun
+runByValue sheet =
     inRows (earlyVerdict sheet) (cond (isRefusal (earlyVerdict sheet .refusal)) (runOf [] [] [] [] [] 0 0) (sheetRun sheet))
 
 -- The run that such rows hold.

@@ -2,7 +2,7 @@
 ghost use mathlib.Core.Path.{_≡_};
 ghost use Prim.Native.Nat.{min};
 ghost use lib.ListN.{take};
-ghost use Rattle.sheet_runs.specs.SheetRuns.{runRead};
+ghost use Rattle.sheet_runs.specs.SheetRuns.{runByValue};
 ghost use Rattle.sheet_runs.specs.Private.{saidBy};
 use refusals::Verdict;
 use sheet_reader::Reading;
@@ -53,7 +53,7 @@ fn said_by(read: Reading) -> Verdict
 
 // The rows suffice for every sheet that the reader accepts.
 pub fn read_run(sheet: &[u8]) -> SheetRun
-    ensures { λ r. ⌜ r ≡ runRead (now (sheet .entry)) ⌝ }
+    ensures { λ r. ⌜ r ≡ runByValue (now (sheet .entry)) ⌝ }
 {
     let mut starts = [0u64; 256];
     let mut lengths = [0u64; 256];

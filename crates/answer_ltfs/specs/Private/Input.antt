@@ -9,7 +9,7 @@ use Rattle.answer_ltfs.specs.declared.Report.{Report}
 use Rattle.answer_ltfs.specs.declared.input.Counted.{Counted}
 use Rattle.answer_ltfs.specs.declared.input.Texts.{Texts}
 use Rattle.answer_ltfs.specs.TapeTable.{ltfsSheet, ltfsReport}
-use Rattle.answer_ltfs.specs.Input.{isCounted, countedText, afterCounted, framedLabel, framedIndex, badFrame, inputName, inputLabel, inputIndex, inputVerdict}
+use Rattle.answer_ltfs.specs.Input.{isCounted, countedText, afterCounted, framedLabel, framedIndex, badFrame, inputName, inputLabel, inputIndex, tapeInputVerdict}
 
 -- A counted text, and where it stands.
 pub record CountedAt (key input : List ℕ) (at from to : ℕ) : Type 0 where
@@ -38,8 +38,8 @@ TextsFound input at Texts.Missing = badFrame input (drop at input) ≡ true
 
 -- The sheet of an input on a page that holds every sheet, and what is said of it.
 abbrev pub inputReport : List ℕ → Report
-inputReport input = ltfsReport (inputVerdict input) (inputName input) (inputLabel input) (inputIndex input)
+inputReport input = ltfsReport (tapeInputVerdict input) (inputName input) (inputLabel input) (inputIndex input)
 
 pub record Drafted (input page : List ℕ) (r : Report) (page′ : List ℕ) : Type 0 where
   pub report : r ≡ inputReport input
-  pub left : page′ ≡ writtenRow (inputVerdict input) (ltfsSheet (inputName input) (inputLabel input) (inputIndex input)) page
+  pub left : page′ ≡ writtenRow (tapeInputVerdict input) (ltfsSheet (inputName input) (inputLabel input) (inputIndex input)) page
