@@ -180,8 +180,8 @@ enum violstream_refusal {
     VIOLSTREAM_BAD_WANT = 4,       /* file not in the table or not ascending, or count 0; place: the want */
     VIOLSTREAM_TOO_MANY_READS = 5, /* over 1,024 reads; place 0 */
     VIOLSTREAM_TURN_PRICE = 6,     /* turn price above 2^32; place 0 */
-    VIOLSTREAM_HEAD_PLACE = 7,     /* head above 2^40, or left of the rightmost stop's end: of the aggregate's, where
-                                      the last want is of a file in one; place 0 */
+    VIOLSTREAM_HEAD_PLACE = 7,     /* head above 2^40, or left of the end of the rightmost stop, which is a whole
+                                      aggregate where the last want is of a file in one; place 0 */
     VIOLSTREAM_BAD_RULE = 14,      /* violstream_plan: rule other than VIOLSTREAM_LEAST; place 0 */
     VIOLSTREAM_BAD_ENTRY = 10,     /* violstream_price: list not well formed; place: the first entry that breaks a rule
                                       by itself or against an earlier one, 0 if starts and ends differ in number. An
@@ -277,8 +277,8 @@ uint64_t violstream_plan(const uint64_t *starts, size_t starts_len,
                          uint64_t *room, size_t room_len);
 
 /*
- * The same two calls with their parameters by name. They only call the functions above, and hand a length that two rows
- * share on for each of them. Set every member that a call takes, but for `sums`, which is filled by the call. Where no file
+ * The same two calls with their parameters by name. They only call the functions above. A length that several rows share
+ * stands once in the struct. Set every member that a call takes, but for `sums`, which is filled by the call. Where no file
  * lies in an aggregate, `aggregates` is a row of zeros, as long as the others.
  */
 struct violstream_run {
