@@ -69,15 +69,15 @@ module _ (r : Run) (good : GoodRun r) (list : List Detour) where
 
 -- The pricer's numbers, times and legs for a well-formed list, in rows that have them in front.
 priced-walk : (r : Run) (list : List Detour) (rows before : ReadRows) (answer : Answer) → answer ≡ pricedAnswer r list → rows ≡ readRowsWith r list before
-    → GoodRun r → WellFormed (stopsOf r) list → IsWalkOf r list rows answer
+    → GoodRun r → WellFormed (stopsOf r) list → IsFormed r list → IsWalkOf r list rows answer
 unfolding pricedAnswer pricedTimes pricedLegs timesOf legsFor
-priced-walk r list rows before answer says fills good formed =
+priced-walk r list rows before answer says fills good well formed =
     let same = sym (good .wants .equal) in
     let size : (f : Stop → ℕ) → length (map f (wantStopsOf r)) ≡ length (r .numbers) = λ f. one-each f (wantStopsOf r) ∙ wants-length (r .starts) (r .lengths) (r .aggregates) (r .numbers) (r .counts) same in
     record {
       number = rw says;
-      formed = is-formed r good list formed;
-      moves = walk-moves r good list formed;
+      formed = formed;
+      moves = walk-moves r good list well;
       serves = all-served (stopsOf r) (r .head) (run-sound r good) list;
       times = rw fills (take-at (pricedTimes r list) (drop (length (r .numbers)) (before .times)) (length (r .numbers)) (size _));
       legs = rw fills (take-at (pricedLegs r list) (drop (length (r .numbers)) (before .legs)) (length (r .numbers)) (size _));
@@ -92,8 +92,8 @@ module _ (r : Run) (list : List Detour) (before : Rows) (answer : Answer) (after
   in-rows = list-in-rows r list before answer after says rows
 
   walk-of-list : GoodRun r → WellFormed (stopsOf r) list → IsTheWalk r answer after
-  walk-of-list good formed =
-      rw in-rows (priced-walk r list (readsIn after) (readsIn before) answer says (ap readsIn rows) good formed)
+  walk-of-list good well =
+      rw in-rows (priced-walk r list (readsIn after) (readsIn before) answer says (ap readsIn rows) good well (is-formed r good list well))
 
   least-of-list : LeastFor (r .turn) (r .head) (stopsOf r) list → ((other : List Detour) → IsFormed r other → WellFormed (stopsOf r) other) → IsLeast r answer after
   unfolding pricedAnswer
@@ -114,10 +114,10 @@ module _ (r : Run) (froms tos : List ℕ) (rows : ReadRows) (e : refuses (priceV
       → out ≡ readRowsWith r (listOf froms tos) rows → IsPriceOf r froms tos out answer
   price-of-list answer out says fills =
       let good = accepted-run r (checks-pass .0) in
+      let well = list-formed (stopsOf r) froms tos (checks-pass .1 .0) in
       record {
         even = accepted-list (stopsOf r) froms tos (checks-pass .1 .0) .even;
-        walk =
-            priced-walk r (listOf froms tos) out rows answer says fills good (list-formed (stopsOf r) froms tos (checks-pass .1 .0));
+        walk = priced-walk r (listOf froms tos) out rows answer says fills good well (is-formed r good (listOf froms tos) well);
       }
 
 -- An answer that is no refusal comes of a verdict that is none.
