@@ -39,13 +39,13 @@ joined-keeps s ss l e = join-keeps s (joined ss) (some-joined ss l) (e ∙ sym (
 
 module _ (r : Run) (good : GoodRun r) where
   -- The stop of a want by itself.
-  abbrev Here : ℕ → Stop
+  abbrev pub Here : ℕ → Stop
   Here i = stopOf (r .starts) (r .lengths) (r .aggregates) (getD (r .numbers) i 0) (getD (r .counts) i 0)
 
-  wants-at : (i : ℕ) → i < length (r .numbers) → drop i (wantStopsOf r) ≡ Here i ∷ drop (suc i) (wantStopsOf r)
+  pub wants-at : (i : ℕ) → i < length (r .numbers) → drop i (wantStopsOf r) ≡ Here i ∷ drop (suc i) (wantStopsOf r)
   wants-at i l = wants-drop (r .starts) (r .lengths) (r .aggregates) (r .numbers) (r .counts) (sym (good .wants .equal)) i l
 
-  wants-end : drop (length (r .numbers)) (wantStopsOf r) ≡ []
+  pub wants-end : drop (length (r .numbers)) (wantStopsOf r) ≡ []
   wants-end = ap (λ n. drop n (wantStopsOf r)) (sym (wants-length (r .starts) (r .lengths) (r .aggregates) (r .numbers) (r .counts) (sym (good .wants .equal)))) ∙ drop-length (wantStopsOf r)
 
   -- The names of two wants' stops are the same just where the wants lie together.

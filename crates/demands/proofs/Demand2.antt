@@ -10,7 +10,7 @@ use Rattle.refusals.specs.declared.Refusal.the-variants.{Accepted, BadEntry, Sh
 use Rattle.walk.specs.declared.Answer.{Answer}
 use Rattle.refusals.specs.Refusals.{isRefusal, refuseIf}
 use Rattle.runs.specs.Run.{Run, Stop, stopsOf, wantStopsOf}
-use Rattle.walk.specs.Walk.{headAt, timesOf, legsFor}
+use Rattle.walk.specs.Walk.{headAt, Moves, timesOf, legsFor}
 use Rattle.walk.specs.Detours.{legsOf}
 use Rattle.runs.specs.Judging.{judgeOf}
 use Rattle.runs.specs.Lists.{Detour, WellFormed, listOf, listVerdict}
@@ -21,10 +21,11 @@ use Rattle.runs.proofs.Judged.{GoodRun, accepted-run}
 use Rattle.runs.proofs.Search.{true-or-false}
 use Rattle.walk.proofs.Filling.{one-each}
 use Rattle.walk.proofs.Joins.{run-sum-joined}
-use Rattle.walk.proofs.Walks.{accepted-list}
+use Rattle.walk.proofs.Walks.{accepted-list, run-walkable}
 use Rattle.engine_stops.proofs.Halves.{list-accepted, list-of-halves, halves-even}
 use Rattle.figures.proofs.Answers.{list-formed}
-use Rattle.runs.proofs.Stops.{wants-length}
+use Rattle.runs.proofs.Stops.{wants-length, run-sound}
+use Rattle.least.proofs.Sweeps.{all-served}
 use Rattle.least.specs.Least.{LeastFor}
 use Rattle.planner.specs.Plan.{rowsWith}
 use Rattle.planner.specs.Rows.{Rows, readsIn}
@@ -60,15 +61,24 @@ module _ (r : Run) (good : GoodRun r) (list : List Detour) where
       go (refused p e h) = absurd (true≢false (sym (ap refuses e) ∙ list-accepted (stopsOf r) froms tos (halves-even (λ d. d .from) (λ d. d .to) list) (rw (list-of-halves list) w)))
       go (passed e none) = none
 
+  -- The legs of a well-formed list are a movement.
+  pub walk-moves : WellFormed (stopsOf r) list → Moves (r .head) (legsOf (stopsOf r) list)
+  walk-moves w =
+      let all = list-accepted (stopsOf r) froms tos (halves-even (λ d. d .from) (λ d. d .to) list) (rw (list-of-halves list) w) in
+      rw (list-of-halves list) at (run-walkable r good froms tos (accepted-list (stopsOf r) froms tos all) .moves)
+
 -- The pricer's numbers, times and legs for a well-formed list, in rows that have them in front.
 priced-walk : (r : Run) (list : List Detour) (rows before : ReadRows) (answer : Answer) → answer ≡ pricedAnswer r list → rows ≡ readRowsWith r list before
-    → IsFormed r list → length (r .counts) ≡ length (r .numbers) → IsWalkOf r list rows answer
+    → GoodRun r → WellFormed (stopsOf r) list → IsFormed r list → IsWalkOf r list rows answer
 unfolding pricedAnswer pricedTimes pricedLegs timesOf legsFor
-priced-walk r list rows before answer says fills formed same =
+priced-walk r list rows before answer says fills good well formed =
+    let same = sym (good .wants .equal) in
     let size : (f : Stop → ℕ) → length (map f (wantStopsOf r)) ≡ length (r .numbers) = λ f. one-each f (wantStopsOf r) ∙ wants-length (r .starts) (r .lengths) (r .aggregates) (r .numbers) (r .counts) same in
     record {
       number = rw says;
       formed = formed;
+      moves = walk-moves r good list well;
+      serves = all-served (stopsOf r) (r .head) (run-sound r good) list;
       times = rw fills (take-at (pricedTimes r list) (drop (length (r .numbers)) (before .times)) (length (r .numbers)) (size _));
       legs = rw fills (take-at (pricedLegs r list) (drop (length (r .numbers)) (before .legs)) (length (r .numbers)) (size _));
       sum = rw says;
@@ -81,9 +91,9 @@ module _ (r : Run) (list : List Detour) (before : Rows) (answer : Answer) (after
   in-rows : listIn answer after ≡ list
   in-rows = list-in-rows r list before answer after says rows
 
-  walk-of-list : IsFormed r list → length (r .counts) ≡ length (r .numbers) → IsTheWalk r answer after
-  walk-of-list formed same =
-      rw in-rows (priced-walk r list (readsIn after) (readsIn before) answer says (ap readsIn rows) formed same)
+  walk-of-list : GoodRun r → WellFormed (stopsOf r) list → IsTheWalk r answer after
+  walk-of-list good well =
+      rw in-rows (priced-walk r list (readsIn after) (readsIn before) answer says (ap readsIn rows) good well (is-formed r good list well))
 
   least-of-list : LeastFor (r .turn) (r .head) (stopsOf r) list → ((other : List Detour) → IsFormed r other → WellFormed (stopsOf r) other) → IsLeast r answer after
   unfolding pricedAnswer
@@ -104,12 +114,10 @@ module _ (r : Run) (froms tos : List ℕ) (rows : ReadRows) (e : refuses (priceV
       → out ≡ readRowsWith r (listOf froms tos) rows → IsPriceOf r froms tos out answer
   price-of-list answer out says fills =
       let good = accepted-run r (checks-pass .0) in
+      let well = list-formed (stopsOf r) froms tos (checks-pass .1 .0) in
       record {
         even = accepted-list (stopsOf r) froms tos (checks-pass .1 .0) .even;
-        walk =
-            priced-walk r (listOf froms tos) out rows answer says fills
-            (is-formed r good (listOf froms tos) (list-formed (stopsOf r) froms tos (checks-pass .1 .0)))
-            (sym (good .wants .equal));
+        walk = priced-walk r (listOf froms tos) out rows answer says fills good well (is-formed r good (listOf froms tos) well);
       }
 
 -- An answer that is no refusal comes of a verdict that is none.
@@ -136,7 +144,7 @@ pub demand2-walk : Demand2Walk
 demand2-walk r before answer after plans accepts =
     let plan = plan-in-rows r before answer after plans accepts in
     let good = accepted-run r (run-accepted r before answer after plans accepts) in
-    walk-of-list r (plan .list) before answer after (plan .says) (plan .rows) (is-formed r good (plan .list) (plan .least .formed)) (sym (good .wants .equal))
+    walk-of-list r (plan .list) before answer after (plan .says) (plan .rows) good (plan .least .formed)
 
 pub demand2-least : Demand2Least
 demand2-least r before answer after plans accepts =

@@ -17,7 +17,7 @@ use Rattle.runs.proofs.Search.{or-false-both, first-zero, first-all, any-zero}
 use Rattle.demands.specs.Formed.{IsStop, IsDetour, ObeysTheRules, FormedByTheRules}
 
 -- A file is wanted where a stop has its number, and only there.
-stop-wanted : (stops : List Stop) (f : ℕ) → IsStop stops f → wanted stops f ≡ true
+pub stop-wanted : (stops : List Stop) (f : ℕ) → IsStop stops f → wanted stops f ≡ true
 unfolding wanted
 stop-wanted stops f s = at stops (s .0) (s .1) (s .2)
   where

@@ -3,12 +3,14 @@
 use Prim.Native.Nat.{ℕ, zero, suc, _+_, _≤_}
 use mathlib.Core.Path.{_≡_, refl, sym, ap, _∙_}
 use mathlib.Core.Bool.{Bool, true, false, cond, true≢false}
+use mathlib.Core.Logic.{inl, inr}
 use mathlib.Core.List.{List, [], _∷_, _++_, map}
 use native.Mathlib.Omega.{arith}
 use lib.ListN.{length, take, replicate, length-replicate}
 use native.Mathlib.Nat.{le-refl}
 use borrow.Author.Tests.{le-ltb}
 use lib.Dec.{eqb}
+use Rattle.refusals.specs.declared.Refusal.{Refusal}
 use Rattle.refusals.specs.declared.Refusal.the-variants.{Accepted, BadEntry, BadLine, RetiredRule, ShortRoom}
 use Rattle.walk.specs.declared.Answer.{Answer}
 use Rattle.walk.specs.declared.Leg.{Leg}
@@ -39,21 +41,23 @@ use Rattle.sheet_reader.specs.Reading.{sheetVerdict, ruleVerdict, readVerdict, 
 use Rattle.sheet_writer.specs.declared.Written.{Written}
 use Rattle.sheet_writer.specs.Writing.{sheetText, rowVerdict, writeVerdict, writtenAnswer, writtenRow}
 use Rattle.answer_rewrite.specs.Rewriting.{priceIsEmpty, bytesBefore, rewritten, rewriteVerdict}
-use Rattle.demands.specs.RefusalTable.{FirstBad, NothingApplies}
+use Rattle.demands.specs.RefusalTable.{FirstBad, NothingApplies, FirstThatApplies, none, here, later, SomeApplies}
+use Rattle.demands.specs.Demand1.{ByTheTable, PlanApplies, planOrder}
 use Rattle.demands.specs.Lines.{LineIsBad, linesDue}
 use Rattle.demands.specs.Sheets.{GivesBack, RunComesBack}
 use Rattle.demands.specs.Turns.{Rewrites}
 use Rattle.demands.specs.Formed.{ObeysTheRules}
 use Rattle.demands.specs.Demand2.{IsTheWalk, IsPriceOf, IsLeast}
 use Rattle.demands.specs.Demand3.{AsksNoLess}
+use Rattle.demands.specs.Movements.{AsksNoLessByFile, Attained}
 use Rattle.demands.specs.Plain.{SameAnswer}
 use Rattle.demands.specs.Calls.{PriceCallWalks, PlanCallWalks}
 use Rattle.demands.specs.Cases.{exampleRun, fourFiles}
 use Rattle.demands.proofs.Judged.{nothing-judged, judged-nothing}
 use Rattle.demands.proofs.Formed.{formed-by-the-rules}
-use Rattle.demands.proofs.Demand1.{demand1-price, demand1-plan}
+use Rattle.demands.proofs.Demand1.{demand1-price, demand1-plan, plan-refused-iff}
 use Rattle.demands.proofs.Demand2.{demand2-price, demand2-walk, demand2-least}
-use Rattle.demands.proofs.Demand3.{demand3, demand3-same}
+use Rattle.demands.proofs.Demand3.{no-less-by-file, demand3, demand3-by-file, demand3-same, demand3-attained}
 use Rattle.demands.proofs.Called.{demand2-price-call, demand2-plan-call, demand3-plan-call}
 use Rattle.demands.proofs.FirstLine.{lines-by-the-table}
 use Rattle.demands.proofs.Sheets.{demand1-read}
@@ -133,14 +137,21 @@ more-accepted : NothingApplies moreAsked
 unfolding judgeOf firstWhere goesOn firstMember lastWithin wantStops joinTo joined rightEnd
 more-accepted = judged-nothing moreAsked refl
 
+sheet-judged : NothingApplies exampleRun
+unfolding judgeOf firstWhere goesOn firstMember lastWithin wantStops joinTo joined rightEnd
+sheet-judged = judged-nothing exampleRun refl
+
 no-fewer-reads : (a b c : Bool) → cond a 1 0 + (cond b 3 0 + (cond c 1 0 + 0)) ≤ cond a 1 0 + (cond b 4 0 + (cond c 1 0 + 0))
 no-fewer-reads a true c = omega arith
 no-fewer-reads a false c = omega arith
 
-more-asks-no-less : AsksNoLess moreAsked exampleRun
+more-by-file : AsksNoLessByFile moreAsked exampleRun
 unfolding readsOfFile
-more-asks-no-less =
+more-by-file =
     record { starts = refl; lengths = refl; aggregates = refl; reads = λ f. no-fewer-reads (eqb 1 f) (eqb 2 f) (eqb 3 f); turn = omega arith; head = omega arith }
+
+more-asks-no-less : AsksNoLess moreAsked exampleRun
+more-asks-no-less = no-less-by-file moreAsked exampleRun more-accepted sheet-judged more-by-file
 
 wanderings-move : (head : ℕ) → 18 ≤ head → Moves head wanderings
 wanderings-move head far = omega arith
@@ -185,6 +196,18 @@ short-room-keeps-rows =
     demand1-plan exampleRun (sheetRows 53) (sheetAnswer 53) (sheetAfter 53) (sheet-plans 53) .kept
     (λ e. true≢false (ap isRefusal (sym short-room-refused ∙ e))) .1
 
+-- A build that refuses everything, whatever its definitions say: no refusal of the sheet's run, with rows and room that suffice, goes by the table.
+none-first : {applies : Refusal → ℕ → Type 0} {order : List Refusal} {kind : Refusal} {place : ℕ} → (SomeApplies applies order → ⊥)
+    → FirstThatApplies applies order kind place → kind ≡ Accepted
+none-first nothing none = refl
+none-first nothing (here h) = absurd (nothing (inl (_, h)))
+none-first nothing (later skipped rest) = none-first (λ s. nothing (inr s)) rest
+
+pub no-refusal-of-the-sheet : (answer : Answer) (after : Rows) → ByTheTable (PlanApplies exampleRun (sheetRows 54)) planOrder (sheetRows 54) answer after
+    → answer .refusal ≡ Accepted
+no-refusal-of-the-sheet answer after table =
+    none-first (λ s. plan-refused-iff exampleRun (sheetRows 54) (sheetAnswer 54) (sheetAfter 54) (sheet-plans 54) .1 s sheet-accepted) (table .first)
+
 pub crossing-list-keeps-row : priceRows fourFiles (3 ∷ 2 ∷ []) (4 ∷ 4 ∷ []) zeros ≡ zeros
 crossing-list-keeps-row =
     demand1-price fourFiles (3 ∷ 2 ∷ []) (4 ∷ 4 ∷ []) zeros (refusalAnswer (record { refusal = BadEntry; place = 2 }))
@@ -219,6 +242,16 @@ wanderings-beat-nothing-there =
     rw
     sheet-reports at
     (demand3-same exampleRun (sheetRows 54) (sheetAnswer 54) (sheetAfter 54) (sheet-plans 54) sheet-accepted wanderings (wanderings-move 60 (omega arith)) (wanderings-serve .1))
+
+pub wanderings-beat-nothing-by-file : 367 ≤ sumOf (moreAsked .turn) (headAt (moreAsked .head)) wanderings (stopsOf moreAsked)
+wanderings-beat-nothing-by-file =
+    rw
+    sheet-reports at
+    (demand3-by-file moreAsked exampleRun (sheetRows 54) (sheetAnswer 54) (sheetAfter 54) more-accepted (sheet-plans 54) sheet-accepted more-by-file wanderings (wanderings-move 70 (omega arith)) (wanderings-serve .0))
+
+-- And some movement has the sum 367.
+pub sheet-attained : Attained exampleRun 367
+sheet-attained = rw sheet-reports at (demand3-attained exampleRun (sheetRows 54) (sheetAnswer 54) (sheetAfter 54) (sheet-plans 54) sheet-accepted)
 
 -- At the C boundary the same, with a row of sums of five words.
 abbrev fiveWords : List ℕ
@@ -267,10 +300,6 @@ wanderings-beat-no-call =
     (demand3-plan-call moreAsked exampleRun 1 (sheetRows 54) fiveWords 0 (sheetAfter 54) (sumsWith (sheetAnswer 54) fiveWords) more-accepted sheet-called refl more-asks-no-less wanderings (wanderings-move 70 (omega arith)) (wanderings-serve .0))
 
 -- The sheet's run is written, and read back into rows that are just long enough.
-sheet-judged : NothingApplies exampleRun
-unfolding judgeOf firstWhere goesOn firstMember lastWithin wantStops joinTo joined rightEnd
-sheet-judged = judged-nothing exampleRun refl
-
 abbrev exampleName : List ℕ
 exampleName = 86 ∷ 88 ∷ 48 ∷ 48 ∷ 52 ∷ 49 ∷ []
 

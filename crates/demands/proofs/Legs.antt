@@ -86,7 +86,7 @@ module _ (r : Run) (ok : refuses (judgeOf r) ≡ false) (list : List Detour) (ro
   some-stops : 0 < length (r .numbers) → 0 < length (stopsOf r)
   some-stops some = some-joined (wantStopsOf r) (omega (arith, long))
 
-  leg-in-row : (i : ℕ) → i < length (r .numbers) → getD (rows .legs) i 0 ≡ legFor (legsOf (stopsOf r) list) (stopAt (wantStopsOf r) i)
+  pub leg-in-row : (i : ℕ) → i < length (r .numbers) → getD (rows .legs) i 0 ≡ legFor (legsOf (stopsOf r) list) (stopAt (wantStopsOf r) i)
   unfolding legsFor
   leg-in-row i l =
       sym (getD-take (length (r .numbers)) (rows .legs) i 0 l)

@@ -11,11 +11,14 @@ pub mod Calls
 pub mod Planned
 pub mod Demand2
 pub mod Demand3
+pub mod Multiplied
 pub mod Offices
 pub mod Plain
 pub mod Stops
 pub mod Ends
+pub mod Nothing
 pub mod Legs
+pub mod Aggregates
 pub mod Called
 pub mod Cases
 pub mod Alone
@@ -27,5 +30,6 @@ pub mod WriteRead
 pub mod Turns
 pub mod Tapes
 pub mod Fits
+pub mod Removed
 pub mod Instances
 pub mod Sharing

@@ -66,7 +66,7 @@ module _ (r : Run) (good : GoodRun r) where
   wanted-file : (i : ℕ) → i < length (r .numbers) → IsFile r (getD (r .numbers) i 0)
   wanted-file = named r (good .files) (good .wants)
 
-  test-names : (f : ℕ) → rowNamed (r .aggregates) (r .numbers) f ≡ true → NamesStop r f
+  pub test-names : (f : ℕ) → rowNamed (r .aggregates) (r .numbers) f ≡ true → NamesStop r f
   test-names zero e =
       let both = and-true-both (not (goesOn (r .aggregates) (0 - 1))) (someBetween (r .numbers) 0 0) e in
       let w = lies-between (r .numbers) 0 0 (both .1) in

@@ -1,7 +1,7 @@
 -- What sharing a run costs: the planner's lists are least, so the laws of runs on one tape and of counts c times over apply to what it reports.
 use Prim.Native.Nat.{ℕ, _*_, _≤_}
 use mathlib.Core.Path.{_≡_, sym, ap, _∙_}
-use mathlib.Core.List.{List}
+use mathlib.Core.List.{List, map}
 use lib.ListN.{length, take}
 use Rattle.walk.specs.declared.Answer.{Answer}
 use Rattle.walk.specs.declared.Leg.{Leg}
@@ -19,6 +19,8 @@ use Rattle.demands.specs.Demand2.{listIn, IsTheWalk}
 use Rattle.demands.specs.Offices.{Reports, OneTape, SharingNeverPays, Multiplies, SamePlan, MultipliedTheSame}
 use Rattle.demands.proofs.Planned.{plan-in-rows, run-accepted, list-in-rows}
 use Rattle.demands.proofs.Demand2.{demand2-walk}
+use Rattle.demands.proofs.Judged.{judged-nothing}
+use Rattle.demands.proofs.Multiplied.{multiplied-wants}
 
 -- What a report says: the run is accepted, the list in the rows is its least, and the rest is that list's walk.
 module _ (r : Run) (before : Rows) (answer : Answer) (after : Rows) (reports : Reports r before answer after) where
@@ -51,11 +53,18 @@ module _ (c : ℕ) (some : 1 ≤ c) (many r : Run) (before before′ : Rows) (an
   tape : OneTape many r
   tape = times-over .tape
 
+  same-wants : (many .numbers ≡ r .numbers) × (many .counts ≡ map (λ n. c * n) (r .counts))
+  same-wants =
+      multiplied-wants c many r some
+      (judged-nothing many (run-accepted many before answer after (says .plans) (says .accepts)))
+      (judged-nothing r (run-accepted r before′ answer′ after′ (says′ .plans) (says′ .accepts)))
+      times-over
+
   wants : wantStopsOf many ≡ allScaled c (wantStopsOf r)
-  wants = wants-multiplied c many r (on-one-tape many r tape) (times-over .numbers) (times-over .counts)
+  wants = wants-multiplied c many r (on-one-tape many r tape) (same-wants .0) (same-wants .1)
 
   stops : stopsOf many ≡ allScaled c (stopsOf r)
-  stops = stops-multiplied c many r (on-one-tape many r tape) (times-over .numbers) (times-over .counts)
+  stops = stops-multiplied c many r (on-one-tape many r tape) (same-wants .0) (same-wants .1)
 
   same-list : listIn answer after ≡ listIn answer′ after′
   same-list =
@@ -82,7 +91,7 @@ module _ (c : ℕ) (some : 1 ≤ c) (many r : Run) (before before′ : Rows) (an
   sum-times-c = rw (stops, same-list, tape .turn, tape .head) (list-sum-scaled c (r .turn) (r .head) (stopsOf r) (listIn answer′ after′))
 
   first-wants : (row : List ℕ) → take (length (r .numbers)) row ≡ take (length (many .numbers)) row
-  first-wants row = ap (λ ns. take (length ns) row) (sym (times-over .numbers))
+  first-wants row = ap (λ ns. take (length ns) row) (sym (same-wants .0))
 
   same-plan : SamePlan c (length (r .numbers)) answer answer′ after after′
   same-plan =

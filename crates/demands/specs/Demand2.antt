@@ -9,7 +9,7 @@ use lib.ListN.{length, take}
 use Rattle.refusals.specs.declared.Refusal.the-variants.{Accepted}
 use Rattle.walk.specs.declared.Answer.{Answer}
 use Rattle.runs.specs.Run.{Run, stopsOf, wantStopsOf}
-use Rattle.walk.specs.Walk.{headAt, walked, timesOf, legsFor, sumOf}
+use Rattle.walk.specs.Walk.{headAt, walked, Moves, ServesAll, timesOf, legsFor, sumOf}
 use Rattle.runs.specs.Lists.{Detour, listOf}
 use Rattle.walk.specs.Detours.{legsOf}
 use Rattle.walk.specs.Price.{priceAnswer, priceRows}
@@ -27,11 +27,13 @@ IsFormed r list = (place : ℕ) → ListIsBad r (map (λ d. d .from) list) (map 
 abbrev pub listIn : Answer → Rows → List Detour
 listIn answer after = listOf (take (answer .detours) (after .froms)) (take (answer .detours) (after .tos))
 
--- The first entries of two rows and an answer's numbers are those of the walk of a list, from the run's head at its price. Lists and legs are
--- of stops; times and legs are told of each want handed in, and the sum is the same over stops and over wants.
+-- The first entries of two rows and an answer's numbers are those of the walk of a list, from the run's head at its price: a movement that the head
+-- can make, and that reads every stop. Lists and legs are of stops; times and legs are told of each want handed in, and the sum is the same over both.
 pub record IsWalkOf (r : Run) (list : List Detour) (rows : ReadRows) (answer : Answer) : Type 0 where
   pub number : length list ≡ answer .detours
   pub formed : IsFormed r list
+  pub moves : Moves (r .head) (legsOf (stopsOf r) list)
+  pub serves : ServesAll (legsOf (stopsOf r) list) (stopsOf r)
   pub times : take (length (r .numbers)) (rows .times) ≡ timesOf (r .turn) (headAt (r .head)) (legsOf (stopsOf r) list) (wantStopsOf r)
   pub legs : take (length (r .numbers)) (rows .legs) ≡ legsFor (legsOf (stopsOf r) list) (wantStopsOf r)
   pub sum : answer .sum ≡ sumOf (r .turn) (headAt (r .head)) (legsOf (stopsOf r) list) (stopsOf r)

@@ -1,4 +1,5 @@
--- Demand 3: no movement that serves at least these reads, at no lower turn price, from no further left, has a smaller sum than we report.
+-- Demand 3, over the table as joined: no movement that serves at least these reads, at no lower turn price, from no further left, has a smaller sum
+-- than we report. What follows of it is in Movements.
 use Prim.Native.Nat.{ℕ, _≤_}
 use mathlib.Core.Path.{_≡_}
 use mathlib.Core.List.{List}
@@ -7,18 +8,18 @@ use Rattle.walk.specs.declared.Answer.{Answer}
 use Rattle.walk.specs.declared.Leg.{Leg}
 use Rattle.runs.specs.Run.{Run, stopsOf}
 use Rattle.walk.specs.Walk.{headAt, Moves, ServesAll, sumOf}
-use Rattle.least.specs.Wants.{readsOfFile}
+use Rattle.least.specs.Wants.{readsOf}
 use Rattle.planner.specs.Plan.{Plans}
 use Rattle.planner.specs.Rows.{Rows}
 use Rattle.demands.specs.RefusalTable.{NothingApplies}
 
--- The first run asks for no less than the second: the same tape table with the same aggregates, at least as many reads of every file as handed
--- in, a turn price no lower, a head no further left.
+-- The first run asks for no less than the second: the same tape table with the same aggregates, at least as many reads of every stop, by its name, a
+-- turn price no lower, a head no further left.
 pub record AsksNoLess (first second : Run) : Type 0 where
   pub starts : first .starts ≡ second .starts
   pub lengths : first .lengths ≡ second .lengths
   pub aggregates : first .aggregates ≡ second .aggregates
-  pub reads : (f : ℕ) → readsOfFile (second .numbers) (second .counts) f ≤ readsOfFile (first .numbers) (first .counts) f
+  pub reads : (f : ℕ) → readsOf (stopsOf second) f ≤ readsOf (stopsOf first) f
   pub turn : second .turn ≤ first .turn
   pub head : second .head ≤ first .head
 
@@ -34,14 +35,3 @@ Demand3 =
     → Moves (first .head) gs
     → ServesAll gs (stopsOf first)
     → answer .sum ≤ sumOf (first .turn) (headAt (first .head)) gs (stopsOf first)
-
--- In particular, no movement at all beats the plan of a run.
-abbrev pub Demand3Same : Type 0
-Demand3Same =
-    (r : Run) (before : Rows) (answer : Answer) (after : Rows)
-    → Plans r before answer after
-    → answer .refusal ≡ Accepted
-    → (gs : List Leg)
-    → Moves (r .head) gs
-    → ServesAll gs (stopsOf r)
-    → answer .sum ≤ sumOf (r .turn) (headAt (r .head)) gs (stopsOf r)

@@ -1,7 +1,9 @@
--- Request L2: the last sweep stops where nothing is left to read. The log's last event is a read, and no time has moved.
+-- Request L2: the last sweep stops where nothing is left to read. The log's last event is a read, and no time has moved. Where nothing is wanted there is
+-- no sweep, and the head stays.
 use Prim.Native.Nat.{ℕ, _-_, _≤_, _<_}
 use mathlib.Core.Path.{_≡_}
-use mathlib.Core.List.{List}
+use mathlib.Core.Logic.{_↔_}
+use mathlib.Core.List.{List, []}
 use lib.ListN.{length, getD}
 use Rattle.refusals.specs.declared.Refusal.the-variants.{Accepted}
 use Rattle.walk.specs.declared.Answer.{Answer}
@@ -14,6 +16,7 @@ use Rattle.walk.specs.Rows.{ReadRows}
 use Rattle.planner.specs.Plan.{Plans}
 use Rattle.planner.specs.Rows.{Rows}
 use Rattle.demands.specs.RefusalTable.{IsFile, Together, endOfFile, NothingApplies}
+use Rattle.demands.specs.Demand2.{IsFormed}
 
 -- The finish is the time of one of the wants and no want has a later one; the end is the end of the last file that lies together with it.
 pub record EndsWithARead (r : Run) (times : List ℕ) (answer : Answer) : Type 0 where
@@ -52,3 +55,28 @@ pub record Stay (r : Run) (list : List Detour) : Type 0 where
 
 abbrev pub TimesStay : Type 0
 TimesStay = (r : Run) → NothingApplies r → (list : List Detour) → Stay r list
+
+-- Where nothing is wanted, only the empty list is well formed, sum and finish are 0, and the head ends where it stood.
+pub record NothingRead (r : Run) (answer : Answer) : Type 0 where
+  pub only : (list : List Detour) → IsFormed r list ↔ (list ≡ [])
+  pub sum : answer .sum ≡ 0
+  pub finish : answer .finish ≡ 0
+  pub end : answer .end ≡ r .head
+  pub detours : answer .detours ≡ 0
+
+abbrev pub PriceOfNothing : Type 0
+PriceOfNothing =
+    (r : Run) (froms tos : List ℕ) (rows : ReadRows) (answer : Answer) (out : ReadRows)
+    → answer ≡ priceAnswer r froms tos rows
+    → out ≡ priceRows r froms tos rows
+    → answer .refusal ≡ Accepted
+    → length (r .numbers) ≡ 0
+    → NothingRead r answer
+
+abbrev pub PlanOfNothing : Type 0
+PlanOfNothing =
+    (r : Run) (before : Rows) (answer : Answer) (after : Rows)
+    → Plans r before answer after
+    → answer .refusal ≡ Accepted
+    → length (r .numbers) ≡ 0
+    → NothingRead r answer

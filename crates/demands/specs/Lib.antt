@@ -5,11 +5,13 @@ pub mod Formed
 pub mod Demand1
 pub mod Demand2
 pub mod Demand3
+pub mod Movements
 pub mod Ends
 pub mod Legs
 pub mod Offices
 pub mod Calls
 pub mod Cases
+pub mod Aggregates
 pub mod Alone
 pub mod Lines
 pub mod Sheets

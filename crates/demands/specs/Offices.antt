@@ -10,6 +10,7 @@ use Rattle.runs.specs.Run.{Run}
 use Rattle.least.specs.Wants.{readsOfFile}
 use Rattle.planner.specs.Plan.{Plans}
 use Rattle.planner.specs.Rows.{Rows}
+use Rattle.demands.specs.RefusalTable.{NothingApplies}
 use Rattle.demands.specs.Demand2.{listIn}
 
 -- What the planner reports of a run that it accepts: its answer, and the rows before and after.
@@ -45,11 +46,20 @@ SharingNeverPays =
     → Shares shared one other
     → answer₁ .sum + answer₂ .sum ≤ answer .sum
 
--- The same wants, every count c times as large.
+-- The first run asks for what the second does, c times over: of every file c times as many reads.
 pub record Multiplies (c : ℕ) (many r : Run) : Type 0 where
   pub tape : OneTape many r
-  pub numbers : many .numbers ≡ r .numbers
-  pub counts : many .counts ≡ map (λ n. c * n) (r .counts)
+  pub reads : (f : ℕ) → readsBy many f ≡ c * readsBy r f
+
+-- So of accepted runs the wants are of the same files, and every count is c times as large.
+abbrev pub MultipliedWants : Type 0
+MultipliedWants =
+    (c : ℕ) (many r : Run)
+    → 1 ≤ c
+    → NothingApplies many
+    → NothingApplies r
+    → Multiplies c many r
+    → (many .numbers ≡ r .numbers) × (many .counts ≡ map (λ n. c * n) (r .counts))
 
 -- Two answers with one list, the same time and leg for each want, one finish and one end; the first's sum is c times the second's.
 pub record SamePlan (c wants : ℕ) (answer answer′ : Answer) (after after′ : Rows) : Type 0 where

@@ -1,0 +1,189 @@
+-- A plan without one of its detours: the plan whose list has that entry no longer, and its times beside those of the plan, stop by stop.
+use Prim.Native.Nat.{ℕ, zero, suc, _+_, _-_, _*_, _≤_, _<_}
+use native.Mathlib.Omega.{arith}
+use native.Mathlib.Decide.{decLt, decLe}
+use mathlib.Core.Path.{_≡_, refl, sym, ap, _∙_}
+use mathlib.Core.Bool.{cond}
+use mathlib.Core.Logic.{by-cases}
+use mathlib.Core.List.{List, [], _∷_, _++_, append-assoc}
+use lib.ListN.{length, length-append}
+use lib.Dec.{leb}
+use borrow.Author.Tests.{le-leb, lt-leb}
+use Rattle.figures.specs.Figures.{without}
+use Rattle.runs.specs.Lists.{Detour}
+use Rattle.least.specs.Recurrence.{Plan, empty, skip, detour, trip, planDetours}
+use Rattle.least.proofs.Plan.{Over, lagAfter, legTime, timeIn}
+use Rattle.least.proofs.Times.{Spaced, starts-rise, legTime-exact, planTime, lag-grows, time-in-inner, time-in-rest, unread-right, unread-left}
+
+-- A list without an entry of its front, or of its back.
+module _ {A : Type 0} where
+  without-front : (xs ys : List A) (i : ℕ) → i < length xs → without i (xs ++ ys) ≡ without i xs ++ ys
+  unfolding without
+  without-front [] ys i l = absurd (omega arith)
+  without-front (x ∷ xs) ys zero l = refl
+  without-front (x ∷ xs) ys (suc i) l = ap (λ zs. x ∷ zs) (without-front xs ys i (omega arith))
+
+  without-back : (xs ys : List A) (i k : ℕ) → k ≡ length xs + i → without k (xs ++ ys) ≡ xs ++ without i ys
+  unfolding without
+  without-back [] ys i k e = let same : k ≡ i = omega arith in rw same
+  without-back (x ∷ xs) ys i zero e = absurd (omega arith)
+  without-back (x ∷ xs) ys i (suc k) e = ap (λ zs. x ∷ zs) (without-back xs ys i k (omega arith))
+
+-- What a plan over (suc d, b] does and then a plan over (a, d], with nothing that starts or ends at suc d.
+unfoldable graft : ℕ → Plan → Plan → ℕ → Plan
+graft d rest empty b = cond (leb b d) rest (skip rest)
+graft d rest (skip p) zero = rest
+graft d rest (skip p) (suc b) = skip (graft d rest p b)
+graft d rest (detour c inner p) zero = rest
+graft d rest (detour c inner p) (suc b) = detour c inner (graft d rest p c)
+
+-- Where the first has nothing left, it ends at suc d, or had not even that.
+module _ (d : ℕ) (rest : Plan) where
+  graft-ended : (b : ℕ) → b ≤ d → graft d rest empty b ≡ rest
+  unfolding graft
+  graft-ended b l = rw (le-leb b d l)
+
+  graft-skipped : (b : ℕ) → d < b → graft d rest empty b ≡ skip rest
+  unfolding graft
+  graft-skipped b l = rw (lt-leb b d l)
+
+  graft-over : (a : ℕ) (p : Plan) (b : ℕ) → a ≤ d → d ≤ b → Over p (suc d) b → Over rest a d → Over (graft d rest p b) a b
+  unfolding graft
+  graft-over a empty b low l o r =
+      by-cases (decLe b d)
+      (λ h. let e : b ≡ d = omega arith in rw (graft-ended b h, e) r)
+      (λ h. let e : b ≡ suc d = omega arith in rw (graft-skipped b (omega arith), e) (low, r))
+  graft-over a (skip p) zero low l o r = absurd o
+  graft-over a (skip p) (suc b) low l o r = (omega (arith, o .0), graft-over a p b low (omega (arith, o .0)) (o .1) r)
+  graft-over a (detour c inner p) zero low l o r = absurd o
+  graft-over a (detour c inner p) (suc b) low l o r = (omega (arith, o .0), o .1, o .2, graft-over a p c low (omega (arith, o .0)) (o .3) r)
+
+  graft-list : (F : ℕ → ℕ) (p : Plan) (b : ℕ) → d ≤ b → Over p (suc d) b → planDetours F (graft d rest p b) b ≡ planDetours F p b ++ planDetours F rest d
+  unfolding graft planDetours
+  graft-list F empty b l o =
+      by-cases (decLe b d)
+      (λ h. let e : b ≡ d = omega arith in rw (graft-ended b h, e))
+      (λ h. let e : b ≡ suc d = omega arith in rw (graft-skipped b (omega arith), e))
+  graft-list F (skip p) zero l o = absurd o
+  graft-list F (skip p) (suc b) l o = graft-list F p b (omega (arith, o .0)) (o .1)
+  graft-list F (detour c inner p) zero l o = absurd o
+  graft-list F (detour c inner p) (suc b) l o =
+      ap (λ xs. planDetours F inner b ++ record { from = F (suc c); to = F (suc b) } ∷ xs) (graft-list F p c (omega (arith, o .0)) (o .3))
+      ∙ sym (append-assoc (planDetours F inner b) (record { from = F (suc c); to = F (suc b) } ∷ planDetours F p c) (planDetours F rest d))
+
+module _ (L R : ℕ → ℕ) (U : ℕ) where
+  -- A head that comes later by t leaves later by t.
+  lag-shift : (p : Plan) (b y t : ℕ) → lagAfter L R U p b (y + t) ≡ lagAfter L R U p b y + t
+  unfolding lagAfter
+  lag-shift empty b y t = refl
+  lag-shift (skip p) zero y t = refl
+  lag-shift (skip p) (suc b) y t = lag-shift p b y t
+  lag-shift (detour d inner rest) zero y t = refl
+  lag-shift (detour d inner rest) (suc b) y t =
+      let on : lagAfter L R U inner b (y + t) + trip L R U (suc d) (suc b) ≡ lagAfter L R U inner b y + trip L R U (suc d) (suc b) + t = omega (arith, lag-shift inner b y t) in
+      rw on (lag-shift rest d (lagAfter L R U inner b y + trip L R U (suc d) (suc b)) t)
+
+  graft-lag : (d : ℕ) (rest p : Plan) (b y : ℕ) → d ≤ b → Over p (suc d) b → lagAfter L R U (graft d rest p b) b y ≡ lagAfter L R U rest d (lagAfter L R U p b y)
+  unfolding graft lagAfter
+  graft-lag d rest empty b y l o =
+      by-cases (decLe b d)
+      (λ h. let e : b ≡ d = omega arith in rw (graft-ended d rest b h, e))
+      (λ h. let e : b ≡ suc d = omega arith in rw (graft-skipped d rest b (omega arith), e))
+  graft-lag d rest (skip p) zero y l o = absurd o
+  graft-lag d rest (skip p) (suc b) y l o = graft-lag d rest p b y (omega (arith, o .0)) (o .1)
+  graft-lag d rest (detour c inner p) zero y l o = absurd o
+  graft-lag d rest (detour c inner p) (suc b) y l o = graft-lag d rest p c _ (omega (arith, o .0)) (o .3)
+
+  -- Left of suc d the grafted plan reads as its second part does, right of it as its first.
+  graft-low : (d : ℕ) (rest p : Plan) (b y j e : ℕ) → d ≤ b → Over p (suc d) b → j ≤ d
+      → timeIn L R U (graft d rest p b) b y j e ≡ timeIn L R U rest d (lagAfter L R U p b y) j e
+  unfolding graft lagAfter timeIn
+  graft-low d rest empty b y j e l o h =
+      by-cases (decLe b d)
+      (λ k. let q : b ≡ d = omega arith in rw (graft-ended d rest b k, q))
+      (λ k. let q : b ≡ suc d = omega arith in rw (graft-skipped d rest b (omega arith), q))
+  graft-low d rest (skip p) zero y j e l o h = absurd o
+  graft-low d rest (skip p) (suc b) y j e l o h = graft-low d rest p b y j e (omega (arith, o .0)) (o .1) h
+  graft-low d rest (detour c inner p) zero y j e l o h = absurd o
+  graft-low d rest (detour c inner p) (suc b) y j e l o h =
+      rw (le-leb j c (omega (arith, o .0))) (graft-low d rest p c _ j e (omega (arith, o .0)) (o .3) h)
+
+  graft-high : (a d : ℕ) (rest p : Plan) (b y j e : ℕ) → d ≤ b → Over p (suc d) b → Over rest a d → d < j
+      → timeIn L R U (graft d rest p b) b y j e ≡ timeIn L R U p b y j e
+  unfolding graft timeIn
+  graft-high a d rest empty b y j e l o r h =
+      by-cases (decLe b d)
+      (λ k. let q : b ≡ d = omega arith in rw (graft-ended d rest b k, q) (unread-right L R U rest a d y j e r h))
+      (λ k. let q : b ≡ suc d = omega arith in rw (graft-skipped d rest b (omega arith), q) (unread-right L R U rest a d y j e r h))
+  graft-high a d rest (skip p) zero y j e l o r h = absurd o
+  graft-high a d rest (skip p) (suc b) y j e l o r h = graft-high a d rest p b y j e (omega (arith, o .0)) (o .1) r h
+  graft-high a d rest (detour c inner p) zero y j e l o r h = absurd o
+  graft-high a d rest (detour c inner p) (suc b) y j e l o r h =
+      by-cases (decLe j c)
+      (λ k. rw (le-leb j c k) (graft-high a d rest p c _ j e (omega (arith, o .0)) (o .3) r h))
+      (λ k. rw (lt-leb j c (omega arith)))
+
+  -- A later time for what the plan leaves makes no time later by more.
+  time-from : (p : Plan) (a b y j e e′ x : ℕ) → Over p a b → e′ ≤ e + x → timeIn L R U p b y j e′ ≤ timeIn L R U p b y j e + x
+  unfolding timeIn
+  time-from empty a b y j e e′ x o l = l
+  time-from (skip p) a zero y j e e′ x o l = absurd o
+  time-from (skip p) a (suc b) y j e e′ x o l = time-from p a b y j e e′ x (o .1) l
+  time-from (detour d inner rest) a zero y j e e′ x o l = absurd o
+  time-from (detour d inner rest) a (suc b) y j e e′ x o l =
+      by-cases (decLe j d)
+      (λ h. rw (le-leb j d h) (time-from rest a d _ j e e′ x (o .3) l))
+      (λ h.
+      by-cases (decLe j (suc b))
+      (λ k. rw (lt-leb j d (omega arith), le-leb j (suc b) k) (omega arith))
+      (λ k. rw (lt-leb j d (omega arith), lt-leb j (suc b) (omega arith)) l))
+
+  module _ (n : ℕ) (spaced : Spaced L R n) where
+    leg-shift : (y t a j : ℕ) → R j ≤ y → a ≤ j → j ≤ n → legTime L R U (y + t) a j ≡ legTime L R U y a j + t
+    leg-shift y t a j r l h = omega (arith, legTime-exact L R n spaced U y a j r l h, legTime-exact L R n spaced U (y + t) a j (omega arith) l h)
+
+    -- A head that comes later by t reads everything later by t.
+    time-shift : (p : Plan) (a b y t j e : ℕ) → Over p a b → j ≤ n → R j ≤ y → timeIn L R U p b (y + t) j (e + t) ≡ timeIn L R U p b y j e + t
+    unfolding timeIn
+    time-shift empty a b y t j e o h r = refl
+    time-shift (skip p) a zero y t j e o h r = absurd o
+    time-shift (skip p) a (suc b) y t j e o h r = time-shift p a b y t j e (o .1) h r
+    time-shift (detour d inner rest) a zero y t j e o h r = absurd o
+    time-shift (detour d inner rest) a (suc b) y t j e o h r =
+        let grown = lag-grows L R U inner b y in
+        let on : lagAfter L R U inner b (y + t) + trip L R U (suc d) (suc b) ≡ lagAfter L R U inner b y + trip L R U (suc d) (suc b) + t = omega (arith, lag-shift inner b y t) in
+        by-cases (decLe j d)
+        (λ k. rw (le-leb j d k, on) (time-shift rest a d (lagAfter L R U inner b y + trip L R U (suc d) (suc b)) t j e (o .3) h (omega arith)))
+        (λ k.
+        by-cases (decLe j (suc b))
+        (λ q.
+        rw (lt-leb j d (omega arith), le-leb j (suc b) q, lag-shift inner b y t, leg-shift (lagAfter L R U inner b y) t (suc d) j (omega arith) (omega arith) h)
+        (time-shift inner (suc d) b y t j (legTime L R U (lagAfter L R U inner b y) (suc d) j) (o .2) h r))
+        (λ q. rw (lt-leb j d (omega arith), lt-leb j (suc b) (omega arith)) refl))
+
+    plan-shift : (p : Plan) (a b y t j : ℕ) → Over p a b → a ≤ j → j ≤ n → R j ≤ y → planTime L R U p a b (y + t) j ≡ planTime L R U p a b y j + t
+    plan-shift p a b y t j o l h r =
+        let grown = lag-grows L R U p b y in
+        rw (lag-shift p b y t, leg-shift (lagAfter L R U p b y) t a j (omega arith) l h) (time-shift p a b y t j (legTime L R U (lagAfter L R U p b y) a j) o h r)
+
+    -- A plan over (a, b] without the detour at index i, from stop suc d to stop t. It lies inside a leg from stop p, and `rest` is done between the two.
+    pub record Removed (F : ℕ → ℕ) (p : Plan) (a b i : ℕ) : Type 0 where
+      pub plan : Plan
+      pub over : Over plan a b
+      pub lists : planDetours F plan b ≡ without i (planDetours F p b)
+      pub d : ℕ
+      pub t : ℕ
+      pub parent : ℕ
+      pub rest : Plan
+      pub within : Over rest parent d
+      pub low : a ≤ parent
+      pub inside : parent ≤ d
+      pub onward : d < t
+      pub high : t ≤ b
+      pub lag : (y : ℕ) → lagAfter L R U p b y ≡ lagAfter L R U plan b y + trip L R U (suc d) t
+      pub later : (y j : ℕ) → a ≤ j → j ≤ d → j ≤ n → R j ≤ y → planTime L R U p a b y j ≡ planTime L R U plan a b y j + trip L R U (suc d) t
+      pub sooner : (y j : ℕ) → d < j → j ≤ t → j ≤ n → R j ≤ y
+          → planTime L R U plan a b y j ≤ planTime L R U p a b y j + (2 * (L (suc d) - L parent) + lagAfter L R U rest d 0)
+      pub start : (y : ℕ) → suc d ≤ n → R (suc d) ≤ y → planTime L R U p a b y (suc d) + 2 * (L (suc d) - L parent) ≤ planTime L R U plan a b y (suc d)
+      pub beyond : (y j : ℕ) → t < j → j ≤ n → R j ≤ y → planTime L R U plan a b y j ≤ planTime L R U p a b y j
+      pub most : (y j : ℕ) → d < j → j ≤ n → R j ≤ y → planTime L R U p a b y j ≤ planTime L R U plan a b y j + trip L R U (suc d) t
