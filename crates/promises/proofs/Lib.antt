@@ -39,3 +39,4 @@ pub mod PageLengths
 pub mod TapeLengths
 pub mod CheckWhole
 pub mod Answers
+pub mod AnswersCases

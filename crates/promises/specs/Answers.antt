@@ -75,3 +75,19 @@ BuysByTheTable =
     → SheetBought sheet row n row′
     → buysRow ≤ length row
     → ByTheTable (AnswerApplies RoomApplies sheet) roomOrder (BuysText (sheetName sheet) (sheetRun sheet)) (take n row′)
+
+-- The sheet of document 01, with the aggregates that L10 adds, is answered with its plan, with the legs that L9 adds; and with the retired rule by 19.
+abbrev pub exampleSheet : List ℕ
+exampleSheet = bytes "tape=VX0041\nhead=60\nturn=1\nrule=least\nfiles=3\nfile=0,10,0\nfile=10,4,0\nfile=20,30,0\nwants=3\nwant=1,1\nwant=2,3\nwant=3,1\n"
+
+abbrev pub examplePlan : List ℕ
+examplePlan = bytes "tape=VX0041\nsum=367\nreads=5\nfinish=121\nend=50\ndetours=1\ndetour=2,2\ntime=1,81,2\ntime=2,55,1\ntime=3,121,2\n"
+
+abbrev pub PrintsTheExample : Type 0
+PrintsTheExample = (row : List ℕ) (n : ℕ) (row′ : List ℕ) → SheetRecalled exampleSheet row n row′ → planRow ≤ length row → take n row′ ≡ examplePlan
+
+abbrev pub retiredSheet : List ℕ
+retiredSheet = bytes "tape=VX0041\nhead=60\nturn=1\nrule=sweep\nfiles=0\nwants=0\n"
+
+abbrev pub PrintsTwoLines : Type 0
+PrintsTwoLines = (row : List ℕ) (n : ℕ) (row′ : List ℕ) → SheetRecalled retiredSheet row n row′ → planRow ≤ length row → take n row′ ≡ bytes "refused=19\nplace=4\n"

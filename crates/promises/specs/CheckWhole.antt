@@ -18,6 +18,7 @@ use Rattle.demands.specs.RefusalTable.{FirstBad, EntryIsBad}
 use Rattle.demands.specs.Formed.{ObeysTheRules}
 use Rattle.promises.specs.Checks.{Larger, FirstDiffers}
 use Rattle.promises.specs.Lengths.{checkRow}
+use Rattle.promises.specs.Answers.{exampleSheet}
 
 -- The line on the list: it is the least, or it is not and its sum is larger by so much.
 pub data LeastLine (run : Run) (list : List Detour) : List ℕ → Type 0 where
@@ -43,3 +44,14 @@ CheckPrintsAll =
     → checkRow ≤ length row
     → isRefusal (checkVerdict sheet plan .refusal) ≡ false
     → VerdictText (sheetName sheet) (sheetRun sheet) plan (planFroms plan) (planTos plan) (take n row′)
+
+-- The plan of document 01's sheet with a 6 for a 5 in its ninth line, for the same run.
+abbrev pub wrongPlan : List ℕ
+wrongPlan = bytes "tape=VX0041\nsum=367\nreads=5\nfinish=121\nend=50\ndetours=1\ndetour=2,2\ntime=1,81,2\ntime=2,56,1\ntime=3,121,2\n"
+
+abbrev pub PrintsTheDifference : Type 0
+PrintsTheDifference =
+    (row : List ℕ) (n : ℕ) (row′ : List ℕ)
+    → SheetChecked exampleSheet wrongPlan row n row′
+    → checkRow ≤ length row
+    → take n row′ ≡ bytes "formed=yes\nwalk=no,9\nleast=yes\nfound=time=2,56,1\nexpected=time=2,55,1\n"
