@@ -36,7 +36,7 @@ use Rattle.demands.proofs.Judged.{run-finds, table-finds, run-small, want-rows-
 use Rattle.demands.proofs.Counted.{has-stops, stops-one}
 use Rattle.demands.proofs.Lines.{tells-sweep}
 use Rattle.demands.proofs.FirstLine.{decides-line}
-use Rattle.promises.specs.Answers.{AnswerApplies, too-long, bad-line, retired-rule, run, engine, RoomApplies, short-room, EightApplies, over-eight, roomOrder, eightOrder, twoLines, ByTheTable, PlanByTheTable, FieldByTheTable, BuysByTheTable}
+use Rattle.promises.specs.Answers.{AnswerApplies, too-long, bad-line, retired-rule, run, engine, RoomApplies, short-room, EightApplies, over-eight, roomOrder, eightOrder, twoLines, PrintedByTheTable, PlanByTheTable, FieldByTheTable, BuysByTheTable}
 use Rattle.promises.proofs.Checks.{put-whole}
 use Rattle.promises.proofs.Lengths.{refusal-begins, plan-begins, figures-begin, run-judges, field-judges, run-checks-near, field-checks-near, plan-held, buys-held}
 
@@ -60,7 +60,7 @@ module _ (applies : Refusal → ℕ → Type 0) (order : List Refusal) (all : Al
   no-lines : v .refusal ≡ Accepted → (k : Refusal) (p : ℕ) → text ≡ twoLines k p → ⊥
   no-lines e k p is = let z : _≡_ {A = ℕ} 116 114 = sym (begins (asked (ap isRefusal e))) ∙ ap (λ t. getD t 0 0) is in omega arith
 
-  pub by-the-table : ByTheTable applies order Asked text
+  pub by-the-table : PrintedByTheTable applies order Asked text
   by-the-table =
       let both = refused-iff applies finds all in
       record {
@@ -198,7 +198,7 @@ figures-begun name r text p = ap (λ t. getD t 0 0) (p .says) ∙ figures-begin 
 pub plan-by-the-table : PlanByTheTable
 plan-by-the-table sheet row n row′ c wide =
     let h = plan-held runChecks run-judges run-checks-near sheet (c .text) (c .answers) in
-    subst (ByTheTable (AnswerApplies RoomApplies sheet) roomOrder (PlanOf (sheetName sheet) (sheetRun sheet)))
+    subst (PrintedByTheTable (AnswerApplies RoomApplies sheet) roomOrder (PlanOf (sheetName sheet) (sheetRun sheet)))
     (sym (put-whole (c .text) row n row′ (c .bytes) (c .left) (omega (arith, h .0))))
     (by-the-table (AnswerApplies RoomApplies sheet) roomOrder room-all (recallVerdict sheet) (room-finds sheet) (sheet-accepts RoomApplies room-own sheet runChecks)
     (PlanOf (sheetName sheet) (sheetRun sheet)) (c .text) (plan-begun (sheetName sheet) (sheetRun sheet) (c .text)) (c .answers .refused) (c .answers .planned))
@@ -206,7 +206,7 @@ plan-by-the-table sheet row n row′ c wide =
 pub field-by-the-table : FieldByTheTable
 field-by-the-table sheet row n row′ c wide =
     let h = plan-held fieldChecks field-judges field-checks-near sheet (c .text) (c .answers) in
-    subst (ByTheTable (AnswerApplies EightApplies sheet) eightOrder (PlanOf (sheetName sheet) (sheetRun sheet)))
+    subst (PrintedByTheTable (AnswerApplies EightApplies sheet) eightOrder (PlanOf (sheetName sheet) (sheetRun sheet)))
     (sym (put-whole (c .text) row n row′ (c .bytes) (c .left) (omega (arith, h .0))))
     (by-the-table (AnswerApplies EightApplies sheet) eightOrder eight-all (verdictBy fieldChecks sheet) (eight-finds sheet) (sheet-accepts EightApplies eight-own sheet fieldChecks)
     (PlanOf (sheetName sheet) (sheetRun sheet)) (c .text) (plan-begun (sheetName sheet) (sheetRun sheet) (c .text)) (c .answers .refused) (c .answers .planned))
@@ -214,7 +214,7 @@ field-by-the-table sheet row n row′ c wide =
 pub buys-by-the-table : BuysByTheTable
 buys-by-the-table sheet row n row′ c wide =
     let h = buys-held sheet (c .text) (c .answers) in
-    subst (ByTheTable (AnswerApplies RoomApplies sheet) roomOrder (BuysText (sheetName sheet) (sheetRun sheet)))
+    subst (PrintedByTheTable (AnswerApplies RoomApplies sheet) roomOrder (BuysText (sheetName sheet) (sheetRun sheet)))
     (sym (put-whole (c .text) row n row′ (c .bytes) (c .left) (omega (arith, h .0))))
     (by-the-table (AnswerApplies RoomApplies sheet) roomOrder room-all (recallVerdict sheet) (room-finds sheet) (sheet-accepts RoomApplies room-own sheet runChecks)
     (BuysText (sheetName sheet) (sheetRun sheet)) (c .text) (figures-begun (sheetName sheet) (sheetRun sheet) (c .text)) (c .answers .refused) (c .answers .figured))

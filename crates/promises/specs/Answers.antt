@@ -46,7 +46,7 @@ twoLines kind place = bytes "refused=" ++ decimal (numberOf kind) ++ bytes "\npl
 
 -- What is printed goes by the table: the two lines of the first refusal that applies, where one does; else what was asked for. It is two such lines if and only
 -- if some refusal applies.
-pub record ByTheTable (applies : Refusal → ℕ → Type 0) (order : List Refusal) (Asked : List ℕ → Type 0) (printed : List ℕ) : Type 0 where
+pub record PrintedByTheTable (applies : Refusal → ℕ → Type 0) (order : List Refusal) (Asked : List ℕ → Type 0) (printed : List ℕ) : Type 0 where
   pub kind : Refusal
   pub place : ℕ
   pub first : FirstThatApplies applies order kind place
@@ -60,21 +60,21 @@ PlanByTheTable =
     (sheet row : List ℕ) (n : ℕ) (row′ : List ℕ)
     → SheetRecalled sheet row n row′
     → planRow ≤ length row
-    → ByTheTable (AnswerApplies RoomApplies sheet) roomOrder (PlanOf (sheetName sheet) (sheetRun sheet)) (take n row′)
+    → PrintedByTheTable (AnswerApplies RoomApplies sheet) roomOrder (PlanOf (sheetName sheet) (sheetRun sheet)) (take n row′)
 
 abbrev pub FieldByTheTable : Type 0
 FieldByTheTable =
     (sheet row : List ℕ) (n : ℕ) (row′ : List ℕ)
     → SheetFielded sheet row n row′
     → planRow ≤ length row
-    → ByTheTable (AnswerApplies EightApplies sheet) eightOrder (PlanOf (sheetName sheet) (sheetRun sheet)) (take n row′)
+    → PrintedByTheTable (AnswerApplies EightApplies sheet) eightOrder (PlanOf (sheetName sheet) (sheetRun sheet)) (take n row′)
 
 abbrev pub BuysByTheTable : Type 0
 BuysByTheTable =
     (sheet row : List ℕ) (n : ℕ) (row′ : List ℕ)
     → SheetBought sheet row n row′
     → buysRow ≤ length row
-    → ByTheTable (AnswerApplies RoomApplies sheet) roomOrder (BuysText (sheetName sheet) (sheetRun sheet)) (take n row′)
+    → PrintedByTheTable (AnswerApplies RoomApplies sheet) roomOrder (BuysText (sheetName sheet) (sheetRun sheet)) (take n row′)
 
 -- The sheet of document 01, with the aggregates that L10 adds, is answered with its plan, with the legs that L9 adds; and with the retired rule by 19.
 abbrev pub exampleSheet : List ℕ
