@@ -274,6 +274,7 @@ run python/reading
 run python/edits
 run python/pages
 run python/paths
+run python/rows
 run python/command
 
 [ "$tests_run" -gt 0 ] || fail "no test is called $only"

@@ -43,7 +43,7 @@ use Rattle.promises.proofs.Differs.{first-differs}
 use Rattle.promises.specs.Checks.{Larger, FirstDiffers, Told, CheckTells, CheckPrinted, PlanChecks, PriceTells}
 
 -- Two texts are the same exactly where the test says so.
-text-same : (a b : List ℕ) → isText a b ≡ true → b ≡ a
+pub text-same : (a b : List ℕ) → isText a b ≡ true → b ≡ a
 text-same a b e = let both = and-true-both (eqb (length a) (length b)) (startsWith a b) e in whole-key a b (eqb-true (length a) (length b) (both .0)) (both .1)
 
 starts-itself : (a : List ℕ) → startsWith a a ≡ true
@@ -51,7 +51,7 @@ unfolding startsWith
 starts-itself [] = refl
 starts-itself (x ∷ a) = rw (eq-eqb x x refl, starts-itself a)
 
-same-text : (a b : List ℕ) → b ≡ a → isText a b ≡ true
+pub same-text : (a b : List ℕ) → b ≡ a → isText a b ≡ true
 same-text a b e = rw (e, eq-eqb (length a) (length a) refl, starts-itself a)
 
 -- Two rows of one length and the list that they hold.
@@ -69,16 +69,16 @@ ends-of (a ∷ froms) [] e = absurd (omega arith)
 ends-of (a ∷ froms) (b ∷ tos) e = ap (λ l. b ∷ l) (ends-of froms tos (omega arith))
 
 module _ (froms tos : List ℕ) (even : length froms ≡ length tos) (list : List Detour) where
-  list-same : sameList froms tos list ≡ true → listOf froms tos ≡ list
+  pub list-same : sameList froms tos list ≡ true → listOf froms tos ≡ list
   list-same e =
       let both = and-true-both (isText (map (λ d. d .from) list) froms) (isText (map (λ d. d .to) list) tos) e in
       rw (text-same (map (λ d. d .from) list) froms (both .0), text-same (map (λ d. d .to) list) tos (both .1)) (list-of-halves list)
 
-  same-list : listOf froms tos ≡ list → sameList froms tos list ≡ true
+  pub same-list : listOf froms tos ≡ list → sameList froms tos list ≡ true
   same-list e =
       rw (same-text (map (λ d. d .from) list) froms (sym (starts-of froms tos even) ∙ ap (map (λ d. d .from)) e), same-text (map (λ d. d .to) list) tos (sym (ends-of froms tos even) ∙ ap (map (λ d. d .to)) e))
 
-even-plan : (plan : List ℕ) → length (planFroms plan) ≡ length (planTos plan)
+pub even-plan : (plan : List ℕ) → length (planFroms plan) ≡ length (planTos plan)
 unfolding planFroms planTos
 even-plan plan = length-each (λ i. firstIn detourKey (lineAfter i (detourText plan))) (detoursTold plan) ∙ sym (length-each (λ i. secondIn detourKey (lineAfter i (detourText plan))) (detoursTold plan))
 
@@ -223,7 +223,7 @@ check-tells sheet plan row n row′ c e =
     })
 
 -- A text that was put into a row with room for it.
-put-whole : (text row : List ℕ) (n : ℕ) (row′ : List ℕ) → n ≡ bytesPut text row → row′ ≡ rowPut text row → length text ≤ length row → take n row′ ≡ text
+pub put-whole : (text row : List ℕ) (n : ℕ) (row′ : List ℕ) → n ≡ bytesPut text row → row′ ≡ rowPut text row → length text ≤ length row → take n row′ ≡ text
 unfolding bytesPut rowPut
 put-whole text row n row′ e f l = rw (e, f, le-ltb (length row) (length text) l) (take-append-seam text (drop (length text) row))
 

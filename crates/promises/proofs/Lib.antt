@@ -1,6 +1,6 @@
 -- The proofs of the promises. Requests L6 and L7: by single calls (DeskSteps), by days (Desk), their refusals, wants and worked cases. Request L11: laws
 -- of what is gathered, copied and read again, then its promises (Mends) and its refusals (Mender). Request L13: totals, names, the input's division, the order of the sheets. The
--- auditor's commands: Checks.
+-- auditor's commands: Checks. All programs: Lengths, Answers.
 pub mod DeskSteps
 pub mod Desk
 pub mod DeskRefusals
@@ -33,3 +33,10 @@ pub mod MonthOrder
 pub mod MonthLongest
 mod Differs
 pub mod Checks
+pub mod Lengths
+pub mod InputLengths
+pub mod PageLengths
+pub mod TapeLengths
+pub mod CheckWhole
+pub mod Answers
+pub mod AnswersCases

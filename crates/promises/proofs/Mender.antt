@@ -129,7 +129,7 @@ module _ (sheet out notes : List ℕ) where
 
   module _ (r : Mended) (out′ notes′ : List ℕ) (h : SheetMended sheet out notes r out′ notes′) where
     -- The answer has the verdict's number and place.
-    says : (r .refusal ≡ mendVerdict sheet out notes .refusal) × (r .place ≡ mendVerdict sheet out notes .place)
+    pub says : (r .refusal ≡ mendVerdict sheet out notes .refusal) × (r .place ≡ mendVerdict sheet out notes .place)
     says = go (refuses (mendVerdict sheet out notes)) refl
       where
         go : (b : Bool) → refuses (mendVerdict sheet out notes) ≡ b → (r .refusal ≡ mendVerdict sheet out notes .refusal) × (r .place ≡ mendVerdict sheet out notes .place)
@@ -197,7 +197,7 @@ one-file-too-many sheet out notes r out′ notes′ h short top all =
     at-that-line sheet short top all (mender-refuses sheet out notes r out′ notes′ h .of-sheet (inr (inl (262, bad-line (the-last sheet short top all)))))
 
 -- What 12, 11, 3 and 5 say of a sheet where none of them applies.
-nothing-applies : (sheet : List ℕ) → (SomeApplies (SheetApplies sheet) sheetOrder → ⊥) → Facts sheet
+pub nothing-applies : (sheet : List ℕ) → (SomeApplies (SheetApplies sheet) sheetOrder → ⊥) → Facts sheet
 nothing-applies sheet none =
     let passes : refuses (firstOf (long sheet ∷ line sheet ∷ wants sheet ∷ reads sheet ∷ [])) ≡ false =
     ⊎-elim (λ t. absurd (none (refused-iff (SheetApplies sheet) (sheet-finds sheet) (refl, (refl, (refl, (refl, tt)))) .0 (λ a. true≢false (sym t ∙ ap isRefusal a))))) (λ f. f)

@@ -3,9 +3,10 @@
 use Prim.Native.Nat.{ℕ, zero, suc, _+_, _≤_, _<_}
 use mathlib.Core.Path.{_≡_, refl, sym, ap, _∙_, subst}
 use mathlib.Core.Bool.{Bool, true, false, cond, true≢false}
-use mathlib.Core.Logic.{_⊎_, inl, inr}
+use mathlib.Core.Logic.{_⊎_, inl, inr, by-cases}
 use mathlib.Core.List.{List, [], _∷_, _++_}
 use native.Mathlib.Omega.{arith}
+use native.Mathlib.Decide.{decLt}
 use lib.ListN.{length}
 use lib.Dec.{eqb}
 use borrow.Author.Tests.{eq-eqb}
@@ -15,9 +16,9 @@ use Rattle.answer_outcome.specs.declared.Outcome.{Outcome}
 use Rattle.answer_outcome.specs.Outcomes.{OutcomeOf}
 use Rattle.answer_outcome.proofs.Outcomes.{outcome-once}
 use Rattle.answer_month.specs.declared.Month.{Month}
-use Rattle.answer_month.specs.Month.{emptyMonth, addedAll}
+use Rattle.answer_month.specs.Month.{emptyMonth, added, addedAll}
 use Rattle.answer_month.specs.Page.{PagePut}
-use Rattle.promises.specs.Months.{Every, Outcomes, howManyRuns, isAcceptedRun, ofAccepted, inAll, isRefusedBy, longestTime, NoneRead, FirstLongest, MonthFigures, Reordered, same, behind-first, swapped, both, SameTotals, SameNames, OneLongest, OrderIsTie, OnePage}
+use Rattle.promises.specs.Months.{Every, Outcomes, howManyRuns, isAcceptedRun, ofAccepted, inAll, isRefusedBy, longestTime, NoneRead, FirstLongest, MonthFigures, Reordered, same, behind-first, swapped, both, SameTotals, SameNames, OneLongest, OrderIsTie, OnePage, OneSheetMore}
 use Rattle.promises.proofs.MonthTotals.{every-map, every-append, every-at, many-append, none-longer, month-counts}
 
 -- The outcomes of sheets are one list.
@@ -173,3 +174,11 @@ order-is-tie sheets sheets′ runs runs′ few p o o′ =
 
 pub one-page : OnePage
 one-page m v row n n′ row′ row″ p q = (p .bytes ∙ sym (q .bytes), p .left ∙ sym (q .left))
+
+pub one-sheet-more : OneSheetMore
+one-sheet-more m bytes there sheet r s p q =
+    by-cases (decLt there bytes) (λ l. p .cut l ∙ sym (q .cut l))
+    (λ n.
+    let a = p .whole (omega arith) in
+    let b = q .whole (omega arith) in
+    a .1 .1 ∙ ap (λ o. record { month = added m o; whole = true }) (outcome-once sheet (a .0) (b .0) (a .1 .0) (b .1 .0)) ∙ sym (b .1 .1))

@@ -1,4 +1,5 @@
--- What requests L6, L7, L11 and L13 promise, and what `price` and `check` tell. Each statement is a type; proofs/ has its proof.
+-- What requests L6, L7, L11 and L13 promise, what `price` and `check` tell, and what every program prints: a whole answer (Lengths), by the table (Answers).
+-- Each statement is a type; proofs/ has its proof.
 pub mod Desk
 pub mod DeskRefusals
 pub mod DeskWants
@@ -11,3 +12,6 @@ pub mod Mender
 pub mod Months
 pub mod MonthLongest
 pub mod Checks
+pub mod Lengths
+pub mod Answers
+pub mod CheckWhole

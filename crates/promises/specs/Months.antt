@@ -227,3 +227,11 @@ OnePage =
     → PagePut m v row n row′
     → PagePut m v row n′ row″
     → (n ≡ n′) × (row′ ≡ row″)
+
+-- So is a sheet that is added: two results that fit are equal.
+abbrev pub OneSheetMore : Type 0
+OneSheetMore =
+    (m : Month) (bytes there : ℕ) (sheet : List ℕ) (r s : Added)
+    → SheetAdded m bytes there sheet r
+    → SheetAdded m bytes there sheet s
+    → r ≡ s

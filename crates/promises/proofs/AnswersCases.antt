@@ -1,0 +1,144 @@
+-- Worked answers: the sheet of document 01 and its plan, a sheet with the retired rule, and a plan sheet with one wrong digit.
+use Prim.Native.Nat.{ℕ}
+use mathlib.Core.Path.{_≡_, refl, ap, sym, _∙_}
+use mathlib.Core.Bool.{Bool, true, false}
+use mathlib.Core.List.{List, [], _∷_, map}
+use native.Mathlib.Omega.{arith}
+use borrow.Author.Tests.{eq-eqb}
+use Rattle.refusals.specs.declared.Refusal.the-variants.{RetiredRule}
+use Rattle.refusals.specs.Refusals.{accepted, firstWhere}
+use Rattle.refusals.proofs.Verdicts.{refuses}
+use Rattle.runs.specs.Run.{Run, stopsOf, goesOn, firstMember, lastWithin, wantStops, joinTo, joined}
+use Rattle.runs.specs.Judging.{judgeOf}
+use Rattle.runs.specs.Lists.{Detour, listOf, firstBadEntry, wanted, anyBelow}
+use Rattle.walk.specs.Walk.{walked, served, timeOf, timesOf, legFrom, legsFor, sumOf}
+use Rattle.walk.specs.Detours.{legsOf, startOf, endOf, unreadEnd, sweepEnd, lastSweep}
+use Rattle.walk.specs.Price.{pricedAnswer, pricedTimes, pricedLegs}
+use Rattle.least.specs.Least.{LeastForRun}
+use Rattle.least.proofs.LeastList.{least-unique}
+use Rattle.text_bytes.specs.Text.{bytes, has, before, behind, startsWith, allOf, valueFrom, isNumber, isName, decimalIn}
+use Rattle.text_lines.specs.Lines.{lineOf, afterLines, isNumberLine, isPair, isPairLine, isTriple, isTripleLine, firstBadOf, eachOf}
+use Rattle.text_pages.specs.Printing.{pairLines, tripleLines}
+use Rattle.sheet_reader.specs.Lines.{isTapeLine, isCountLine, isTurnLine, isRuleLine, turnWith, namesSweep}
+use Rattle.sheet_reader.specs.Sheet.{sheetHead, sheetTurnWith, saysSweep, sheetFiles, fileText, wantsText, sheetWants, wantText, endText, firstBadTop, firstBadBelow, firstBadLine, sheetRun, sheetName}
+use Rattle.sheet_reader.specs.Reading.{sheetVerdict, ruleVerdict}
+use Rattle.sheet_writer.specs.RefusalLines.{refusalText}
+use Rattle.sheet_writer.specs.PlanSheet.{planTop, planLines, planText}
+use Rattle.sheet_lists.specs.Form.{linesIn, linesUpTo, firstBadToEnd, detoursTold, detourText, timeText, firstFailing, planBadTop, planBadBelow, planBadLine, planFroms, planTos}
+use Rattle.sheet_lists.specs.Reading.{planForm}
+use Rattle.answer_plan.specs.Recall.{runChecks, verdictBy, recallVerdict}
+use Rattle.answer_check.specs.Checking.{differFrom, walkLine, differenceLines, leastLine, verdictLines, checkText, checkVerdict}
+use Rattle.demands.specs.Cases.{exampleRun}
+use Rattle.demands.proofs.Judged.{nothing-judged}
+use Rattle.demands.proofs.Cases.{cases-hold}
+use Rattle.promises.specs.Answers.{exampleSheet, examplePlan, PrintsTheExample, retiredSheet, PrintsTwoLines}
+use Rattle.promises.specs.CheckWhole.{wrongPlan, PrintsTheDifference}
+use Rattle.promises.proofs.Checks.{put-whole}
+use Rattle.promises.proofs.Lengths.{run-judges, run-checks-near, plan-held}
+use Rattle.promises.proofs.InputLengths.{check-fits}
+
+-- The case of the example: its run is accepted, and its least list is (2,2).
+abbrev best : List Detour
+best = record { from = 2; to = 2 } ∷ []
+
+example-judged : refuses (judgeOf exampleRun) ≡ false
+example-judged = nothing-judged exampleRun (cases-hold .1 .1 .1 .1 .1 .1 .1 .1 .1 .1 .0 .accepted)
+
+example-least : LeastForRun exampleRun best
+example-least = cases-hold .1 .1 .1 .1 .1 .1 .1 .1 .1 .1 .0 .least .0 refl
+
+example-run : sheetRun exampleSheet ≡ exampleRun
+unfolding sheetRun sheetHead sheetTurnWith turnWith sheetFiles fileText wantsText sheetWants wantText eachOf lineOf afterLines has before behind valueFrom
+example-run = refl
+
+example-good : sheetVerdict exampleSheet ≡ accepted
+unfolding sheetVerdict firstBadLine firstBadTop firstBadBelow sheetFiles fileText wantsText sheetWants wantText endText isTapeLine isName isNumberLine isTurnLine isRuleLine isCountLine firstBadOf firstWhere isTripleLine isTriple isPairLine isPair isNumber allOf valueFrom startsWith lineOf afterLines has before behind
+example-good = refl
+
+example-ruled : ruleVerdict exampleSheet ≡ accepted
+unfolding ruleVerdict saysSweep namesSweep startsWith lineOf afterLines has before behind
+example-ruled = refl
+
+example-passes : refuses (recallVerdict exampleSheet) ≡ false
+unfolding verdictBy wantStops joinTo joined goesOn firstMember lastWithin
+example-passes = rw (example-good, example-ruled, example-run, example-judged)
+
+example-text : planText (sheetName exampleSheet) exampleRun (2 ∷ []) (2 ∷ []) ≡ examplePlan
+unfolding planText planLines planTop sheetName pairLines tripleLines decimalIn pricedAnswer pricedTimes pricedLegs listOf goesOn firstMember lastWithin wantStops joinTo joined startOf endOf served unreadEnd sweepEnd lastSweep legsOf walked timeOf timesOf legFrom legsFor sumOf lineOf afterLines has before behind
+example-text = refl
+
+pub prints-the-example : PrintsTheExample
+prints-the-example row n row′ c wide =
+    let h = plan-held runChecks run-judges run-checks-near exampleSheet (c .text) (c .answers) in
+    let p = c .answers .planned example-passes in
+    let least : LeastForRun exampleRun (p .list) = rw example-run at (p .least) in
+    let one : p .list ≡ best = least-unique (exampleRun .turn) (exampleRun .head) (stopsOf exampleRun) (p .list) best least example-least in
+    put-whole (c .text) row n row′ (c .bytes) (c .left) (omega (arith, h .0))
+    ∙ p .says
+    ∙ ap (λ l. planText (sheetName exampleSheet) (sheetRun exampleSheet) (map (λ d. d .from) l) (map (λ d. d .to) l)) one
+    ∙ ap (λ r. planText (sheetName exampleSheet) r (2 ∷ []) (2 ∷ [])) example-run
+    ∙ example-text
+
+-- The retired rule.
+retired-good : sheetVerdict retiredSheet ≡ accepted
+unfolding sheetVerdict firstBadLine firstBadTop firstBadBelow sheetFiles fileText wantsText sheetWants wantText endText isTapeLine isName isNumberLine isTurnLine isRuleLine isCountLine firstBadOf firstWhere isNumber allOf valueFrom startsWith lineOf afterLines has before behind
+retired-good = refl
+
+retired-ruled : ruleVerdict retiredSheet ≡ record { refusal = RetiredRule; place = 4 }
+unfolding ruleVerdict saysSweep namesSweep startsWith lineOf afterLines has before behind
+retired-ruled = refl
+
+retired-refused : recallVerdict retiredSheet ≡ record { refusal = RetiredRule; place = 4 }
+unfolding verdictBy
+retired-refused = rw (retired-good, retired-ruled)
+
+retired-text : refusalText (record { refusal = RetiredRule; place = 4 }) ≡ bytes "refused=19\nplace=4\n"
+unfolding refusalText decimalIn
+retired-text = refl
+
+pub prints-two-lines : PrintsTwoLines
+prints-two-lines row n row′ c wide =
+    let h = plan-held runChecks run-judges run-checks-near retiredSheet (c .text) (c .answers) in
+    put-whole (c .text) row n row′ (c .bytes) (c .left) (omega (arith, h .0)) ∙ c .answers .refused (ap refuses retired-refused) ∙ ap refusalText retired-refused ∙ retired-text
+
+-- The wrong digit.
+wrong-form : planForm wrongPlan ≡ accepted
+unfolding planForm planBadLine planBadTop planBadBelow firstFailing detoursTold detourText timeText linesIn linesUpTo firstBadToEnd isTapeLine isName isNumberLine isCountLine firstBadOf firstWhere isTripleLine isTriple isPairLine isPair isNumber allOf valueFrom startsWith lineOf afterLines has before behind
+wrong-form = refl
+
+wrong-list : (planFroms wrongPlan ≡ 2 ∷ []) × (planTos wrongPlan ≡ 2 ∷ [])
+unfolding planFroms planTos detoursTold detourText eachOf valueFrom lineOf afterLines has before behind
+wrong-list = (refl, refl)
+
+wrong-passes : refuses (checkVerdict exampleSheet wrongPlan) ≡ false
+unfolding verdictBy wantStops joinTo joined goesOn firstMember lastWithin
+wrong-passes = rw (example-good, example-ruled, wrong-form, example-run, example-judged)
+
+wrong-formed : firstBadEntry (stopsOf exampleRun) (listOf (2 ∷ []) (2 ∷ [])) ≡ 0
+unfolding listOf
+wrong-formed = example-least .formed
+
+wrong-lines : verdictLines wrongPlan examplePlan exampleRun (2 ∷ []) (2 ∷ []) best ≡ bytes "formed=yes\nwalk=no,9\nleast=yes\nfound=time=2,56,1\nexpected=time=2,55,1\n"
+unfolding verdictLines walkLine leastLine differenceLines differFrom startsWith decimalIn lineOf has before
+wrong-lines = refl
+
+wrong-checked : checkText (sheetName exampleSheet) exampleRun wrongPlan (2 ∷ []) (2 ∷ []) best ≡ verdictLines wrongPlan (planText (sheetName exampleSheet) exampleRun (2 ∷ []) (2 ∷ [])) exampleRun (2 ∷ []) (2 ∷ []) best
+unfolding checkText
+wrong-checked = rw (eq-eqb (firstBadEntry (stopsOf exampleRun) (listOf (2 ∷ []) (2 ∷ []))) 0 wrong-formed)
+
+wrong-text : checkText (sheetName exampleSheet) exampleRun wrongPlan (2 ∷ []) (2 ∷ []) best ≡ bytes "formed=yes\nwalk=no,9\nleast=yes\nfound=time=2,56,1\nexpected=time=2,55,1\n"
+wrong-text = wrong-checked ∙ ap (λ t. verdictLines wrongPlan t exampleRun (2 ∷ []) (2 ∷ []) best) example-text ∙ wrong-lines
+
+pub prints-the-difference : PrintsTheDifference
+prints-the-difference row n row′ c wide =
+    let h = check-fits exampleSheet wrongPlan (c .text) (c .answers) in
+    let v = c .answers .checked wrong-passes in
+    let least : LeastForRun exampleRun (v .list) = rw example-run at (v .least) in
+    let one : v .list ≡ best = least-unique (exampleRun .turn) (exampleRun .head) (stopsOf exampleRun) (v .list) best least example-least in
+    put-whole (c .text) row n row′ (c .holds .bytes) (c .holds .left) (omega (arith, h .0))
+    ∙ v .says
+    ∙ ap (λ l. checkText (sheetName exampleSheet) (sheetRun exampleSheet) wrongPlan (planFroms wrongPlan) (planTos wrongPlan) l) one
+    ∙ ap (λ r. checkText (sheetName exampleSheet) r wrongPlan (planFroms wrongPlan) (planTos wrongPlan) best) example-run
+    ∙ ap (λ f. checkText (sheetName exampleSheet) exampleRun wrongPlan f (planTos wrongPlan) best) (wrong-list .0)
+    ∙ ap (λ t. checkText (sheetName exampleSheet) exampleRun wrongPlan (2 ∷ []) t best) (wrong-list .1)
+    ∙ wrong-text

@@ -1,0 +1,326 @@
+-- The answers of `price` and `check` to an input of two texts are no longer than the rows of their programs.
+use Prim.Native.Nat.{ℕ, zero, suc, _+_, _-_, _^_, _≤_, _<_}
+use mathlib.Core.Path.{_≡_, refl, ap, sym, _∙_}
+use mathlib.Core.Bool.{Bool, true, false, cond, not}
+use mathlib.Core.List.{List, [], _∷_, _++_}
+use native.Mathlib.Omega.{arith}
+use lib.ListN.{length, drop, getD, length-append, length-drop}
+use lib.Dec.{ltb, eqb}
+use borrow.Author.Tests.{eqb-true}
+use Rattle.refusals.specs.declared.Refusal.the-variants.{BadEntry, BadLine, LongSheet, ShortRow}
+use Rattle.refusals.specs.declared.Verdict.{Verdict}
+use Rattle.refusals.specs.Refusals.{accepted, refuseIf, refuseAt, firstOf}
+use Rattle.refusals.proofs.Verdicts.{refuses, first-refuses, first-passes, none-refuses, all-accept}
+use Rattle.runs.specs.Run.{Run, stopsOf, mostWants}
+use Rattle.runs.specs.Judging.{judgeOf}
+use Rattle.runs.specs.Lists.{Detour, WellFormed, listOf, listVerdict, firstBadEntry, badEntry}
+use Rattle.runs.proofs.Search.{first-within}
+use Rattle.runs.proofs.Entries.{length-list}
+use Rattle.walk.specs.Price.{pricedAnswer, shortReadRows, priceVerdict}
+use Rattle.walk.specs.Rows.{ReadRows}
+use Rattle.walk.proofs.Places.{placeMost, AllNear, first-near, if-near, judge-near, price-near}
+use Rattle.engine_stops.proofs.Halves.{list-accepted}
+use Rattle.text_bytes.specs.Text.{lineFeed, isEmpty, isText, has, before, behind, isName}
+use Rattle.text_inputs.specs.declared.Framed.{Framed}
+use Rattle.text_inputs.specs.Inputs.{partIn}
+use Rattle.text_lines.specs.Lines.{lineOf, lineAfter, afterLines, isNumberLine, isPairLine, isTripleLine, firstBadOf, firstIn}
+use Rattle.text_pages.specs.Printing.{line, numberLine}
+use Rattle.sheet_reader.specs.Lines.{isTapeLine, isCountLine}
+use Rattle.sheet_reader.specs.Sheet.{longestSheet, unless, shifted, sheetRun, sheetName}
+use Rattle.sheet_reader.specs.Reading.{sheetVerdict, ruleVerdict}
+use Rattle.sheet_writer.specs.RefusalLines.{refusalText}
+use Rattle.sheet_writer.specs.PlanSheet.{sumKey, readsKey, finishKey, endKey, detoursKey, detourKey, timeKey, planText}
+use Rattle.sheet_writer.proofs.Reread.{after-front}
+use Rattle.sheet_lists.specs.Form.{mostDetours, linesUpTo, firstBadToEnd, detoursTold, detourText, timeText, firstFailing, planBadTop, planBadBelow, planBadLine, isPlan, listBadLine, planFroms, planTos, listFroms, listTos}
+use Rattle.sheet_lists.specs.Reading.{formChecks, planForm, listForm}
+use Rattle.sheet_lists.proofs.Counting.{up-to-few}
+use Rattle.sheet_lists.proofs.RoundTrip.{plan-small, plan-short}
+use Rattle.sheet_reader.proofs.Rows.{length-each}
+use Rattle.answer_plan.specs.Recall.{runChecks, verdictBy}
+use Rattle.answer_check.specs.Pricing.{priceChecks, pricingVerdict, priceText, RowHolds, SheetPriced}
+use Rattle.answer_check.specs.Checking.{formedYes, formedNo, foundKey, expectedKey, leastNo, walkNo, differFrom, firstDifference, walkLine, differenceLines, sameList, leastLine, verdictLines, checkText, checkChecks, checkVerdict, AnswersCheck, SheetChecked}
+use Rattle.answer_check.specs.Inputs.{badInput, framedInput, AnsweredIn}
+use Rattle.answer_check.proofs.Formed.{plan-few, plan-long}
+use Rattle.answer_check.proofs.Determined.{answer-once}
+use Rattle.promises.specs.Lengths.{TakesAll, priceRow, checkRow, PriceIsWhole, CheckIsWhole}
+use Rattle.promises.proofs.Checks.{even-plan}
+use Rattle.promises.proofs.Lengths.{some-begun, Held, takes-all, first-few, unless-few, shifted-few, bad-few, count-few, at-near, verdict-near, run-checks-near, sheet-passes, run-judges, line-length, number-length, refusal-short, refusal-begins, plan-begins}
+
+-- The first of some lines that fails its test.
+failing-few : (passed : ℕ) (tests : List (List ℕ → Bool)) (text : List ℕ) → firstFailing passed tests text ≤ passed + length tests
+unfolding firstFailing
+failing-few passed [] text = omega arith
+failing-few passed (test ∷ tests) text = go (test (lineOf text)) refl (failing-few (suc passed) tests (behind lineFeed text))
+  where
+    go : (b : Bool) → test (lineOf text) ≡ b → firstFailing (suc passed) tests (behind lineFeed text) ≤ suc passed + length tests → firstFailing passed (test ∷ tests) text ≤ passed + length (test ∷ tests)
+    go true h rest = rw h (omega (arith, rest))
+    go false h rest = rw h (omega arith)
+
+failing-none : (passed : ℕ) (tests : List (List ℕ → Bool)) (text : List ℕ) → firstFailing passed tests text ≡ 0 → (i : ℕ) → i < length tests → getD tests i (λ t. true) (lineAfter i text) ≡ true
+unfolding firstFailing afterLines
+failing-none passed [] text e i l = absurd (omega arith)
+failing-none passed (test ∷ tests) text e i l = go (test (lineOf text)) refl (failing-none (suc passed) tests (behind lineFeed text)) i l
+  where
+    go : (b : Bool) → test (lineOf text) ≡ b → (firstFailing (suc passed) tests (behind lineFeed text) ≡ 0 → (j : ℕ) → j < length tests → getD tests j (λ t. true) (lineAfter j (behind lineFeed text)) ≡ true)
+        → (i : ℕ) → i < length (test ∷ tests) → getD (test ∷ tests) i (λ t. true) (lineAfter i text) ≡ true
+    go true h rest zero k = h
+    go true h rest (suc i) k = ap (λ t. getD tests i (λ u. true) (lineOf t)) (after-front i text) ∙ rest (rw h at e) i (omega arith)
+    go false h rest i k = let z : suc passed ≡ 0 = rw h at e in absurd (omega arith)
+
+to-end-few : (test : List ℕ → Bool) (most : ℕ) (text : List ℕ) → firstBadToEnd test most text ≤ most + 1
+unfolding firstBadToEnd
+to-end-few test most text =
+    let few = up-to-few most text in
+    first-few (most + 1) (firstBadOf test (linesUpTo most text) text ∷ unless (isEmpty (afterLines (linesUpTo most text) text)) (linesUpTo most text + 1) ∷ []) (
+      omega (arith, few, bad-few test (linesUpTo most text) text),
+      λ a. (unless-few (isEmpty (afterLines (linesUpTo most text) text)) (linesUpTo most text + 1) (most + 1) (omega (arith, few)), λ b. tt),
+    )
+
+-- The first line of a plan sheet handed in, and of a list, that is not as described.
+module _ (plan : List ℕ) where
+  abbrev tests : List (List ℕ → Bool)
+  tests = isTapeLine ∷ isNumberLine sumKey ∷ isNumberLine readsKey ∷ isNumberLine finishKey ∷ isNumberLine endKey ∷ isCountLine detoursKey mostDetours ∷ []
+
+  told-few : planBadTop plan ≡ 0 → detoursTold plan ≤ 63
+  unfolding planBadTop detoursTold
+  told-few t = count-few detoursKey mostDetours (lineAfter 5 plan) (failing-none 0 tests plan t 5 (omega arith))
+
+  below-few : planBadTop plan ≡ 0 → planBadBelow plan ≤ 134
+  unfolding planBadBelow
+  below-few t =
+      let told = told-few t in
+      first-few 134
+      (shifted 6 (firstBadOf (isPairLine detourKey) (detoursTold plan) (detourText plan))
+      ∷ shifted (detoursTold plan + 6) (firstBadToEnd (isTripleLine timeKey) mostWants (timeText plan))
+      ∷ []) (
+        shifted-few 6 (firstBadOf (isPairLine detourKey) (detoursTold plan) (detourText plan)) 134 (omega (arith, told, bad-few (isPairLine detourKey) (detoursTold plan) (detourText plan))),
+        λ a. (shifted-few (detoursTold plan + 6) (firstBadToEnd (isTripleLine timeKey) mostWants (timeText plan)) 134 (omega (arith, told, to-end-few (isTripleLine timeKey) mostWants (timeText plan))), λ b. tt),
+      )
+
+  top-few : planBadTop plan ≤ 134
+  unfolding planBadTop
+  top-few = omega (arith, failing-few 0 tests plan)
+
+  plan-line-few : planBadLine plan ≤ 134
+  unfolding planBadLine
+  plan-line-few = first-few 134 (planBadTop plan ∷ planBadBelow plan ∷ []) (top-few, λ t. (below-few t, λ b. tt))
+
+list-line-few : (list : List ℕ) → listBadLine list ≤ 134
+unfolding listBadLine
+list-line-few list = go (isPlan list) refl
+  where
+    go : (b : Bool) → isPlan list ≡ b → listBadLine list ≤ 134
+    go true h = rw h (plan-line-few list)
+    go false h = rw h (omega (arith, to-end-few (isPairLine detourKey) mostDetours list))
+
+form-near : (bad : ℕ) (text : List ℕ) → bad ≤ 134 → firstOf (formChecks bad text) .place ≤ placeMost
+form-near bad text l = first-near (formChecks bad text) (if-near (ltb longestSheet (length text)) LongSheet, λ e. (at-near bad BadLine (omega arith), λ d. tt))
+
+-- 10 of a run that passes: it is what the pricer finds.
+entry-near : (run : Run) (froms tos : List ℕ) → refuses (judgeOf run) ≡ false → listVerdict (stopsOf run) froms tos .place ≤ placeMost
+unfolding priceVerdict listVerdict
+entry-near run froms tos passes = go (refuses list) refl
+  where
+    list : Verdict
+    list = listVerdict (stopsOf run) froms tos
+
+    none : ReadRows
+    none = record { times = []; legs = [] }
+
+    short : List Verdict
+    short = refuseIf (shortReadRows (length (run .numbers)) none) ShortRow ∷ []
+
+    go : (b : Bool) → refuses list ≡ b → list .place ≤ placeMost
+    go true e =
+        let same : list ≡ priceVerdict run froms tos none = first-refuses list short e ∙ sym (first-passes (judgeOf run) (list ∷ short) passes) in
+        omega (arith, ap (λ v. v .place) same, price-near run froms tos none)
+    go false e =
+        let same : list ≡ accepted = none-refuses (refuseIf (not (eqb (length froms) (length tos))) BadEntry ∷ refuseAt (firstBadEntry (stopsOf run) (listOf froms tos)) BadEntry ∷ []) e in
+        omega (arith, ap (λ v. v .place) same)
+
+price-checks-near : (list : List ℕ) (run : Run) → AllNear (priceChecks list run)
+unfolding listForm
+price-checks-near list run = (form-near (listBadLine list) list (list-line-few list), λ a. (judge-near run, λ b. (entry-near run (listFroms list) (listTos list) b, λ c. tt)))
+
+pub check-checks-near : (plan : List ℕ) (run : Run) → AllNear (checkChecks plan run)
+unfolding planForm
+check-checks-near plan run = (form-near (planBadLine plan) plan (plan-line-few plan), λ a. run-checks-near run)
+
+-- The texts that hold a refusal.
+refused-held : (sheet : List ℕ) (checks : Run → List Verdict) → AllNear (checks (sheetRun sheet)) → (text : List ℕ) → text ≡ refusalText (verdictBy checks sheet) → (length text ≤ 38) × (0 < length text)
+refused-held sheet checks near text is =
+    let small = refusal-short (verdictBy checks sheet) (omega (arith, verdict-near sheet checks near)) in
+    (omega (arith, ap length is, small), some-begun text 113 (ap (λ t. getD t 0 0) is ∙ refusal-begins (verdictBy checks sheet)))
+
+price-held : (sheet list : List ℕ) → (length (priceText (pricingVerdict sheet list) (sheetName sheet) (sheetRun sheet) list) ≤ priceRow) × (0 < length (priceText (pricingVerdict sheet list) (sheetName sheet) (sheetRun sheet) list))
+unfolding priceText verdictBy
+price-held sheet list = go (refuses (pricingVerdict sheet list)) refl
+  where
+    text : List ℕ
+    text = priceText (pricingVerdict sheet list) (sheetName sheet) (sheetRun sheet) list
+
+    go : (b : Bool) → refuses (pricingVerdict sheet list) ≡ b → (length text ≤ priceRow) × (0 < length text)
+    go true e = let h = refused-held sheet (priceChecks list) (price-checks-near list (sheetRun sheet)) text (rw e) in (omega (arith, h .0), h .1)
+    go false e =
+        let is : text ≡ planText (sheetName sheet) (sheetRun sheet) (listFroms list) (listTos list) = rw e in
+        let good = sheet-passes (priceChecks list) (λ run f. all-accept (priceChecks list run) f .1 .0) (price-checks-near list) sheet e in
+        let all = all-accept (sheetVerdict sheet ∷ ruleVerdict sheet ∷ priceChecks list (sheetRun sheet)) e in
+        let small = plan-short (sheetRun sheet) (listFroms list) (listTos list) (good .1) (all .1 .1 .1 .1 .0) (sheetName sheet) (good .0) in
+        (omega (arith, ap length is, small), some-begun text 115 (ap (λ t. getD t 0 0) is ∙ plan-begins (sheetName sheet) (sheetRun sheet) (listFroms list) (listTos list)))
+
+bad-held : (length (refusalText badInput) ≤ 38) × (0 < length (refusalText badInput))
+bad-held = (refusal-short badInput (omega arith), some-begun (refusalText badInput) 113 (refusal-begins badInput))
+
+price-in : (input : List ℕ) (f : Framed) (row : List ℕ) (n : ℕ) (row′ : List ℕ) → AnsweredIn SheetPriced input f row n row′ → Held priceRow row n row′
+price-in input (Framed.Sheet from to) row n row′ a = let h = price-held (partIn input from to) (partIn input to (length input)) in record { text = priceText (pricingVerdict (partIn input from to) (partIn input to (length input))) (sheetName (partIn input from to)) (sheetRun (partIn input from to)) (partIn input to (length input)); bytes = a .bytes; left = a .left; short = h .0; some = h .1 }
+price-in input Framed.Bad row n row′ a = record { text = refusalText badInput; bytes = a .bytes; left = a .left; short = omega (arith, bad-held .0); some = bad-held .1 }
+
+price-same : (input : List ℕ) (f : Framed) (row : List ℕ) (n : ℕ) (row′ other : List ℕ) (m : ℕ) (other′ : List ℕ) (a : AnsweredIn SheetPriced input f row n row′) (b : AnsweredIn SheetPriced input f other m other′)
+    → price-in input f row n row′ a .text ≡ price-in input f other m other′ b .text
+unfolding price-in
+price-same input (Framed.Sheet from to) row n row′ other m other′ a b = refl
+price-same input Framed.Bad row n row′ other m other′ a b = refl
+
+pub price-is-whole : PriceIsWhole
+price-is-whole input = takes-all priceRow (price-in input (framedInput input)) (price-same input (framedInput input))
+
+-- A verdict on a plan sheet: its lines.
+differ-few : (l start at : ℕ) (a b : List ℕ) → differFrom l start at a b .line ≤ l + length a
+unfolding differFrom
+differ-few l start at [] b = omega arith
+differ-few l start at (x ∷ a) [] = omega arith
+differ-few l start at (x ∷ a) (y ∷ b) = go (eqb x y) (eqb x lineFeed) refl refl (differ-few (suc l) (suc at) (suc at) a b) (differ-few l start (suc at) a b)
+  where
+    go : (s t : Bool) → eqb x y ≡ s → eqb x lineFeed ≡ t → differFrom (suc l) (suc at) (suc at) a b .line ≤ suc l + length a → differFrom l start (suc at) a b .line ≤ l + length a
+        → differFrom l start at (x ∷ a) (y ∷ b) .line ≤ l + length (x ∷ a)
+    go true true e f p q = rw (e, f) (omega (arith, p))
+    go true false e f p q = rw (e, f) (omega (arith, q))
+    go false t e f p q = rw e (omega arith)
+
+before-few : (c : ℕ) (text : List ℕ) → length (before c text) ≤ length text
+unfolding before
+before-few c [] = omega arith
+before-few c (b ∷ text) = go (eqb b c) refl (before-few c text)
+  where
+    go : (t : Bool) → eqb b c ≡ t → length (before c text) ≤ length text → length (before c (b ∷ text)) ≤ length (b ∷ text)
+    go true e rest = rw e (omega arith)
+    go false e rest = rw e (omega (arith, rest))
+
+line-few : (n : ℕ) (text : List ℕ) → length (lineOf (drop n text)) ≤ length text
+unfolding lineOf
+line-few n text = go (has lineFeed (drop n text)) refl
+  where
+    go : (t : Bool) → has lineFeed (drop n text) ≡ t → length (lineOf (drop n text)) ≤ length text
+    go true e = rw e (omega (arith, before-few lineFeed (drop n text), length-drop n text))
+    go false e = rw e (omega arith)
+
+walk-few : (plan expected : List ℕ) → length plan ≤ 16384 → length (walkLine plan expected) ≤ 29
+unfolding walkLine
+walk-few plan expected l = go (isText expected plan) refl
+  where
+    go : (t : Bool) → isText expected plan ≡ t → length (walkLine plan expected) ≤ 29
+    go true e = rw e (omega arith)
+    go false e = rw e (omega (arith, number-length walkNo (firstDifference plan expected .line) (omega (arith, differ-few 1 0 0 plan expected))))
+
+least-few : (run : Run) (froms tos : List ℕ) (list : List Detour) → pricedAnswer run (listOf froms tos) .sum < 2 ^ 64 → length (leastLine run froms tos list) ≤ 30
+unfolding leastLine
+least-few run froms tos list l = go (sameList froms tos list) refl
+  where
+    go : (t : Bool) → sameList froms tos list ≡ t → length (leastLine run froms tos list) ≤ 30
+    go true e = rw e (omega arith)
+    go false e = rw e (omega (arith, number-length leastNo (pricedAnswer run (listOf froms tos) .sum - pricedAnswer run list .sum) (omega arith)))
+
+difference-few : (plan expected : List ℕ) → length (differenceLines plan expected) ≤ length plan + length expected + 17
+unfolding differenceLines
+difference-few plan expected = go (isText expected plan) refl
+  where
+    start : ℕ
+    start = firstDifference plan expected .start
+
+    go : (t : Bool) → isText expected plan ≡ t → length (differenceLines plan expected) ≤ length plan + length expected + 17
+    go true e = rw e (omega arith)
+    go false e =
+        rw e
+        (omega (
+          arith,
+          length-append (line foundKey (lineOf (drop start plan))) (line expectedKey (lineOf (drop start expected))),
+          line-length foundKey (lineOf (drop start plan)),
+          line-length expectedKey (lineOf (drop start expected)),
+          line-few start plan,
+          line-few start expected,
+        ))
+
+module _ (name : List ℕ) (named : isName name ≡ true) (run : Run) (passes : refuses (judgeOf run) ≡ false) (plan : List ℕ) (form : refuses (planForm plan) ≡ false) (list : List Detour) where
+  abbrev froms : List ℕ
+  froms = planFroms plan
+
+  abbrev tos : List ℕ
+  tos = planTos plan
+
+  abbrev text : List ℕ
+  text = checkText name run plan froms tos list
+
+  abbrev bad : ℕ
+  bad = firstBadEntry (stopsOf run) (listOf froms tos)
+
+  bad-entry-few : bad < 2 ^ 64
+  unfolding firstBadEntry planFroms
+  bad-entry-few =
+      omega (
+        arith,
+        first-within (badEntry (stopsOf run) (listOf froms tos)) (length (listOf froms tos)),
+        length-list froms tos (even-plan plan),
+        length-each (λ i. firstIn detourKey (lineAfter i (detourText plan))) (detoursTold plan),
+        plan-few plan form,
+      )
+
+  formed-short : WellFormed (stopsOf run) (listOf froms tos) → length (verdictLines plan (planText name run froms tos) run froms tos list) ≤ checkRow
+  unfolding verdictLines
+  formed-short w =
+      let expected = planText name run froms tos in
+      let listed = list-accepted (stopsOf run) froms tos (even-plan plan) w in
+      let long = plan-long plan form in
+      omega (
+        arith,
+        length-append (formedYes ++ walkLine plan expected ++ leastLine run froms tos list) (differenceLines plan expected),
+        length-append (formedYes ++ walkLine plan expected) (leastLine run froms tos list),
+        length-append formedYes (walkLine plan expected),
+        walk-few plan expected long,
+        least-few run froms tos list (plan-small run froms tos passes listed .sum),
+        difference-few plan expected,
+        plan-short run froms tos passes listed name named,
+      )
+
+  pub check-held : (length text ≤ checkRow) × (0 < length text)
+  unfolding checkText verdictLines
+  check-held = go (eqb bad 0) refl
+    where
+      go : (b : Bool) → eqb bad 0 ≡ b → (length text ≤ checkRow) × (0 < length text)
+      go true e = rw e (formed-short (eqb-true bad 0 e), some-begun (verdictLines plan (planText name run froms tos) run froms tos list) 101 refl)
+      go false e = rw e (omega (arith, number-length formedNo bad bad-entry-few), some-begun (numberLine formedNo bad) 101 refl)
+
+pub check-fits : (sheet plan text : List ℕ) → AnswersCheck (checkVerdict sheet plan) (sheetName sheet) (sheetRun sheet) plan (planFroms plan) (planTos plan) text → (length text ≤ checkRow) × (0 < length text)
+unfolding verdictBy
+check-fits sheet plan text a = go (refuses (checkVerdict sheet plan)) refl
+  where
+    go : (b : Bool) → refuses (checkVerdict sheet plan) ≡ b → (length text ≤ checkRow) × (0 < length text)
+    go true e = let h = refused-held sheet (checkChecks plan) (check-checks-near plan (sheetRun sheet)) text (a .refused e) in (omega (arith, h .0), h .1)
+    go false e =
+        let v = a .checked e in
+        let good = sheet-passes (checkChecks plan) (λ run f. all-accept (checkChecks plan run) f .1 .0) (check-checks-near plan) sheet e in
+        let all = all-accept (sheetVerdict sheet ∷ ruleVerdict sheet ∷ checkChecks plan (sheetRun sheet)) e in
+        let h = check-held (sheetName sheet) (good .0) (sheetRun sheet) (good .1) plan (all .1 .1 .0) (v .list) in
+        rw (v .says) h
+
+check-in : (input : List ℕ) (f : Framed) (row : List ℕ) (n : ℕ) (row′ : List ℕ) → AnsweredIn SheetChecked input f row n row′ → Held checkRow row n row′
+check-in input (Framed.Sheet from to) row n row′ a = let h = check-fits (partIn input from to) (partIn input to (length input)) (a .text) (a .answers) in record { text = a .text; bytes = a .holds .bytes; left = a .holds .left; short = h .0; some = h .1 }
+check-in input Framed.Bad row n row′ a = record { text = refusalText badInput; bytes = a .bytes; left = a .left; short = omega (arith, bad-held .0); some = bad-held .1 }
+
+check-same : (input : List ℕ) (f : Framed) (row : List ℕ) (n : ℕ) (row′ other : List ℕ) (m : ℕ) (other′ : List ℕ) (a : AnsweredIn SheetChecked input f row n row′) (b : AnsweredIn SheetChecked input f other m other′)
+    → check-in input f row n row′ a .text ≡ check-in input f other m other′ b .text
+unfolding check-in
+check-same input (Framed.Sheet from to) row n row′ other m other′ a b = answer-once _ _ _ _ _ _ (a .text) (b .text) (a .answers) (b .answers)
+check-same input Framed.Bad row n row′ other m other′ a b = refl
+
+pub check-is-whole : CheckIsWhole
+check-is-whole input = takes-all checkRow (check-in input (framedInput input)) (check-same input (framedInput input))

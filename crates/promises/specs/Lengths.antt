@@ -1,0 +1,126 @@
+-- The row that each program lends takes every answer whole, whatever its input is. The numbers here are those of the programs' rows:
+-- tests/python/rows.py compares them.
+use Prim.Native.Nat.{ℕ, _^_, _≤_, _<_}
+use mathlib.Core.Path.{_≡_}
+use mathlib.Core.List.{List}
+use lib.ListN.{length, take, getD}
+use Rattle.refusals.specs.declared.Refusal.the-variants.{Accepted, ShortRow}
+use Rattle.refusals.specs.declared.Verdict.{Verdict}
+use Rattle.sheet_writer.specs.declared.Written.{Written}
+use Rattle.sheet_writer.specs.RefusalLines.{RefusalWritten}
+use Rattle.answer_rewrite.specs.Rewriting.{rewritten, SheetRewritten}
+use Rattle.answer_mend.specs.declared.Mended.{Mended}
+use Rattle.answer_mend.specs.Mending.{mendedText, changesText, SheetMended}
+use Rattle.answer_month.specs.declared.Month.{Month}
+use Rattle.answer_month.specs.Page.{PagePut}
+use Rattle.answer_ltfs.specs.declared.Told.{Told}
+use Rattle.answer_ltfs.specs.Input.{answerText, reportText, InputAnswered}
+use Rattle.answer_plan.specs.Recall.{SheetRecalled}
+use Rattle.answer_field.specs.Field.{SheetFielded}
+use Rattle.answer_buys.specs.Buys.{SheetBought}
+use Rattle.answer_check.specs.Inputs.{InputPriced, InputChecked}
+
+-- A row of so many bytes takes every answer whole: something is printed, no more than these, and another such row prints the same, however long it is.
+abbrev pub TakesAll : ℕ → (List ℕ → ℕ → List ℕ → Type 0) → Type 0
+TakesAll most Answers =
+    (row : List ℕ) (n : ℕ) (row′ : List ℕ)
+    → Answers row n row′
+    → most ≤ length row
+    → (0 < n) × (n ≤ most)
+    × ((other : List ℕ) (m : ℕ) (other′ : List ℕ) → Answers other m other′ → most ≤ length other → take m other′ ≡ take n row′)
+
+-- `plan` and `field`, `buys`, `price`, `check`.
+abbrev pub planRow : ℕ
+planRow = 7644
+
+abbrev pub buysRow : ℕ
+buysRow = 4492
+
+abbrev pub priceRow : ℕ
+priceRow = 7644
+
+abbrev pub checkRow : ℕ
+checkRow = 24115
+
+abbrev pub PlanIsWhole : Type 0
+PlanIsWhole = (sheet : List ℕ) → TakesAll planRow (SheetRecalled sheet)
+
+abbrev pub FieldIsWhole : Type 0
+FieldIsWhole = (sheet : List ℕ) → TakesAll planRow (SheetFielded sheet)
+
+abbrev pub BuysIsWhole : Type 0
+BuysIsWhole = (sheet : List ℕ) → TakesAll buysRow (SheetBought sheet)
+
+abbrev pub PriceIsWhole : Type 0
+PriceIsWhole = (input : List ℕ) → TakesAll priceRow (InputPriced input)
+
+abbrev pub CheckIsWhole : Type 0
+CheckIsWhole = (input : List ℕ) → TakesAll checkRow (InputChecked input)
+
+-- `month`, for a month and a verdict as the program holds them: words, 32 numbers of refusals, a name of at most 16 letters.
+pub record InWords (m : Month) (v : Verdict) : Type 0 where
+  pub accepted : m .accepted < 2 ^ 64
+  pub many : length (m .refused) ≤ 32
+  pub refused : (i : ℕ) → i < length (m .refused) → getD (m .refused) i 0 < 2 ^ 64
+  pub reads : m .reads < 2 ^ 64
+  pub sum : m .sum < 2 ^ 64
+  pub saved : m .saved < 2 ^ 64
+  pub time : m .time < 2 ^ 64
+  pub file : m .file < 2 ^ 64
+  pub letters : length (m .tape) ≤ 16
+  pub place : v .place < 2 ^ 64
+
+abbrev pub monthRow : ℕ
+monthRow = 2048
+
+abbrev pub MonthIsWhole : Type 0
+MonthIsWhole = (m : Month) (v : Verdict) → InWords m v → TakesAll monthRow (PagePut m v)
+
+-- `mend` and `rewrite`: 8 is never answered; the texts stand in front; and a refusal's two lines fit the same row.
+abbrev pub sheetRow : ℕ
+sheetRow = 16384
+
+abbrev pub changesRow : ℕ
+changesRow = 98424
+
+pub record MendPrints (sheet : List ℕ) (r : Mended) (out′ notes′ : List ℕ) : Type 0 where
+  pub fits : r .refusal ≡ ShortRow → ⊥
+  pub text : r .refusal ≡ Accepted → take (r .bytes) out′ ≡ mendedText sheet
+  pub changes : r .refusal ≡ Accepted → take (r .noted) notes′ ≡ changesText sheet
+  pub near : r .place < 2 ^ 64
+
+abbrev pub MendIsWhole : Type 0
+MendIsWhole =
+    (sheet out notes : List ℕ) (r : Mended) (out′ notes′ : List ℕ)
+    → SheetMended sheet out notes r out′ notes′
+    → sheetRow ≤ length out
+    → changesRow ≤ length notes
+    → MendPrints sheet r out′ notes′
+
+pub record RewritePrints (sheet : List ℕ) (r : Written) (row′ : List ℕ) : Type 0 where
+  pub fits : r .refusal ≡ ShortRow → ⊥
+  pub text : r .refusal ≡ Accepted → take (r .bytes) row′ ≡ rewritten sheet
+  pub near : r .place < 2 ^ 64
+
+abbrev pub RewriteIsWhole : Type 0
+RewriteIsWhole = (sheet row : List ℕ) (r : Written) (row′ : List ℕ) → SheetRewritten sheet row r row′ → sheetRow ≤ length row → RewritePrints sheet r row′
+
+abbrev pub RefusalIsWhole : Type 0
+RefusalIsWhole = (v : Verdict) → v .place < 2 ^ 64 → TakesAll sheetRow (λ row n row′. (w : Written) × (RefusalWritten v row w row′ × (n ≡ w .bytes)))
+
+-- `ltfs`: the sheet or the refusal, and the report.
+abbrev pub reportRow : ℕ
+reportRow = 54
+
+pub record TapePrints (input : List ℕ) (r : Told) (out′ notes′ : List ℕ) : Type 0 where
+  pub some : 0 < r .bytes
+  pub text : take (r .bytes) out′ ≡ answerText input
+  pub report : take (r .noted) notes′ ≡ reportText input
+
+abbrev pub TapeIsWhole : Type 0
+TapeIsWhole =
+    (input out notes : List ℕ) (r : Told) (out′ notes′ : List ℕ)
+    → InputAnswered input out notes r out′ notes′
+    → sheetRow ≤ length out
+    → reportRow ≤ length notes
+    → TapePrints input r out′ notes′
