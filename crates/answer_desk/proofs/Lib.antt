@@ -4,3 +4,5 @@ pub mod Looking
 pub mod Saying
 pub mod Leaving
 pub mod Determined
+pub mod Rooms
+pub mod Rehearsing

@@ -1,22 +1,23 @@
--- The texts of answers: a line of a pair for a filing and a withdrawal, the plan and the tickets that leave for a boarding; the two lines of a refusal
--- for any of them.
+-- The texts of answers: a line of a pair for a filing and a withdrawal, the plan and the tickets that leave for a boarding.
 use Prim.Native.Nat.{ℕ, suc}
 use mathlib.Core.Bool.{cond}
 use mathlib.Core.List.{List, [], _∷_, _++_}
 use lib.ListN.{getD, take}
 use lib.Dec.{eqb}
 use Rattle.refusals.specs.declared.Verdict.{Verdict}
-use Rattle.refusals.specs.Refusals.{isRefusal}
 use Rattle.walk.specs.declared.Answer.{Answer}
 use Rattle.text_bytes.specs.Text.{bytes, comma, decimal}
 use Rattle.text_pages.specs.Printing.{numberLine, pairText, pairLine, pairLines, tripleLine}
 use Rattle.sheet_writer.specs.PlanSheet.{sumKey, finishKey, endKey, detoursKey, detourKey}
-use Rattle.sheet_writer.specs.RefusalLines.{refusalText}
 use Rattle.desk_tickets.specs.declared.Ticket.{Ticket}
 use Rattle.desk_boardings.specs.declared.Taken.{Taken}
 use Rattle.desk_boardings.specs.declared.Boarded.{Boarded}
 use Rattle.desk_boardings.specs.Boarders.{boarders}
 use Rattle.answer_desk.specs.declared.Reads.{Reads}
+
+-- No text is longer than this: for a boarding 157 bytes for the first lines, 49 for each of 8 detours and 133 for each of 8 tickets of each office.
+abbrev pub mostText : ℕ
+mostText = 2677
 
 -- The keys.
 abbrev pub filedKey : List ℕ
@@ -30,10 +31,6 @@ boardedKey = bytes "boarded="
 
 abbrev pub ticketKey : List ℕ
 ticketKey = bytes "ticket="
-
--- The two lines of a refusal, or a text.
-abbrev pub saysText : Verdict → List ℕ → List ℕ
-saysText v text = cond (isRefusal (v .refusal)) (refusalText v) text
 
 -- The place of a file among some numbers, counted from 0; behind them all where it is none of them.
 unfoldable pub placeIn : ℕ → List ℕ → ℕ

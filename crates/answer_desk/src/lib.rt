@@ -1,25 +1,35 @@
 // answer_desk: a day at the desk of two offices: from one event's line to the day afterwards and the text of its answer.
 // For the program, which reads a line, calls this and writes. It stands on the promises of the waiting table, of the boarding, of the line readers and
-// of the writers; the rows that a boarding is lent, but for its working room, are on its own stack.
+// of the writers; the rows that a boarding is lent, but for its working room, are on its own stack. A refusal changes nothing: not the day, not the row for
+// the answer, not the room.
 ghost use mathlib.Core.Path.{_≡_};
+ghost use Prim.Native.Nat.{min};
 ghost use Rattle.desk_tickets.specs.WaitingTable.{noTicket};
 ghost use Rattle.desk_boardings.specs.Boardings.{tapeAt};
 ghost use Rattle.text_lines.specs.Lines.{lineOf};
 ghost use Rattle.answer_desk.specs.Events.{eventOf};
-ghost use Rattle.answer_desk.specs.Days.{morningDay, FilingAnswered, WithdrawalAnswered, BoardingAnswered, EventAnswered, unanswered};
+ghost use Rattle.answer_desk.specs.Days.{morningDay, FilingAnswered, WithdrawalAnswered, BoardingAnswered, EventAnswered, refusedAnswer, answeredBy};
+ghost use Rattle.answer_desk.specs.Private.{BoardedNow, Rehearsed, Needed};
 use desk_boardings::Boarding;
-use desk_tickets::ALL_PLACES;
 use desk_tickets::Filing;
 use desk_tickets::Lasts;
 use desk_tickets::Ticket;
 use desk_tickets::Withdrawal;
 use refusals::Refusal;
+use refusals::Verdict;
+use refusals::refused;
 use sheet_writer::Written;
 
 mod events;
 mod pages;
 
 pub use events::read_event;
+
+// No answer is longer.
+pub const MOST_TEXT: usize = 2677;
+
+// No boarding asks for more words of working room: eight wants with 1,024 reads.
+pub const MOST_ROOM: usize = 65600;
 
 // The waiting table and the last numbers given.
 pub struct Day {
@@ -42,11 +52,11 @@ pub struct Reads {
     pub legs: [u64; 8],
 }
 
-// What is answered to an event: the day afterwards, what was written, and whether the line was as described.
+// What is answered to an event: the day afterwards, the verdict, and how many bytes the text has. On a refusal the day as it was, and no byte.
 pub struct Answered {
     pub day: Day,
-    pub written: Written,
-    pub described: bool,
+    pub verdict: Verdict,
+    pub bytes: u64,
 }
 
 // An empty place.
@@ -72,48 +82,75 @@ pub fn morning() -> Day
     }
 }
 
-fn file(day: Day, filing: Filing, out: &mut [u8]) -> Answered
-    ensures { λ r. ⌜ FilingAnswered day filing (now (out .entry)) r (now (out .exit)) ⌝ }
+// A refusal: the day as it was.
+fn refuse(day: Day, verdict: Verdict) -> Answered
+    ensures { λ r. ⌜ r ≡ refusedAnswer day verdict ⌝ }
+{
+    Answered {
+        day,
+        verdict,
+        bytes: 0,
+    }
+}
+
+// The next day, where the text was written; 8 and the day as it was, where it does not go into the row.
+fn answer_by(day: Day, next: Day, written: Written) -> Answered
+    ensures { λ r. ⌜ r ≡ answeredBy day next written ⌝ }
+{
+    let kind = written.refusal;
+    let verdict = Verdict {
+        refusal: kind,
+        place: written.place,
+    };
+    if refused(verdict) {
+        return refuse(day, verdict);
+    }
+    Answered {
+        day: next,
+        verdict: Verdict {
+            refusal: Refusal::Accepted,
+            place: 0,
+        },
+        bytes: written.bytes,
+    }
+}
+
+fn file(len: usize, day: Day, filing: Filing, out: &mut [u8]) -> Answered
+    ensures { λ r. ⌜ FilingAnswered len day filing (now (out .entry)) r (now (out .exit)) ⌝ }
 {
     let row = day.row;
-    let done = desk_tickets::file_in(ALL_PLACES, row, filing);
+    let done = desk_tickets::file_in(len, row, filing);
     let filed = done.filed;
     let verdict = filed.verdict;
-    let written = pages::say_pair(verdict, b"filed=", filing.office, filed.number, out);
+    if refused(verdict) {
+        return refuse(day, verdict);
+    }
+    let written = pages::say_pair(b"filed=", filing.office, filed.number, out);
     let next = done.row;
     let lasts = filed.lasts;
-    Answered {
-        day: Day { row: next, lasts },
-        written,
-        described: true,
-    }
+    answer_by(day, Day { row: next, lasts }, written)
 }
 
-fn withdraw(day: Day, withdrawal: Withdrawal, out: &mut [u8]) -> Answered
-    ensures { λ r. ⌜ WithdrawalAnswered day withdrawal (now (out .entry)) r (now (out .exit)) ⌝ }
+fn withdraw(len: usize, day: Day, withdrawal: Withdrawal, out: &mut [u8]) -> Answered
+    ensures { λ r. ⌜ WithdrawalAnswered len day withdrawal (now (out .entry)) r (now (out .exit)) ⌝ }
 {
     let row = day.row;
-    let done = desk_tickets::withdraw_in(ALL_PLACES, row, withdrawal);
+    let done = desk_tickets::withdraw_in(len, row, withdrawal);
     let withdrawn = done.withdrawn;
     let verdict = withdrawn.verdict;
-    let written = pages::say_pair(
-        verdict,
-        b"withdrawn=",
-        withdrawal.office,
-        withdrawal.number,
-        out,
-    );
+    if refused(verdict) {
+        return refuse(day, verdict);
+    }
+    let written = pages::say_pair(b"withdrawn=", withdrawal.office, withdrawal.number, out);
     let next = done.row;
     let lasts = withdrawn.lasts;
-    Answered {
-        day: Day { row: next, lasts },
-        written,
-        described: true,
-    }
+    answer_by(day, Day { row: next, lasts }, written)
 }
 
-fn board(
-    row: [Ticket; 32],
+// A boarding whose text goes into the row.
+fn board_now(
+    len: usize,
+    day: Day,
     boarding: Boarding,
     starts: &[u64],
     lengths: &[u64],
@@ -121,14 +158,15 @@ fn board(
     room: &mut [u64],
     out: &mut [u8],
 ) -> Answered
-    ensures { λ r. ⌜ BoardingAnswered (tapeAt starts lengths aggregates) row boarding (now (room .entry)) (now (out .entry)) r (now (room .exit)) (now (out .exit)) ⌝ }
+    ensures { λ r. ⌜ BoardedNow len (tapeAt starts lengths aggregates) day boarding (now (room .entry)) (now (out .entry)) r (now (room .exit)) (now (out .exit)) ⌝ }
 {
+    let row = day.row;
     let mut froms = [0u64; 8];
     let mut tos = [0u64; 8];
     let mut times = [0u64; 8];
     let mut legs = [0u64; 8];
     let done = desk_boardings::board_in(
-        ALL_PLACES,
+        len,
         row,
         boarding,
         starts,
@@ -141,6 +179,15 @@ fn board(
         room,
     );
     let boarded = done.boarded;
+    let answer = boarded.answer;
+    let kind = answer.refusal;
+    let verdict = Verdict {
+        refusal: kind,
+        place: answer.place,
+    };
+    if refused(verdict) {
+        return refuse(day, verdict);
+    }
     let wants = boarded.wants;
     let numbers = wants.numbers;
     let reads = Reads {
@@ -151,30 +198,100 @@ fn board(
     let written = pages::say_boarding(row, boarded, froms, tos, reads, out);
     let next = done.row;
     let lasts = boarded.lasts;
-    Answered {
-        day: Day { row: next, lasts },
-        written,
-        described: true,
-    }
+    answer_by(day, Day { row: next, lasts }, written)
 }
 
-// The answer to a line that is not as described: the day as it was, and nothing written.
-fn unknown(day: Day) -> Answered
-    ensures { λ r. ⌜ r ≡ unanswered day ⌝ }
+fn lesser(a: usize, b: usize) -> usize
+    ensures { λ r. ⌜ r ≡ min a b ⌝ }
 {
-    Answered {
-        day,
-        written: Written {
-            refusal: Refusal::Accepted,
-            place: 0,
-            bytes: 0,
-        },
-        described: false,
-    }
+    if a < b { a } else { b }
 }
 
-// The answer to one event of a day, at one tape.
+// How many bytes the text of a boarding in so many words of room has; 0 where it is refused. The text is made in rows of its own.
+fn rehearse(
+    len: usize,
+    day: Day,
+    boarding: Boarding,
+    starts: &[u64],
+    lengths: &[u64],
+    aggregates: &[u64],
+    words: usize,
+) -> u64
+    ensures { λ r. ⌜ Rehearsed len (tapeAt starts lengths aggregates) day boarding words r ⌝ }
+{
+    let mut room = [0u64; 65600];
+    let mut out = [0u8; 2677];
+    let n = lesser(words, MOST_ROOM);
+    let told = board_now(
+        len,
+        day,
+        boarding,
+        starts,
+        lengths,
+        aggregates,
+        &mut room[..n],
+        &mut out,
+    );
+    told.bytes
+}
+
+// The same where it must be known: a row that takes every text takes this one.
+fn needed(
+    row: usize,
+    len: usize,
+    day: Day,
+    boarding: Boarding,
+    starts: &[u64],
+    lengths: &[u64],
+    aggregates: &[u64],
+    words: usize,
+) -> u64
+    ensures { λ r. ⌜ Needed row len (tapeAt starts lengths aggregates) day boarding words r ⌝ }
+{
+    if MOST_TEXT <= row {
+        return 0;
+    }
+    rehearse(len, day, boarding, starts, lengths, aggregates, words)
+}
+
+// A boarding. Whether its text goes into the row is known before the room is used, so that 8 leaves the room as it was too.
+fn board(
+    len: usize,
+    day: Day,
+    boarding: Boarding,
+    starts: &[u64],
+    lengths: &[u64],
+    aggregates: &[u64],
+    room: &mut [u64],
+    out: &mut [u8],
+) -> Answered
+    ensures { λ r. ⌜ BoardingAnswered len (tapeAt starts lengths aggregates) day boarding (now (room .entry)) (now (out .entry)) r (now (room .exit)) (now (out .exit)) ⌝ }
+{
+    let bytes = needed(
+        out.len(),
+        len,
+        day,
+        boarding,
+        starts,
+        lengths,
+        aggregates,
+        room.len(),
+    );
+    if (out.len() as u64) < bytes {
+        return refuse(
+            day,
+            Verdict {
+                refusal: Refusal::ShortRow,
+                place: 0,
+            },
+        );
+    }
+    board_now(len, day, boarding, starts, lengths, aggregates, room, out)
+}
+
+// The answer to one event of a day, at one tape. `len` is the number of places of the row that the table stands in.
 pub fn answer(
+    len: usize,
     day: Day,
     event: &[u8],
     starts: &[u64],
@@ -183,10 +300,9 @@ pub fn answer(
     room: &mut [u64],
     out: &mut [u8],
 ) -> Answered
-    ensures { λ r. ⌜ EventAnswered (tapeAt starts lengths aggregates) day (now (room .entry)) (now (out .entry)) (eventOf (lineOf (now (event .entry)))) r (now (room .exit)) (now (out .exit)) ⌝ }
+    ensures { λ r. ⌜ EventAnswered len (tapeAt starts lengths aggregates) day (now (room .entry)) (now (out .entry)) (eventOf (lineOf (now (event .entry)))) r (now (room .exit)) (now (out .exit)) ⌝ }
 {
     let lasts = day.lasts;
-    let row = day.row;
     match read_event(event) {
         Event::File {
             office,
@@ -200,7 +316,7 @@ pub fn answer(
                 files: starts.len() as u64,
                 lasts,
             };
-            file(day, filing, out)
+            file(len, day, filing, out)
         }
         Event::Withdraw { office, number } => {
             let withdrawal = Withdrawal {
@@ -208,12 +324,18 @@ pub fn answer(
                 number,
                 lasts,
             };
-            withdraw(day, withdrawal, out)
+            withdraw(len, day, withdrawal, out)
         }
         Event::Board { head, turn } => {
             let boarding = Boarding { head, turn, lasts };
-            board(row, boarding, starts, lengths, aggregates, room, out)
+            board(len, day, boarding, starts, lengths, aggregates, room, out)
         }
-        Event::Bad => unknown(day),
+        Event::Bad => refuse(
+            day,
+            Verdict {
+                refusal: Refusal::BadLine,
+                place: 0,
+            },
+        ),
     }
 }

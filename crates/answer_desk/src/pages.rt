@@ -4,19 +4,15 @@ ghost use Prim.Native.Nat.{_+_, _*_, _≤_, min};
 ghost use lib.ListN.{length, take, drop, getD};
 ghost use Rattle.text_pages.specs.Printing.{pairLine, pairLines, Wrote};
 ghost use Rattle.sheet_writer.specs.PlanSheet.{detourKey};
-ghost use Rattle.answer_desk.specs.Answers.{placeIn, ticketLine, closedLine, closedLines, boardedTop, saysText, verdictIn, boardedText};
-ghost use Rattle.answer_desk.specs.Days.{TextHanded};
-ghost use Rattle.answer_desk.specs.Private.{boardedMost, placesText, Leaves};
+ghost use Rattle.answer_desk.specs.Answers.{mostText, placeIn, ticketLine, closedLine, closedLines, boardedTop, boardedText};
+ghost use Rattle.answer_desk.specs.Private.{placesText, Leaving, TextSaid};
 use crate::Reads;
 use desk_boardings::Boarded;
 use desk_boardings::Taken;
 use desk_tickets::PLACES;
 use desk_tickets::Ticket;
-use refusals::Verdict;
-use refusals::refused;
 use sheet_writer::Written;
 use sheet_writer::hand_out;
-use sheet_writer::write_refusal;
 use text_pages::put;
 use text_pages::put_number;
 use text_pages::put_number_line;
@@ -25,20 +21,11 @@ use text_pages::put_pair_line;
 use text_pages::put_triple_line;
 use walk::Answer;
 
-// The two lines of a refusal, or one line of a pair. No key is longer than 10 bytes, so no such line is longer than 52.
-pub(crate) fn say_pair(
-    verdict: Verdict,
-    key: &[u8],
-    first: u64,
-    second: u64,
-    out: &mut [u8],
-) -> Written
+// One line of a pair. No key is longer than 10 bytes, so no such line is longer than 52.
+pub(crate) fn say_pair(key: &[u8], first: u64, second: u64, out: &mut [u8]) -> Written
     requires { ⌜ length (now key) ≤ 10 ⌝ }
-    ensures { λ r. ⌜ TextHanded (saysText verdict (pairLine (now (key .entry)) first second)) (now (out .entry)) r (now (out .exit)) ⌝ }
+    ensures { λ r. ⌜ TextSaid 52 (pairLine (now (key .entry)) first second) (now (out .entry)) r (now (out .exit)) ⌝ }
 {
-    if refused(verdict) {
-        return write_refusal(verdict, out);
-    }
     let mut page = [0u8; 52];
     let bytes = put_pair_line(&mut page, 0, key, first, second);
     hand_out(&page[..bytes], out)
@@ -164,8 +151,8 @@ fn put_boarding(
 ) -> usize
     requires { ⌜ boarded .taken .one ≤ 8 ⌝ }
     requires { ⌜ boarded .taken .two ≤ 8 ⌝ }
-    requires { ⌜ boardedMost ≤ length (now page) ⌝ }
-    ensures { λ r. ⌜ Wrote (now (page .entry)) 0 (placesText row boarded froms tos reads) boardedMost (now (page .exit)) r ⌝ }
+    requires { ⌜ mostText ≤ length (now page) ⌝ }
+    ensures { λ r. ⌜ Wrote (now (page .entry)) 0 (placesText row boarded froms tos reads) mostText (now (page .exit)) r ⌝ }
 {
     let taken = boarded.taken;
     let answer = boarded.answer;
@@ -176,7 +163,7 @@ fn put_boarding(
     put_tickets(page, twos_at, row, PLACES, taken.two, reads)
 }
 
-// The two lines of a refusal, or the text of the boarding.
+// The text of the boarding, from a page of its own.
 pub(crate) fn say_boarding(
     row: [Ticket; 32],
     boarded: Boarded,
@@ -185,18 +172,9 @@ pub(crate) fn say_boarding(
     reads: Reads,
     out: &mut [u8],
 ) -> Written
-    requires { ⌜ Leaves row boarded ⌝ }
-    ensures { λ r. ⌜ TextHanded (saysText (verdictIn (boarded .answer)) (boardedText row boarded froms tos reads)) (now (out .entry)) r (now (out .exit)) ⌝ }
+    requires { ⌜ Leaving row boarded ⌝ }
+    ensures { λ r. ⌜ TextSaid mostText (boardedText row boarded froms tos reads) (now (out .entry)) r (now (out .exit)) ⌝ }
 {
-    let answer = boarded.answer;
-    let refusal = answer.refusal;
-    let verdict = Verdict {
-        refusal,
-        place: answer.place,
-    };
-    if refused(verdict) {
-        return write_refusal(verdict, out);
-    }
     let mut page = [0u8; 2677];
     let bytes = put_boarding(&mut page, row, boarded, froms, tos, reads);
     hand_out(&page[..bytes], out)

@@ -1,13 +1,21 @@
 // cmd_desk: a day at the desk of two offices. Standard input: a line with the byte count of a run sheet, the sheet, whose wants are not looked at, and
 // then one event a line; each event's answer goes to standard output before the next event is read.
 // The answers are proved in `answer_desk`; what is read and written here, and the order of it, is tested and not proved.
+ghost use Prim.Native.Nat.{_≤_};
+ghost use lib.ListN.{length};
+ghost use Rattle.answer_desk.specs.Answers.{mostText};
+ghost use Rattle.answer_desk.specs.Days.{mostRoom};
 use answer_desk::Answered;
 use answer_desk::Day;
+use desk_tickets::ALL_PLACES;
 use libc::STDOUT_FILENO;
 use refusals::Refusal;
 use refusals::Verdict;
 use sheet_runs::entries;
 use text_lines::NumberLine;
+
+// The number of the refusal of a line that is no event.
+const NO_EVENT: u64 = 11;
 
 // A day, and whether it goes on.
 struct Step {
@@ -30,7 +38,7 @@ fn print_waiting(day: Day) {
     io::write_all(STDOUT_FILENO, text_inputs::front(&out, bytes as u64));
 }
 
-// The answer to the first n bytes of a line.
+// The answer to the first n bytes of a line. The room is enough for every boarding, and the row for every answer.
 fn answer_line(
     day: Day,
     line: &[u8; 68],
@@ -40,8 +48,12 @@ fn answer_line(
     aggregates: &[u64],
     room: &mut [u64],
     out: &mut [u8],
-) -> Answered {
+) -> Answered
+    requires { ⌜ mostRoom ≤ length (now room) ⌝ }
+    requires { ⌜ mostText ≤ length (now out) ⌝ }
+{
     answer_desk::answer(
+        ALL_PLACES,
         day,
         text_inputs::front(line, n as u64),
         starts,
@@ -50,6 +62,18 @@ fn answer_line(
         room,
         out,
     )
+}
+
+// The verdict on a line, with the line's number where it is no event.
+fn placed(verdict: Verdict, place: u64) -> Verdict {
+    let kind = verdict.refusal;
+    if refusals::number(kind) == NO_EVENT {
+        return Verdict {
+            refusal: Refusal::BadLine,
+            place,
+        };
+    }
+    verdict
 }
 
 // One event, by its number: its answer, and the day afterwards. No line that is as described is longer than 68 bytes: `file=`, three numbers of 20
@@ -76,18 +100,16 @@ fn take_event(day: Day, place: u64, starts: &[u64], lengths: &[u64], aggregates:
         &mut room,
         &mut out,
     );
-    if !answered.described {
-        print_refusal(Verdict {
-            refusal: Refusal::BadLine,
-            place,
-        });
+    let verdict = answered.verdict;
+    if refusals::refused(verdict) {
+        print_refusal(placed(verdict, place));
     }
-    let written = answered.written;
-    io::write_all(STDOUT_FILENO, text_inputs::front(&out, written.bytes));
+    io::write_all(STDOUT_FILENO, text_inputs::front(&out, answered.bytes));
     let next = answered.day;
+    let kind = verdict.refusal;
     Step {
         day: next,
-        goes_on: answered.described,
+        goes_on: refusals::number(kind) != NO_EVENT,
     }
 }
 

@@ -91,7 +91,7 @@ module _ (len : ℕ) (row : List Ticket) (l : Lasts) where
   decides-bad : Decides BadRecord (RowApplies len row l BadRecord) (refuseAt (firstWhere (badRecord l row) allPlaces) BadRecord)
   decides-bad = decides-reworded (λ p h. bad-record h) bad-back (decides-at (badRecord l row) (RecordIsBad l row) allPlaces (tells-bad l row) BadRecord)
 
-  row-finds : Finds (RowApplies len row l) rowOrder (recordsVerdict len row l)
+  pub row-finds : Finds (RowApplies len row l) rowOrder (recordsVerdict len row l)
   unfolding recordsVerdict
   row-finds =
       finds-first (RowApplies len row l) (refuseAt (firstWhere (badRecord l row) allPlaces) BadRecord ∷ []) refl decides-short

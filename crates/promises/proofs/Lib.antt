@@ -9,6 +9,8 @@ pub mod DeskLines
 pub mod DeskRows
 pub mod DeskTape
 pub mod DeskWhole
+pub mod DeskDays
+pub mod DeskDayCases
 pub mod DeskCases
 pub mod Gathered
 pub mod Copied

@@ -7,6 +7,7 @@ pub mod DeskLines
 pub mod DeskRows
 pub mod DeskWhole
 pub mod DeskCases
+pub mod DeskDays
 pub mod Mends
 pub mod Mender
 pub mod Months

@@ -9,6 +9,10 @@ use Rattle.answer_desk.proofs.answer.Tie as tie
 abbrev tape : tie.Start → Tape
 tape s = let a = s .args in record { starts = a .starts .now; lengths = a .lengths .now; aggregates = a .aggregates .now }
 
+-- The way back from a place in the code to the one that the name says.
+abbrev at-start : tie.After-read-event → tie.Start
+at-start c = c .before .before .before .before .before .before .before .before
+
 read-event-requires : tie.Need-read-event-requires
 read-event-requires c κs = search needs
 
@@ -33,15 +37,11 @@ board-requires c κs = search needs
 enum-told : tie.Need-enum-told
 enum-told c = search needs
 
-unknown-requires : tie.Need-unknown-requires
-unknown-requires c κs = search needs
+refuse-requires : tie.Need-refuse-requires
+refuse-requires c κs = search needs
 
 same-length : tie.Need-same-length
 same-length c = search needs
-
--- The way back from a place in the code to the one that the name says.
-abbrev at-start : tie.After-read-event → tie.Start
-at-start c = c .before .before .before .before .before .before .before .before .before
 
 returns : tie.Need-returns
 returns c =
@@ -49,7 +49,7 @@ returns c =
     let o = f .before .before .before in
     let re = o .before .before in
     let s = at-start re in
-    file-answered (tape s) (s .args .day) (s .args .room .now) (s .args .out .now) _ _ (re .read-event .ensures) _ _ _ _ _ (o .office .given .1) (f .file .ensures)
+    file-answered (s .args .len) (tape s) (s .args .day) (s .args .room .now) (s .args .out .now) _ _ (re .read-event .ensures) _ _ _ _ _ (o .office .given .1) (f .file .ensures)
 
 same-length-2 : tie.Need-same-length-2
 same-length-2 c = search needs
@@ -60,7 +60,7 @@ returns-2 c =
     let o2 = w .before .before .before in
     let re = o2 .before .before in
     let s = at-start re in
-    withdraw-answered (tape s) (s .args .day) (s .args .room .now) (s .args .out .now) _ _ (re .read-event .ensures) _ _ _ _ (o2 .office2 .given .1) (w .withdraw .ensures)
+    withdraw-answered (s .args .len) (tape s) (s .args .day) (s .args .room .now) (s .args .out .now) _ _ (re .read-event .ensures) _ _ _ _ (o2 .office2 .given .1) (w .withdraw .ensures)
 
 same-length-3 : tie.Need-same-length-3
 same-length-3 c = search needs
@@ -74,13 +74,13 @@ returns-3 c =
     let h = b .before .before .before .before in
     let re = h .before .before in
     let s = at-start re in
-    board-answered (tape s) (s .args .day) (s .args .room .now) (s .args .out .now) _ _ (re .read-event .ensures) _ _ _ _ (h .head .given .1) _ (b .board .ensures)
+    board-answered (s .args .len) (tape s) (s .args .day) (s .args .room .now) (s .args .out .now) _ _ (re .read-event .ensures) _ _ _ _ (h .head .given .1) _ (b .board .ensures)
 
 returns-4 : tie.Need-returns-4
 returns-4 c =
     let re = c .before .before .before in
     let s = at-start re in
-    not-answered (tape s) (s .args .day) (s .args .room .now) (s .args .out .now) _ _ (re .read-event .ensures) (c .before .enum-told .given .1) _ (c .unknown .ensures)
+    not-answered (s .args .len) (tape s) (s .args .day) (s .args .room .now) (s .args .out .now) _ _ (re .read-event .ensures) (c .before .enum-told .given .1) _ (c .refuse .ensures)
 
 pub answer-spec : {M : Type 1} → statement M
 answer-spec =
@@ -94,7 +94,7 @@ answer-spec =
     enum-known-head
     board-requires
     enum-told
-    unknown-requires
+    refuse-requires
     same-length
     returns
     same-length-2

@@ -1,40 +1,25 @@
--- `answer_desk::board` meets its contract: what the boarding answers and leaves in the rows is said.
+-- `answer_desk::board` meets its contract: 8 before anything is done, or the boarding on a row that takes its text.
 -- Assumes nothing.
-use mathlib.Core.Path.{_≡_}
-use lib.ListN.{length}
-use Rattle.answer_desk.proofs.Leaving.{leaves}
-use Rattle.answer_desk.proofs.Saying.{boarding-said}
+use Rattle.answer_desk.proofs.Rehearsing.{board-short, board-fits}
 use borrow.Author.Needs.{needs}
 use Rattle.answer_desk.proofs.board.Statement.{statement}
 use Rattle.answer_desk.proofs.board.Tie as tie
 
-long : (s : tie.Start) → length (s .args .row) ≡ 32
-long s = search needs
+needed-requires : tie.Need-needed-requires
+needed-requires c κs = search needs
 
-slice-aggregate-board-in : tie.Need-slice-aggregate-board-in
-slice-aggregate-board-in c = search needs
+refuse-requires : tie.Need-refuse-requires
+refuse-requires c κs = search needs
 
-slice-aggregate-board-in-2 : tie.Need-slice-aggregate-board-in-2
-slice-aggregate-board-in-2 c = search needs
+returns : tie.Need-returns
+returns c =
+    let t = c .before in
+    let n = t .before in
+    let a = n .before .before .before .before .before .before .args in
+    board-short (a .len) _ (a .day) (a .boarding) _ _ _ (n .needed .ensures) _ (t .if1 .taken) (c .refuse .ensures)
 
-slice-aggregate-board-in-3 : tie.Need-slice-aggregate-board-in-3
-slice-aggregate-board-in-3 c = search needs
-
-slice-aggregate-board-in-4 : tie.Need-slice-aggregate-board-in-4
-slice-aggregate-board-in-4 c = search needs
-
-board-in-requires : tie.Need-board-in-requires
-board-in-requires c κs = search needs
-
--- From the boarding back to the start.
-abbrev start : tie.After-board-in → tie.Start
-start b = b .before .before .before .before .before .before .before .before .before .before .before
-
-say-boarding-requires : tie.Need-say-boarding-requires
-say-boarding-requires c κs =
-    let rows = c .before .before .before .before .before .before in
-    let b = rows .before .before .before .before in
-    leaves _ _ (long (start b)) _ _ _ _ (b .board-in .ensures)
+board-now-requires : tie.Need-board-now-requires
+board-now-requires c κs = search needs
 
 same-length : tie.Need-same-length
 same-length c = search needs
@@ -42,26 +27,22 @@ same-length c = search needs
 same-length-2 : tie.Need-same-length-2
 same-length-2 c = search needs
 
--- From the text of the answer back to the boarding.
-abbrev boarded : tie.After-say-boarding → tie.After-board-in
-boarded s = s .before .before .before .before .before .before .before .before .before .before .before
-
-returns : tie.Need-returns
-returns c =
-    let s = c .before .before .before .before in
-    let b = boarded s in
-    boarding-said (start b .args .row) _ _ _ _ (start b .args .boarding) _ (b .board-in .result) _ (b .board-in .ensures) (s .say-boarding .ensures)
+returns-2 : tie.Need-returns-2
+returns-2 c =
+    let b = c .before .before .before .before in
+    let e = b .before .before .before in
+    let n = e .before in
+    let a = n .before .before .before .before .before .before .args in
+    board-fits (a .len) _ (a .day) (a .boarding) _ _ _ (n .needed .ensures) _ _ _ (e .if1 .left) (b .board-now .ensures)
 
 pub board-spec : {M : Type 1} → statement M
 board-spec =
     tie.close
     (tie.spec
-    slice-aggregate-board-in
-    slice-aggregate-board-in-2
-    slice-aggregate-board-in-3
-    slice-aggregate-board-in-4
-    board-in-requires
-    say-boarding-requires
+    needed-requires
+    refuse-requires
+    returns
+    board-now-requires
     same-length
     same-length-2
-    returns)
+    returns-2)

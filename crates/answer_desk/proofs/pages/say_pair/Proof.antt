@@ -1,31 +1,15 @@
--- `answer_desk::pages::say_pair` meets its contract: a refusal's lines, or the pair's line from a page of its own.
+-- `answer_desk::pages::say_pair` meets its contract: the pair's line from a page of its own.
 -- Assumes nothing.
 use mathlib.Core.Path.{refl}
 use native.Mathlib.Omega.{arith}
-use Rattle.text_pages.specs.Printing.{pairLine}
 use Rattle.sheet_writer.proofs.Sheets.{part-length, page-handed}
-use Rattle.answer_desk.proofs.Saying.{says-refusal, says-text}
 use borrow.Author.Needs.{needs}
 use Rattle.answer_desk.proofs.pages.say_pair.Statement.{statement}
 use Rattle.answer_desk.proofs.pages.say_pair.Tie as tie
 
-refused-requires : tie.Need-refused-requires
-refused-requires c κs = search needs
-
-write-refusal-requires : tie.Need-write-refusal-requires
-write-refusal-requires c κs = search needs
-
-same-length : tie.Need-same-length
-same-length c = search needs
-
 -- The way back from a place in the code to the one that the name says.
 abbrev at-start : tie.After-put-pair-line → tie.Start
-at-start c = c .before .before .before .before .before .before
-
-returns : tie.Need-returns
-returns c =
-    let wr = c .before .before in
-    says-refusal _ _ _ _ _ _ (wr .before .before .before .refused .ensures) (wr .before .before .if1 .taken) (wr .write-refusal .ensures)
+at-start c = c .before .before .before .before
 
 slice-aggregate-put-pair-line : tie.Need-slice-aggregate-put-pair-line
 slice-aggregate-put-pair-line c = search needs
@@ -44,29 +28,25 @@ slice-aggregate-hand-out c =
 hand-out-requires : tie.Need-hand-out-requires
 hand-out-requires c κs = search needs
 
-same-length-2 : tie.Need-same-length-2
-same-length-2 c = search needs
+same-length : tie.Need-same-length
+same-length c = search needs
 
-returns-2 : tie.Need-returns-2
-returns-2 c =
+returns : tie.Need-returns
+returns c =
     let ho = c .before .before in
     let ppl = ho .before .before .before .before in
-    let s = at-start ppl in
-    let short = s .pre in let a = s .args in says-text (a .verdict) (pairLine (a .key .now) (a .first) (a .second)) _ _ _ _ (ppl .before .before .before .refused .ensures)
-    (ppl .before .before .if1 .left) (page-handed _ _ _ _ _ (ppl .put-pair-line .ensures .room (omega arith)) _ _ refl _ _ (ho .hand-out .ensures))
+    let short = at-start ppl .pre in
+    let w = ppl .put-pair-line .ensures .room (omega arith) in
+    record { few = omega (arith, w .after, w .within); handed = page-handed _ _ _ _ _ w _ _ refl _ _ (ho .hand-out .ensures) }
 
 pub say-pair-spec : {M : Type 1} → statement M
 say-pair-spec =
     tie.close
     (tie.spec
-    refused-requires
-    write-refusal-requires
-    same-length
-    returns
     slice-aggregate-put-pair-line
     put-pair-line-requires
     array-share-prefix-page
     slice-aggregate-hand-out
     hand-out-requires
-    same-length-2
-    returns-2)
+    same-length
+    returns)
