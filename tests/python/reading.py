@@ -64,7 +64,7 @@ CHECKS = (too_long, through_private, proofs_among_statements, names_twice)
 # What is planted: the check that must find it, the file, and pairs of a text that stands there once and what is put in its place.
 DEMAND, OTHER, FIRST = "crates/demands/specs/Demand3.antt", "crates/demands/specs/Alone.antt", "abbrev pub AloneAsBefore : Type 0\n"
 PLANTED = (
-    (too_long, DEMAND, [("\n-- In particular", "\n" + "-- A line more.\n" * 40 + "-- In particular")]),
+    (too_long, DEMAND, [("\n-- Every movement", "\n" + "-- A line more.\n" * 40 + "-- Every movement")]),
     (through_private, DEMAND, [("use Rattle.runs.specs.Run.", "use Rattle.runs.specs.Private.{rowNamed}\nuse Rattle.runs.specs.Run."),
                                ("    → AsksNoLess first second\n", "    → rowNamed [] [] 0 ≡ rowNamed [] [] 0\n")]),
     (proofs_among_statements, OTHER, [(FIRST, "pub alone : AloneAsBefore\n" + FIRST)]),

@@ -19,7 +19,7 @@ use Rattle.runs.proofs.Judged.{accepted-run}
 use Rattle.least.proofs.Lists.{none-wanted}
 use Rattle.planner.specs.Rows.{readsIn}
 use Rattle.demands.specs.Demand2.{IsFormed, listIn, IsWalkOf}
-use Rattle.demands.specs.Ends.{NothingRead, PriceOfNothing, PlanOfNothing}
+use Rattle.demands.specs.Ends.{NothingWanted, PriceOfNothing, PlanOfNothing}
 use Rattle.demands.proofs.Planned.{run-accepted}
 use Rattle.demands.proofs.Demand2.{formed-list, demand2-price, demand2-walk, price-run-accepted}
 
@@ -49,7 +49,7 @@ module _ (r : Run) (ok : refuses (judgeOf r) ≡ false) (list : List Detour) (ro
   stands : walked (r .turn) (headAt (r .head)) (legsOf (stopsOf r) list) ≡ headAt (r .head)
   stands = rw (stops, empty list (walk .formed)) (no-walk (r .turn) (r .head))
 
-  nothing-read : NothingRead r answer
+  nothing-read : NothingWanted r answer
   nothing-read =
       record {
         only = λ other. (empty other, λ e. rw e (empty-formed r));

@@ -187,3 +187,131 @@ module _ (L R : ℕ → ℕ) (U : ℕ) where
       pub start : (y : ℕ) → suc d ≤ n → R (suc d) ≤ y → planTime L R U p a b y (suc d) + 2 * (L (suc d) - L parent) ≤ planTime L R U plan a b y (suc d)
       pub beyond : (y j : ℕ) → t < j → j ≤ n → R j ≤ y → planTime L R U plan a b y j ≤ planTime L R U p a b y j
       pub most : (y j : ℕ) → d < j → j ≤ n → R j ≤ y → planTime L R U p a b y j ≤ planTime L R U plan a b y j + trip L R U (suc d) t
+
+    -- The detour itself goes: what is inside it and what comes after it are done one after the other, and the leg that follows reads what it has read.
+    module _ (F : ℕ → ℕ) (inner after : Plan) (a d b : ℕ) (low : a ≤ d) (onward : d ≤ b) (o : Over inner (suc d) b) (q : Over after a d) where
+      whole : Plan
+      whole = detour d inner after
+
+      grafted : Plan
+      grafted = skip (graft d after inner b)
+
+      -- The lag when the detour would begin.
+      lag-before : ℕ → ℕ
+      lag-before y = lagAfter L R U inner b y
+
+      whole-lag : (y : ℕ) → lagAfter L R U whole (suc b) y ≡ lagAfter L R U after d (lag-before y) + trip L R U (suc d) (suc b)
+      unfolding whole lag-before lagAfter
+      whole-lag y = lag-shift after d (lagAfter L R U inner b y) (trip L R U (suc d) (suc b))
+
+      grafted-lag : (y : ℕ) → lagAfter L R U grafted (suc b) y ≡ lagAfter L R U after d (lag-before y)
+      unfolding grafted lag-before lagAfter
+      grafted-lag y = graft-lag d after inner b y onward o
+
+      grafted-list : planDetours F grafted (suc b) ≡ planDetours F inner b ++ planDetours F after d
+      unfolding grafted planDetours
+      grafted-list = graft-list d after F inner b onward o
+
+      grafted-over : Over grafted a (suc b)
+      unfolding grafted
+      grafted-over = (omega arith, graft-over d after a inner b low onward o q)
+
+      whole-on : (y : ℕ) → lagAfter L R U (detour d inner after) (suc b) y ≡ lagAfter L R U after d (lagAfter L R U inner b y + trip L R U (suc d) (suc b))
+      unfolding lagAfter
+      whole-on y = refl
+
+      -- Stop by stop: left of the detour, in it, and right of it.
+      whole-left : (y j : ℕ) → j ≤ d → planTime L R U whole a (suc b) y j ≡ planTime L R U after a d (lag-before y + trip L R U (suc d) (suc b)) j
+      unfolding whole lag-before
+      whole-left y j h =
+          time-in-rest L R U d b y j _ inner after h
+          ∙ ap (λ x. timeIn L R U after d (lagAfter L R U inner b y + trip L R U (suc d) (suc b)) j (legTime L R U x a j)) (whole-on y)
+
+      whole-in : (y j : ℕ) → d < j → j ≤ suc b → planTime L R U whole a (suc b) y j ≡ timeIn L R U inner b y j (legTime L R U (lag-before y) (suc d) j)
+      unfolding whole lag-before
+      whole-in y j h k = time-in-inner L R U d b y j _ inner after h k
+
+      grafted-left : (y j : ℕ) → j ≤ d → planTime L R U grafted a (suc b) y j ≡ planTime L R U after a d (lag-before y) j
+      unfolding grafted lag-before timeIn lagAfter
+      grafted-left y j h =
+          graft-low d after inner b y j _ onward o h
+          ∙ ap (λ x. timeIn L R U after d (lagAfter L R U inner b y) j (legTime L R U x a j)) (graft-lag d after inner b y onward o)
+
+      grafted-right : (y j : ℕ) → d < j → planTime L R U grafted a (suc b) y j ≡ timeIn L R U inner b y j (legTime L R U (lagAfter L R U after d (lag-before y)) a j)
+      unfolding grafted lag-before timeIn lagAfter
+      grafted-right y j h =
+          graft-high a d after inner b y j _ onward o q h
+          ∙ ap (λ x. timeIn L R U inner b y j (legTime L R U x a j)) (graft-lag d after inner b y onward o)
+
+      -- The leg that reads a stop instead of the detour comes later by so much.
+      after-lag : (y : ℕ) → lagAfter L R U after d (lag-before y) ≡ lag-before y + lagAfter L R U after d 0
+      after-lag y = let e : lag-before y ≡ 0 + lag-before y = omega arith in rw e (omega (arith, lag-shift after d 0 (lag-before y)))
+
+      leg-later : (y j : ℕ) → d < j → j ≤ n → R j ≤ y
+          → legTime L R U (lagAfter L R U after d (lag-before y)) a j ≡ legTime L R U (lag-before y) (suc d) j + (2 * (L (suc d) - L a) + lagAfter L R U after d 0)
+      unfolding lag-before
+      leg-later y j h k r =
+          let grown = lag-grows L R U inner b y in
+          let more = after-lag y in
+          omega (
+            arith,
+            legTime-exact L R n spaced U (lagAfter L R U after d (lagAfter L R U inner b y)) a j (omega arith) (omega arith) k,
+            legTime-exact L R n spaced U (lagAfter L R U inner b y) (suc d) j (omega arith) h k,
+            starts-rise L R n spaced a (suc d) (omega arith) (omega arith),
+          )
+
+      own-list : without (length (planDetours F inner b)) (planDetours F inner b ++ record { from = F (suc d); to = F (suc b) } ∷ planDetours F after d) ≡ planDetours F inner b ++ planDetours F after d
+      unfolding without
+      own-list = without-back (planDetours F inner b) (record { from = F (suc d); to = F (suc b) } ∷ planDetours F after d) 0 (length (planDetours F inner b)) (omega arith)
+
+      grown : (y j : ℕ) → R j ≤ y → R j ≤ lag-before y
+      unfolding lag-before
+      grown y j r = omega (arith, lag-grows L R U inner b y)
+
+      -- Right of the detour the leg from a reads, sooner by the trip.
+      past : (y j : ℕ) → suc b < j → j ≤ n → R j ≤ y → planTime L R U whole a (suc b) y j ≡ planTime L R U grafted a (suc b) y j + trip L R U (suc d) (suc b)
+      unfolding whole
+      past y j h k r =
+          unread-right L R U whole a (suc b) y j _ (low, onward, o, q) h
+          ∙ ap (λ x. legTime L R U x a j) (whole-lag y)
+          ∙ leg-shift (lagAfter L R U after d (lag-before y)) (trip L R U (suc d) (suc b)) a j (omega (arith, grown y j r, lag-grows L R U after d (lag-before y))) (omega arith) k
+          ∙ ap (λ x. x + trip L R U (suc d) (suc b)) (sym (unread-right L R U grafted a (suc b) y j _ grafted-over h ∙ ap (λ x. legTime L R U x a j) (grafted-lag y)))
+
+      inside-most : (y j : ℕ) → d < j → j ≤ suc b → j ≤ n → R j ≤ y
+          → planTime L R U whole a (suc b) y j ≤ planTime L R U grafted a (suc b) y j + trip L R U (suc d) (suc b)
+      inside-most y j h l k r =
+          rw (whole-in y j h l, grafted-right y j h)
+          (time-from inner (suc d) b y j _ _ _ o (omega (arith, leg-later y j h k r)))
+
+      own : Removed F whole a (suc b) (length (planDetours F inner b))
+      unfolding planDetours whole
+      own =
+          record {
+            plan = grafted;
+            over = grafted-over;
+            lists = grafted-list ∙ sym own-list;
+            d = d;
+            t = suc b;
+            parent = a;
+            rest = after;
+            within = q;
+            low = omega arith;
+            inside = low;
+            onward = omega arith;
+            high = omega arith;
+            lag = λ y. whole-lag y ∙ ap (λ x. x + trip L R U (suc d) (suc b)) (sym (grafted-lag y));
+            later = λ y j l h k r.
+                whole-left y j h
+                ∙ plan-shift after a d (lag-before y) (trip L R U (suc d) (suc b)) j q l k (grown y j r)
+                ∙ ap (λ x. x + trip L R U (suc d) (suc b)) (sym (grafted-left y j h));
+            sooner = λ y j h l k r.
+                rw (whole-in y j h l, grafted-right y j h)
+                (time-from inner (suc d) b y j _ _ _ o (omega (arith, leg-later y j h k r)));
+            start = λ y k r.
+                rw (whole-in y (suc d) (omega arith) (omega arith), grafted-right y (suc d) (omega arith))
+                (rw (unread-left L R U inner (suc d) b y (suc d) _ o (omega arith), unread-left L R U inner (suc d) b y (suc d) (legTime L R U (lagAfter L R U after d (lag-before y)) a (suc d)) o (omega arith))
+                (omega (arith, leg-later y (suc d) (omega arith) k r)));
+            beyond = λ y j h k r.
+                omega (arith, past y j h k r);
+            most = λ y j h k r. by-cases (decLe j (suc b)) (λ l. inside-most y j h l k r) (λ l. omega (arith, past y j (omega arith) k r));
+          }

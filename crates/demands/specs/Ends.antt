@@ -57,7 +57,7 @@ abbrev pub TimesStay : Type 0
 TimesStay = (r : Run) → NothingApplies r → (list : List Detour) → Stay r list
 
 -- Where nothing is wanted, only the empty list is well formed, sum and finish are 0, and the head ends where it stood.
-pub record NothingRead (r : Run) (answer : Answer) : Type 0 where
+pub record NothingWanted (r : Run) (answer : Answer) : Type 0 where
   pub only : (list : List Detour) → IsFormed r list ↔ (list ≡ [])
   pub sum : answer .sum ≡ 0
   pub finish : answer .finish ≡ 0
@@ -71,7 +71,7 @@ PriceOfNothing =
     → out ≡ priceRows r froms tos rows
     → answer .refusal ≡ Accepted
     → length (r .numbers) ≡ 0
-    → NothingRead r answer
+    → NothingWanted r answer
 
 abbrev pub PlanOfNothing : Type 0
 PlanOfNothing =
@@ -79,4 +79,4 @@ PlanOfNothing =
     → Plans r before answer after
     → answer .refusal ≡ Accepted
     → length (r .numbers) ≡ 0
-    → NothingRead r answer
+    → NothingWanted r answer

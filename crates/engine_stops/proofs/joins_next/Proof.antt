@@ -47,7 +47,15 @@ shared-slice-read-result : tie.Need-shared-slice-read-result
 shared-slice-read-result c = search needs
 
 sub-result : tie.Need-sub-result
-sub-result c = let s = c .before .before .before .before .before in s .pre .0 .named _ (omega (arith, c .before .before .before .before .if1 .left))
+sub-result c =
+    let s = c .before .before .before .before .before in
+    let a = s .args in
+    omega (
+      arith,
+      s .pre .0 .named (a .i) (s .pre .1),
+      s .pre .0 .rises (a .i) (omega (arith, c .before .before .before .before .if1 .left)),
+      ap (λ n. getD (a .numbers .now) n 0) (add-one (a .i)),
+    )
 
 mul-result-2 : tie.Need-mul-result-2
 mul-result-2 c =
