@@ -44,7 +44,7 @@ use Rattle.promises.proofs.Lengths.{refusal-begins, plan-begins, figure
 regrouped : (a n f b p : List ℕ) → (a ++ n ++ f) ++ (b ++ p ++ f) ≡ a ++ n ++ (f ++ b) ++ p ++ f
 regrouped a n f b p = simp append-assoc
 
-lines-are : (v : Verdict) → refusalText v ≡ twoLines (v .refusal) (v .place)
+pub lines-are : (v : Verdict) → refusalText v ≡ twoLines (v .refusal) (v .place)
 unfolding refusalText
 lines-are v = regrouped refusedKey (decimal (numberOf (v .refusal))) (lineFeed ∷ []) placeKey (decimal (v .place))
 

@@ -5,7 +5,7 @@ use mathlib.Core.Bool.{Bool, true, false}
 use mathlib.Core.List.{List, [], _∷_, map}
 use native.Mathlib.Omega.{arith}
 use borrow.Author.Tests.{eq-eqb}
-use Rattle.refusals.specs.declared.Refusal.the-variants.{RetiredRule}
+use Rattle.refusals.specs.declared.Refusal.the-variants.{BadLine, RetiredRule}
 use Rattle.refusals.specs.Refusals.{accepted, firstWhere}
 use Rattle.refusals.proofs.Verdicts.{refuses}
 use Rattle.runs.specs.Run.{Run, stopsOf, goesOn, firstMember, lastWithin, wantStops, joinTo, joined}
@@ -24,9 +24,10 @@ use Rattle.sheet_reader.specs.Sheet.{sheetHead, sheetTurnWith, saysSweep, sheet
 use Rattle.sheet_reader.specs.Reading.{sheetVerdict, ruleVerdict}
 use Rattle.sheet_writer.specs.RefusalLines.{refusalText}
 use Rattle.sheet_writer.specs.PlanSheet.{planTop, planLines, planText}
-use Rattle.sheet_lists.specs.Form.{linesIn, linesUpTo, firstBadToEnd, detoursTold, detourText, timeText, firstFailing, planBadTop, planBadBelow, planBadLine, planFroms, planTos}
-use Rattle.sheet_lists.specs.Reading.{planForm}
+use Rattle.sheet_lists.specs.Form.{linesIn, linesUpTo, firstBadToEnd, detoursTold, detourText, timeText, firstFailing, planBadTop, planBadBelow, planBadLine, isPlan, listBadLine, planFroms, planTos}
+use Rattle.sheet_lists.specs.Reading.{planForm, listForm}
 use Rattle.answer_plan.specs.Recall.{runChecks, verdictBy, recallVerdict}
+use Rattle.answer_check.specs.Pricing.{pricingVerdict, priceText}
 use Rattle.answer_check.specs.Checking.{differFrom, walkLine, differenceLines, leastLine, verdictLines, checkText, checkVerdict}
 use Rattle.demands.specs.Cases.{exampleRun}
 use Rattle.demands.proofs.Judged.{nothing-judged}
@@ -35,7 +36,8 @@ use Rattle.promises.specs.Answers.{exampleSheet, examplePlan, PrintsTheE
 use Rattle.promises.specs.CheckWhole.{wrongPlan, PrintsTheDifference}
 use Rattle.promises.proofs.Checks.{put-whole}
 use Rattle.promises.proofs.Lengths.{run-judges, run-checks-near, plan-held}
-use Rattle.promises.proofs.InputLengths.{check-fits}
+use Rattle.promises.specs.TwoTexts.{PrintsTheListsLine}
+use Rattle.promises.proofs.InputLengths.{price-held, check-fits}
 
 -- The case of the example: its run is accepted, and its least list is (2,2).
 abbrev best : List Detour
@@ -142,3 +144,25 @@ prints-the-difference row n row′ c wide =
     ∙ ap (λ f. checkText (sheetName exampleSheet) exampleRun wrongPlan f (planTos wrongPlan) best) (wrong-list .0)
     ∙ ap (λ t. checkText (sheetName exampleSheet) exampleRun wrongPlan (2 ∷ []) t best) (wrong-list .1)
     ∙ wrong-text
+
+-- A list with a line that is not as described.
+abbrev badList : List ℕ
+badList = bytes "detour=2,2\ndetour=3\n"
+
+list-refused : listForm badList ≡ record { refusal = BadLine; place = 2 }
+unfolding listForm listBadLine isPlan linesIn linesUpTo firstBadToEnd firstBadOf firstWhere isPairLine isPair isNumber allOf valueFrom startsWith lineOf afterLines has before behind
+list-refused = refl
+
+line-refused : pricingVerdict exampleSheet badList ≡ record { refusal = BadLine; place = 2 }
+unfolding verdictBy
+line-refused = rw (example-good, example-ruled, list-refused)
+
+line-text : refusalText (record { refusal = BadLine; place = 2 }) ≡ bytes "refused=11\nplace=2\n"
+unfolding refusalText decimalIn
+line-text = refl
+
+pub prints-the-lists-line : PrintsTheListsLine
+unfolding priceText
+prints-the-lists-line row n row′ c wide =
+    let h = price-held exampleSheet badList in
+    put-whole (priceText (pricingVerdict exampleSheet badList) (sheetName exampleSheet) (sheetRun exampleSheet) badList) row n row′ (c .bytes) (c .left) (omega (arith, h .0)) ∙ rw line-refused line-text

@@ -152,7 +152,7 @@ refused-held sheet checks near text is =
     let small = refusal-short (verdictBy checks sheet) (omega (arith, verdict-near sheet checks near)) in
     (omega (arith, ap length is, small), some-begun text 113 (ap (λ t. getD t 0 0) is ∙ refusal-begins (verdictBy checks sheet)))
 
-price-held : (sheet list : List ℕ) → (length (priceText (pricingVerdict sheet list) (sheetName sheet) (sheetRun sheet) list) ≤ priceRow) × (0 < length (priceText (pricingVerdict sheet list) (sheetName sheet) (sheetRun sheet) list))
+pub price-held : (sheet list : List ℕ) → (length (priceText (pricingVerdict sheet list) (sheetName sheet) (sheetRun sheet) list) ≤ priceRow) × (0 < length (priceText (pricingVerdict sheet list) (sheetName sheet) (sheetRun sheet) list))
 unfolding priceText verdictBy
 price-held sheet list = go (refuses (pricingVerdict sheet list)) refl
   where

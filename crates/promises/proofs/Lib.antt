@@ -40,5 +40,7 @@ pub mod InputLengths
 pub mod PageLengths
 pub mod TapeLengths
 pub mod CheckWhole
+pub mod ListLines
 pub mod Answers
 pub mod AnswersCases
+pub mod TwoTexts

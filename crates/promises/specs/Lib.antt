@@ -16,3 +16,5 @@ pub mod Checks
 pub mod Lengths
 pub mod Answers
 pub mod CheckWhole
+pub mod ListLines
+pub mod TwoTexts
