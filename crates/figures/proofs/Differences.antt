@@ -1,6 +1,6 @@
 -- The difference of two sums as a signed word: nothing wraps.
 use Prim.Native.Nat.{ℕ, zero, suc, _-_, _≤_, _<_, _^_}
-use mathlib.Core.Path.{_≡_, refl, sym, _∙_}
+use mathlib.Core.Path.{_≡_, refl, sym, ap, _∙_}
 use mathlib.Core.List.{List}
 use native.Mathlib.Omega.{arith}
 use native.Mathlib.Decide.{decLt}
@@ -32,7 +32,29 @@ module _ (a b : ℕ) (l : a < 2 ^ 58) (m : b < 2 ^ 58) where
   pub word-fits : SFits w64 (toZ w64 a -ℤ toZ w64 b)
   word-fits = rw read-both (difference-fits a b l m)
 
-  pub figure-is : (r : Run) (list : List Detour) (i : ℕ) → a ≡ pricedAnswer r (without i list) .sum → b ≡ pricedAnswer r list .sum
-      → toZ w64 (ofZ w64 (toZ w64 a -ℤ toZ w64 b)) ≡ figureOf r list i
-  unfolding figureOf
-  figure-is r list i left right = toZ-ofZ w64 (toZ w64 a -ℤ toZ w64 b) word-fits ∙ read-both ∙ rw (left, right) refl
+  pub difference-is : toZ w64 (ofZ w64 (toZ w64 a -ℤ toZ w64 b)) ≡ pos a -ℤ pos b
+  difference-is = toZ-ofZ w64 (toZ w64 a -ℤ toZ w64 b) word-fits ∙ read-both
+
+-- What lies below 0 is the other difference with a minus; what does not is the difference itself.
+pub below-zero : (a b : ℕ) → a < b → pos 0 -ℤ pos (b - a) ≡ pos a -ℤ pos b
+below-zero a zero l = absurd (omega arith)
+below-zero a (suc b) l =
+    let e : suc b - a ≡ suc (b - a) = omega arith in
+    let f : suc b - suc a ≡ b - a = omega arith in
+    let g : suc (b - a) - 1 ≡ b - a = omega arith in
+    rw (e, lt-ltb a (suc b) l, lt-ltb 0 (suc (b - a)) (omega arith), f, g) refl
+
+above-zero : (a b : ℕ) → b ≤ a → pos (a - b) ≡ pos a -ℤ pos b
+above-zero a zero l = ap pos (omega arith)
+above-zero a (suc b) l = rw (le-ltb a (suc b) l) refl
+
+pub above-is : (a b : ℕ) → a < 2 ^ 58 → b ≤ a → toZ w64 (a - b) ≡ pos a -ℤ pos b
+above-is a b l m = toZ-pos w64 (a - b) (omega arith) ∙ above-zero a b m
+
+-- As it is stored.
+pub stored-is : (a b : ℕ) → a < 2 ^ 58 → b < 2 ^ 58 → (n : ℤ) → n ≡ pos a -ℤ pos b → toZ w64 (ofZ w64 n) ≡ pos a -ℤ pos b
+stored-is a b l m n e = rw e (toZ-ofZ w64 (pos a -ℤ pos b) (difference-fits a b l m))
+
+pub figure-is : (r : Run) (list : List Detour) (i a b : ℕ) → a ≡ pricedAnswer r (without i list) .sum → b ≡ pricedAnswer r list .sum → pos a -ℤ pos b ≡ figureOf r list i
+unfolding figureOf
+figure-is r list i a b left right = rw (left, right) refl

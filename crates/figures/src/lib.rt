@@ -2,8 +2,9 @@
 // It stands on the pricer's promise alone: the list, and the list without one entry, are priced.
 ghost use mathlib.Core.Path.{_≡_};
 ghost use mathlib.Core.List.{_++_};
-ghost use Prim.Native.Nat.{_+_, _-_, _≤_, _<_};
+ghost use Prim.Native.Nat.{_+_, _-_, _≤_, _<_, _^_};
 ghost use lib.ListN.{length, getD, drop};
+ghost use lib.IntN.{pos, _-ℤ_};
 ghost use Rattle.runs.specs.Rows.{runIn, runAt};
 ghost use Rattle.runs.specs.Lists.{listOf};
 ghost use Rattle.walk.specs.Price.{pricedAnswer};
@@ -80,6 +81,19 @@ fn sum_without(
     answer.sum
 }
 
+// One sum less another, with its sign.
+fn less(sum: u64, other: u64) -> i64
+    requires { ⌜ (sum < 2 ^ 58) × (other < 2 ^ 58) ⌝ }
+    ensures { λ r. ⌜ r ≡ pos sum -ℤ pos other ⌝ }
+{
+    if sum < other {
+        let below = other - sum;
+        return 0 - below as i64;
+    }
+    let above = sum - other;
+    above as i64
+}
+
 // A figure for each entry, in the first entries of a row.
 fn fill_figures(
     starts: &[u64],
@@ -113,8 +127,7 @@ fn fill_figures(
             tos,
             i,
         );
-        let figure = left as i64 - sum as i64;
-        row[i] = figure;
+        row[i] = less(left, sum);
         i += 1;
     }
 }

@@ -1,5 +1,6 @@
 // Aggregates: which entries of the table belong together, and which aggregate number is bad.
 ghost use mathlib.Core.Path.{_≡_};
+ghost use mathlib.Core.Bool.{not, _&&_};
 ghost use Prim.Native.Nat.{ℕ, _≤_, _<_};
 ghost use lib.ListN.{length, getD};
 ghost use lib.Dec.{eqb};
@@ -9,6 +10,16 @@ ghost use Rattle.runs.specs.Lists.{anyBelow};
 ghost use Rattle.runs.specs.Judging.{badNumber};
 ghost use Rattle.runs.specs.Private.{Spanned};
 use crate::MOST_AGGREGATES;
+
+// Whether two numbers are of one aggregate; 0 is of none.
+fn same_aggregate(before: u64, number: u64) -> bool
+    ensures { λ r. ⌜ r ≡ (not (eqb number 0) && eqb before number) ⌝ }
+{
+    if number == 0 {
+        return false;
+    }
+    before == number
+}
 
 // Whether the entry at an index goes on with the one before it.
 pub(crate) fn goes_on(aggregates: &[u64], i: usize) -> bool
@@ -20,11 +31,9 @@ pub(crate) fn goes_on(aggregates: &[u64], i: usize) -> bool
     if aggregates.len() <= i {
         return false;
     }
+    let before = aggregates[i - 1];
     let number = aggregates[i];
-    if number == 0 {
-        return false;
-    }
-    aggregates[i - 1] == number
+    same_aggregate(before, number)
 }
 
 // The index of the first entry of an entry's aggregate.

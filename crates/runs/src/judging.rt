@@ -6,7 +6,7 @@ ghost use mathlib.Core.List.{List};
 ghost use lib.ListN.{length, getD};
 ghost use lib.Dec.{eqb, ltb, leb};
 ghost use Rattle.refusals.specs.Refusals.{firstWhere, firstOf};
-ghost use Rattle.runs.specs.Run.{lastPlace, mostFiles, joined, wantStops};
+ghost use Rattle.runs.specs.Run.{lastPlace, mostFiles, mostReads, joined, wantStops};
 ghost use Rattle.runs.specs.Judging.{rightEnd};
 ghost use Rattle.runs.specs.Alone.{aloneAt, loneStops};
 ghost use Rattle.runs.specs.Rows.{runAt, countedReads};
@@ -106,7 +106,15 @@ fn first_bad_want(files: u64, numbers: &[u64], counts: &[u64]) -> u64
 
 const PAST_MOST_READS: u64 = MOST_READS + 1;
 
-// The reads of a row of counts; one more than the limit where they pass it. The adding stops there, so that it cannot wrap.
+// Whether so many reads more pass the limit. A difference is compared, so that nothing can wrap.
+fn passes_most(sum: u64, count: u64) -> bool
+    requires { ⌜ sum ≤ mostReads ⌝ }
+    ensures { λ r. ⌜ r ≡ ltb (mostReads - sum) count ⌝ }
+{
+    MOST_READS - sum < count
+}
+
+// The reads of a row of counts; one more than the limit where they pass it. The adding stops there.
 pub fn count_reads(counts: &[u64]) -> u64
     ensures { λ r. ⌜ r ≡ countedReads (now (counts .entry)) ⌝ }
 {
@@ -114,13 +122,13 @@ pub fn count_reads(counts: &[u64]) -> u64
     let mut i: usize = 0;
     while i < counts.len() {
         let count = counts[i];
-        if MOST_READS - sum < count {
+        if passes_most(sum, count) {
             return PAST_MOST_READS;
         }
         sum += count;
         i += 1;
     }
-    sum // all of them
+    sum
 }
 
 // The end of the rightmost wanted file; 0 where nothing is wanted.

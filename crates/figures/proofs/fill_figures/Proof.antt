@@ -11,7 +11,7 @@ use Rattle.runs.specs.Lists.{listOf}
 use Rattle.runs.proofs.Entries.{length-list}
 use Rattle.figures.specs.Figures.{figuresOf}
 use Rattle.figures.proofs.Filling.{Filling, filling-start, filling-more, filling-all}
-use Rattle.figures.proofs.Differences.{small-fits, word-fits, figure-is}
+use Rattle.figures.proofs.Differences.{stored-is, figure-is}
 use Rattle.figures.proofs.Answers.{even, sum-small, sum-without-small, figures-length, figure-at}
 use borrow.Author.Needs.{needs}
 use Rattle.figures.proofs.fill_figures.Statement.{statement}
@@ -51,22 +51,16 @@ left-small c =
 whole-small : (s : tie.Start Inv-loop μ-loop) → s .args .sum < 2 ^ 58
 whole-small s = rw (s .pre .1 .0) (sum-small (run s) (s .args .froms .now) (s .args .tos .now) (s .pre .0))
 
-cast-figure : tie.Need-cast-figure Inv-loop μ-loop
-cast-figure c = small-fits _ (left-small c)
+less-requires : tie.Need-less-requires Inv-loop μ-loop
+less-requires c κs = (left-small c, whole-small (start (c .before .before)))
 
-cast-figure-2 : tie.Need-cast-figure-2 Inv-loop μ-loop
-cast-figure-2 c = small-fits _ (whole-small (start (c .before .before)))
+mul-t14 : tie.Need-mul-t14 Inv-loop μ-loop
+mul-t14 c = search needs
 
-sub-figure : tie.Need-sub-figure Inv-loop μ-loop
-sub-figure c = word-fits _ _ (left-small c) (whole-small (start (c .before .before)))
-
-mul-figure : tie.Need-mul-figure Inv-loop μ-loop
-mul-figure c = search needs
-
-slice-set-from-figure : tie.Need-slice-set-from-figure Inv-loop μ-loop
-slice-set-from-figure c =
-    let l = c .before .before in
-    omega (arith, l .loop .inv .same, l .loop .inv .fits, c .before .loop-test .taken, size (start l))
+slice-set-from-row : tie.Need-slice-set-from-row Inv-loop μ-loop
+slice-set-from-row c =
+    let l = c .before .before .before in
+    omega (arith, l .loop .inv .same, l .loop .inv .fits, c .before .before .loop-test .taken, size (start l))
 
 add-i : tie.Need-add-i Inv-loop μ-loop
 add-i c = search needs
@@ -76,12 +70,12 @@ loop-less c = search needs
 
 loop-again : tie.Need-loop-again Inv-loop μ-loop
 loop-again c =
-    let l = c .before .before in
+    let l = c .before .before .before in
     let s = start l in
     let list = listOf (s .args .froms .now) (s .args .tos .now) in
     let within = length-list (s .args .froms .now) (s .args .tos .now) (even (run s) (s .args .froms .now) (s .args .tos .now) (s .pre .0)) in
-    filling-more (pos 0) _ _ _ _ (l .loop .inv) (omega (arith, size s, c .before .loop-test .taken)) _
-    (figure-is _ _ (left-small c) (whole-small s) (run s) list _ (c .sum-without .ensures) (s .pre .1 .0) ∙ figure-at (run s) list _ (omega (arith, within, c .before .loop-test .taken)))
+    filling-more (pos 0) _ _ _ _ (l .loop .inv) (omega (arith, size s, c .before .before .loop-test .taken)) _
+    (stored-is _ _ (left-small (c .before)) (whole-small s) _ (c .less .ensures) ∙ figure-is (run s) list _ _ _ (c .before .sum-without .ensures) (s .pre .1 .0) ∙ figure-at (run s) list _ (omega (arith, within, c .before .before .loop-test .taken)))
 
 same-length : tie.Need-same-length Inv-loop μ-loop
 same-length c = c .before .loop .inv .same
@@ -100,11 +94,9 @@ fill-figures-spec =
     μ-loop
     loop-holds
     sum-without-requires
-    cast-figure
-    cast-figure-2
-    sub-figure
-    mul-figure
-    slice-set-from-figure
+    less-requires
+    mul-t14
+    slice-set-from-row
     add-i
     loop-less
     loop-again

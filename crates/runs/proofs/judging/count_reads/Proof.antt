@@ -1,8 +1,11 @@
 -- `runs::judging::count_reads` meets its contract: the sum so far and what is left make the total, and the sum has not passed the limit.
 -- Assumes nothing.
 use borrow.Author.Needs.{needs}
-use Prim.Native.Nat.{_-_}
-use lib.ListN.{length}
+use Prim.Native.Nat.{_-_, _≤_}
+use mathlib.Core.Path.{sym, _∙_}
+use borrow.Author.Tests.{ltb-true, ltb-false}
+use Rattle.runs.specs.Run.{mostReads}
+use lib.ListN.{length, getD}
 use native.Mathlib.Omega.{arith}
 use Rattle.runs.proofs.Accepted.{Counted, over-limit, counted-more, within-limit, total-end}
 use Rattle.runs.proofs.judging.count_reads.Statement.{statement}
@@ -23,14 +26,19 @@ mul-count c = search needs
 shared-slice-read-count : tie.Need-shared-slice-read-count Inv-loop μ-loop
 shared-slice-read-count c = search needs
 
-sub-if1 : tie.Need-sub-if1 Inv-loop μ-loop
-sub-if1 c = search needs
+passes-most-requires : tie.Need-passes-most-requires Inv-loop μ-loop
+passes-most-requires c κs = search needs
 
 returns : tie.Need-returns Inv-loop μ-loop
-returns c = rw (← over-limit _ _ _ (c .before .before .before .loop .inv) (search needs) (c .if1 .taken))
+returns c =
+    let t = c .before in
+    rw (← over-limit _ _ _ (t .before .before .before .loop .inv) (search needs) (ltb-true _ _ (sym (t .passes-most .ensures) ∙ c .if1 .taken)))
+
+fits : (c : tie.Else1 Inv-loop μ-loop) → let l = c .before .before .before .before in getD (l .before .before .args .counts .now) (l .loop .i) 0 ≤ mostReads - l .loop .sum
+fits c = ltb-false _ _ (sym (c .before .passes-most .ensures) ∙ c .if1 .left)
 
 add-sum : tie.Need-add-sum Inv-loop μ-loop
-add-sum c = search needs
+add-sum c = omega (arith, fits c, c .before .before .before .before .loop .inv .small)
 
 add-i : tie.Need-add-i Inv-loop μ-loop
 add-i c = search needs
@@ -39,11 +47,11 @@ loop-less : tie.Need-loop-less Inv-loop μ-loop
 loop-less c = search needs
 
 loop-again : tie.Need-loop-again Inv-loop μ-loop
-loop-again c = counted-more _ _ _ (c .before .before .before .loop .inv) (search needs) (c .if1 .left)
+loop-again c = counted-more _ _ _ (c .before .before .before .before .loop .inv) (search needs) (fits c)
 
 returns-2 : tie.Need-returns-2 Inv-loop μ-loop
 returns-2 c =
-    let counts = c .before .before .args .counts .now in
+    let counts = c .before .before .before .args .counts .now in
     rw (← within-limit _ _ _ (c .before .loop .inv) (c .loop-test .left)) (omega (arith, c .before .loop .inv .whole, total-end counts (c .before .loop .i) (c .loop-test .left)))
 
 pub count-reads-spec : {M : Type 1} → statement M
@@ -55,7 +63,7 @@ count-reads-spec =
     loop-holds
     mul-count
     shared-slice-read-count
-    sub-if1
+    passes-most-requires
     returns
     add-sum
     add-i
