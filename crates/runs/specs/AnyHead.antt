@@ -8,7 +8,7 @@ use lib.Dec.{leb, ltb, eqb}
 use Rattle.refusals.specs.declared.Refusal.the-variants.{TurnPrice, HeadPlace, BadEntry}
 use Rattle.refusals.specs.declared.Verdict.{Verdict}
 use Rattle.refusals.specs.Refusals.{refuseIf, refuseAt, firstOf, firstWhere}
-use Rattle.runs.specs.Run.{Run, Stop, lastPlace, highestTurn}
+use Rattle.runs.specs.Run.{Run, Stop, runOf, lastPlace, highestTurn}
 use Rattle.runs.specs.Lists.{Detour, listOf, entryOf, badEntry}
 use Rattle.runs.specs.Judging.{tableChecks, wantsChecks}
 
@@ -35,6 +35,13 @@ judgeAnyOf r =
     ∷ firstOf (wantsChecks (length (r .starts)) (r .numbers) (r .counts))
     ∷ firstOf (headAnyChecks (r .turn) (r .head))
     ∷ [])
+
+-- The same run with its head at the end of the tape, unless that stands beyond it. A law: 01's judging of that run is this one.
+abbrev pub liftedHead : ℕ → ℕ
+liftedHead m = cond (ltb lastPlace m) m lastPlace
+
+abbrev pub lifted : Run → Run
+lifted r = runOf (r .starts) (r .lengths) (r .aggregates) (r .numbers) (r .counts) (liftedHead (r .head)) (r .turn)
 
 -- The head's own stop is the first that starts at or right of the head. Whether a stop's name lies right of it: a stop of a smaller name starts
 -- at or right of the head.
