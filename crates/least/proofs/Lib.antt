@@ -13,6 +13,7 @@ pub mod Bounds
 pub mod Best
 pub mod Ties
 pub mod Times
+pub mod Starts
 pub mod Identity
 pub mod LeastPlan
 pub mod Movements
