@@ -24,6 +24,8 @@ pub mod Rules
 pub mod Lists
 pub mod LeastList
 pub mod Unbeaten
+pub mod LeastAny
+pub mod UnbeatenAny
 pub mod Wanted
 pub mod Priced
 pub mod Offices
