@@ -1,12 +1,12 @@
 -- A head anywhere: the table's list of the stops as the head meets them is the least list from there, and there is one. M is a place right of every
 -- stop, where 01 would have the head.
-use Prim.Native.Nat.{ℕ, zero, suc, _+_, _*_, _≤_, _<_}
+use Prim.Native.Nat.{ℕ, zero, suc, _+_, _≤_, _<_}
 use mathlib.Core.Path.{_≡_, refl, sym, ap, _∙_}
-use mathlib.Core.Bool.{true, false, _||_, _&&_, not, and-false}
+use mathlib.Core.Bool.{false, _||_, _&&_, not, and-false}
 use mathlib.Core.Logic.{inl, by-cases}
-use mathlib.Core.List.{List, [], _∷_, _++_, map}
+use mathlib.Core.List.{List, [], _∷_}
 use native.Mathlib.Omega.{arith}
-use native.Mathlib.Decide.{decLe, decLt}
+use native.Mathlib.Decide.{decLt}
 use lib.Dec.{leb, ltb}
 use lib.ListN.{length}
 use borrow.Author.Tests.{leb-false, lt-leb, lt-ltb, le-ltb}
@@ -18,9 +18,8 @@ use Rattle.runs.specs.AnyHead.{smaller, pulledStop, pulled, pastHead, badEntryA
 use Rattle.runs.proofs.Search.{or-false-both, first-zero, first-all}
 use Rattle.runs.proofs.Sound.{Sound, SoundAny}
 use Rattle.runs.proofs.AnyHead.{smaller-is, smaller-rises, smaller-above, smaller-second, pulled-length, pulled-at, wanted-pulled, leftmost-pulled, sound-right, pulled-same}
-use Rattle.walk.specs.declared.Head.{Head}
-use Rattle.walk.specs.Walk.{headAt, served, ServesAll, timeOf, sumOf}
-use Rattle.walk.specs.Detours.{startOf, legOf, legsOf}
+use Rattle.walk.specs.Walk.{headAt, ServesAll, timeOf, sumOf}
+use Rattle.walk.specs.Detours.{startOf}
 use Rattle.walk.specs.AnyHead.{legsAnyOf}
 use Rattle.walk.proofs.Pulled.{served-from-pulled, time-pulled, start-pulled, legs-left, list-sum-pulled}
 use Rattle.least.specs.Least.{listSum, LeastFor}

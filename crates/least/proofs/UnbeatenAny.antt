@@ -19,10 +19,10 @@ use Rattle.runs.proofs.AnyHead.{smaller-is, pulled-length}
 use Rattle.walk.specs.declared.Leg.{Leg}
 use Rattle.walk.specs.Walk.{headAt, Moves, served, ServesAll, timeOf, sumOf}
 use Rattle.walk.proofs.Pulled.{list-sum-pulled}
-use Rattle.least.specs.Recurrence.{W, fileAt, leftAt, rightAt, countAt, leastList}
+use Rattle.least.specs.Recurrence.{W, leftAt, rightAt, countAt, leastList}
 use Rattle.least.specs.AnyHead.{listSumAny, LeastAnyFor}
-use Rattle.least.proofs.Rising.{Rises, rises-not-strictly}
-use Rattle.least.proofs.Sums.{W-same, W-below}
+use Rattle.least.proofs.Rising.{rises-not-strictly}
+use Rattle.least.proofs.Sums.{W-below}
 use Rattle.least.proofs.Times.{starts-rise, ends-rise}
 use Rattle.least.proofs.Movements.{PairLaw, served-inside, passed-first, floor-of-movement, pair-of-movement, turn-of-movement}
 use Rattle.least.proofs.Feasible.{Feasible}
