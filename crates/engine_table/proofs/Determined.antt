@@ -6,7 +6,7 @@ use lib.ListN.{length}
 use Rattle.refusals.specs.Refusals.{isRefusal, accepted}
 use Rattle.runs.specs.Run.{Run, stopsOf}
 use Rattle.runs.specs.Lists.{Detour}
-use Rattle.least.proofs.LeastList.{least-unique}
+use Rattle.least.proofs.LeastAny.{least-any-unique}
 use Rattle.engine_table.specs.declared.Listed.{Listed}
 use Rattle.engine_table.specs.Listing.{ListRows, Lists, IsListed, NotListed, listingVerdict, listRowsWith}
 
@@ -17,7 +17,7 @@ module _ (r : Run) (before : ListRows) (a a′ : Listed) (after after′ : ListR
   listed-once : IsListed r before a after → IsListed r before a′ after′ → (a ≡ a′) × (after ≡ after′)
   unfolding said
   listed-once p q =
-      let e = least-unique (r .turn) (r .head) (stopsOf r) (p .list) (q .list) (p .least) (q .least) in
+      let e = least-any-unique (r .turn) (r .head) (stopsOf r) (p .list) (q .list) (p .least) (q .least) in
       (p .says ∙ ap said e ∙ sym (q .says), p .rows ∙ ap (λ l. listRowsWith r l before) e ∙ sym (q .rows))
 
   refused-once : NotListed (listingVerdict r before) before a after → NotListed (listingVerdict r before) before a′ after′ → (a ≡ a′) × (after ≡ after′)

@@ -1,4 +1,4 @@
--- What the judging of a run says of its rows and of its stops: in order on the tape, and small enough for words.
+-- What the judging of a run says of its rows and of its stops, as the head meets them: in order on the tape, and small enough for words.
 use Prim.Native.Nat.{ℕ, zero, suc, _+_, _-_, _≤_, _<_}
 use mathlib.Core.Path.{_≡_, sym, ap, _∙_}
 use mathlib.Core.Logic.{by-cases}
@@ -9,9 +9,11 @@ use native.Mathlib.Numerals.{add-one}
 use lib.ListN.{length, getD}
 use Rattle.runs.specs.Run.{lastPlace, highestTurn, mostReads}
 use Rattle.runs.specs.Alone.{aloneOf, loneStop, loneStops}
+use Rattle.runs.specs.AnyHead.{lifted}
 use Rattle.runs.specs.Rows.{stopAt}
 use Rattle.runs.proofs.Accepted.{GoodFile, GoodWant}
-use Rattle.runs.proofs.Judged.{GoodRun, accepted-run, numbers-rise}
+use Rattle.runs.proofs.Judged.{GoodRun, numbers-rise}
+use Rattle.runs.proofs.AnyHead.{accepted-any, smaller-rises}
 use Rattle.runs.proofs.Table.{table-file, end-before-start}
 use Rattle.runs.proofs.Alone.{plain-at, plain-length}
 use Rattle.least.proofs.Sums.{W-zero, W-suc}
@@ -20,30 +22,46 @@ use Rattle.engine_table.specs.Private.{Judged, IsStop, TripFits, EarlyFi
 use Rattle.engine_table.proofs.Sizes.{row-small, reads-none, reads-more, reads-within}
 
 module _ (starts lengths numbers counts : List ℕ) (turn reads : ℕ) (j : Judged starts lengths numbers counts turn reads) where
-  good : GoodRun (aloneOf starts lengths numbers counts (j .head) turn)
-  good = accepted-run (aloneOf starts lengths numbers counts (j .head) turn) (j .accepts)
+  good : GoodRun (lifted (aloneOf (j .starts) (j .lengths) numbers counts (j .head) turn))
+  good = accepted-any (aloneOf (j .starts) (j .lengths) numbers counts (j .head) turn) (j .run .accepts) .run
 
-  want : (i : ℕ) → i < length numbers → GoodWant (length starts) numbers counts i
+  want : (i : ℕ) → i < length numbers → GoodWant (length (j .starts)) numbers counts i
   want i l = good .wants .each i l
 
-  file : (i : ℕ) → i < length numbers → GoodFile starts lengths (getD numbers i 0 - 1)
-  file i l = table-file starts lengths (good .files .table) (getD numbers i 0 - 1) (omega (arith, want i l))
+  -- A stop's file in the run's own table.
+  inside : (i : ℕ) → i < length numbers → getD numbers i 0 - 1 < length (j .starts)
+  inside i l = omega (arith, want i l)
 
-  -- An earlier stop ends at or before the start of a later one.
-  pub stops-apart : (i i′ : ℕ) → i < i′ → i′ < length numbers → stopEnd starts lengths numbers i ≤ startAt starts numbers i′
-  stops-apart i i′ h l =
-      end-before-start starts lengths (good .files .table) (getD numbers i 0 - 1) (getD numbers i′ 0 - 1)
-      (omega (arith, numbers-rise (length starts) numbers counts (good .wants) i i′ h l, want i (omega arith) .named))
-      (omega (arith, want i′ l))
+  file : (i : ℕ) → i < length numbers → GoodFile (j .starts) (j .lengths) (getD numbers i 0 - 1)
+  file i l = table-file (j .starts) (j .lengths) (good .files .table) (getD numbers i 0 - 1) (inside i l)
+
+  lies-before : (i i′ : ℕ) → i < i′ → i′ < length numbers → startAt (j .starts) numbers i ≤ startAt (j .starts) numbers i′
+  lies-before i i′ h l =
+      omega (
+        arith,
+        end-before-start (j .starts) (j .lengths) (good .files .table) (getD numbers i 0 - 1) (getD numbers i′ 0 - 1)
+            (omega (arith, numbers-rise (length (j .starts)) numbers counts (good .wants) i i′ h l, want i (omega arith) .named))
+            (inside i′ l),
+      )
 
   pub start-order : (i i′ : ℕ) → i ≤ i′ → i′ < length numbers → startAt starts numbers i ≤ startAt starts numbers i′
-  start-order i i′ h l = by-cases (decLt i i′) (λ k. omega (arith, stops-apart i i′ k l)) (λ k. let e : i ≡ i′ = omega arith in rw e (omega arith))
+  start-order i i′ h l =
+      by-cases
+      (decLt i i′)
+      (λ k.
+      omega (
+        arith,
+        j .met .left (getD numbers i 0 - 1) (inside i (omega arith)),
+        j .met .left (getD numbers i′ 0 - 1) (inside i′ l),
+        smaller-rises (startAt (j .starts) numbers i) (startAt (j .starts) numbers i′) (j .head) (lies-before i i′ k l),
+      ))
+      (λ k. let e : i ≡ i′ = omega arith in rw e (omega arith))
 
   pub is-stop : (i : ℕ) → i < length numbers → IsStop starts numbers i
-  is-stop i l = record { within = l; named = record { least = want i l .named; most = want i l .inTable } }
+  is-stop i l = record { within = l; named = record { least = want i l .named; most = omega (arith, want i l .inTable, j .met .as-many) } }
 
   pub ends-near : (i : ℕ) → i < length numbers → stopEnd starts lengths numbers i ≤ lastPlace
-  ends-near i l = file i l .ends
+  ends-near i l = omega (arith, file i l .ends, j .met .end (getD numbers i 0 - 1) (inside i l))
 
   pub even-counts : length numbers ≡ length counts
   even-counts = good .wants .equal
@@ -52,13 +70,13 @@ module _ (starts lengths numbers counts : List ℕ) (turn reads : ℕ) (j : Judg
   few-stops = good .wants .few
 
   pub few-reads : reads ≤ mostReads
-  few-reads = omega (arith, j .whole, good .wants .reads)
+  few-reads = omega (arith, j .run .whole, good .wants .reads)
 
   pub cheap-turn : turn ≤ highestTurn
   cheap-turn = good .start .cheap
 
   pub reads-up-to : (n : ℕ) → n ≤ length numbers → readsIn counts n ≤ reads
-  reads-up-to n l = omega (arith, j .whole, reads-within counts n (omega (arith, even-counts)))
+  reads-up-to n l = omega (arith, j .run .whole, reads-within counts n (omega (arith, even-counts)))
 
   pub count-few : (i : ℕ) → i < length numbers → getD counts i 0 ≤ mostReads
   count-few i l = omega (arith, reads-up-to (i + 1) (omega arith), reads-more counts i, few-reads)
@@ -68,7 +86,7 @@ module _ (starts lengths numbers counts : List ℕ) (turn reads : ℕ) (j : Judg
       record {
         from = is-stop c (omega arith);
         to = is-stop b l;
-        even = good .files .table .equal;
+        even = j .met .as-many ∙ sym (j .met .even);
         onward = omega (arith, start-order c b h l);
         near = ends-near b l;
         cheap = cheap-turn;

@@ -2,6 +2,7 @@
 pub mod Words
 pub mod Laying
 pub mod Sizes
+pub mod MetRows
 pub mod Facts
 pub mod Cells
 pub mod Choices

@@ -12,15 +12,18 @@ use Rattle.refusals.specs.declared.Verdict.{Verdict}
 use Rattle.refusals.specs.Refusals.{isRefusal, accepted}
 use Rattle.runs.specs.Run.{Run, Stop, stopsOf, total, mostReads}
 use Rattle.runs.specs.Alone.{loneStops}
-use Rattle.runs.specs.Judging.{judgeOf}
+use Rattle.runs.specs.AnyHead.{pulled, judgeAnyOf, liftedHead, lifted}
 use Rattle.runs.specs.Lists.{Detour, listOf}
 use Rattle.runs.proofs.Entries.{length-list}
-use Rattle.runs.proofs.Judged.{accepted-run}
-use Rattle.runs.proofs.Stops.{accepted-sound}
-use Rattle.least.proofs.LeastList.{least-list-none, least-list-some, least-list}
+use Rattle.runs.proofs.AnyHead.{pulled-length, accepted-any}
+use Rattle.runs.proofs.Alone.{plain-length}
+use Rattle.runs.proofs.Stops.{run-sound}
+use Rattle.least.proofs.LeastList.{least-list-none, least-list-some}
+use Rattle.least.proofs.LeastAny.{least-any}
 use Rattle.engine_table.specs.Listing.{IsListed, listRows, roomSize}
-use Rattle.engine_table.specs.Private.{Judged, Written, Beyond, ListWritten, listAt, tableSize}
+use Rattle.engine_table.specs.Private.{AnyRun, Judged, Written, Beyond, ListWritten, listAt, tableSize}
 use Rattle.engine_table.proofs.Facts.{stops-length}
+use Rattle.engine_table.proofs.MetRows.{counts-even}
 use Rattle.least.specs.Recurrence.{leastList}
 
 -- Nothing is written.
@@ -37,10 +40,13 @@ no-stops : (turn : ℕ) (stops : List Stop) → length stops ≡ 0 → leastList
 no-stops turn [] e = least-list-none turn
 no-stops turn (s ∷ stops) e = absurd (omega arith)
 
-module _ (starts lengths numbers counts : List ℕ) (turn reads : ℕ) (j : Judged starts lengths numbers counts turn reads) where
-  pub least-of-none : length numbers ≡ 0 → leastList turn (loneStops starts lengths numbers counts) ≡ []
-  least-of-none e = no-stops turn (loneStops starts lengths numbers counts) (stops-length starts lengths numbers counts turn reads j ∙ e)
+pub least-of-none : (starts lengths numbers counts : List ℕ) (head turn reads : ℕ) → AnyRun starts lengths numbers counts head turn reads
+    → length numbers ≡ 0 → leastList turn (pulled head (loneStops starts lengths numbers counts)) ≡ []
+least-of-none starts lengths numbers counts head turn reads r e =
+    no-stops turn (pulled head (loneStops starts lengths numbers counts))
+    (pulled-length head (loneStops starts lengths numbers counts) ∙ plain-length starts lengths numbers counts (counts-even starts lengths numbers counts head turn reads r) ∙ e)
 
+module _ (starts lengths numbers counts : List ℕ) (turn reads : ℕ) (j : Judged starts lengths numbers counts turn reads) where
   pub least-of-some : (length numbers ≡ 0 → ⊥) → listAt (loneStops starts lengths numbers counts) turn 0 (length numbers - 1) 0 ≡ leastList turn (loneStops starts lengths numbers counts)
   least-of-some n =
       sym (least-list-some turn (length numbers - 1) (loneStops starts lengths numbers counts) (omega (arith, stops-length starts lengths numbers counts turn reads j)))
@@ -104,21 +110,21 @@ room-after size xs ys zs h b w = ext-getD 0 zs (replicate size 0 ++ drop size xs
     each i l = by-cases (decLt i size) (λ m. zero-word i m) (λ m. later-word i (omega arith))
 
 -- The list is written and the room is zeroed.
-module _ (r : Run) (reads : ℕ) (froms tos room : List ℕ) (accepts : isRefusal (judgeOf r .refusal) ≡ false) (whole : reads ≡ total (r .counts)) where
+module _ (r : Run) (reads : ℕ) (froms tos room : List ℕ) (accepts : isRefusal (judgeAnyOf r .refusal) ≡ false) (whole : reads ≡ total (r .counts)) where
   pub listed-so : (u : Verdict) (n : ℕ) (froms′ tos′ room₁ room′ : List ℕ) → u ≡ accepted → tableSize (length (r .numbers)) reads ≤ length room
-      → ListWritten (leastList (r .turn) (stopsOf r)) n froms tos froms′ tos′
+      → ListWritten (leastList (r .turn) (pulled (r .head) (stopsOf r))) n froms tos froms′ tos′
       → Beyond (tableSize (length (r .numbers)) reads) room room₁ → Written 0 (tableSize (length (r .numbers)) reads) (λ s. 0) room₁ room′
       → IsListed r (listRows froms tos room) (record { verdict = u; detours = n }) (listRows froms′ tos′ room′)
   listed-so u n froms′ tos′ room₁ room′ ok big w b z =
       record {
         list = list;
-        least = least-list (r .turn) (r .head) (stopsOf r) (accepted-sound r accepts);
+        least = least-any (r .turn) (r .head) (liftedHead (r .head)) (stopsOf r) (run-sound (lifted r) (accepted-any r accepts .run));
         says = rw (ok, list-long list n froms tos froms′ tos′ w);
         rows = rows-are (froms-after list n froms tos froms′ tos′ w) (tos-after list n froms tos froms′ tos′ w) room-is;
       }
     where
       list : List Detour
-      list = leastList (r .turn) (stopsOf r)
+      list = leastList (r .turn) (pulled (r .head) (stopsOf r))
 
       size-is : tableSize (length (r .numbers)) reads ≡ roomSize r
       size-is = rw whole
@@ -130,6 +136,6 @@ module _ (r : Run) (reads : ℕ) (froms tos room : List ℕ) (accepts : isRefusa
       rows-are e f g = rw (e, f, g)
 
 -- What an accepted run's table comes to fits a word.
-module _ (r : Run) (accepts : isRefusal (judgeOf r .refusal) ≡ false) where
+module _ (r : Run) (accepts : isRefusal (judgeAnyOf r .refusal) ≡ false) where
   pub reads-small : total (r .counts) ≤ mostReads
-  reads-small = accepted-run r accepts .wants .reads
+  reads-small = accepted-any r accepts .run .wants .reads

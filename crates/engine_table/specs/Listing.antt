@@ -1,4 +1,5 @@
 -- What the table engine answers, for every input: the first refusal that applies and nothing changed, or the least list, and every row afterwards.
+-- Its table is one of stops, so that it has at most 64 files; the head may stand anywhere.
 use Prim.Native.Nat.{ℕ, _+_, _-_, _*_}
 use mathlib.Core.Path.{_≡_}
 use mathlib.Core.Bool.{Bool, true, false, _||_}
@@ -6,14 +7,14 @@ use mathlib.Core.List.{List, [], _∷_, _++_, map}
 use lib.ListN.{length, drop, replicate}
 use lib.Dec.{ltb}
 use denote.Triple.Both.{Both}
-use Rattle.refusals.specs.declared.Refusal.the-variants.{ShortRow, ShortRoom}
+use Rattle.refusals.specs.declared.Refusal.the-variants.{FileRows, ShortRow, ShortRoom}
 use Rattle.refusals.specs.declared.Verdict.{Verdict}
 use Rattle.refusals.specs.Refusals.{isRefusal, accepted, refuseIf, firstOf}
-use Rattle.runs.specs.Run.{Run, total}
+use Rattle.runs.specs.Run.{Run, total, mostWants}
 use Rattle.runs.specs.Rows.{Row}
-use Rattle.runs.specs.Judging.{judgeOf}
+use Rattle.runs.specs.AnyHead.{judgeAnyOf}
 use Rattle.runs.specs.Lists.{Detour}
-use Rattle.least.specs.Least.{LeastForRun}
+use Rattle.least.specs.AnyHead.{LeastAny}
 use Rattle.engine_table.specs.declared.Listed.{Listed}
 
 -- The lent rows: for starts and ends, and the working room.
@@ -40,11 +41,12 @@ roomSize r = length (r .numbers) * length (r .numbers) * (total (r .counts) + 1)
 abbrev pub shortListRows : ℕ → ListRows → Bool
 shortListRows k rows = ltb (length (rows .froms)) (k - 1) || ltb (length (rows .tos)) (k - 1)
 
--- The engine's refusals: 1 to 7, then 8, then 9.
+-- The engine's refusals: 1 for over 64 files, 1 to 7 of a head anywhere, then 8, then 9.
 unfoldable pub listingVerdict : Run → ListRows → Verdict
 listingVerdict r rows =
     firstOf
-    (judgeOf r
+    (refuseIf (ltb mostWants (length (r .starts))) FileRows
+    ∷ judgeAnyOf r
     ∷ refuseIf (shortListRows (length (r .numbers)) rows) ShortRow
     ∷ refuseIf (ltb (length (rows .room)) (roomSize r)) ShortRoom
     ∷ [])
@@ -65,7 +67,7 @@ pub record NotListed (v : Verdict) (before : ListRows) (answer : Listed) (after 
 
 pub record IsListed (r : Run) (before : ListRows) (answer : Listed) (after : ListRows) : Type 0 where
   pub list : List Detour
-  pub least : LeastForRun r list
+  pub least : LeastAny r list
   pub says : answer ≡ record { verdict = accepted; detours = length list }
   pub rows : after ≡ listRowsWith r list before
 

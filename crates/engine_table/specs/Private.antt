@@ -6,22 +6,53 @@ use mathlib.Core.Logic.{_⊎_}
 use mathlib.Core.List.{List, [], _∷_}
 use lib.ListN.{length, getD, take, drop}
 use lib.Dec.{ltb}
-use Rattle.refusals.specs.declared.Refusal.the-variants.{ShortRow, ShortRoom}
+use Rattle.refusals.specs.declared.Refusal.the-variants.{FileRows, ShortRow, ShortRoom}
 use Rattle.refusals.specs.declared.Verdict.{Verdict}
 use Rattle.refusals.specs.Refusals.{isRefusal, refuseIf, firstOf}
-use Rattle.runs.specs.Run.{Stop, total, endAt, lastPlace, highestTurn, mostReads}
+use Rattle.runs.specs.Run.{Run, Stop, total, endAt, lastPlace, highestTurn, mostWants, mostReads}
 use Rattle.runs.specs.Alone.{aloneOf, loneStops}
-use Rattle.runs.specs.Judging.{judgeOf}
+use Rattle.runs.specs.AnyHead.{smaller, judgeAnyOf}
 use Rattle.runs.specs.Private.{InTable}
 use Rattle.runs.specs.Lists.{Detour, listOf}
 use Rattle.least.specs.Slopes.{Supported}
 use Rattle.least.specs.Recurrence.{W, lower, value, candidate, choice, planDetours, best, fileAt, leftAt, rightAt, countAt}
 
--- Rows that the judging accepts with some head, and the number of their reads.
-pub record Judged (starts lengths numbers counts : List ℕ) (turn reads : ℕ) : Type 0 where
-  pub head : ℕ
-  pub accepts : isRefusal (judgeOf (aloneOf starts lengths numbers counts head turn) .refusal) ≡ false
+-- The first of the engine's checks: 1 for over 64 files, then 1 to 7 of a head anywhere.
+unfoldable pub judgeTableOf : Run → Verdict
+judgeTableOf r = firstOf (refuseIf (ltb mostWants (length (r .starts))) FileRows ∷ judgeAnyOf r ∷ [])
+
+-- The rows of an accepted run with a head anywhere, of no more files than a run has stops, and the number of its reads.
+pub record AnyRun (starts lengths numbers counts : List ℕ) (head turn reads : ℕ) : Type 0 where
+  pub few : length starts ≤ mostWants
+  pub accepts : isRefusal (judgeAnyOf (aloneOf starts lengths numbers counts head turn) .refusal) ≡ false
   pub whole : reads ≡ total counts
+
+-- The first n entries of a row hold what a function says.
+pub record FirstHold (n : ℕ) (f : ℕ → ℕ) (row : List ℕ) : Type 0 where
+  pub long : n ≤ length row
+  pub each : (i : ℕ) → i < n → getD row i 0 ≡ f i
+
+-- Where a file starts as a head meets it, and how long it is from there to its end.
+abbrev pub metStart : ℕ → List ℕ → ℕ → ℕ
+metStart head starts i = smaller (getD starts i 0) head
+
+abbrev pub metLength : ℕ → List ℕ → List ℕ → ℕ → ℕ
+metLength head starts lengths i = getD lengths i 0 + (getD starts i 0 - metStart head starts i)
+
+-- Two rows that hold files as a head meets them.
+pub record Met (head : ℕ) (starts lengths lefts spans : List ℕ) : Type 0 where
+  pub as-many : length lefts ≡ length starts
+  pub even : length spans ≡ length starts
+  pub left : (i : ℕ) → i < length starts → getD lefts i 0 ≡ metStart head starts i
+  pub end : (i : ℕ) → i < length starts → endAt lefts spans i ≡ endAt starts lengths i
+
+-- Rows of an accepted run as its head meets them, and the number of their reads. All that follows speaks of such rows.
+pub record Judged (lefts spans numbers counts : List ℕ) (turn reads : ℕ) : Type 0 where
+  pub starts : List ℕ
+  pub lengths : List ℕ
+  pub head : ℕ
+  pub run : AnyRun starts lengths numbers counts head turn reads
+  pub met : Met head starts lengths lefts spans
 
 -- Where a stop starts and ends, read off the rows.
 abbrev pub startAt : List ℕ → List ℕ → ℕ → ℕ

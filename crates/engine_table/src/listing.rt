@@ -7,17 +7,45 @@ ghost use lib.Dec.{ltb};
 ghost use Rattle.least.specs.Recurrence.{leastList};
 ghost use Rattle.runs.specs.Run.{mostReads};
 ghost use Rattle.runs.specs.Alone.{aloneAt};
+ghost use Rattle.runs.specs.AnyHead.{pulled};
 ghost use Rattle.engine_table.specs.Listing.{Lists, listRowsBefore, listRowsAfter};
-ghost use Rattle.engine_table.specs.Private.{Judged, ListWritten, Beyond, tableSize, listRowsVerdict};
+ghost use Rattle.engine_table.specs.Private.{judgeTableOf, AnyRun, ListWritten, Beyond, tableSize, listRowsVerdict};
 ghost use Rattle.runs.specs.Private.{plainStopsAt};
 use crate::Listed;
 use crate::filling::clear;
 use crate::filling::fill;
+use crate::pulling::pulled_lengths;
+use crate::pulling::pulled_starts;
 use crate::reading::read_off;
 use refusals::Refusal;
 use refusals::Verdict;
 use refusals::refuse_if;
 use refusals::refused;
+
+// 1 to 7, for a table of stops and a head anywhere.
+fn judge_any(
+    starts: &[u64],
+    lengths: &[u64],
+    numbers: &[u64],
+    counts: &[u64],
+    head: u64,
+    turn: u64,
+) -> Verdict
+    ensures { λ r. ⌜ r ≡ judgeTableOf (aloneAt starts lengths numbers counts head turn) ⌝ }
+{
+    let files = refuse_if(runs::MOST_WANTS < starts.len(), Refusal::FileRows);
+    if refused(files) {
+        return files;
+    }
+    runs::judge_alone(
+        starts,
+        lengths,
+        numbers,
+        counts,
+        runs::lift_head(head),
+        turn,
+    )
+}
 
 // Whether a row is too short for a list over so many wants: it holds one entry less, and none where nothing is wanted.
 fn short_rows(wants: usize, froms: usize, tos: usize) -> bool
@@ -54,32 +82,44 @@ fn judge_rows(wants: usize, reads: usize, froms: usize, tos: usize, room: usize)
     refuse_if(room < table_words(wants, reads), Refusal::ShortRoom)
 }
 
-// The least list into the first entries of two rows, by way of the table.
+// The least list into the first entries of two rows, by way of the table of the stops as the head meets them.
 fn least_list(
     starts: &[u64],
     lengths: &[u64],
     numbers: &[u64],
     counts: &[u64],
+    head: u64,
     turn: u64,
     reads: usize,
     froms: &mut [u64],
     tos: &mut [u64],
     room: &mut [u64],
 ) -> usize
-    requires { ⌜ Judged (now starts) (now lengths) (now numbers) (now counts) turn reads ⌝ }
+    requires { ⌜ AnyRun (now starts) (now lengths) (now numbers) (now counts) head turn reads ⌝ }
     requires { ⌜ length (now numbers) ≤ length (now froms) + 1 ⌝ }
     requires { ⌜ length (now numbers) ≤ length (now tos) + 1 ⌝ }
     requires { ⌜ tableSize (length (now numbers)) reads ≤ length (now room) ⌝ }
-    ensures { λ r. ⌜ ListWritten (leastList turn (plainStopsAt starts lengths numbers counts)) r (now (froms .entry)) (now (tos .entry)) (now (froms .exit)) (now (tos .exit)) ⌝ }
+    ensures { λ r. ⌜ ListWritten (leastList turn (pulled head (plainStopsAt starts lengths numbers counts))) r (now (froms .entry)) (now (tos .entry)) (now (froms .exit)) (now (tos .exit)) ⌝ }
     ensures { λ r. ⌜ Beyond (tableSize (length (now (numbers .entry))) reads) (now (room .entry)) (now (room .exit)) ⌝ }
 {
     if numbers.len() == 0 {
         return 0;
     }
-    fill(starts, lengths, numbers, counts, turn, room, reads);
+    let files = starts.len();
+    let lefts = pulled_starts(starts, head);
+    let spans = pulled_lengths(starts, lengths, head);
+    fill(
+        &lefts[..files],
+        &spans[..files],
+        numbers,
+        counts,
+        turn,
+        room,
+        reads,
+    );
     read_off(
-        starts,
-        lengths,
+        &lefts[..files],
+        &spans[..files],
         numbers,
         counts,
         turn,
@@ -90,7 +130,7 @@ fn least_list(
     )
 }
 
-// The least list of a run of files that lie in no aggregate, in the first entries of two rows; and the room zeroed.
+// The least list of a run of files that lie in no aggregate, from a head anywhere, in the first entries of two rows; and the room zeroed.
 pub fn list(
     starts: &[u64],
     lengths: &[u64],
@@ -104,7 +144,7 @@ pub fn list(
 ) -> Listed
     ensures { λ r. ⌜ Lists (aloneAt starts lengths numbers counts head turn) (listRowsBefore froms tos room) r (listRowsAfter froms tos room) ⌝ }
 {
-    let run = runs::judge_alone(starts, lengths, numbers, counts, head, turn);
+    let run = judge_any(starts, lengths, numbers, counts, head, turn);
     if refused(run) {
         return Listed {
             verdict: run,
@@ -125,6 +165,7 @@ pub fn list(
         lengths,
         numbers,
         counts,
+        head,
         turn,
         reads,
         froms,

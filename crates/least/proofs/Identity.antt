@@ -56,9 +56,9 @@ module _ (L R C : ℕ → ℕ) (U : ℕ) where
   floorSum n m = W (λ i. C i * legTime L R U m i i) (suc n)
 
 module _ (L R C : ℕ → ℕ) (U n : ℕ) (spaced : Spaced L R n) where
-  -- The head is right of every stop, or was and has a lag that says so.
+  -- The head is right of every start, or was and has a lag that says so.
   abbrev Reach : ℕ → Type 0
-  Reach y = (i : ℕ) → i ≤ n → R i ≤ y
+  Reach y = (i : ℕ) → i ≤ n → L i ≤ y
 
   -- What a read takes at the very least moves with the lag.
   read-shift : (y y′ i : ℕ) → Reach y → y ≤ y′ → i ≤ n → C i * legTime L R U y′ i i + y * C i ≡ C i * legTime L R U y i i + y′ * C i
@@ -101,7 +101,7 @@ module _ (L R C : ℕ → ℕ) (U n : ℕ) (spaced : Spaced L R n) where
       (legTime L R U y (suc b) (suc b))
       (legTime L R U (lagAfter L R U p b y) a (suc b))
       (cost L R C U p a b (s + C (suc b)))
-      (legTime-exact L R n spaced U (lagAfter L R U p b y) a (suc b) (omega (arith, r (suc b) l, lag-grows L R U p b y)) (omega arith) l)
+      (legTime-exact L R n spaced U (lagAfter L R U p b y) a (suc b) (omega (arith, r a (omega arith), lag-grows L R U p b y)) (omega arith) l)
       (legTime-exact L R n spaced U y (suc b) (suc b) (r (suc b) l) (le-refl (suc b)) l)
       (omega (arith, starts-rise L R n spaced a (suc b) (omega arith) l))
       ih)
@@ -209,7 +209,7 @@ module _ (L R C : ℕ → ℕ) (U n : ℕ) (spaced : Spaced L R n) where
       (balanced q a d s (lagAfter L R U p b y + trip L R U (suc d) (suc b)) (o .3) (omega arith) (λ j x. omega (arith, r j x)))
 
   -- Least cost is least sum: the reads of a whole run, the last leg starting at stop 0, take the floor and the plan's cost.
-  pub cost-identity : (p : Plan) (m : ℕ) → Over p 0 n → ((i : ℕ) → i ≤ n → R i ≤ m) → runSum L R C U p n m ≡ floorSum L R C U n m + cost L R C U p 0 n 0
+  pub cost-identity : (p : Plan) (m : ℕ) → Over p 0 n → ((i : ℕ) → i ≤ n → L i ≤ m) → runSum L R C U p n m ≡ floorSum L R C U n m + cost L R C U p 0 n 0
   cost-identity p m o r =
       let y = lagAfter L R U p n m in
       rw

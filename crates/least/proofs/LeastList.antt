@@ -12,15 +12,16 @@ use Rattle.runs.specs.Run.{Stop}
 use Rattle.walk.specs.Walk.{sumOf}
 use Rattle.runs.specs.Lists.{Detour, wanted, firstBadEntry, WellFormed}
 use Rattle.runs.proofs.Search.{true-or-false}
-use Rattle.runs.proofs.Sound.{Sound}
+use Rattle.runs.proofs.Sound.{Sound, SoundAny, sound-any}
 use Rattle.least.specs.Least.{startFor, Sooner, ComesFirst, listSum, LeastFor}
-use Rattle.least.proofs.Plan.{Over, startIn}
+use Rattle.least.proofs.Plan.{Over, Owned, startIn}
 use Rattle.least.proofs.Rising.{Rises, index-order}
 use Rattle.least.proofs.Best.{best-over}
 use Rattle.least.proofs.Ties.{PlanFirst, NotBefore, start-bounds}
 use Rattle.least.proofs.Identity.{runSum}
 use Rattle.least.proofs.LeastPlan.{best-sum-least, best-sum-first}
-use Rattle.least.proofs.Walks.{sound-spaced, walk-sum}
+use Rattle.least.proofs.Starts.{best-owned}
+use Rattle.least.proofs.Walks.{any-spaced, sound-owned, walk-sum}
 use Rattle.least.proofs.Lists.{wanted-at, wanted-index, none-wanted, PlanOf, parse, numbers-rise, listed-formed, numbered, numbered-some, table-at-stop, table-off-stops}
 use Rattle.least.specs.Recurrence.{Plan, planDetours, best, fileAt, leftAt, rightAt, countAt, bestPlan, leastList}
 
@@ -44,7 +45,7 @@ sooner-numbered F n c c′ rises some h h′ (inr s) =
 start-within : (p : Plan) (n j : ℕ) → Over p 0 n → j ≤ n → startIn p n j ≤ n
 start-within p n j o h = by-cases (decLt 0 (startIn p n j)) (λ l. omega (arith, start-bounds p 0 n j o l)) (λ l. omega arith)
 
-module _ (m n : ℕ) (stops : List Stop) (ok : Sound stops m) (size : length stops ≡ suc n) where
+module _ (m n : ℕ) (stops : List Stop) (ok : SoundAny stops m) (size : length stops ≡ suc n) where
   module _ (p q : Plan) (op : Over p 0 n) (oq : Over q 0 n) (f : PlanFirst p q 0 n) where
     -- Right of the stop that tells the plans apart their lists agree, at the stops' numbers and at all others.
     agree-beyond : (g : ℕ) → fileAt stops (f .stop) < g → startFor (planDetours (fileAt stops) p n) g ≡ startFor (planDetours (fileAt stops) q n) g
@@ -83,39 +84,62 @@ module _ (m n : ℕ) (stops : List Stop) (ok : Sound stops m) (size : length sto
     best-over-run : Over (bestPlan price stops n) 0 n
     best-over-run = best-over (leftAt stops) (rightAt stops) (countAt stops) price 0 n 0
 
-    reached : (i : ℕ) → i ≤ n → rightAt stops i ≤ m
-    reached i h = ok .reached i (omega arith)
+    pub chosen-formed : WellFormed stops chosen
+    chosen-formed = listed-formed m n stops ok size (bestPlan price stops n) best-over-run
 
-    sum-of-plan : (p : Plan) → Over p 0 n → listSum price m stops (planDetours (fileAt stops) p n) ≡ runSum (leftAt stops) (rightAt stops) (countAt stops) price p n m
-    sum-of-plan p o = walk-sum m n stops ok size p o price
+    pub chosen-owned : Owned (leftAt stops) (bestPlan price stops n)
+    chosen-owned =
+        best-owned (leftAt stops) (rightAt stops) (countAt stops) price n (any-spaced stops m n ok size) (λ i h. ok .counted i (omega arith)) 0 n 0 (omega arith)
 
-    chosen-smallest : (other : List Detour) → WellFormed stops other → listSum price m stops chosen ≤ listSum price m stops other
-    chosen-smallest other v =
-        let w : PlanOf stops n other = parse m n stops ok size other v in
+    within : (i : ℕ) → i ≤ n → leftAt stops i ≤ m
+    within i h = ok .within i (omega arith)
+
+    sum-of-plan : (p : Plan) → Over p 0 n → Owned (leftAt stops) p → listSum price m stops (planDetours (fileAt stops) p n) ≡ runSum (leftAt stops) (rightAt stops) (countAt stops) price p n m
+    sum-of-plan p o own = walk-sum m n stops ok size p o own price
+
+    -- The sum of the list's walk is no larger than that of any plan's times, and than that of the walk of any plan whose legs read no stop left of
+    -- their own.
+    pub chosen-lowest : (p : Plan) → Over p 0 n → listSum price m stops chosen ≤ runSum (leftAt stops) (rightAt stops) (countAt stops) price p n m
+    chosen-lowest p o =
         omega (
           arith,
-          sum-of-plan (bestPlan price stops n) best-over-run,
-          best-sum-least (leftAt stops) (rightAt stops) (countAt stops) price n m (sound-spaced stops m n ok size) reached (w .plan) (w .over),
-          sum-of-plan (w .plan) (w .over),
-          ap (listSum price m stops) (w .lists),
+          sum-of-plan (bestPlan price stops n) best-over-run chosen-owned,
+          best-sum-least (leftAt stops) (rightAt stops) (countAt stops) price n m (any-spaced stops m n ok size) within p o,
         )
 
-    chosen-first : (other : List Detour) → WellFormed stops other → listSum price m stops other ≡ listSum price m stops chosen → (other ≡ chosen) ⊎ ComesFirst chosen other
-    chosen-first other v e =
-        let w : PlanOf stops n other = parse m n stops ok size other v in
-        let same : runSum (leftAt stops) (rightAt stops) (countAt stops) price (w .plan) n m ≡ runSum (leftAt stops) (rightAt stops) (countAt stops) price (bestPlan price stops n) n m
-        = omega (arith, sum-of-plan (bestPlan price stops n) best-over-run, sum-of-plan (w .plan) (w .over), ap (listSum price m stops) (w .lists)) in
-        rw
-        (← (w .lists))
-        (list-not-before (w .plan) (bestPlan price stops n) (w .over) best-over-run
-        (best-sum-first (leftAt stops) (rightAt stops) (countAt stops) price n m (sound-spaced stops m n ok size) reached (w .plan) (w .over) same))
+    module _ (other : List Detour) (w : PlanOf stops n other) (own : Owned (leftAt stops) (w .plan)) where
+      other-sum : listSum price m stops other ≡ runSum (leftAt stops) (rightAt stops) (countAt stops) price (w .plan) n m
+      other-sum = ap (listSum price m stops) (sym (w .lists)) ∙ sum-of-plan (w .plan) (w .over) own
 
-    chosen-least : LeastFor price m stops chosen
-    chosen-least = record {
-      formed = listed-formed m n stops ok size (bestPlan price stops n) best-over-run;
-      smallest = chosen-smallest;
-      first = chosen-first;
+      pub chosen-smallest : listSum price m stops chosen ≤ listSum price m stops other
+      chosen-smallest = omega (arith, chosen-lowest (w .plan) (w .over), other-sum)
+
+      pub chosen-first : listSum price m stops other ≡ listSum price m stops chosen → (other ≡ chosen) ⊎ ComesFirst chosen other
+      chosen-first e =
+          let same : runSum (leftAt stops) (rightAt stops) (countAt stops) price (w .plan) n m ≡ runSum (leftAt stops) (rightAt stops) (countAt stops) price (bestPlan price stops n) n m
+          = omega (arith, sum-of-plan (bestPlan price stops n) best-over-run chosen-owned, other-sum) in
+          rw
+          (← (w .lists))
+          (list-not-before (w .plan) (bestPlan price stops n) (w .over) best-over-run
+          (best-sum-first (leftAt stops) (rightAt stops) (countAt stops) price n m (any-spaced stops m n ok size) within (w .plan) (w .over) same))
+
+-- Of stops that do not overlap every plan's walk is such.
+chosen-least : (price m n : ℕ) (stops : List Stop) → Sound stops m → length stops ≡ suc n → LeastFor price m stops (planDetours (fileAt stops) (bestPlan price stops n) n)
+chosen-least price m n stops ok size =
+    record {
+      formed = chosen-formed m n stops any size price;
+      smallest = λ other v. chosen-smallest m n stops any size price other (plan other v) (own other v);
+      first = λ other v. chosen-first m n stops any size price other (plan other v) (own other v);
     }
+  where
+    any : SoundAny stops m
+    any = sound-any stops m ok
+
+    plan : (other : List Detour) → WellFormed stops other → PlanOf stops n other
+    plan other v = parse m n stops any size other v
+
+    own : (other : List Detour) (v : WellFormed stops other) → Owned (leftAt stops) (plan other v .plan)
+    own other v = sound-owned stops m n ok size (plan other v .plan) (plan other v .over)
 
 least-none : (price m : ℕ) → LeastFor price m [] []
 unfolding firstBadEntry firstWhere sumOf
@@ -127,7 +151,7 @@ least-none price m = record {
 
 pub least-list : (price m : ℕ) (stops : List Stop) → Sound stops m → LeastFor price m stops (leastList price stops)
 least-list price m [] ok = rw (least-list-none price) (least-none price m)
-least-list price m (s ∷ ss) ok = rw (least-list-some price (length ss) (s ∷ ss) refl) (chosen-least m (length ss) (s ∷ ss) ok refl price)
+least-list price m (s ∷ ss) ok = rw (least-list-some price (length ss) (s ∷ ss) refl) (chosen-least price m (length ss) (s ∷ ss) ok refl)
 
 -- No start is sooner than itself, and of two lists at most one comes first.
 sooner-itself : (c c′ : ℕ) → c ≡ c′ → Sooner c c′ → ⊥
@@ -150,11 +174,14 @@ first-one-way l l′ f g =
     (λ k. sooner-itself (startFor l (f .file)) (startFor l′ (f .file)) (sym (g .agree (f .file) k)) (f .sooner))
     (λ k. let e : g .file ≡ f .file = omega arith in sooner-both (startFor l (f .file)) (startFor l′ (f .file)) (f .sooner) (rw e at (g .sooner))))
 
+-- Two lists with the smallest sum, each of which comes first among those, are one list.
+pub one-first : (sum : List Detour → ℕ) (l l′ : List Detour) → sum l ≤ sum l′ → sum l′ ≤ sum l
+    → (sum l′ ≡ sum l → (l′ ≡ l) ⊎ ComesFirst l l′) → (sum l ≡ sum l′ → (l ≡ l′) ⊎ ComesFirst l′ l) → l ≡ l′
+one-first sum l l′ h h′ k k′ =
+    let same : sum l ≡ sum l′ = omega arith in
+    ⊎-elim (λ e. sym e) (λ f. ⊎-elim (λ e. e) (λ g. absurd (first-one-way l l′ f g)) (k′ same)) (k (sym same))
+
 -- Two least lists of one run are one list.
 pub least-unique : (price m : ℕ) (stops : List Stop) (l l′ : List Detour) → LeastFor price m stops l → LeastFor price m stops l′ → l ≡ l′
 least-unique price m stops l l′ h h′ =
-    let same : listSum price m stops l ≡ listSum price m stops l′ = omega (arith, h .smallest l′ (h′ .formed), h′ .smallest l (h .formed)) in
-    ⊎-elim
-    (λ e. sym e)
-    (λ f. ⊎-elim (λ e. e) (λ g. absurd (first-one-way l l′ f g)) (h′ .first l (h .formed) same))
-    (h .first l′ (h′ .formed) (sym same))
+    one-first (listSum price m stops) l l′ (h .smallest l′ (h′ .formed)) (h′ .smallest l (h .formed)) (h .first l′ (h′ .formed)) (h′ .first l (h .formed))

@@ -10,7 +10,7 @@ use Rattle.least.proofs.Ties.{NotBefore, best-first}
 use Rattle.least.proofs.Times.{Spaced}
 use Rattle.least.proofs.Identity.{runSum, floorSum, cost-identity}
 
-module _ (L R C : ℕ → ℕ) (U n m : ℕ) (spaced : Spaced L R n) (reach : (i : ℕ) → i ≤ n → R i ≤ m) where
+module _ (L R C : ℕ → ℕ) (U n m : ℕ) (spaced : Spaced L R n) (reach : (i : ℕ) → i ≤ n → L i ≤ m) where
   pub best-sum : runSum L R C U (best L R C U 0 n 0) n m ≡ floorSum L R C U n m + value L R C U 0 n 0
   best-sum = omega (arith, cost-identity L R C U n spaced (best L R C U 0 n 0) m (best-over L R C U 0 n 0) reach, best-cost L R C U 0 n 0)
 

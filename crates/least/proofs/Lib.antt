@@ -13,6 +13,7 @@ pub mod Bounds
 pub mod Best
 pub mod Ties
 pub mod Times
+pub mod Starts
 pub mod Identity
 pub mod LeastPlan
 pub mod Movements
@@ -23,6 +24,8 @@ pub mod Rules
 pub mod Lists
 pub mod LeastList
 pub mod Unbeaten
+pub mod LeastAny
+pub mod UnbeatenAny
 pub mod Wanted
 pub mod Priced
 pub mod Offices

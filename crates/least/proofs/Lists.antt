@@ -13,7 +13,7 @@ use borrow.Author.Tests.{ltb-false, leb-false, not-false, le-ltb, le-leb, lt-leb
 use Rattle.runs.specs.Run.{Stop}
 use Rattle.runs.specs.Lists.{Detour, wanted, leftmost, WellFormed}
 use Rattle.runs.proofs.Search.{or-false-both}
-use Rattle.runs.proofs.Sound.{Sound}
+use Rattle.runs.proofs.Sound.{SoundAny}
 use Rattle.least.specs.Least.{startFor}
 use Rattle.least.proofs.Plan.{Over, startIn}
 use Rattle.least.proofs.Rising.{Rises, rises-not-strictly, index-order, index-same}
@@ -217,7 +217,7 @@ pub record PlanOf (stops : List Stop) (n : ℕ) (list : List Detour) : Type 0 wh
   pub over : Over plan 0 n
   pub lists : planDetours (fileAt stops) plan n ≡ list
 
-module _ (m n : ℕ) (stops : List Stop) (ok : Sound stops m) (size : length stops ≡ suc n) where
+module _ (m n : ℕ) (stops : List Stop) (ok : SoundAny stops m) (size : length stops ≡ suc n) where
   pub numbers-rise : Rises (fileAt stops) n
   numbers-rise i j h l = files-rise stops (ok .ascends) i j h (omega arith)
 
@@ -347,7 +347,7 @@ module _ (F : ℕ → ℕ) (n : ℕ) (rises : Rises F n) where
       (λ e. rw (eq-eqb (F (x .to)) (F j) (ap F e), eq-eqb (x .to) j e) (sym (numbered-some F (x .from) (v .0 .0))))
       (λ e. rw (ne-eqb (F (x .to)) (F j) (λ q. e (index-same F n rises (x .to) j (v .0 .2) h q)), ne-eqb (x .to) j e) (table-named xs j h (v .1)))
 
-module _ (m n : ℕ) (stops : List Stop) (ok : Sound stops m) (size : length stops ≡ suc n) (p : Plan) (over : Over p 0 n) where
+module _ (m n : ℕ) (stops : List Stop) (ok : SoundAny stops m) (size : length stops ≡ suc n) (p : Plan) (over : Over p 0 n) where
   -- The list's table at a stop's number is the plan's at that stop.
   pub table-at-stop : (j : ℕ) → j ≤ n → startFor (planDetours (fileAt stops) p n) (fileAt stops j) ≡ numbered (fileAt stops) (startIn p n j)
   table-at-stop j h =

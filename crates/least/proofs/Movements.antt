@@ -1,11 +1,13 @@
 -- What any movement obeys: the floor and pair laws for the times at which a movement reads two stops.
 use Prim.Native.Nat.{ℕ, _+_, _-_, _*_, _≤_}
-use mathlib.Core.Path.{_≡_, subst}
-use mathlib.Core.Bool.{true, false, _||_}
-use mathlib.Core.Logic.{_⊎_, inl, inr, ⊎-elim}
+use mathlib.Core.Path.{_≡_, subst, sym, _∙_}
+use mathlib.Core.Bool.{true, false, _||_, true≢false}
+use mathlib.Core.Logic.{_⊎_, inl, inr, ⊎-elim, by-cases}
 use mathlib.Core.List.{List, [], _∷_}
 use native.Mathlib.Omega.{arith}
+use native.Mathlib.Decide.{decLe}
 use lib.Dec.{T}
+use borrow.Author.Tests.{le-leb}
 use Rattle.walk.specs.declared.Head.{Head}
 use Rattle.walk.specs.declared.Way.{Way}
 use Rattle.walk.specs.declared.Way.the-variants.{Leftward, Rightward}
@@ -36,7 +38,7 @@ module _ (U : ℕ) (h : Head) (g : Leg) (gs : List Leg) (s : Stop) where
   time-when-not e = rw e
 
   -- The first leg reads the stop, at a time that its lag gives.
-  read-at : g .left ≤ h .place → s .start ≤ s .end → reads g s ≡ true → timeOf U h (g ∷ gs) s + 2 * g .left ≡ lagOf U h + U + s .end
+  pub read-at : g .left ≤ h .place → s .start ≤ s .end → reads g s ≡ true → timeOf U h (g ∷ gs) s + 2 * g .left ≡ lagOf U h + U + s .end
   read-at l o e =
       let i : (g .left ≤ s .start) × (s .end ≤ g .right) = read-inside g s e in
       rw (time-when-read e) (time-in-leg U h g s l (omega arith))
@@ -98,6 +100,56 @@ module _ (U : ℕ) (g f : Stop) (og : g .start ≤ g .end) (of : f .start ≤ f 
       (true-or-false (reads x f)))
       (true-or-false (reads x g))
 
+-- Where every leg that reads f reads g too, as long as g has not been read, g is passed first. So it is where g lies inside f, and where g is a
+-- place that the head has yet to come to, left of f's end.
+reads-both : (x : Leg) (g : Stop) → x .left ≤ g .start → g .end ≤ x .right → reads x g ≡ true
+reads-both x g l r = rw (le-leb (x .left) (g .start) l, le-leb (g .end) (x .right) r)
+
+pub served-inside : (g f : Stop) → f .start ≤ g .start → g .end ≤ f .end → (xs : List Leg) → T (served xs f) → T (served xs g)
+unfolding served
+served-inside g f l r [] t = absurd t
+served-inside g f l r (x ∷ xs) t =
+    ⊎-elim
+    (λ e. rw e tt)
+    (λ e.
+    rw e
+    (served-inside g f l r xs
+    (served-later x xs f
+    (⊎-elim (λ d. let i = read-inside x f d in absurd (true≢false (sym (reads-both x g (omega arith) (omega arith)) ∙ e))) (λ d. d) (true-or-false (reads x f)))
+    t)))
+    (true-or-false (reads x g))
+
+module _ (U : ℕ) (g f : Stop) (og : g .start ≤ g .end) (of : f .start ≤ f .end) (within : g .end ≤ f .end) where
+  abbrev Ahead : Head → Type 0
+  Ahead h = (f .start ≤ g .start) ⊎ ((g .end ≤ g .start) × (h .place ≤ g .start))
+
+  still-ahead : (h : Head) (x : Leg) → x .left ≤ h .place → Ahead h → reads x g ≡ false → Ahead (afterLeg U h x)
+  still-ahead h x l (inl a) e = inl a
+  still-ahead h x l (inr a) e =
+      inr (a .0, by-cases (decLe (g .end) (x .right)) (λ r. absurd (true≢false (sym (reads-both x g (omega arith) r) ∙ e))) (λ r. omega arith))
+
+  neither-reads : (h : Head) (x : Leg) → x .left ≤ h .place → Ahead h → reads x g ≡ false → reads x f ≡ false
+  neither-reads h x l a e =
+      ⊎-elim
+      (λ d.
+      let i = read-inside x f d in
+      let low : x .left ≤ g .start = ⊎-elim (λ b. omega arith) (λ b. omega arith) a in
+      absurd (true≢false (sym (reads-both x g low (omega arith)) ∙ e)))
+      (λ d. d)
+      (true-or-false (reads x f))
+
+  pub passed-first : (h : Head) (xs : List Leg) → Moves (h .place) xs → T (served xs f) → Ahead h → timeOf U h xs g + f .end ≤ timeOf U h xs f + g .end
+  unfolding served
+  passed-first h [] v t a = absurd t
+  passed-first h (x ∷ xs) v t a =
+      ⊎-elim
+      (λ e. pair-left-first U g f og of h x xs v t e)
+      (λ e.
+      let d : reads x f ≡ false = neither-reads h x (v .0) a e in
+      rw (time-when-not U h x xs g e, time-when-not U h x xs f d)
+      (passed-first (afterLeg U h x) xs (v .2) (served-later x xs f d t) (still-ahead h x (v .0) a e)))
+      (true-or-false (reads x g))
+
 -- From the head's own start, whose lag is its place.
 module _ (U m : ℕ) (xs : List Leg) (v : Moves m xs) where
   pub floor-of-movement : (s : Stop) → s .start ≤ s .end → T (served xs s) → m + U + s .end ≤ timeOf U (headAt m) xs s + 2 * s .start
@@ -105,3 +157,19 @@ module _ (U m : ℕ) (xs : List Leg) (v : Moves m xs) where
 
   pub pair-of-movement : (g f : Stop) → g .start ≤ g .end → f .start ≤ f .end → T (served xs g) → T (served xs f) → PairLaw U (g .start) (g .end) (f .end) (timeOf U (headAt m) xs g) (timeOf U (headAt m) xs f)
   pair-of-movement g f og of tg tf = pair-from U g f og of (headAt m) xs v tg tf
+
+-- The head is set to move left, so that it must turn: from whatever place, no stop is read before the turn and the way to its end.
+pub turn-of-movement : (U m : ℕ) (xs : List Leg) → Moves m xs → (s : Stop) → s .start ≤ s .end → T (served xs s) → U + s .end ≤ timeOf U (headAt m) xs s + m
+unfolding served
+turn-of-movement U m [] v s o t = absurd t
+turn-of-movement U m (x ∷ xs) v s o t =
+    ⊎-elim
+    (λ e. omega (arith, read-at U (headAt m) x xs s (v .0) o e))
+    (λ e.
+    omega (
+      arith,
+      lead-from U s o (afterLeg U (headAt m) x) xs (v .2) (served-later x xs s e t),
+      after-clock U (headAt m) x,
+      time-when-not U (headAt m) x xs s e,
+    ))
+    (true-or-false (reads x s))

@@ -1,6 +1,6 @@
 -- Plans: the tree behind a well-formed list. Stops are numbered 0, 1, 2, … from the left; stop i starts at L i and ends at R i.
 -- A plan over the window (a, b] is walked from the right, with a leg that starts at a and passes b still to come.
-use Prim.Native.Nat.{ℕ, zero, suc, _+_, _-_, _*_, _≤_}
+use Prim.Native.Nat.{ℕ, zero, suc, _+_, _-_, _*_, _≤_, _<_}
 use native.Mathlib.Omega.{arith}
 use mathlib.Core.Bool.{cond}
 use mathlib.Core.List.{List, [], _∷_, _++_}
@@ -15,6 +15,21 @@ Over (skip p) a zero = ⊥
 Over (skip p) a (suc b) = (a ≤ b) × Over p a b
 Over (detour d inner rest) a zero = ⊥
 Over (detour d inner rest) a (suc b) = (a ≤ d) × (d ≤ b) × Over inner (suc d) b × Over rest a d
+
+-- Each detour of the plan starts right of where the stop before its own starts, so that its leg reads no stop left of its own.
+abbrev pub Owned : (ℕ → ℕ) → Plan → Type 0
+Owned L empty = Unit {0}
+Owned L (skip p) = Owned L p
+Owned L (detour d inner rest) = (L d < L (suc d)) × Owned L inner × Owned L rest
+
+-- Where each stop starts right of the one before it, every plan is such.
+pub owned-all : (L : ℕ → ℕ) (n : ℕ) → ((i : ℕ) → i < n → L i < L (suc i)) → (p : Plan) (a b : ℕ) → Over p a b → b ≤ n → Owned L p
+owned-all L n up empty a b o h = tt
+owned-all L n up (skip p) a zero o h = absurd o
+owned-all L n up (skip p) a (suc b) o h = owned-all L n up p a b (o .1) (omega arith)
+owned-all L n up (detour d inner rest) a zero o h = absurd o
+owned-all L n up (detour d inner rest) a (suc b) o h =
+    (up d (omega arith), owned-all L n up inner (suc d) b (o .2) (omega arith), owned-all L n up rest a d (o .3) (omega arith))
 
 -- A plan over (a, b] lists at most b - a detours.
 pub listed-few : (F : ℕ → ℕ) (p : Plan) (a b : ℕ) → Over p a b → length (planDetours F p b) ≤ b - a

@@ -9,8 +9,8 @@ use lib.Dec.{leb, ltb}
 use lib.ListN.{length}
 use borrow.Author.Tests.{ltb-true, leb-false, not-false, lt-ltb, lt-leb}
 use Rattle.runs.specs.Run.{Stop}
-use Rattle.runs.specs.Lists.{Detour, badAlone, badAfter, anyBelow, entryOf, badEntry, firstBadEntry, WellFormed}
-use Rattle.runs.proofs.Search.{true-or-false, or-false-both, first-zero, first-all, any-zero}
+use Rattle.runs.specs.Lists.{Detour, wanted, leftmost, badAlone, badAfter, anyBelow, entryOf, badEntry, firstBadEntry, WellFormed}
+use Rattle.runs.proofs.Search.{true-or-false, or-false-both, first-zero, first-all, first-same, any-zero}
 
 -- "Some entry" is false where each is.
 module _ (bad : ℕ → Bool) where
@@ -49,11 +49,11 @@ module _ (P : Detour → Type 0) where
   all-split [] ys v = (tt, v)
   all-split (x ∷ xs) ys v = let w : All P xs × All P ys = all-split xs ys (v .1) in ((v .0, w .0), w .1)
 
-  all-of-index : (xs : List Detour) → ((i : ℕ) → i < length xs → P (entryOf xs i)) → All P xs
+  pub all-of-index : (xs : List Detour) → ((i : ℕ) → i < length xs → P (entryOf xs i)) → All P xs
   all-of-index [] f = tt
   all-of-index (x ∷ xs) f = (f 0 (omega arith), all-of-index xs (λ i h. f (suc i) (omega arith)))
 
-  index-of-all : (xs : List Detour) → All P xs → (i : ℕ) → i < length xs → P (entryOf xs i)
+  pub index-of-all : (xs : List Detour) → All P xs → (i : ℕ) → i < length xs → P (entryOf xs i)
   index-of-all [] v i h = absurd (omega arith)
   index-of-all (x ∷ xs) v zero h = v .0
   index-of-all (x ∷ xs) v (suc i) h = index-of-all xs (v .1) i (omega arith)
@@ -127,3 +127,10 @@ module _ (stops : List Stop) (list : List Detour) where
       (λ i h.
       rw (index-of-all (Alone stops) list v i h)
       (below-none (λ j. badAfter (entryOf list j) (entryOf list i)) i (λ j l. test-of-after (entryOf list j) (entryOf list i) (index-of-ordered list w j i l h))))
+
+-- The rules look at names alone.
+pub formed-by-names : (ss ss′ : List Stop) → ((f : ℕ) → wanted ss f ≡ wanted ss′ f) → leftmost ss ≡ leftmost ss′ → (list : List Detour) → firstBadEntry ss list ≡ firstBadEntry ss′ list
+unfolding firstBadEntry
+formed-by-names ss ss′ names first list =
+    first-same (badEntry ss list) (badEntry ss′ list) (length list)
+    (λ i l. rw (names (entryOf list i .from), names (entryOf list i .to), first))

@@ -8,18 +8,17 @@ use mathlib.Core.Path.{_≡_, refl, sym, ap, _∙_}
 use mathlib.Core.Bool.{cond, _||_}
 use mathlib.Core.Logic.{by-cases}
 use mathlib.Core.List.{List, [], _∷_, map}
-use lib.ListN.{length}
 use lib.Dec.{eqb}
 use Rattle.walk.specs.declared.Head.{Head}
 use Rattle.walk.specs.declared.Leg.{Leg}
 use Rattle.runs.specs.Run.{Run, Stop, stopOf, merged, joinTo, joined, wantStops, wantStopsOf, stopsOf}
-use Rattle.runs.specs.Lists.{Detour, wanted, leftmost, badAlone, badAfter, anyBelow, badEntry, entryOf, WellFormed, firstBadEntry}
+use Rattle.runs.specs.Lists.{Detour, wanted, leftmost, WellFormed, firstBadEntry}
 use Rattle.walk.specs.Walk.{served, timeOf, timesOf, legFor, legsFor, sumOf}
 use Rattle.walk.specs.Detours.{startOf, endOf, legOf, unreadEnd, sweepEnd, lastSweep, legsOf}
-use Rattle.runs.proofs.Search.{first-same}
 use Rattle.runs.proofs.Joined.{Places, by-name, join-none, join-same, join-other}
 use Rattle.walk.proofs.Joins.{served-same, time-same, leg-same}
 use Rattle.least.specs.Least.{listSum, LeastFor}
+use Rattle.least.proofs.Rules.{formed-by-names}
 use Rattle.least.proofs.Offices.{OneTape}
 
 module _ (c : ℕ) where
@@ -98,14 +97,8 @@ module _ (c : ℕ) where
   legs-scaled ss list = rw (detours-scaled ss list, sweep-scaled ss list)
 
   -- Well-formed lists too.
-  alone-scaled : (ss : List Stop) (d : Detour) → badAlone (allScaled ss) d ≡ badAlone ss d
-  alone-scaled ss d = rw (wanted-scaled ss (d .from), wanted-scaled ss (d .to), leftmost-scaled ss)
-
   bad-scaled : (ss : List Stop) (list : List Detour) → firstBadEntry (allScaled ss) list ≡ firstBadEntry ss list
-  unfolding firstBadEntry
-  bad-scaled ss list =
-      first-same (badEntry (allScaled ss) list) (badEntry ss list) (length list)
-      (λ i l. ap (λ b. b || anyBelow (λ j. badAfter (entryOf list j) (entryOf list i)) i) (alone-scaled ss (entryOf list i)))
+  bad-scaled ss list = formed-by-names (allScaled ss) ss (wanted-scaled ss) (leftmost-scaled ss) list
 
   -- Times and legs are the same, and sums c times as large.
   module _ (price : ℕ) (h : Head) (gs : List Leg) where

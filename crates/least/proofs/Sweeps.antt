@@ -1,6 +1,6 @@
 -- The last sweep ends where nothing is left to read. It still reads every stop that no detour has read, so that no time depends on where it
 -- ends; and the walk of a well-formed list ends with a read. Which leg reads a stop, and what that says of its time.
-use Prim.Native.Nat.{ℕ, zero, suc, _+_, _-_, _≤_, _<_}
+use Prim.Native.Nat.{ℕ, zero, suc, _+_, _-_, _*_, _≤_, _<_}
 use mathlib.Core.Path.{_≡_, refl, sym, ap, _∙_}
 use mathlib.Core.Bool.{true, false, or-true, true≢false}
 use mathlib.Core.Logic.{⊎-elim}
@@ -18,19 +18,19 @@ use Rattle.runs.specs.Lists.{Detour, wanted, badAlone, badEntry, entryOf, WellF
 use Rattle.walk.specs.Walk.{headAt, setOff, afterLeg, runRight, walked, reads, served, ServesAll, timeOf, legFrom, legFor}
 use Rattle.walk.specs.Detours.{startOf, legOf, unreadEnd, sweepEnd, lastSweep, legsOf, fullSweep, fullLegsOf}
 use Rattle.runs.proofs.Search.{true-or-false, or-false-both, first-zero}
-use Rattle.runs.proofs.Sound.{Sound}
+use Rattle.runs.proofs.Sound.{Sound, SoundAny, sound-any}
 use Rattle.walk.proofs.Steps.{read-inside}
 use Rattle.walk.proofs.Sweeps.{Unread, unread-or-none, passed, kept}
-use Rattle.least.proofs.Movements.{faced-later, after-clock, time-when-read, time-when-not}
+use Rattle.least.proofs.Movements.{faced-later, after-clock, time-when-read, time-when-not, read-at}
 use Rattle.least.proofs.Rising.{rises-by-steps}
 
 -- Stops further right end further right.
 abbrev EndsRise : List Stop → Type 0
 EndsRise ss = (i j : ℕ) → i < j → j < length ss → stopAt ss i .end ≤ stopAt ss j .end
 
-ends-rise : (stops : List Stop) (m : ℕ) → Sound stops m → EndsRise stops
+ends-rise : (stops : List Stop) (m : ℕ) → SoundAny stops m → EndsRise stops
 ends-rise stops m ok i j l h =
-    let up = rises-by-steps (λ k. stopAt stops k .end) j (λ k b. omega (arith, ok .apart k (omega arith), ok .extends (suc k) (omega arith))) i j l (omega arith) in
+    let up = rises-by-steps (λ k. stopAt stops k .end) j (λ k b. ok .ends k (omega arith)) i j l (omega arith) in
     omega (arith, up)
 
 tail-rises : (s : Stop) (ss : List Stop) → EndsRise (s ∷ ss) → EndsRise ss
@@ -60,34 +60,23 @@ module _ (gs : List Leg) where
   sweep-reaches s ss up (suc i) l f = reaches ss (s .end) (tail-rises s ss up) i (omega arith) f
 
 -- A sweep from the leftmost stop.
-module _ (first : Stop) (later : List Stop) (m : ℕ) (ok : Sound (first ∷ later) m) where
+module _ (first : Stop) (later : List Stop) (m : ℕ) (ok : SoundAny (first ∷ later) m) where
   starts-right : (i : ℕ) → i < length (first ∷ later) → first .start ≤ stopAt (first ∷ later) i .start
   starts-right zero l = omega arith
   starts-right (suc i) l =
       let before = starts-right i (omega arith) in
-      omega (arith, before, ok .extends i (omega arith), ok .apart i l)
+      omega (arith, before, ok .starts i l)
 
-tail-sound : (s : Stop) (ss : List Stop) (m : ℕ) → Sound (s ∷ ss) m → Sound ss m
-tail-sound s ss m ok =
-    record {
-      named = λ i l. ok .named (suc i) (omega arith);
-      ascends = λ i l. ok .ascends (suc i) (omega arith);
-      extends = λ i l. ok .extends (suc i) (omega arith);
-      apart = λ i l. ok .apart (suc i) (omega arith);
-      counted = λ i l. ok .counted (suc i) (omega arith);
-      reached = λ i l. ok .reached (suc i) (omega arith);
-    }
-
-rightmost : (s : Stop) (ss : List Stop) (m : ℕ) → Sound (s ∷ ss) m → (i : ℕ) → i < length (s ∷ ss) → stopAt (s ∷ ss) i .end ≤ rightEnd (s ∷ ss)
+rightmost : (s : Stop) (ss : List Stop) → EndsRise (s ∷ ss) → (i : ℕ) → i < length (s ∷ ss) → stopAt (s ∷ ss) i .end ≤ rightEnd (s ∷ ss)
 unfolding rightEnd
-rightmost s [] m ok zero l = omega arith
-rightmost s [] m ok (suc i) l = absurd (omega arith)
-rightmost s (t ∷ ts) m ok zero l =
-    let rest = rightmost t ts m (tail-sound s (t ∷ ts) m ok) 0 (omega arith) in
-    omega (arith, rest, ok .apart 0 (omega arith), ok .extends 1 (omega arith))
-rightmost s (t ∷ ts) m ok (suc i) l = rightmost t ts m (tail-sound s (t ∷ ts) m ok) i (omega arith)
+rightmost s [] up zero l = omega arith
+rightmost s [] up (suc i) l = absurd (omega arith)
+rightmost s (t ∷ ts) up zero l =
+    let rest = rightmost t ts (tail-rises s (t ∷ ts) up) 0 (omega arith) in
+    omega (arith, rest, up 0 1 (omega arith) (omega arith))
+rightmost s (t ∷ ts) up (suc i) l = rightmost t ts (tail-rises s (t ∷ ts) up) i (omega arith)
 
-module _ (s : Stop) (ss : List Stop) (m : ℕ) (ok : Sound (s ∷ ss) m) (list : List Detour) (i : ℕ) (l : i < length (s ∷ ss)) where
+module _ (s : Stop) (ss : List Stop) (m : ℕ) (ok : SoundAny (s ∷ ss) m) (list : List Detour) (i : ℕ) (l : i < length (s ∷ ss)) where
   detours : List Leg
   detours = map (legOf (s ∷ ss)) list
 
@@ -100,7 +89,7 @@ module _ (s : Stop) (ss : List Stop) (m : ℕ) (ok : Sound (s ∷ ss) m) (list :
       )
 
   full-reads : reads (record { left = s .start; right = rightEnd (s ∷ ss) }) (stopAt (s ∷ ss) i) ≡ true
-  full-reads = rw (le-leb (s .start) (stopAt (s ∷ ss) i .start) (starts-right s ss m ok i l), le-leb (stopAt (s ∷ ss) i .end) (rightEnd (s ∷ ss)) (rightmost s ss m ok i l))
+  full-reads = rw (le-leb (s .start) (stopAt (s ∷ ss) i .start) (starts-right s ss m ok i l), le-leb (stopAt (s ∷ ss) i .end) (rightEnd (s ∷ ss)) (rightmost s ss (ends-rise (s ∷ ss) m ok) i l))
 
 -- The time of a stop is the same with either of two last legs from the same start that both read it, or where it has been read before.
 last-alike : (U : ℕ) (gs : List Leg) (a b : Leg) (s : Stop) → a .left ≡ b .left → (served gs s ≡ false → reads a s ≡ reads b s)
@@ -114,12 +103,25 @@ last-alike U (g ∷ gs) a b s e alike h =
     (true-or-false (reads g s))
 
 -- No time depends on where the last sweep ends.
-pub times-stay : (stops : List Stop) (m : ℕ) → Sound stops m → (list : List Detour) (U : ℕ) (h : Head) (i : ℕ) → i < length stops
+pub times-stay-any : (stops : List Stop) (m : ℕ) → SoundAny stops m → (list : List Detour) (U : ℕ) (h : Head) (i : ℕ) → i < length stops
     → timeOf U h (legsOf stops list) (stopAt stops i) ≡ timeOf U h (fullLegsOf stops list) (stopAt stops i)
 unfolding legsOf lastSweep fullLegsOf fullSweep detours
-times-stay [] m ok list U h i l = absurd (omega arith)
-times-stay (s ∷ ss) m ok list U h i l =
+times-stay-any [] m ok list U h i l = absurd (omega arith)
+times-stay-any (s ∷ ss) m ok list U h i l =
     last-alike U (map (legOf (s ∷ ss)) list) _ _ (stopAt (s ∷ ss) i) refl (λ f. sweep-reads s ss m ok list i l f ∙ sym (full-reads s ss m ok list i l)) h
+
+pub times-stay : (stops : List Stop) (m : ℕ) → Sound stops m → (list : List Detour) (U : ℕ) (h : Head) (i : ℕ) → i < length stops
+    → timeOf U h (legsOf stops list) (stopAt stops i) ≡ timeOf U h (fullLegsOf stops list) (stopAt stops i)
+times-stay stops m ok = times-stay-any stops m (sound-any stops m ok)
+
+-- With no detour the sweep reads every stop.
+pub swept-time : (s : Stop) (ss : List Stop) (m : ℕ) → SoundAny (s ∷ ss) m → (U i : ℕ) → i < length (s ∷ ss)
+    → timeOf U (headAt m) (legsOf (s ∷ ss) []) (stopAt (s ∷ ss) i) + 2 * s .start ≡ m + U + stopAt (s ∷ ss) i .end
+unfolding legsOf lastSweep served detours
+swept-time s ss m ok U i l =
+    let sweep : Leg = record { left = s .start; right = sweepEnd [] (s ∷ ss) } in
+    let long : stopAt (s ∷ ss) i .start < stopAt (s ∷ ss) i .end = ok .extends i l in
+    omega (arith, read-at U (headAt m) sweep [] (stopAt (s ∷ ss) i) (ok .within 0 (omega arith)) (omega arith) (sweep-reads s ss m ok [] i l refl))
 
 -- What is served by some legs is served by more.
 served-after : (gs hs : List Leg) (s : Stop) → served hs s ≡ true → served (gs ++ hs) s ≡ true
@@ -133,20 +135,23 @@ served-before [] hs s e = absurd (true≢false (sym e))
 served-before (g ∷ gs) hs s e =
     ⊎-elim (λ t. rw t) (λ f. rw f (served-before gs hs s (rw f at e))) (true-or-false (reads g s))
 
-serves-each : (gs : List Leg) (ss : List Stop) → ((i : ℕ) → i < length ss → served gs (stopAt ss i) ≡ true) → ServesAll gs ss
+pub serves-each : (gs : List Leg) (ss : List Stop) → ((i : ℕ) → i < length ss → served gs (stopAt ss i) ≡ true) → ServesAll gs ss
 unfolding ServesAll
 serves-each gs [] h = tt
 serves-each gs (s ∷ ss) h = (rw (h 0 (omega arith)) tt, serves-each gs ss (λ i l. h (suc i) (omega arith)))
 
 -- The walk of a list reads every stop: what no detour reads, the last sweep does.
-pub each-served : (stops : List Stop) (m : ℕ) → Sound stops m → (list : List Detour) (i : ℕ) → i < length stops → served (legsOf stops list) (stopAt stops i) ≡ true
+pub each-served-any : (stops : List Stop) (m : ℕ) → SoundAny stops m → (list : List Detour) (i : ℕ) → i < length stops → served (legsOf stops list) (stopAt stops i) ≡ true
 unfolding legsOf lastSweep served detours
-each-served [] m ok list i l = absurd (omega arith)
-each-served (s ∷ ss) m ok list i l =
+each-served-any [] m ok list i l = absurd (omega arith)
+each-served-any (s ∷ ss) m ok list i l =
     ⊎-elim
     (λ t. served-before (map (legOf (s ∷ ss)) list) (lastSweep (s ∷ ss) list) (stopAt (s ∷ ss) i) t)
     (λ f. served-after (map (legOf (s ∷ ss)) list) (lastSweep (s ∷ ss) list) (stopAt (s ∷ ss) i) (rw (sweep-reads s ss m ok list i l f)))
     (true-or-false (served (map (legOf (s ∷ ss)) list) (stopAt (s ∷ ss) i)))
+
+pub each-served : (stops : List Stop) (m : ℕ) → Sound stops m → (list : List Detour) (i : ℕ) → i < length stops → served (legsOf stops list) (stopAt stops i) ≡ true
+each-served stops m ok = each-served-any stops m (sound-any stops m ok)
 
 pub all-served : (stops : List Stop) (m : ℕ) → Sound stops m → (list : List Detour) → ServesAll (legsOf stops list) stops
 all-served stops m ok list = serves-each (legsOf stops list) stops (each-served stops m ok list)
@@ -191,6 +196,13 @@ starts-past a (s ∷ ss) f low w =
     (λ away. rw away (starts-past a ss f (λ i l. low (suc i) (omega arith)) (rw away at w)))
     (true-or-false (eqb (s .file) f))
 
+pub none-reads-first : (s : Stop) (ss : List Stop) (ds : List Detour) → ((i : ℕ) → i < length ds → s .start < startOf (s ∷ ss) (entryOf ds i .from))
+    → served (map (legOf (s ∷ ss)) ds) s ≡ false
+unfolding served
+none-reads-first s ss [] each = refl
+none-reads-first s ss (d ∷ ds) each =
+    rw (lt-leb (startOf (s ∷ ss) (d .from)) (s .start) (each 0 (omega arith))) (none-reads-first s ss ds (λ i l. each (suc i) (omega arith)))
+
 module _ (s : Stop) (ss : List Stop) (m : ℕ) (ok : Sound (s ∷ ss) m) where
   past-first : (i : ℕ) → i < length ss → s .start < stopAt ss i .start
   past-first i l = omega (arith, ok .extends 0 (omega arith), ok .apart 0 (omega arith), starts-right-of i l)
@@ -199,7 +211,7 @@ module _ (s : Stop) (ss : List Stop) (m : ℕ) (ok : Sound (s ∷ ss) m) where
       starts-right-of zero l = ok .apart 0 (omega arith)
       starts-right-of (suc i) l = omega (arith, starts-right-of i (omega arith), ok .extends (suc i) (omega arith), ok .apart (suc i) (omega arith))
 
-  detour-past-first : (d : Detour) → badAlone (s ∷ ss) d ≡ false → s .start < startOf (s ∷ ss) (d .from)
+  pub detour-past-first : (d : Detour) → badAlone (s ∷ ss) d ≡ false → s .start < startOf (s ∷ ss) (d .from)
   unfolding wanted startOf
   detour-past-first d b =
       let four = or-false-both _ _ b in
@@ -211,12 +223,6 @@ module _ (s : Stop) (ss : List Stop) (m : ℕ) (ok : Sound (s ∷ ss) m) where
       (λ away. rw away (starts-past (s .start) ss (d .from) past-first (rw away at asked)))
       (true-or-false (eqb (s .file) (d .from)))
 
-  none-reads-first : (ds : List Detour) → ((i : ℕ) → i < length ds → badAlone (s ∷ ss) (entryOf ds i) ≡ false) → served (map (legOf (s ∷ ss)) ds) s ≡ false
-  unfolding served
-  none-reads-first [] each = refl
-  none-reads-first (d ∷ ds) each =
-      rw (lt-leb (startOf (s ∷ ss) (d .from)) (s .start) (detour-past-first d (each 0 (omega arith)))) (none-reads-first ds (λ i l. each (suc i) (omega arith)))
-
 -- The last event of a walk is a read: its clock is the largest of the stops' times, and its place the end of the stop that has it.
 pub record LastRead (U : ℕ) (h : Head) (gs : List Leg) (stops : List Stop) : Type 0 where
   pub index : ℕ
@@ -225,13 +231,15 @@ pub record LastRead (U : ℕ) (h : Head) (gs : List Leg) (stops : List Stop) : T
   pub place : walked U h gs .place ≡ stopAt stops index .end
   pub latest : (i : ℕ) → i < length stops → timeOf U h gs (stopAt stops i) ≤ walked U h gs .clock
 
-module _ (s : Stop) (ss : List Stop) (m : ℕ) (ok : Sound (s ∷ ss) m) (list : List Detour) (formed : WellFormed (s ∷ ss) list) (U : ℕ) where
+first-unread : (s : Stop) (ss : List Stop) (m : ℕ) → Sound (s ∷ ss) m → (list : List Detour) → WellFormed (s ∷ ss) list → served (map (legOf (s ∷ ss)) list) s ≡ false
+unfolding firstBadEntry
+first-unread s ss m ok list formed =
+    none-reads-first s ss list
+    (λ i l. detour-past-first s ss m ok (entryOf list i) (or-false-both _ _ (first-zero (badEntry (s ∷ ss) list) (length list) formed i l) .0))
+
+module _ (s : Stop) (ss : List Stop) (m : ℕ) (ok : SoundAny (s ∷ ss) m) (list : List Detour) (unread : served (map (legOf (s ∷ ss)) list) s ≡ false) (U : ℕ) where
   gs : List Leg
   gs = map (legOf (s ∷ ss)) list
-
-  first-unread : served gs s ≡ false
-  unfolding gs firstBadEntry
-  first-unread = none-reads-first s ss m ok list (λ i l. or-false-both _ _ (first-zero (badEntry (s ∷ ss) list) (length list) formed i l) .0)
 
   read-last : (i : ℕ) → i < length (s ∷ ss) → served gs (stopAt (s ∷ ss) i) ≡ false → sweepEnd gs (s ∷ ss) ≡ stopAt (s ∷ ss) i .end
       → LastRead U (headAt m) (legsOf (s ∷ ss) list) (s ∷ ss)
@@ -247,18 +255,18 @@ module _ (s : Stop) (ss : List Stop) (m : ℕ) (ok : Sound (s ∷ ss) m) (list :
         latest = λ j b. time-by-end U (headAt m) (legsOf (s ∷ ss) list) (stopAt (s ∷ ss) j);
       }
 
-  ends-with-a-read : LastRead U (headAt m) (legsOf (s ∷ ss) list) (s ∷ ss)
-  unfolding sweepEnd
+  pub ends-with-a-read : LastRead U (headAt m) (legsOf (s ∷ ss) list) (s ∷ ss)
+  unfolding sweepEnd gs
   ends-with-a-read =
       ⊎-elim
-      (λ q. read-last 0 (omega arith) first-unread q)
+      (λ q. read-last 0 (omega arith) unread q)
       (λ u. read-last (suc (u .index)) (omega (arith, u .within)) (u .unread) (u .is))
       (unread-or-none gs ss (s .end))
 
 pub last-read : (stops : List Stop) (m : ℕ) → Sound stops m → 0 < length stops → (list : List Detour) → WellFormed stops list → (U : ℕ)
     → LastRead U (headAt m) (legsOf stops list) stops
 last-read [] m ok some list formed U = absurd (omega arith)
-last-read (s ∷ ss) m ok some list formed U = ends-with-a-read s ss m ok list formed U
+last-read (s ∷ ss) m ok some list formed U = ends-with-a-read s ss m (sound-any (s ∷ ss) m ok) list (first-unread s ss m ok list formed) U
 
 -- The leftmost stop is read by the last leg.
 leg-last : (gs : List Leg) (a : Leg) (s : Stop) (n : ℕ) → served gs s ≡ false → reads a s ≡ true → legFrom n (gs ++ a ∷ []) s ≡ n + length gs
@@ -268,13 +276,16 @@ leg-last (g ∷ gs) a s n f t =
     let none = or-false-both (reads g s) (served gs s) f in
     rw (none .0) (omega (arith, leg-last gs a s (suc n) (none .1) t))
 
-pub leftmost-last : (s : Stop) (ss : List Stop) (m : ℕ) → Sound (s ∷ ss) m → (list : List Detour) → WellFormed (s ∷ ss) list
+pub leftmost-last-any : (s : Stop) (ss : List Stop) (m : ℕ) → SoundAny (s ∷ ss) m → (list : List Detour) → served (map (legOf (s ∷ ss)) list) s ≡ false
     → legFor (legsOf (s ∷ ss) list) s ≡ length list + 1
-unfolding legsOf lastSweep gs detours
-leftmost-last s ss m ok list formed =
-    let f = first-unread s ss m ok list formed 0 in
+unfolding legsOf lastSweep detours
+leftmost-last-any s ss m ok list f =
     let last = leg-last (map (legOf (s ∷ ss)) list) (record { left = s .start; right = sweepEnd (map (legOf (s ∷ ss)) list) (s ∷ ss) }) s 1 f (sweep-reads s ss m ok list 0 (omega arith) f) in
     omega (arith, last, length-map list (legOf (s ∷ ss)))
+
+pub leftmost-last : (s : Stop) (ss : List Stop) (m : ℕ) → Sound (s ∷ ss) m → (list : List Detour) → WellFormed (s ∷ ss) list
+    → legFor (legsOf (s ∷ ss) list) s ≡ length list + 1
+leftmost-last s ss m ok list formed = leftmost-last-any s ss m (sound-any (s ∷ ss) m ok) list (first-unread s ss m ok list formed)
 
 -- How many legs there are: the detours and the sweep.
 pub legs-count : (s : Stop) (ss : List Stop) (list : List Detour) → length (legsOf (s ∷ ss) list) ≡ length list + 1

@@ -206,7 +206,7 @@ module _ (L R C : ℕ → ℕ) (U : ℕ) where
           rw same (detour-not-before d q r (best L R C U (suc d) b (s + C (suc b))) (best L R C U a d s) a b h l g g′)))
 
   -- A plan of least cost has an inner plan and a rest of least cost.
-  detour-parts :
+  pub detour-parts :
       (d : ℕ) (q r : Plan) (a b s : ℕ) →
       Over (detour d q r) a (suc b) →
       cost L R C U (detour d q r) a (suc b) s ≡ value L R C U a (suc b) s →

@@ -6,23 +6,24 @@ use mathlib.Core.Path.{_≡_, refl}
 use mathlib.Core.Logic.{_⊎_, inl, inr}
 use borrow.Author.Tests.{le-leb, lt-leb}
 use Rattle.least.proofs.Plan.{Over, lagAfter, legTime, timeIn}
-use Rattle.least.proofs.Rising.{rises-by-steps, rises-not-strictly}
+use Rattle.least.proofs.Rising.{Rises, rises-by-steps, rises-weakly}
 use Rattle.least.specs.Recurrence.{Plan, empty, skip, detour, trip}
 
--- Stops 0 … n have a length and do not overlap.
+-- Stops 0 … n have a length, none starts left of the one before it, and each ends right of that one's end. They may overlap.
 pub record Spaced (L R : ℕ → ℕ) (n : ℕ) : Type 0 where
   pub extends : (i : ℕ) → i ≤ n → L i < R i
-  pub apart : (i : ℕ) → i < n → R i ≤ L (suc i)
+  pub starts : (i : ℕ) → i < n → L i ≤ L (suc i)
+  pub ends : (i : ℕ) → i < n → R i < R (suc i)
 
 module _ (L R : ℕ → ℕ) (n : ℕ) (spaced : Spaced L R n) where
   pub starts-rise : (i j : ℕ) → i ≤ j → j ≤ n → L i ≤ L j
-  starts-rise = rises-not-strictly L n (rises-by-steps L n (λ i h. omega (arith, spaced .extends i (omega arith), spaced .apart i h)))
+  starts-rise = rises-weakly L n (spaced .starts)
 
-  pub ends-before : (i j : ℕ) → i < j → j ≤ n → R i ≤ L j
-  ends-before i j h l = omega (arith, spaced .apart i (omega arith), starts-rise (suc i) j h l)
+  pub ends-rise : Rises R n
+  ends-rise = rises-by-steps R n (spaced .ends)
 
-  -- The subtraction in the time of a leg is not cut off, for a lag that is right of the stop.
-  pub legTime-exact : (U y a i : ℕ) → R i ≤ y → a ≤ i → i ≤ n → legTime L R U y a i + 2 * L a ≡ y + (U + R i)
+  -- The subtraction in the time of a leg is not cut off, for a lag that is right of its start.
+  pub legTime-exact : (U y a i : ℕ) → L a ≤ y → a ≤ i → i ≤ n → legTime L R U y a i + 2 * L a ≡ y + (U + R i)
   legTime-exact U y a i r h l = omega (arith, spaced .extends i l, starts-rise a i h l)
 
 module _ (L R : ℕ → ℕ) (U : ℕ) where

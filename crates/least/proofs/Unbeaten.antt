@@ -1,7 +1,7 @@
 -- No movement of one run beats the least list of another that wants no more: the head further left, the turn cheaper, each file read as often or less.
 use Prim.Native.Nat.{ℕ, zero, suc, _-_, _*_, _≤_, _<_}
 use native.Mathlib.Omega.{arith}
-use native.Mathlib.Nat.{mul-le-mul}
+use native.Mathlib.Nat.{mul-le-mul-left, mul-le-mul-right}
 use mathlib.Core.Path.{_≡_, refl, sym, _∙_}
 use mathlib.Core.Bool.{false, cond}
 use mathlib.Core.Logic.{by-cases}
@@ -14,34 +14,36 @@ use Rattle.runs.specs.Run.{Stop, stopOf, merged, joinTo, joined, wantStops}
 use Rattle.runs.specs.Rows.{stopAt}
 use Rattle.walk.specs.declared.Leg.{Leg}
 use Rattle.walk.specs.Walk.{headAt, Moves, ServesAll, timeOf, sumOf}
-use Rattle.runs.specs.Lists.{Detour, WellFormed}
-use Rattle.walk.specs.Detours.{legsOf}
-use Rattle.runs.proofs.Sound.{Sound}
+use Rattle.runs.specs.Lists.{Detour}
+use Rattle.runs.proofs.Sound.{Sound, SoundAny, sound-any}
 use Rattle.runs.proofs.Joined.{Places, Alike, by-name, join-none, join-same, join-other}
 use Rattle.runs.proofs.Stops.{stops-agree}
 use Rattle.least.specs.Least.{listSum, LeastFor}
 use Rattle.least.specs.Wants.{readsOf}
-use Rattle.least.specs.Recurrence.{planDetours, fileAt, leftAt, rightAt, countAt}
+use Rattle.least.specs.Recurrence.{W, fileAt, leftAt, rightAt, countAt, leastList}
 use Rattle.least.proofs.Rising.{Rises, index-order}
 use Rattle.least.proofs.Sums.{W-below, W-part}
 use Rattle.least.proofs.Feasible.{Feasible, InTime, plan-in-time, feasible-of-movement, feasible-part, feasible-below}
-use Rattle.least.proofs.Walks.{sound-spaced, walk-times, by-file, sum-by-index, serves-each}
-use Rattle.least.proofs.Lists.{numbers-rise, listed-formed}
+use Rattle.least.proofs.Times.{planTime}
+use Rattle.least.proofs.Walks.{any-spaced, by-file, sum-by-index, serves-each}
+use Rattle.least.proofs.Lists.{numbers-rise}
+use Rattle.least.proofs.LeastList.{least-list-some, chosen-lowest, least-list}
 
--- For any feasible times the walk of some well-formed list reads every stop no later.
-pub record ListInTime (U m n : ℕ) (stops : List Stop) (t : ℕ → ℕ) : Type 0 where
-  pub list : List Detour
-  pub formed : WellFormed stops list
-  pub timely : (i : ℕ) → i ≤ n → timeOf U (headAt m) (legsOf stops list) (stopAt stops i) ≤ t i
-
-pub list-in-time : (U m n : ℕ) (stops : List Stop) (t : ℕ → ℕ) → Sound stops m → length stops ≡ suc n → Feasible m U (leftAt stops) (rightAt stops) n t → ListInTime U m n stops t
-list-in-time U m n stops t ok size v =
-    let w : InTime m U (leftAt stops) (rightAt stops) n t = plan-in-time m U (leftAt stops) (rightAt stops) n t (sound-spaced stops m n ok size) v in
-    record {
-      list = planDetours (fileAt stops) (w .plan) n;
-      formed = listed-formed m n stops ok size (w .plan) (w .over);
-      timely = λ i h. rw (walk-times m n stops ok size (w .plan) (w .over) U i h) (w .timely i h);
-    }
+-- The sum of the table's list is no larger than any feasible times make it: some plan reads every stop no later.
+feasible-sum : (U m n : ℕ) (stops : List Stop) (t : ℕ → ℕ) → SoundAny stops m → length stops ≡ suc n → Feasible m U (leftAt stops) (rightAt stops) n t
+    → listSum U m stops (leastList U stops) ≤ W (λ i. countAt stops i * t i) (length stops)
+feasible-sum U m n stops t ok size v =
+    let w : InTime m U (leftAt stops) (rightAt stops) n t = plan-in-time m U (leftAt stops) (rightAt stops) n t (any-spaced stops m n ok size) v in
+    rw (least-list-some U n stops size, size)
+    (omega (
+      arith,
+      chosen-lowest m n stops ok size U (w .plan) (w .over),
+      W-below
+          (λ i. countAt stops i * planTime (leftAt stops) (rightAt stops) U (w .plan) 0 n m i)
+          (λ i. countAt stops i * t i)
+          (suc n)
+          (λ i h. mul-le-mul-left (countAt stops i) (w .timely i (omega arith))),
+    ))
 
 -- Every stop of the second list is one of the first, wanted there at least as often.
 pub record Covers (stops stops′ : List Stop) : Type 0 where
@@ -52,46 +54,47 @@ pub record Covers (stops stops′ : List Stop) : Type 0 where
   pub ends : (i : ℕ) → i < length stops′ → rightAt stops (index i) ≡ rightAt stops′ i
   pub counts : (i : ℕ) → i < length stops′ → countAt stops′ i ≤ countAt stops (index i)
 
-module _ (U m U′ m′ n n′ : ℕ) (stops stops′ : List Stop) (ok : Sound stops m) (ok′ : Sound stops′ m′) (size : length stops ≡ suc n) (size′ : length stops′ ≡ suc n′)
-    (covers : Covers stops stops′) (gs : List Leg) (moves : Moves m gs) (serves : ServesAll gs stops) where
+-- Times that are feasible for the first list are for the second, the head further left and the turn cheaper.
+module _ (U m U′ m′ n n′ : ℕ) (stops stops′ : List Stop) (ok : SoundAny stops m) (ok′ : SoundAny stops′ m′) (size : length stops ≡ suc n) (size′ : length stops′ ≡ suc n′)
+    (covers : Covers stops stops′) (t : ℕ → ℕ) (feasible : Feasible m U (leftAt stops) (rightAt stops) n t) where
   -- Files rise in both lists, so the stops of the second stand in the first in their order.
   index-rises : Rises (covers .index) n′
   index-rises i j h l =
       index-order (fileAt stops) n (numbers-rise m n stops ok size) (covers .index i) (covers .index j) (omega (arith, covers .within i (omega arith)))
       (omega (arith, covers .files i (omega arith), covers .files j (omega arith), numbers-rise m′ n′ stops′ ok′ size′ i j h l))
 
-  -- When the movement reads stop i of the first list.
-  abbrev readAt : ℕ → ℕ
-  readAt i = timeOf U (headAt m) gs (stopAt stops i)
-
-  movement-feasible : m′ ≤ m → U′ ≤ U → Feasible m′ U′ (leftAt stops′) (rightAt stops′) n′ (λ i. readAt (covers .index i))
-  movement-feasible hm hU =
-      feasible-below m U (leftAt stops′) (rightAt stops′) n′ (λ i. readAt (covers .index i))
-      (feasible-part m U (leftAt stops) (rightAt stops) n readAt
-      (feasible-of-movement U m gs moves (stopAt stops) n (λ i h. omega (arith, ok .extends i (omega arith))) (λ i h. serves-each gs stops serves i (omega arith)))
+  still-feasible : m′ ≤ m → U′ ≤ U → Feasible m′ U′ (leftAt stops′) (rightAt stops′) n′ (λ i. t (covers .index i))
+  still-feasible hm hU =
+      feasible-below m U (leftAt stops′) (rightAt stops′) n′ (λ i. t (covers .index i))
+      (feasible-part m U (leftAt stops) (rightAt stops) n t feasible
       (leftAt stops′) (rightAt stops′) (covers .index) n′ index-rises
       (λ i h. (omega (arith, covers .within i (omega arith)), covers .starts i (omega arith), covers .ends i (omega arith))))
       m′ U′ hm hU
 
-  -- A list of the second run that reads no stop later than the movement has no larger sum.
-  timely-sum : (l : ListInTime U′ m′ n′ stops′ (λ i. readAt (covers .index i))) → listSum U′ m′ stops′ (l .list) ≤ sumOf U (headAt m) gs stops
-  timely-sum l =
+  -- So the table's list for the second has no larger sum than they make for the first.
+  pub covered-sum : m′ ≤ m → U′ ≤ U → listSum U′ m′ stops′ (leastList U′ stops′) ≤ W (λ i. countAt stops i * t i) (length stops)
+  covered-sum hm hU =
       omega (
         arith,
-        sum-by-index U′ (headAt m′) (legsOf stops′ (l .list)) stops′,
+        feasible-sum U′ m′ n′ stops′ (λ i. t (covers .index i)) ok′ size′ (still-feasible hm hU),
         W-below
-            (λ i. countAt stops′ i * timeOf U′ (headAt m′) (legsOf stops′ (l .list)) (stopAt stops′ i))
-            (λ i. countAt stops (covers .index i) * readAt (covers .index i))
+            (λ i. countAt stops′ i * t (covers .index i))
+            (λ i. countAt stops (covers .index i) * t (covers .index i))
             (length stops′)
-            (λ i h. mul-le-mul (covers .counts i h) (l .timely i (omega arith))),
-        W-part (λ i. countAt stops i * readAt i) (covers .index) (length stops′) (length stops) (λ i j h k. index-rises i j h (omega arith)) (covers .within),
-        sum-by-index U (headAt m) gs stops,
+            (λ i h. mul-le-mul-right (t (covers .index i)) (covers .counts i h)),
+        W-part (λ i. countAt stops i * t i) (covers .index) (length stops′) (length stops) (λ i j h k. index-rises i j h (omega arith)) (covers .within),
       )
 
-  some-unbeaten : m′ ≤ m → U′ ≤ U → (list : List Detour) → LeastFor U′ m′ stops′ list → listSum U′ m′ stops′ list ≤ sumOf U (headAt m) gs stops
-  some-unbeaten hm hU list least =
-      let l : ListInTime U′ m′ n′ stops′ (λ i. readAt (covers .index i)) = list-in-time U′ m′ n′ stops′ (λ i. readAt (covers .index i)) ok′ size′ (movement-feasible hm hU) in
-      omega (arith, least .smallest (l .list) (l .formed), timely-sum l)
+some-unbeaten : (U m U′ m′ n n′ : ℕ) (stops stops′ : List Stop) → Sound stops m → Sound stops′ m′ → length stops ≡ suc n → length stops′ ≡ suc n′ → Covers stops stops′
+    → (gs : List Leg) → Moves m gs → ServesAll gs stops → m′ ≤ m → U′ ≤ U → (list : List Detour) → LeastFor U′ m′ stops′ list → listSum U′ m′ stops′ list ≤ sumOf U (headAt m) gs stops
+some-unbeaten U m U′ m′ n n′ stops stops′ ok ok′ size size′ covers gs moves serves hm hU list least =
+    omega (
+      arith,
+      least .smallest (leastList U′ stops′) (least-list U′ m′ stops′ ok′ .formed),
+      covered-sum U m U′ m′ n n′ stops stops′ (sound-any stops m ok) (sound-any stops′ m′ ok′) size size′ covers (λ i. timeOf U (headAt m) gs (stopAt stops i))
+          (feasible-of-movement U m gs moves (stopAt stops) n (λ i h. omega (arith, ok .extends i (omega arith))) (λ i h. serves-each gs stops serves i (omega arith))) hm hU,
+      sum-by-index U (headAt m) gs stops,
+    )
 
 none-unbeaten : (U′ m′ : ℕ) (list : List Detour) → listSum U′ m′ [] list ≡ 0
 unfolding sumOf

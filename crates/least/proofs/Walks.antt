@@ -6,7 +6,7 @@ use mathlib.Core.Bool.{true, false, cond}
 use mathlib.Core.Logic.{⊎-elim, by-cases}
 use mathlib.Core.List.{List, [], _∷_, _++_, map, append-assoc, map-append}
 use native.Mathlib.Omega.{arith}
-use native.Mathlib.Decide.{decLe, decLt}
+use native.Mathlib.Decide.{decLe}
 use native.Mathlib.Nat.{zero-add}
 use lib.Dec.{T, eqb}
 use lib.ListN.{length}
@@ -20,24 +20,33 @@ use Rattle.walk.specs.Walk.{headAt, afterLeg, Moves, reads, served, ServesAll, 
 use Rattle.runs.specs.Lists.{Detour}
 use Rattle.walk.specs.Detours.{startOf, endOf, legOf, legsOf, fullSweep, fullLegsOf}
 use Rattle.runs.proofs.Search.{true-or-false}
-use Rattle.runs.proofs.Sound.{Sound}
+use Rattle.runs.proofs.Sound.{Sound, SoundAny, sound-any}
 use Rattle.least.specs.Wants.{readsOf}
-use Rattle.least.proofs.Plan.{Over, lagAfter, timeIn}
+use Rattle.least.proofs.Plan.{Over, Owned, owned-all, lagAfter, timeIn}
 use Rattle.least.proofs.Identity.{runSum}
 use Rattle.walk.proofs.Steps.{lagOf, read-inside, lag-after-leg, time-in-leg}
 use Rattle.least.proofs.Movements.{time-when-read, time-when-not}
-use Rattle.least.proofs.Rising.{rises-by-steps}
+use Rattle.least.proofs.Rising.{rises-by-steps, rises-not-strictly}
 use Rattle.least.proofs.Sums.{W-front, W-same}
-use Rattle.least.proofs.Sweeps.{times-stay}
-use Rattle.least.proofs.Times.{Spaced, starts-rise, ends-before, planTime, unread-left, unread-right, time-in-inner, time-in-rest}
+use Rattle.least.proofs.Sweeps.{times-stay-any}
+use Rattle.least.proofs.Times.{Spaced, starts-rise, ends-rise, planTime, unread-left, unread-right, time-in-inner, time-in-rest}
 use Rattle.least.specs.Recurrence.{Plan, empty, skip, detour, planDetours, trip, W, fileAt, leftAt, rightAt, countAt}
 
-pub sound-spaced : (stops : List Stop) (m n : ℕ) → Sound stops m → length stops ≡ suc n → Spaced (leftAt stops) (rightAt stops) n
-sound-spaced stops m n ok e =
+pub any-spaced : (stops : List Stop) (m n : ℕ) → SoundAny stops m → length stops ≡ suc n → Spaced (leftAt stops) (rightAt stops) n
+any-spaced stops m n ok e =
     record {
       extends = λ i h. ok .extends i (omega arith);
-      apart = λ i h. ok .apart i (omega arith);
+      starts = λ i h. ok .starts i (omega arith);
+      ends = λ i h. ok .ends i (omega arith);
     }
+
+pub sound-spaced : (stops : List Stop) (m n : ℕ) → Sound stops m → length stops ≡ suc n → Spaced (leftAt stops) (rightAt stops) n
+sound-spaced stops m n ok e = any-spaced stops m n (sound-any stops m ok) e
+
+-- Stops that do not overlap start one right of the other.
+pub sound-owned : (stops : List Stop) (m n : ℕ) → Sound stops m → length stops ≡ suc n → (p : Plan) → Over p 0 n → Owned (leftAt stops) p
+sound-owned stops m n ok e p o =
+    owned-all (leftAt stops) n (λ i h. omega (arith, ok .extends i (omega arith), ok .apart i (omega arith))) p 0 n o (omega arith)
 
 -- The time at which a movement reads a stop, by the lag alone.
 unfoldable timeBy : ℕ → ℕ → List Leg → Stop → ℕ
@@ -97,32 +106,29 @@ module _ (L R : ℕ → ℕ) (n : ℕ) (spaced : Spaced L R n) where
 
 module _ (U : ℕ) (L R : ℕ → ℕ) (n : ℕ) (spaced : Spaced L R n) (s : Stop) (j : ℕ) (hj : j ≤ n) (l : s .start ≡ L j) (r : s .end ≡ R j) where
   end-inside : (b : ℕ) → j ≤ b → b ≤ n → s .end ≤ R b
-  end-inside b hb hn =
-      by-cases (decLt j b)
-      (λ h. omega (arith, ends-before L R n spaced j b h hn, spaced .extends b hn))
-      (λ h. let q : j ≡ b = omega arith in rw (← q) (omega arith))
+  end-inside b hb hn = omega (arith, rises-not-strictly R n (ends-rise L R n spaced) j b hb hn)
 
-  -- A leg from stop c to stop b reads the stops c … b and no other.
+  -- A leg from stop c to stop b reads the stops c … b and none right of them; and none left of them where the stop before c starts left of c.
   leg-reads : (c b : ℕ) → c ≤ j → j ≤ b → b ≤ n → reads (record { left = L c; right = R b }) s ≡ true
   leg-reads c b hc hb hn = rw (le-leb (L c) (s .start) (omega (arith, starts-rise L R n spaced c j hc hj)), le-leb (s .end) (R b) (end-inside b hb hn))
 
-  leg-passes-left : (c b : ℕ) → j < c → c ≤ n → reads (record { left = L c; right = R b }) s ≡ false
-  leg-passes-left c b h hn = rw (lt-leb (L c) (s .start) (omega (arith, ends-before L R n spaced j c h hn, spaced .extends j hj)))
+  leg-passes-left : (d b : ℕ) → j ≤ d → suc d ≤ n → L d < L (suc d) → reads (record { left = L (suc d); right = R b }) s ≡ false
+  leg-passes-left d b h hn own = rw (lt-leb (L (suc d)) (s .start) (omega (arith, starts-rise L R n spaced j d h (omega arith))))
 
   leg-passes-right : (c b : ℕ) → c ≤ j → b < j → reads (record { left = L c; right = R b }) s ≡ false
   leg-passes-right c b hc h =
-      rw (le-leb (L c) (s .start) (omega (arith, starts-rise L R n spaced c j hc hj)), lt-leb (s .end) (R b) (omega (arith, ends-before L R n spaced b j h hj, spaced .extends j hj)))
+      rw (le-leb (L c) (s .start) (omega (arith, starts-rise L R n spaced c j hc hj)), lt-leb (s .end) (R b) (omega (arith, ends-rise L R n spaced b j h hj)))
 
   -- A detour's leg and what follows it, E being when what follows the plan reads the stop.
-  detour-time : (d b y a E : ℕ) (inner rest : Plan) (gs : List Leg) → Over (detour d inner rest) a (suc b) → suc b ≤ n
+  detour-time : (d b y a E : ℕ) (inner rest : Plan) (gs : List Leg) → Over (detour d inner rest) a (suc b) → suc b ≤ n → L d < L (suc d)
       → timeBy U (lagAfter L R U inner b y + trip L R U (suc d) (suc b)) gs s ≡ timeIn L R U rest d (lagAfter L R U inner b y + trip L R U (suc d) (suc b)) j E
       → timeIn L R U inner b y j (timeBy U (lagAfter L R U inner b y) (record { left = L (suc d); right = R (suc b) } ∷ gs) s)
       ≡ timeIn L R U (detour d inner rest) (suc b) y j E
-  detour-time d b y a E inner rest gs o hn ih =
+  detour-time d b y a E inner rest gs o hn own ih =
       by-cases (decLe j d)
       (λ h.
       unread-left L R U inner (suc d) b y j _ (o .2) (omega arith)
-      ∙ by-lag-not U _ _ gs s (leg-passes-left (suc d) (suc b) (omega arith) (omega arith))
+      ∙ by-lag-not U _ _ gs s (leg-passes-left d (suc b) h (omega arith) own)
       ∙ ih
       ∙ sym (time-in-rest L R U d b y j E inner rest h))
       (λ h.
@@ -138,18 +144,18 @@ module _ (U : ℕ) (L R : ℕ → ℕ) (n : ℕ) (spaced : Spaced L R n) (s : St
       ∙ sym (unread-right L R U (detour d inner rest) a (suc b) y j E o (omega arith))))
 
   -- The legs of a plan, then any others, read the stop when the plan says, or else when the others do.
-  time-of-plan : (p : Plan) (a b y : ℕ) (gs : List Leg) → Over p a b → b ≤ n
+  time-of-plan : (p : Plan) (a b y : ℕ) (gs : List Leg) → Over p a b → b ≤ n → Owned L p
       → timeBy U y (legsIn L R p b ++ gs) s ≡ timeIn L R U p b y j (timeBy U (lagAfter L R U p b y) gs s)
   unfolding legsIn timeIn lagAfter
-  time-of-plan empty a b y gs o hn = refl
-  time-of-plan (skip p) a zero y gs o hn = absurd o
-  time-of-plan (skip p) a (suc b) y gs o hn = time-of-plan p a b y gs (o .1) (omega arith)
-  time-of-plan (detour d inner rest) a zero y gs o hn = absurd o
-  time-of-plan (detour d inner rest) a (suc b) y gs o hn =
+  time-of-plan empty a b y gs o hn own = refl
+  time-of-plan (skip p) a zero y gs o hn own = absurd o
+  time-of-plan (skip p) a (suc b) y gs o hn own = time-of-plan p a b y gs (o .1) (omega arith) own
+  time-of-plan (detour d inner rest) a zero y gs o hn own = absurd o
+  time-of-plan (detour d inner rest) a (suc b) y gs o hn own =
       ap (λ gs′. timeBy U y gs′ s) (append-assoc (legsIn L R inner b) (record { left = L (suc d); right = R (suc b) } ∷ legsIn L R rest d) gs)
-      ∙ time-of-plan inner (suc d) b y (record { left = L (suc d); right = R (suc b) } ∷ (legsIn L R rest d ++ gs)) (o .2) (omega arith)
-      ∙ detour-time d b y a (timeBy U (lagAfter L R U (detour d inner rest) (suc b) y) gs s) inner rest (legsIn L R rest d ++ gs) o hn
-      (time-of-plan rest a d (lagAfter L R U inner b y + trip L R U (suc d) (suc b)) gs (o .3) (omega arith))
+      ∙ time-of-plan inner (suc d) b y (record { left = L (suc d); right = R (suc b) } ∷ (legsIn L R rest d ++ gs)) (o .2) (omega arith) (own .1)
+      ∙ detour-time d b y a (timeBy U (lagAfter L R U (detour d inner rest) (suc b) y) gs s) inner rest (legsIn L R rest d ++ gs) o hn (own .0)
+      (time-of-plan rest a d (lagAfter L R U inner b y + trip L R U (suc d) (suc b)) gs (o .3) (omega arith) (own .2))
 
 -- File numbers rise with the index.
 abbrev pub Ascends : List Stop → Type 0
@@ -207,9 +213,9 @@ module _ (stops : List Stop) (up : Ascends stops) where
   unfolding fullLegsOf
   legs-of-plan p n o e = rw (detours-legs p 0 n o (omega arith), full-sweep-at stops n e)
 
-module _ (m n : ℕ) (stops : List Stop) (ok : Sound stops m) (size : length stops ≡ suc n) where
+module _ (m n : ℕ) (stops : List Stop) (ok : SoundAny stops m) (size : length stops ≡ suc n) where
   spaced : Spaced (leftAt stops) (rightAt stops) n
-  spaced = sound-spaced stops m n ok size
+  spaced = any-spaced stops m n ok size
 
   sweep : Leg
   sweep = record { left = leftAt stops 0; right = rightAt stops n }
@@ -229,20 +235,20 @@ module _ (m n : ℕ) (stops : List Stop) (ok : Sound stops m) (size : length sto
     walk-moves =
         let top : leftAt stops n < rightAt stops n = ok .extends n (omega arith) in
         let low : leftAt stops 0 ≤ leftAt stops n = starts-rise (leftAt stops) (rightAt stops) n spaced 0 n (omega arith) (omega arith) in
-        let reach : rightAt stops n ≤ m = ok .reached n (omega arith) in
+        let reach : leftAt stops n ≤ m = ok .within n (omega arith) in
         rw legs (moves-of-plan (leftAt stops) (rightAt stops) n spaced p 0 n m (sweep ∷ []) over (omega arith) (omega arith) (omega arith) (λ P′ h. (h, omega arith, tt)))
 
     -- The walk reads each stop when the plan says; the stops that the plan leaves are read by the last sweep, wherever it ends.
-    pub walk-times : (U i : ℕ) → i ≤ n
+    pub walk-times : Owned (leftAt stops) p → (U i : ℕ) → i ≤ n
         → timeOf U (headAt m) (legsOf stops (planDetours (fileAt stops) p n)) (stopAt stops i)
         ≡ planTime (leftAt stops) (rightAt stops) U p 0 n m i
     unfolding sweep
-    walk-times U i h =
+    walk-times own U i h =
         let o : leftAt stops i < rightAt stops i = ok .extends i (omega arith) in
-        times-stay stops m ok (planDetours (fileAt stops) p n) U (headAt m) i (omega arith)
+        times-stay-any stops m ok (planDetours (fileAt stops) p n) U (headAt m) i (omega arith)
         ∙ time-by-lag U (stopAt stops i) (omega arith) (headAt m) (fullLegsOf stops (planDetours (fileAt stops) p n)) walk-moves
         ∙ rw (zero-add m, legs)
-        (time-of-plan U (leftAt stops) (rightAt stops) n spaced (stopAt stops i) i h refl refl p 0 n m (sweep ∷ []) over (omega arith)
+        (time-of-plan U (leftAt stops) (rightAt stops) n spaced (stopAt stops i) i h refl refl p 0 n m (sweep ∷ []) over (omega arith) own
         ∙ ap (λ e. timeIn (leftAt stops) (rightAt stops) U p n m i e) (by-lag-read U _ sweep [] (stopAt stops i) (sweep-reads i h)))
 
 pub sum-by-index : (U : ℕ) (h : Head) (gs : List Leg) (stops : List Stop) → sumOf U h gs stops ≡ W (λ i. countAt stops i * timeOf U h gs (stopAt stops i)) (length stops)
@@ -257,7 +263,7 @@ serves-each gs [] v i h = absurd (omega arith)
 serves-each gs (s ∷ ss) v zero h = v .0
 serves-each gs (s ∷ ss) v (suc i) h = serves-each gs ss (v .1) i (omega arith)
 
-module _ (m n : ℕ) (stops : List Stop) (ok : Sound stops m) (size : length stops ≡ suc n) (p : Plan) (over : Over p 0 n) where
+module _ (m n : ℕ) (stops : List Stop) (ok : SoundAny stops m) (size : length stops ≡ suc n) (p : Plan) (over : Over p 0 n) (own : Owned (leftAt stops) p) where
   -- The sum of the walk of a plan's list, by the plan's times.
   pub walk-sum : (U : ℕ)
       → sumOf U (headAt m) (legsOf stops (planDetours (fileAt stops) p n)) stops ≡ runSum (leftAt stops) (rightAt stops) (countAt stops) U p n m
@@ -265,4 +271,4 @@ module _ (m n : ℕ) (stops : List Stop) (ok : Sound stops m) (size : length sto
       let gs : List Leg = legsOf stops (planDetours (fileAt stops) p n) in
       sum-by-index U (headAt m) gs stops
       ∙ ap (W (λ i. countAt stops i * timeOf U (headAt m) gs (stopAt stops i))) size
-      ∙ W-same _ _ (suc n) (λ i h. ap (λ t. countAt stops i * t) (walk-times m n stops ok size p over U i (omega arith)))
+      ∙ W-same _ _ (suc n) (λ i h. ap (λ t. countAt stops i * t) (walk-times m n stops ok size p over own U i (omega arith)))

@@ -165,7 +165,7 @@ module _ (starts lengths aggregates : List ℕ) where
         by-name false e = rw e
 
     module _ (froms tos : List ℕ) (even : length froms ≡ length tos) where
-      bad-row : (i : ℕ) → i < length froms → badEntry (joined (wantStops starts lengths aggregates ns cs)) (listOf froms tos) i ≡ rowBad aggregates ns froms tos i
+      pub bad-row : (i : ℕ) → i < length froms → badEntry (joined (wantStops starts lengths aggregates ns cs)) (listOf froms tos) i ≡ rowBad aggregates ns froms tos i
       bad-row i l =
           rw (
             any-same

@@ -11,3 +11,4 @@ pub mod Stops
 pub mod Alone
 pub mod Entries
 pub mod Formed
+pub mod AnyHead

@@ -4,4 +4,5 @@ pub mod Lists
 pub mod Judging
 pub mod Rows
 pub mod Alone
+pub mod AnyHead
 pub mod Private

@@ -2,11 +2,14 @@
 // For the pricer, the planner, the sheets and the C boundary, which see only these contracts. What the words mean stands in specs/;
 // each public function answers every input, and its contract is an equation with a definition there.
 mod aggregates;
+mod any_head;
 mod judging;
 mod lists;
 
 pub use aggregates::first_member;
 pub use aggregates::last_member;
+pub use any_head::lift_head;
+pub use any_head::smaller;
 pub use judging::count_reads;
 pub use judging::judge;
 pub use judging::judge_alone;

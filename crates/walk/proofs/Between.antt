@@ -13,10 +13,12 @@ use lib.Dec.{leb}
 use Rattle.runs.specs.Run.{endAt, goesOn, firstMember, lastMember, firstFile, stopOf}
 use Rattle.walk.specs.Walk.{served}
 use Rattle.runs.specs.Private.{SoundTable, InTable}
-use Rattle.walk.specs.Private.{leftOf, rightOf, detourLegs, Tabled, ListFits, readByNumber}
+use Rattle.runs.specs.AnyHead.{smaller}
+use Rattle.walk.specs.Private.{legStart, rightOf, detourLegs, Tabled, ListFits, readByNumber}
 use Rattle.runs.proofs.Search.{ltb-same, leb-not-ltb}
 use Rattle.runs.proofs.Members.{first-stays, first-below, first-begins, last-above, last-within, member-last, same-last, same-or-apart}
 use Rattle.runs.proofs.Stops.{first-file}
+use Rattle.runs.proofs.AnyHead.{smaller-is, smaller-above}
 use Rattle.runs.proofs.Table.{table-file, ends-rise, end-before-start}
 
 leb-same : (a b c d : ℕ) → (b < a → d < c) → (d < c → b < a) → leb a b ≡ leb c d
@@ -67,12 +69,14 @@ module _ (starts lengths aggregates : List ℕ) (t : Tabled starts lengths aggre
   inside : lastMember aggregates (f - 1) < length starts
   inside = omega (arith, t .rows, last-within aggregates (f - 1) (omega (arith, t .rows, named .least, named .most)))
 
-  left-by-number : (a : ℕ) → InTable starts a → goesOn aggregates (a - 1) ≡ false → leb (leftOf starts aggregates a) (getD starts g 0) ≡ leb a (firstFile aggregates f)
-  left-by-number a n e =
+  -- For a head at m, where the file's aggregate begins left of the head if its name lies left of where the detour starts.
+  left-by-number : (m a : ℕ) → InTable starts a → goesOn aggregates (a - 1) ≡ false → (firstFile aggregates f < a → getD starts g 0 < m)
+      → leb (legStart m starts aggregates a) (getD starts g 0) ≡ leb a (firstFile aggregates f)
+  left-by-number m a n e behind =
       rw (first-stays aggregates (a - 1) e)
-      (leb-same (getD starts (a - 1) 0) (getD starts g 0) a (suc g)
-      (λ l. elim (decLt (suc g) a) [ yes y ↦ y | no x ↦ absurd (omega (arith, l, starts-rise starts lengths (t .sound) (a - 1) g (omega arith) (omega (arith, first-below aggregates (f - 1), named .least, named .most)))) ])
-      (λ l. start-left starts lengths (t .sound) g (a - 1) (omega arith) (omega (arith, n .least, n .most)))
+      (leb-same (smaller (getD starts (a - 1) 0) m) (getD starts g 0) a (suc g)
+      (λ l. elim (decLt (suc g) a) [ yes y ↦ y | no x ↦ absurd (omega (arith, l, smaller-is (getD starts (a - 1) 0) m .first, starts-rise starts lengths (t .sound) (a - 1) g (omega arith) (omega (arith, first-below aggregates (f - 1), named .least, named .most)))) ])
+      (λ l. smaller-above (getD starts g 0) (getD starts (a - 1) 0) m (start-left starts lengths (t .sound) g (a - 1) (omega arith) (omega (arith, n .least, n .most))) (behind (omega (arith, l, first-file aggregates f (named .least)))))
       ∙ ap (leb a) (sym (first-file aggregates f (named .least))))
 
   right-by-number : (b : ℕ) → InTable starts b → goesOn aggregates (b - 1) ≡ false → leb (endAt starts lengths (lastMember aggregates (f - 1))) (rightOf starts lengths aggregates b) ≡ leb (firstFile aggregates f) b
@@ -92,15 +96,16 @@ module _ (starts lengths aggregates : List ℕ) (t : Tabled starts lengths aggre
         named = λ i l. fits .named (suc i) (omega arith);
       }
 
-  pub by-number : (froms tos : List ℕ) → ListFits starts lengths aggregates froms tos
-      → served (detourLegs starts lengths aggregates froms tos) (stopOf starts lengths aggregates f 0) ≡ readByNumber froms tos (firstFile aggregates f)
+  pub by-number : (m : ℕ) (froms tos : List ℕ) → ListFits starts lengths aggregates froms tos
+      → ((i : ℕ) → i < length froms → firstFile aggregates f < getD froms i 0 → getD starts g 0 < m)
+      → served (detourLegs m starts lengths aggregates froms tos) (stopOf starts lengths aggregates f 0) ≡ readByNumber froms tos (firstFile aggregates f)
   unfolding served detourLegs readByNumber
-  by-number [] tos fits = refl
-  by-number (a ∷ froms) [] fits = absurd (omega (arith, fits .even))
-  by-number (a ∷ froms) (b ∷ tos) fits =
+  by-number m [] tos fits behind = refl
+  by-number m (a ∷ froms) [] fits behind = absurd (omega (arith, fits .even))
+  by-number m (a ∷ froms) (b ∷ tos) fits behind =
       let here = fits .named 0 (omega arith) in
-      let rest = by-number froms tos (list-rest a b froms tos fits) in
-      rw (left-by-number a (fits .lefts 0 (omega arith)) (here .0), right-by-number b (fits .rights 0 (omega arith)) (here .1), rest)
+      let rest = by-number m froms tos (list-rest a b froms tos fits) (λ i l h. behind (suc i) (omega arith) h) in
+      rw (left-by-number m a (fits .lefts 0 (omega arith)) (here .0) (behind 0 (omega arith)), right-by-number b (fits .rights 0 (omega arith)) (here .1), rest)
 
 -- The search, as the loop has it: what is left of the rows decides.
 abbrev pub Searching : List ℕ → List ℕ → ℕ → ℕ → Type 0

@@ -13,75 +13,75 @@ use Rattle.walk.specs.declared.Leg.{Leg}
 use Rattle.walk.specs.declared.Read.{Read}
 use Rattle.runs.specs.Run.{Stop, lastPlace}
 use Rattle.walk.specs.Walk.{headAt, runRight, setOff, afterLeg, Moves, walked, timeOf, legFrom, legFor}
-use Rattle.walk.specs.Private.{leftOf, rightOf, detourLegs, sweepLegs, rowLegs, legAt, Walkable, readOf}
+use Rattle.walk.specs.Private.{legStart, rightOf, detourLegs, sweepLegs, rowLegs, legAt, Walkable, readOf}
 use Rattle.walk.proofs.Steps.{ready-place, set-off-clock, read-inside}
 
-module _ (starts lengths aggregates : List ℕ) where
-  pub length-detours : (froms tos : List ℕ) → length froms ≡ length tos → length (detourLegs starts lengths aggregates froms tos) ≡ length froms
+module _ (m : ℕ) (starts lengths aggregates : List ℕ) where
+  pub length-detours : (froms tos : List ℕ) → length froms ≡ length tos → length (detourLegs m starts lengths aggregates froms tos) ≡ length froms
   unfolding detourLegs
   length-detours [] tos e = refl
   length-detours (a ∷ froms) [] e = absurd (omega arith)
   length-detours (a ∷ froms) (b ∷ tos) e = ap suc (length-detours froms tos (omega arith))
 
   pub detour-leg : (froms tos : List ℕ) → length froms ≡ length tos → (i : ℕ) → i < length froms
-      → legAt (detourLegs starts lengths aggregates froms tos) i ≡ record { left = leftOf starts aggregates (getD froms i 0); right = rightOf starts lengths aggregates (getD tos i 0) }
+      → legAt (detourLegs m starts lengths aggregates froms tos) i ≡ record { left = legStart m starts aggregates (getD froms i 0); right = rightOf starts lengths aggregates (getD tos i 0) }
   unfolding detourLegs
   detour-leg [] tos e i l = absurd (omega arith)
   detour-leg (a ∷ froms) [] e i l = absurd (omega arith)
   detour-leg (a ∷ froms) (b ∷ tos) e zero l = refl
   detour-leg (a ∷ froms) (b ∷ tos) e (suc i) l = detour-leg froms tos (omega arith) i (omega arith)
 
-  sweep-count : (numbers : List ℕ) (reach : ℕ) → (length numbers ≡ 0 → ⊥) → length (sweepLegs starts aggregates numbers reach) ≡ 1
+  sweep-count : (numbers : List ℕ) (reach : ℕ) → (length numbers ≡ 0 → ⊥) → length (sweepLegs m starts aggregates numbers reach) ≡ 1
   unfolding sweepLegs
   sweep-count [] reach some = absurd (some refl)
   sweep-count (n ∷ ns) reach some = refl
 
-  sweep-none : (numbers : List ℕ) (reach : ℕ) → length numbers ≡ 0 → length (sweepLegs starts aggregates numbers reach) ≡ 0
+  sweep-none : (numbers : List ℕ) (reach : ℕ) → length numbers ≡ 0 → length (sweepLegs m starts aggregates numbers reach) ≡ 0
   unfolding sweepLegs
   sweep-none [] reach e = refl
   sweep-none (n ∷ ns) reach e = absurd (omega arith)
 
-  sweep-most : (numbers : List ℕ) (reach : ℕ) → length (sweepLegs starts aggregates numbers reach) ≤ 1
+  sweep-most : (numbers : List ℕ) (reach : ℕ) → length (sweepLegs m starts aggregates numbers reach) ≤ 1
   unfolding sweepLegs
   sweep-most [] reach = omega arith
   sweep-most (n ∷ ns) reach = omega arith
 
-  sweep-leg : (numbers : List ℕ) (reach : ℕ) → 0 < length (sweepLegs starts aggregates numbers reach)
-      → (0 < length numbers) × (legAt (sweepLegs starts aggregates numbers reach) 0 ≡ record { left = leftOf starts aggregates (getD numbers 0 0); right = reach })
+  sweep-leg : (numbers : List ℕ) (reach : ℕ) → 0 < length (sweepLegs m starts aggregates numbers reach)
+      → (0 < length numbers) × (legAt (sweepLegs m starts aggregates numbers reach) 0 ≡ record { left = legStart m starts aggregates (getD numbers 0 0); right = reach })
   unfolding sweepLegs
   sweep-leg [] reach l = absurd (omega arith)
   sweep-leg (n ∷ ns) reach l = (omega arith, refl)
 
   module _ (numbers froms tos : List ℕ) (reach : ℕ) (even : length froms ≡ length tos) where
-    legs-length : length (rowLegs starts lengths aggregates numbers froms tos reach) ≡ length froms + length (sweepLegs starts aggregates numbers reach)
+    legs-length : length (rowLegs m starts lengths aggregates numbers froms tos reach) ≡ length froms + length (sweepLegs m starts aggregates numbers reach)
     unfolding rowLegs
     legs-length = rw (length-append, length-detours froms tos even)
 
     -- How many legs there are, with and without wants.
-    pub no-legs : length numbers ≡ 0 → length froms ≤ length numbers → 0 ≡ length (rowLegs starts lengths aggregates numbers froms tos reach)
+    pub no-legs : length numbers ≡ 0 → length froms ≤ length numbers → 0 ≡ length (rowLegs m starts lengths aggregates numbers froms tos reach)
     no-legs none l = omega (arith, legs-length, sweep-none numbers reach none)
 
-    pub legs-count : (length numbers ≡ 0 → ⊥) → length froms + 1 ≡ length (rowLegs starts lengths aggregates numbers froms tos reach)
+    pub legs-count : (length numbers ≡ 0 → ⊥) → length froms + 1 ≡ length (rowLegs m starts lengths aggregates numbers froms tos reach)
     legs-count some = omega (arith, legs-length, sweep-count numbers reach some)
 
-    pub legs-most : length (rowLegs starts lengths aggregates numbers froms tos reach) ≤ length froms + 1
+    pub legs-most : length (rowLegs m starts lengths aggregates numbers froms tos reach) ≤ length froms + 1
     legs-most = omega (arith, legs-length, sweep-most numbers reach)
 
     -- Which leg stands at an index: a detour, or the last sweep.
     pub leg-of-detour : (i : ℕ) → i < length froms
-        → record { left = leftOf starts aggregates (getD froms i 0); right = rightOf starts lengths aggregates (getD tos i 0) } ≡ legAt (rowLegs starts lengths aggregates numbers froms tos reach) i
+        → record { left = legStart m starts aggregates (getD froms i 0); right = rightOf starts lengths aggregates (getD tos i 0) } ≡ legAt (rowLegs m starts lengths aggregates numbers froms tos reach) i
     unfolding rowLegs
     leg-of-detour i l =
-        sym (List·getD-append (detourLegs starts lengths aggregates froms tos) (sweepLegs starts aggregates numbers reach) _ i (omega (arith, length-detours froms tos even)) ∙ detour-leg froms tos even i l)
+        sym (List·getD-append (detourLegs m starts lengths aggregates froms tos) (sweepLegs m starts aggregates numbers reach) _ i (omega (arith, length-detours froms tos even)) ∙ detour-leg froms tos even i l)
 
-    pub leg-of-sweep : (i : ℕ) → length froms ≤ i → i < length (rowLegs starts lengths aggregates numbers froms tos reach)
+    pub leg-of-sweep : (i : ℕ) → length froms ≤ i → i < length (rowLegs m starts lengths aggregates numbers froms tos reach)
         → (0 < length numbers)
-        × (record { left = leftOf starts aggregates (getD numbers 0 0); right = reach } ≡ legAt (rowLegs starts lengths aggregates numbers froms tos reach) i)
+        × (record { left = legStart m starts aggregates (getD numbers 0 0); right = reach } ≡ legAt (rowLegs m starts lengths aggregates numbers froms tos reach) i)
     unfolding rowLegs
     leg-of-sweep i l h =
         let one = sweep-leg numbers reach (omega (arith, legs-length)) in
-        let at : i ≡ length (detourLegs starts lengths aggregates froms tos) + 0 = omega (arith, legs-length, length-detours froms tos even, sweep-most numbers reach) in
-        (one .0, sym (rw at (getD-append-add (detourLegs starts lengths aggregates froms tos) (sweepLegs starts aggregates numbers reach) 0 _ ∙ one .1)))
+        let at : i ≡ length (detourLegs m starts lengths aggregates froms tos) + 0 = omega (arith, legs-length, length-detours froms tos even, sweep-most numbers reach) in
+        (one .0, sym (rw at (getD-append-add (detourLegs m starts lengths aggregates froms tos) (sweepLegs m starts aggregates numbers reach) 0 _ ∙ one .1)))
 
 -- The most that one leg can add to the clock: two turns and twice the tape.
 abbrev pub legMost : ℕ

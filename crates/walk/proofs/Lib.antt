@@ -5,7 +5,10 @@ pub mod Legs
 pub mod Between
 pub mod Filling
 pub mod Sweeps
+pub mod Pulled
 pub mod Walks
+pub mod AnyHead
+pub mod OwnStop
 pub mod Priced
 pub mod Laws
 pub mod Places

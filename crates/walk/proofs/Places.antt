@@ -41,7 +41,7 @@ pub if-near : (b : Bool) (kind : Refusal) → (refuseIf b kind) .place ≤ place
 if-near true kind = omega arith
 if-near false kind = omega arith
 
-at-near : (p : ℕ) (kind : Refusal) → p ≤ placeMost → (refuseAt p kind) .place ≤ placeMost
+pub at-near : (p : ℕ) (kind : Refusal) → p ≤ placeMost → (refuseAt p kind) .place ≤ placeMost
 at-near zero kind l = omega arith
 at-near (suc p) kind l = l
 

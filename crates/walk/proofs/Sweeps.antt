@@ -8,11 +8,11 @@ use native.Mathlib.Omega.{arith}
 use native.Mathlib.Nat.{eq-or-lt-of-le}
 use lib.ListN.{length, getD}
 use Rattle.walk.specs.declared.Leg.{Leg}
-use Rattle.runs.specs.Run.{Stop, stopOf, wantStops}
+use Rattle.runs.specs.Run.{Stop, firstFile, stopOf, wantStops}
 use Rattle.runs.specs.Rows.{stopAt}
 use Rattle.walk.specs.Walk.{served}
 use Rattle.walk.specs.Detours.{unreadEnd, sweepEnd}
-use Rattle.walk.specs.Private.{rightOf}
+use Rattle.walk.specs.Private.{rightOf, readByNumber}
 use Rattle.runs.proofs.Search.{true-or-false}
 use Rattle.runs.proofs.Stops.{wants-length, want-at}
 use Rattle.walk.proofs.Joins.{served-same}
@@ -95,16 +95,16 @@ unfolding sweepEnd wantStops
 no-sweep gs starts lengths aggregates [] cs e = refl
 no-sweep gs starts lengths aggregates (n ∷ ns) cs e = absurd (omega arith)
 
--- The search, as the loop has it: all wants right of the i-th have been read.
-pub record ReadRight (gs : List Leg) (starts lengths aggregates numbers : List ℕ) (i : ℕ) : Type 0 where
+-- The search, as the loop has it: all wants right of the i-th have been read, by their numbers.
+pub record ReadRight (aggregates numbers froms tos : List ℕ) (i : ℕ) : Type 0 where
   pub within : i < length numbers
-  pub read : (j : ℕ) → i < j → j < length numbers → served gs (stopOf starts lengths aggregates (getD numbers j 0) 0) ≡ true
+  pub read : (j : ℕ) → i < j → j < length numbers → readByNumber froms tos (firstFile aggregates (getD numbers j 0)) ≡ true
 
-pub read-none : (gs : List Leg) (starts lengths aggregates ns : List ℕ) (i : ℕ) → i + 1 ≡ length ns → ReadRight gs starts lengths aggregates ns i
-read-none gs starts lengths aggregates ns i e = record { within = omega arith; read = λ j a b. absurd (omega arith) }
+pub read-none : (aggregates ns froms tos : List ℕ) (i : ℕ) → i + 1 ≡ length ns → ReadRight aggregates ns froms tos i
+read-none aggregates ns froms tos i e = record { within = omega arith; read = λ j a b. absurd (omega arith) }
 
-module _ (gs : List Leg) (starts lengths aggregates ns : List ℕ) (i : ℕ) (p : ReadRight gs starts lengths aggregates ns i) where
-  pub read-one-more : served gs (stopOf starts lengths aggregates (getD ns i 0) 0) ≡ true → ReadRight gs starts lengths aggregates ns (i - 1)
+module _ (aggregates ns froms tos : List ℕ) (i : ℕ) (p : ReadRight aggregates ns froms tos i) where
+  pub read-one-more : readByNumber froms tos (firstFile aggregates (getD ns i 0)) ≡ true → ReadRight aggregates ns froms tos (i - 1)
   read-one-more t =
       record {
         within = omega (arith, p .within);
@@ -114,20 +114,22 @@ module _ (gs : List Leg) (starts lengths aggregates ns : List ℕ) (i : ℕ) (p 
       at-least : (j : ℕ) → i - 1 < j → i ≤ j
       at-least j a = omega arith
 
-  module _ (cs : List ℕ) (same : length cs ≡ length ns) where
+  -- Where these numbers say which wants the legs have read.
+  module _ (gs : List Leg) (starts lengths cs : List ℕ) (same : length cs ≡ length ns)
+      (by : (j : ℕ) → j < length ns → served gs (stopOf starts lengths aggregates (getD ns j 0) 0) ≡ readByNumber froms tos (firstFile aggregates (getD ns j 0))) where
     stop-is : (j : ℕ) → j < length ns → stopAt (wantStops starts lengths aggregates ns cs) j ≡ stopOf starts lengths aggregates (getD ns j 0) (getD cs j 0)
     stop-is j b = want-at starts lengths aggregates ns cs same j b
 
     size : length (wantStops starts lengths aggregates ns cs) ≡ length ns
     size = wants-length starts lengths aggregates ns cs same
 
-    served-at : (j : ℕ) → j < length ns → served gs (stopAt (wantStops starts lengths aggregates ns cs) j) ≡ served gs (stopOf starts lengths aggregates (getD ns j 0) 0)
-    served-at j b = rw (stop-is j b) (served-same gs _ _ (record { start = refl; end = refl }))
+    served-at : (j : ℕ) → j < length ns → served gs (stopAt (wantStops starts lengths aggregates ns cs) j) ≡ readByNumber froms tos (firstFile aggregates (getD ns j 0))
+    served-at j b = rw (stop-is j b) (served-same gs _ _ (record { start = refl; end = refl }) ∙ by j b)
 
     rest-read : (j : ℕ) → i < j → j < length (wantStops starts lengths aggregates ns cs) → served gs (stopAt (wantStops starts lengths aggregates ns cs) j) ≡ true
     rest-read j a b = served-at j (omega (arith, size)) ∙ p .read j a (omega (arith, size))
 
-    pub found-unread : served gs (stopOf starts lengths aggregates (getD ns i 0) 0) ≡ false → 0 < i → rightOf starts lengths aggregates (getD ns i 0) ≡ sweepEnd gs (wantStops starts lengths aggregates ns cs)
+    pub found-unread : readByNumber froms tos (firstFile aggregates (getD ns i 0)) ≡ false → 0 < i → rightOf starts lengths aggregates (getD ns i 0) ≡ sweepEnd gs (wantStops starts lengths aggregates ns cs)
     found-unread f some =
         sym (ap (λ s. s .end) (stop-is i (p .within)))
         ∙ swept-to-unread gs (wantStops starts lengths aggregates ns cs) i (omega (arith, size, p .within)) rest-read (served-at i (p .within) ∙ f) some

@@ -19,7 +19,8 @@ use Rattle.walk.specs.Walk.{Moves}
 use Rattle.runs.specs.Lists.{Detour, listOf, wanted, leftmost, badAfter, badEntry, entryOf, firstBadEntry, listVerdict}
 use Rattle.walk.specs.Detours.{startOf, endOf, legOf, sweepEnd, lastSweep, legsOf}
 use Rattle.runs.specs.Private.{InTable}
-use Rattle.walk.specs.Private.{leftOf, rightOf, detourLegs, sweepLegs, rowLegs, legAt, RowsFit, Walkable}
+use Rattle.runs.specs.AnyHead.{pulled}
+use Rattle.walk.specs.Private.{leftOf, legStart, rightOf, detourLegs, sweepLegs, rowLegs, legAt, RowsFit, Walkable}
 use Rattle.runs.proofs.Search.{first-zero, any-zero, or-false-both, true-or-false}
 use Rattle.refusals.proofs.Verdicts.{refuses, all-accept, accepts-if, accepts-at}
 use Rattle.runs.proofs.Judged.{GoodRun, wants-named}
@@ -28,8 +29,11 @@ use Rattle.runs.proofs.Members.{and-true-both, first-stays, first-below}
 use Rattle.runs.proofs.Joined.{wanted-joined}
 use Rattle.runs.proofs.Stops.{first-file, want-at, wants-length, wants-agree, wanted-at, start-of-name, end-of-name, run-sound, stops-few}
 use Rattle.runs.proofs.Entries.{length-list, entry-row, wanted-named}
+use Rattle.runs.proofs.Formed.{start-to-end}
+use Rattle.runs.proofs.AnyHead.{smaller-is, pulled-length, pulled-at, wanted-pulled, leftmost-pulled, pulled-joined, pulled-agrees}
 use Rattle.walk.proofs.Joins.{start-by, end-by, start-joined, end-joined, legs-joined}
 use Rattle.walk.proofs.Sweeps.{sweeps-to}
+use Rattle.walk.proofs.Pulled.{start-pulled, end-pulled, detours-left, sweep-pulled}
 
 -- An entry that is not bad.
 pub record GoodEntry (ss : List Stop) (list : List Detour) (i : ℕ) : Type 0 where
@@ -134,8 +138,35 @@ unfolding lastSweep
 sweep-most [] list = omega arith
 sweep-most (s ∷ ss) list = omega arith
 
--- Of sound stops.
-module _ (ss : List Stop) (m : ℕ) (sound : Sound ss m) where
+-- Stops as a head at m can walk them: names rise, each begins at or left of where any from it on ends, and of the head, and ends at or left of top.
+record Steady (ss : List Stop) (m top : ℕ) : Type 0 where
+  ascends : (i : ℕ) → suc i < length ss → stopAt ss i .file < stopAt ss (suc i) .file
+  spans : (i j : ℕ) → i ≤ j → j < length ss → stopAt ss i .start ≤ stopAt ss j .end
+  meets : (i : ℕ) → i < length ss → stopAt ss i .start ≤ m
+  ends : (i : ℕ) → i < length ss → stopAt ss i .end ≤ top
+
+sound-steady : (ss : List Stop) (m : ℕ) → Sound ss m → Steady ss m m
+sound-steady ss m ok =
+    record {
+      ascends = ok .ascends;
+      spans = λ i j l h. omega (arith, start-to-end ss m ok i j l h);
+      meets = λ i h. omega (arith, ok .extends i h, ok .reached i h);
+      ends = ok .reached;
+    }
+
+-- Of sound stops as a head anywhere meets them.
+pulled-steady : (m : ℕ) (ss : List Stop) (top : ℕ) → Sound ss top → Steady (pulled m ss) m top
+pulled-steady m ss top ok =
+    record {
+      ascends = λ i l. rw (pulled-at m ss i (omega (arith, pulled-length m ss)), pulled-at m ss (suc i) (omega (arith, pulled-length m ss))) (ok .ascends i (omega (arith, pulled-length m ss)));
+      spans = λ i j l h.
+          rw (pulled-at m ss i (omega (arith, pulled-length m ss)), pulled-at m ss j (omega (arith, pulled-length m ss)))
+          (omega (arith, smaller-is (stopAt ss i .start) m .first, start-to-end ss top ok i j l (omega (arith, pulled-length m ss))));
+      meets = λ i h. rw (pulled-at m ss i (omega (arith, pulled-length m ss))) (smaller-is (stopAt ss i .start) m .second);
+      ends = λ i h. rw (pulled-at m ss i (omega (arith, pulled-length m ss))) (ok .reached i (omega (arith, pulled-length m ss)));
+    }
+
+module _ (ss : List Stop) (m top : ℕ) (sound : Steady ss m top) where
   names-rise : (i j : ℕ) → i < j → j < length ss → stopAt ss i .file < stopAt ss j .file
   names-rise i zero l h = absurd (omega arith)
   names-rise i (suc j) l h =
@@ -155,21 +186,12 @@ module _ (ss : List Stop) (m : ℕ) (sound : Sound ss m) where
       (λ (lt : i < j). lt)
       (eq-or-lt-of-le (names-order i j h (omega arith)))
 
-  start-to-end : (i j : ℕ) → i ≤ j → j < length ss → stopAt ss i .start ≤ stopAt ss j .end
-  start-to-end i zero l h = let e : i ≡ 0 = omega arith in rw e (omega (arith, sound .extends 0 h))
-  start-to-end i (suc j) l h =
-      let before = start-to-end i j in
-      ⊎-elim
-      (λ (e : i ≡ suc j). rw e (omega (arith, sound .extends (suc j) h)))
-      (λ (lt : i < suc j). omega (arith, before (omega arith) (omega arith), sound .apart j h, sound .extends (suc j) h))
-      (eq-or-lt-of-le l)
-
   -- From the start of one name to the end of another at or right of it.
   way : (f g : ℕ) → wanted ss f ≡ true → wanted ss g ≡ true → f ≤ g → startOf ss f ≤ endOf ss g
   way f g a b l =
       let p = found ss f a in
       let q = found ss g b in
-      omega (arith, p .starts, q .ends, start-to-end (p .index) (q .index) (names-order (p .index) (q .index) (p .within) (omega (arith, p .is, q .is))) (q .within))
+      omega (arith, p .starts, q .ends, sound .spans (p .index) (q .index) (names-order (p .index) (q .index) (p .within) (omega (arith, p .is, q .is))) (q .within))
 
   module _ (list : List Detour) where
     -- The first n entries of a list, each of them good.
@@ -184,8 +206,8 @@ module _ (ss : List Stop) (m : ℕ) (sound : Sound ss m) where
           omega (arith, bound, less)
 
       -- There are fewer of them than stops.
-      pub entries-few : 0 < length ss → n < length ss
-      entries-few some = elim (decLt 0 n) [ yes l ↦ last l | no h ↦ omega arith ]
+      fewer : 0 < length ss → n < length ss
+      fewer some = elim (decLt 0 n) [ yes l ↦ last l | no h ↦ omega arith ]
         where
           last : 0 < n → n < length ss
           last l =
@@ -195,8 +217,8 @@ module _ (ss : List Stop) (m : ℕ) (sound : Sound ss m) where
               let inside = names-before 0 (p .index) some (omega (arith, p .is, e .inner, leftmost-at ss some)) in
               omega (arith, bound, inside)
 
-      pub entries-none : length ss ≡ 0 → n ≡ 0
-      entries-none none = elim (decLt 0 n) [ yes l ↦ absurd (empty l) | no h ↦ omega arith ]
+      none-at-all : length ss ≡ 0 → n ≡ 0
+      none-at-all none = elim (decLt 0 n) [ yes l ↦ absurd (empty l) | no h ↦ omega arith ]
         where
           empty : 0 < n → ⊥
           empty l = omega (arith, found ss (entryOf list 0 .from) (each 0 l .fromWanted) .within)
@@ -226,7 +248,7 @@ module _ (ss : List Stop) (m : ℕ) (sound : Sound ss m) where
           in-list l = let e = each i l in rw (detour-is i l) (way _ _ (e .fromWanted) (e .toWanted) (e .ordered))
 
           in-sweep : Swept ss (legAt gs i) → legAt gs i .left ≤ legAt gs i .right
-          in-sweep s = omega (arith, s .leftIs, s .rightIs, start-to-end 0 (s .index) (omega arith) (s .within))
+          in-sweep s = omega (arith, s .leftIs, s .rightIs, sound .spans 0 (s .index) (omega arith) (s .within))
 
       leg-back : (i : ℕ) → suc i < length gs → legAt gs (suc i) .left ≤ legAt gs i .right
       leg-back i h = elim (decLt (suc i) (length list)) [ yes l ↦ in-list l | no n ↦ in-sweep (sweep-is (suc i) (omega arith) h) ]
@@ -242,7 +264,7 @@ module _ (ss : List Stop) (m : ℕ) (sound : Sound ss m) where
           in-sweep : Swept ss (legAt gs (suc i)) → legAt gs (suc i) .left ≤ legAt gs i .right
           in-sweep s =
               let q = found ss (entryOf list i .to) (each i here .toWanted) in
-              omega (arith, s .leftIs, ap (λ x. x .right) (detour-is i here), q .ends, start-to-end 0 (q .index) (omega arith) (q .within))
+              omega (arith, s .leftIs, ap (λ x. x .right) (detour-is i here), q .ends, sound .spans 0 (q .index) (omega arith) (q .within))
 
       leg-first : 0 < length gs → legAt gs 0 .left ≤ m
       leg-first h = elim (decLt 0 (length list)) [ yes l ↦ in-list l | no n ↦ in-sweep (sweep-is 0 (omega arith) h) ]
@@ -250,33 +272,32 @@ module _ (ss : List Stop) (m : ℕ) (sound : Sound ss m) where
           in-list : 0 < length list → legAt gs 0 .left ≤ m
           in-list l =
               let p = found ss (entryOf list 0 .from) (each 0 l .fromWanted) in
-              omega (arith, ap (λ x. x .left) (detour-is 0 l), p .starts, sound .extends (p .index) (p .within), sound .reached (p .index) (p .within))
+              omega (arith, ap (λ x. x .left) (detour-is 0 l), p .starts, sound .meets (p .index) (p .within))
 
           in-sweep : Swept ss (legAt gs 0) → legAt gs 0 .left ≤ m
-          in-sweep s = omega (arith, s .leftIs, sound .extends 0 (s .some), sound .reached 0 (s .some))
+          in-sweep s = omega (arith, s .leftIs, sound .meets 0 (s .some))
 
-      leg-reach : (i : ℕ) → i < length gs → legAt gs i .right ≤ m
+      leg-reach : (i : ℕ) → i < length gs → legAt gs i .right ≤ top
       leg-reach i h = elim (decLt i (length list)) [ yes l ↦ in-list l | no n ↦ in-sweep (sweep-is i (omega arith) h) ]
         where
-          in-list : i < length list → legAt gs i .right ≤ m
+          in-list : i < length list → legAt gs i .right ≤ top
           in-list l =
               let q = found ss (entryOf list i .to) (each i l .toWanted) in
-              omega (arith, ap (λ x. x .right) (detour-is i l), q .ends, sound .reached (q .index) (q .within))
+              omega (arith, ap (λ x. x .right) (detour-is i l), q .ends, sound .ends (q .index) (q .within))
 
-          in-sweep : Swept ss (legAt gs i) → legAt gs i .right ≤ m
-          in-sweep s = omega (arith, s .rightIs, sound .reached (s .index) (s .within))
+          in-sweep : Swept ss (legAt gs i) → legAt gs i .right ≤ top
+          in-sweep s = omega (arith, s .rightIs, sound .ends (s .index) (s .within))
 
       few-legs : length ss ≤ mostWants → length gs ≤ mostWants
       few-legs few =
           elim (decLt 0 (length ss)) [
-            | yes l ↦ omega (arith, size, sweep-most ss list, entries-few (length list) each l)
-            | no n ↦ omega (arith, size, sweep-most ss list, entries-none (length list) each (omega arith))
+            | yes l ↦ omega (arith, size, sweep-most ss list, fewer (length list) each l)
+            | no n ↦ omega (arith, size, sweep-most ss list, none-at-all (length list) each (omega arith))
           ]
 
-      -- The walk of a good list over sound stops is within the limits.
-      pub walkable : (turn : ℕ) → length ss ≤ mostWants → m ≤ lastPlace → turn ≤ highestTurn → Walkable (legsOf ss list) m turn
+      steady-walk : (turn : ℕ) → length ss ≤ mostWants → m ≤ lastPlace → top ≤ lastPlace → turn ≤ highestTurn → Walkable (legsOf ss list) m turn
       unfolding gs legsOf
-      walkable turn few near cheap =
+      steady-walk turn few near far cheap =
           record {
             moves = moves-by-leg m gs leg-first leg-forth leg-back;
             few = few-legs few;
@@ -284,6 +305,34 @@ module _ (ss : List Stop) (m : ℕ) (sound : Sound ss m) where
             near = near;
             cheap = cheap;
           }
+
+-- Of sound stops: there are fewer entries than stops, and the walk of a good list is within the limits.
+module _ (ss : List Stop) (m : ℕ) (sound : Sound ss m) (list : List Detour) where
+  module _ (n : ℕ) (each : (i : ℕ) → i < n → GoodEntry ss list i) where
+    pub entries-few : 0 < length ss → n < length ss
+    entries-few some = fewer ss m m (sound-steady ss m sound) list n each some
+
+    pub entries-none : length ss ≡ 0 → n ≡ 0
+    entries-none none = none-at-all ss m m (sound-steady ss m sound) list n each none
+
+  module _ (each : (i : ℕ) → i < length list → GoodEntry ss list i) (turn : ℕ) (few : length ss ≤ mostWants) (near : m ≤ lastPlace) (cheap : turn ≤ highestTurn) where
+    pub walkable : Walkable (legsOf ss list) m turn
+    walkable = steady-walk ss m m (sound-steady ss m sound) list each turn few near near cheap
+
+    -- From a head anywhere.
+    pub walkable-any : (head : ℕ) → head ≤ lastPlace → Walkable (legsOf (pulled head ss) list) head turn
+    walkable-any head on =
+        steady-walk (pulled head ss) head m (pulled-steady head ss m sound) list (λ i l. met (each i l)) turn (omega (arith, pulled-length head ss)) on near cheap
+      where
+        met : {i : ℕ} → GoodEntry ss list i → GoodEntry (pulled head ss) list i
+        met {i} e =
+            record {
+              fromWanted = wanted-pulled head ss (entryOf list i .from) ∙ e .fromWanted;
+              toWanted = wanted-pulled head ss (entryOf list i .to) ∙ e .toWanted;
+              ordered = e .ordered;
+              inner = omega (arith, leftmost-pulled head ss, e .inner);
+              falls = e .falls;
+            }
 
 -- Where a name starts and ends is in the table.
 module _ (starts lengths aggregates : List ℕ) where
@@ -302,28 +351,28 @@ module _ (starts lengths aggregates : List ℕ) where
         ∙ end-by (joined (wantStops starts lengths aggregates ns cs)) f
         ∙ end-of-name starts lengths aggregates ns cs f w
 
-  -- A detour list's legs, where its names start and end as the table says.
-  detours-in-rows : (ss : List Stop) (froms tos : List ℕ) → length froms ≡ length tos
+  -- A detour list's legs, where its names start and end as the table says, the head being at m at first.
+  detours-in-rows : (m : ℕ) (ss : List Stop) (froms tos : List ℕ) → length froms ≡ length tos
       → ((i : ℕ) → i < length froms → startOf ss (getD froms i 0) ≡ leftOf starts aggregates (getD froms i 0))
       → ((i : ℕ) → i < length froms → endOf ss (getD tos i 0) ≡ rightOf starts lengths aggregates (getD tos i 0))
-      → map (legOf ss) (listOf froms tos) ≡ detourLegs starts lengths aggregates froms tos
+      → map (legOf (pulled m ss)) (listOf froms tos) ≡ detourLegs m starts lengths aggregates froms tos
   unfolding listOf detourLegs
-  detours-in-rows ss [] tos even a b = refl
-  detours-in-rows ss (f ∷ froms) [] even a b = absurd (omega arith)
-  detours-in-rows ss (f ∷ froms) (t ∷ tos) even a b =
+  detours-in-rows m ss [] tos even a b = refl
+  detours-in-rows m ss (f ∷ froms) [] even a b = absurd (omega arith)
+  detours-in-rows m ss (f ∷ froms) (t ∷ tos) even a b =
       rw
-      (a 0 (omega arith), b 0 (omega arith))
+      (start-pulled m ss f, a 0 (omega arith), end-pulled m ss t, b 0 (omega arith))
       (ap
-      (λ rest. record { left = leftOf starts aggregates f; right = rightOf starts lengths aggregates t } ∷ rest)
-      (detours-in-rows ss froms tos (omega arith) (λ i l. a (suc i) (omega arith)) (λ i l. b (suc i) (omega arith))))
+      (λ rest. record { left = legStart m starts aggregates f; right = rightOf starts lengths aggregates t } ∷ rest)
+      (detours-in-rows m ss froms tos (omega arith) (λ i l. a (suc i) (omega arith)) (λ i l. b (suc i) (omega arith))))
 
-  sweep-in-rows : (ns cs : List ℕ) → length cs ≡ length ns → (list : List Detour) (reach : ℕ)
-      → reach ≡ sweepEnd (map (legOf (wantStops starts lengths aggregates ns cs)) list) (wantStops starts lengths aggregates ns cs)
-      → lastSweep (wantStops starts lengths aggregates ns cs) list ≡ sweepLegs starts aggregates ns reach
-  unfolding lastSweep wantStops sweepLegs
-  sweep-in-rows [] cs same list reach e = refl
-  sweep-in-rows (n ∷ ns) [] same list reach e = absurd (omega arith)
-  sweep-in-rows (n ∷ ns) (c ∷ cs) same list reach e = rw e
+  sweep-in-rows : (m : ℕ) (ns cs : List ℕ) → length cs ≡ length ns → (list : List Detour) (reach : ℕ)
+      → reach ≡ sweepEnd (map (legOf (pulled m (wantStops starts lengths aggregates ns cs))) list) (pulled m (wantStops starts lengths aggregates ns cs))
+      → lastSweep (pulled m (wantStops starts lengths aggregates ns cs)) list ≡ sweepLegs m starts aggregates ns reach
+  unfolding lastSweep wantStops sweepLegs pulled
+  sweep-in-rows m [] cs same list reach e = refl
+  sweep-in-rows m (n ∷ ns) [] same list reach e = absurd (omega arith)
+  sweep-in-rows m (n ∷ ns) (c ∷ cs) same list reach e = rw e
 
 -- The legs of an accepted list are those that the rows hold, the sweep ending where it does.
 module _ (r : Run) (run : GoodRun r) (froms tos : List ℕ) (g : GoodList (stopsOf r) froms tos) where
@@ -339,26 +388,28 @@ module _ (r : Run) (run : GoodRun r) (froms tos : List ℕ) (g : GoodList (stops
   to-is : (i : ℕ) → i < length froms → wanted (stopsOf r) (getD tos i 0) ≡ true
   to-is i l = rw (entry-row froms tos (g .even) i l) at (g .each i (omega (arith, count)) .toWanted)
 
-  pub legs-in-rows : (reach : ℕ) → reach ≡ sweepEnd (detourLegs (r .starts) (r .lengths) (r .aggregates) froms tos) (wantStopsOf r)
-      → legsOf (stopsOf r) (listOf froms tos) ≡ rowLegs (r .starts) (r .lengths) (r .aggregates) (r .numbers) froms tos reach
+  pub legs-in-rows : (m reach : ℕ) → reach ≡ sweepEnd (detourLegs m (r .starts) (r .lengths) (r .aggregates) froms tos) (wantStopsOf r)
+      → legsOf (pulled m (stopsOf r)) (listOf froms tos) ≡ rowLegs m (r .starts) (r .lengths) (r .aggregates) (r .numbers) froms tos reach
   unfolding legsOf rowLegs
-  legs-in-rows reach is =
+  legs-in-rows m reach is =
       let detours =
-      detours-in-rows (r .starts) (r .lengths) (r .aggregates) (wantStopsOf r) froms tos (g .even)
+      detours-in-rows (r .starts) (r .lengths) (r .aggregates) m (wantStopsOf r) froms tos (g .even)
       (λ i l. start-in-table (r .starts) (r .lengths) (r .aggregates) (r .numbers) (r .counts) (getD froms i 0) (from-is i l) same)
       (λ i l. end-in-table (r .starts) (r .lengths) (r .aggregates) (r .numbers) (r .counts) (getD tos i 0) (to-is i l))
       in
-      legs-joined (wantStopsOf r) (wants-agree (r .starts) (r .lengths) (r .aggregates) (r .numbers) (r .counts)) (listOf froms tos)
-      ∙ rw (sweep-in-rows (r .starts) (r .lengths) (r .aggregates) (r .numbers) (r .counts) same (listOf froms tos) reach (rw detours is), detours)
+      let swept = sweep-pulled m (map (legOf (pulled m (wantStopsOf r))) (listOf froms tos)) (detours-left m (wantStopsOf r) (listOf froms tos)) (wantStopsOf r) in
+      let reach-is : reach ≡ sweepEnd (map (legOf (pulled m (wantStopsOf r))) (listOf froms tos)) (wantStopsOf r) = rw detours is in
+      ap (λ ss. legsOf ss (listOf froms tos)) (pulled-joined m (wantStopsOf r))
+      ∙ legs-joined (pulled m (wantStopsOf r)) (pulled-agrees m (wantStopsOf r) (wants-agree (r .starts) (r .lengths) (r .aggregates) (r .numbers) (r .counts))) (listOf froms tos)
+      ∙ rw (sweep-in-rows (r .starts) (r .lengths) (r .aggregates) m (r .numbers) (r .counts) same (listOf froms tos) reach (reach-is ∙ sym swept), detours)
 
-  -- They can be walked.
+  -- They can be walked, from the run's head and from a head anywhere.
   pub run-walkable : Walkable (legsOf (stopsOf r) (listOf froms tos)) (r .head) (r .turn)
-  run-walkable =
-      walkable (stopsOf r) (r .head) (run-sound r run) (listOf froms tos) (g .each) (r .turn) (omega (arith, stops-few r run, run .wants .few)) (run .start .near) (run .start .cheap)
+  run-walkable = walkable (stopsOf r) (r .head) (run-sound r run) (listOf froms tos) (g .each) (r .turn) (omega (arith, stops-few r run, run .wants .few)) (run .start .near) (run .start .cheap)
 
-  pub rows-walkable : (reach : ℕ) → reach ≡ sweepEnd (detourLegs (r .starts) (r .lengths) (r .aggregates) froms tos) (wantStopsOf r)
-      → Walkable (rowLegs (r .starts) (r .lengths) (r .aggregates) (r .numbers) froms tos reach) (r .head) (r .turn)
-  rows-walkable reach is = rw (← (legs-in-rows reach is)) run-walkable
+  pub any-walkable : (m : ℕ) → m ≤ lastPlace → Walkable (legsOf (pulled m (stopsOf r)) (listOf froms tos)) m (r .turn)
+  any-walkable m on =
+      walkable-any (stopsOf r) (r .head) (run-sound r run) (listOf froms tos) (g .each) (r .turn) (omega (arith, stops-few r run, run .wants .few)) (run .start .near) (run .start .cheap) m on
 
   -- A name is the number of a file of the table.
   named-in-table : (f : ℕ) → wanted (stopsOf r) f ≡ true → InTable (r .starts) f

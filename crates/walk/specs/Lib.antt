@@ -3,4 +3,5 @@ pub mod Walk
 pub mod Detours
 pub mod Rows
 pub mod Price
+pub mod AnyHead
 pub mod Private

@@ -5,8 +5,10 @@ ghost use mathlib.Core.Path.{_≡_};
 ghost use Prim.Native.Nat.{_+_, _≤_, _<_, _^_};
 ghost use Rattle.walk.specs.Walk.{headAt, runLeft, runRight, turned, ready, setOff};
 
+mod any_head;
 mod pricing;
 
+pub use any_head::price_any;
 pub use pricing::price;
 pub use pricing::refuse;
 

@@ -38,7 +38,7 @@ reads-before-requires : tie.Need-reads-before-requires Inv-loop μ-loop
 reads-before-requires c κs =
     let z = at-start-from-shared-slice-known5 c in
     let j = z .pre .0 .filled .judged in
-    (omega (arith, even-counts _ _ _ _ _ _ j, z .pre .0 .inside), omega (arith, few-reads _ _ _ _ _ _ j, j .whole))
+    (omega (arith, even-counts _ _ _ _ _ _ j, z .pre .0 .inside), omega (arith, few-reads _ _ _ _ _ _ j, j .run .whole))
 
 loop-holds : tie.Need-loop-holds Inv-loop μ-loop
 loop-holds c =

@@ -5,22 +5,26 @@ use Rattle.runs.proofs.Members.{first-stays}
 use Rattle.walk.proofs.pricing.detour_leg.Statement.{statement}
 use Rattle.walk.proofs.pricing.detour_leg.Tie as tie
 
-sub-left : tie.Need-sub-left
-sub-left c = search needs
+sub-smaller : tie.Need-sub-smaller
+sub-smaller c = search needs
 
-mul-left : tie.Need-mul-left
-mul-left c = search needs
+mul-smaller : tie.Need-mul-smaller
+mul-smaller c = search needs
 
-shared-slice-read-left : tie.Need-shared-slice-read-left
-shared-slice-read-left c = search needs
+shared-slice-read-smaller : tie.Need-shared-slice-read-smaller
+shared-slice-read-smaller c = search needs
+
+smaller-requires : tie.Need-smaller-requires
+smaller-requires c κs = search needs
 
 extent-end-requires : tie.Need-extent-end-requires
 extent-end-requires c κs = search needs
 
 returns : tie.Need-returns
 returns c =
-    let s = c .before .before .before .before .before in
-    rw (c .extent-end .ensures, first-stays (s .args .aggregates .now) _ (s .pre .1 .1 .0))
+    let m = c .before in
+    let s = m .before .before .before .before .before in
+    rw (c .extent-end .ensures, m .smaller .ensures, first-stays (s .args .aggregates .now) _ (s .pre .1 .1 .0))
 
 pub detour-leg-spec : {M : Type 1} → statement M
-detour-leg-spec = tie.close (tie.spec sub-left mul-left shared-slice-read-left extent-end-requires returns)
+detour-leg-spec = tie.close (tie.spec sub-smaller mul-smaller shared-slice-read-smaller smaller-requires extent-end-requires returns)

@@ -13,7 +13,7 @@ use Rattle.walk.proofs.pricing.fill_reads.Tie as tie
 
 abbrev Inv-loop : tie.InvT-loop
 Inv-loop starts lengths aggregates numbers counts froms tos reach head turn many times₀ legs₀ sum₀ i₀ times legs sum i =
-    Filling (rowLegs starts lengths aggregates numbers froms tos reach) head turn (wantStops starts lengths aggregates numbers counts) counts times₀ legs₀ times legs sum i
+    Filling (rowLegs head starts lengths aggregates numbers froms tos reach) head turn (wantStops starts lengths aggregates numbers counts) counts times₀ legs₀ times legs sum i
 
 abbrev μ-loop : tie.MeasureT-loop
 μ-loop starts lengths aggregates numbers counts froms tos reach head turn many times₀ legs₀ sum₀ i₀ times legs sum i = length numbers - i

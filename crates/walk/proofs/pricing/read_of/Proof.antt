@@ -15,7 +15,7 @@ use Rattle.walk.proofs.pricing.read_of.Tie as tie
 
 abbrev Inv-loop : tie.InvT-loop
 Inv-loop starts lengths aggregates numbers froms tos reach head turn file many start end h₀ i₀ h i =
-    Timing (rowLegs starts lengths aggregates numbers froms tos reach) head turn (stopOf starts lengths aggregates file 0) h i
+    Timing (rowLegs head starts lengths aggregates numbers froms tos reach) head turn (stopOf starts lengths aggregates file 0) h i
 
 abbrev μ-loop : tie.MeasureT-loop
 μ-loop starts lengths aggregates numbers froms tos reach head turn file many start end h₀ i₀ h i = many - i
@@ -54,7 +54,7 @@ leg-at-requires c κs =
 -- The leg that was looked up is the walk's next.
 next : (c : tie.After-leg-at Inv-loop μ-loop)
     → let a = at-start (c .before .before .before) .args in
-    NextLeg (rowLegs (a .starts .now) (a .lengths .now) (a .aggregates .now) (a .numbers .now) (a .froms .now) (a .tos .now) (a .reach)) (c .before .before .loop .h)
+    NextLeg (rowLegs (a .head) (a .starts .now) (a .lengths .now) (a .aggregates .now) (a .numbers .now) (a .froms .now) (a .tos .now) (a .reach)) (c .before .before .loop .h)
     (c .before .before .loop .i) (a .turn) (c .leg-at .result)
 next c =
     let s = at-start (c .before .before .before) in

@@ -4,29 +4,30 @@ use borrow.Author.Needs.{needs}
 use native.Mathlib.Omega.{arith}
 use borrow.Author.Tests.{not-true, not-false}
 use mathlib.Core.Path.{_≡_, _∙_, sym}
-use lib.ListN.{getD}
-use Rattle.runs.specs.Run.{stopOf}
+use Prim.Native.Nat.{ℕ, _<_}
+use lib.ListN.{length, getD}
+use Rattle.runs.specs.Run.{firstFile, stopOf}
 use Rattle.walk.specs.Walk.{served}
-use Rattle.walk.specs.Private.{detourLegs}
+use Rattle.walk.specs.Private.{Behind, detourLegs, readByNumber}
 use Rattle.walk.proofs.Between.{by-number}
 use Rattle.walk.proofs.Sweeps.{ReadRight, read-none, read-one-more, found-unread, found-first, no-sweep}
 use Rattle.walk.proofs.pricing.sweep_end.Statement.{statement}
 use Rattle.walk.proofs.pricing.sweep_end.Tie as tie
 
 abbrev Inv-loop : tie.InvT-loop
-Inv-loop starts lengths aggregates numbers froms tos i₀ i = ReadRight (detourLegs starts lengths aggregates froms tos) starts lengths aggregates numbers i
+Inv-loop starts lengths aggregates numbers froms tos i₀ i = ReadRight aggregates numbers froms tos i
 
 abbrev μ-loop : tie.MeasureT-loop
 μ-loop starts lengths aggregates numbers froms tos i₀ i = i
 
 returns : tie.Need-returns Inv-loop μ-loop
-returns c = λ cs e. no-sweep _ _ _ _ _ cs (c .if1 .taken)
+returns c = λ m cs e behind. no-sweep _ _ _ _ _ cs (c .if1 .taken)
 
 sub-i : tie.Need-sub-i Inv-loop μ-loop
 sub-i c = search needs
 
 loop-holds : tie.Need-loop-holds Inv-loop μ-loop
-loop-holds c = read-none _ _ _ _ _ _ (search needs)
+loop-holds c = read-none _ _ _ _ _ (search needs)
 
 mul-file : tie.Need-mul-file Inv-loop μ-loop
 mul-file c = search needs
@@ -50,25 +51,23 @@ extent-end-requires c κs =
     let s = at-start l in
     (s .pre .list .table, s .pre .wants _ (l .loop .inv .within))
 
--- The search by numbers says whether a detour reads the file.
-served-is : (c : tie.After-detour-reads Inv-loop μ-loop)
-    → let l = c .before .before .before in
-    let a = at-start l .args in
-    served (detourLegs (a .starts .now) (a .lengths .now) (a .aggregates .now) (a .froms .now) (a .tos .now))
-    (stopOf (a .starts .now) (a .lengths .now) (a .aggregates .now) (getD (a .numbers .now) (l .loop .i) 0) 0)
-    ≡ c .detour-reads .result
-served-is c =
-    let l = c .before .before .before in
-    let s = at-start l in
-    by-number (s .args .starts .now) (s .args .lengths .now) (s .args .aggregates .now) (s .pre .list .table) (getD (s .args .numbers .now) (l .loop .i) 0)
-    (s .pre .wants (l .loop .i) (l .loop .inv .within)) (s .args .froms .now) (s .args .tos .now) (s .pre .list)
-    ∙ sym (c .detour-reads .ensures)
+-- The numbers say which files a detour reads.
+numbers-say : (s : tie.Start Inv-loop μ-loop) (m : ℕ)
+    → let a = s .args in
+    Behind m (a .starts .now) (a .aggregates .now) (a .numbers .now) (a .froms .now) → (j : ℕ) → j < length (a .numbers .now)
+    → served (detourLegs m (a .starts .now) (a .lengths .now) (a .aggregates .now) (a .froms .now) (a .tos .now))
+    (stopOf (a .starts .now) (a .lengths .now) (a .aggregates .now) (getD (a .numbers .now) j 0) 0)
+    ≡ readByNumber (a .froms .now) (a .tos .now) (firstFile (a .aggregates .now) (getD (a .numbers .now) j 0))
+numbers-say s m behind j l =
+    by-number (s .args .starts .now) (s .args .lengths .now) (s .args .aggregates .now) (s .pre .list .table) (getD (s .args .numbers .now) j 0)
+    (s .pre .wants j l) m (s .args .froms .now) (s .args .tos .now) (s .pre .list) (λ i k h. behind i j k l h)
 
 returns-2 : tie.Need-returns-2 Inv-loop μ-loop
 returns-2 c =
     let t = c .before in
     let l = t .before .before .before .before in
-    λ cs e. c .extent-end .ensures ∙ found-unread _ _ _ _ _ _ (l .loop .inv) cs e (served-is (t .before) ∙ not-true _ (t .if2 .taken)) (t .before .before .before .loop-test .taken)
+    λ m cs e behind. c .extent-end .ensures
+    ∙ found-unread _ _ _ _ _ (l .loop .inv) _ _ _ cs e (numbers-say (at-start l) m behind) (sym (t .before .detour-reads .ensures) ∙ not-true _ (t .if2 .taken)) (t .before .before .before .loop-test .taken)
 
 sub-i-2 : tie.Need-sub-i-2 Inv-loop μ-loop
 sub-i-2 c = search needs
@@ -79,7 +78,7 @@ loop-less c = search needs
 loop-again : tie.Need-loop-again Inv-loop μ-loop
 loop-again c =
     let d = c .before in
-    read-one-more _ _ _ _ _ _ (d .before .before .before .loop .inv) (served-is d ∙ not-false _ (c .if2 .left))
+    read-one-more _ _ _ _ _ (d .before .before .before .loop .inv) (sym (d .detour-reads .ensures) ∙ not-false _ (c .if2 .left))
 
 shared-slice-read-extent-end : tie.Need-shared-slice-read-extent-end Inv-loop μ-loop
 shared-slice-read-extent-end c = omega (arith, c .before .before .loop .inv .within)
@@ -93,7 +92,7 @@ extent-end-requires-2 c κs =
 returns-3 : tie.Need-returns-3 Inv-loop μ-loop
 returns-3 c =
     let a = c .before .before in
-    λ cs e. c .extent-end2 .ensures ∙ found-first _ _ _ _ _ _ (a .before .loop .inv) cs e (omega (arith, a .loop-test .left))
+    λ m cs e behind. c .extent-end2 .ensures ∙ found-first _ _ _ _ _ (a .before .loop .inv) _ _ _ cs e (numbers-say (at-start (a .before)) m behind) (omega (arith, a .loop-test .left))
 
 pub sweep-end-spec : {M : Type 1} → statement M
 sweep-end-spec =

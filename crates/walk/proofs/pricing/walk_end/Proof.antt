@@ -9,7 +9,7 @@ use Rattle.walk.proofs.pricing.walk_end.Statement.{statement}
 use Rattle.walk.proofs.pricing.walk_end.Tie as tie
 
 abbrev Inv-loop : tie.InvT-loop
-Inv-loop starts lengths aggregates numbers froms tos reach head turn many h₀ i₀ h i = Ending (rowLegs starts lengths aggregates numbers froms tos reach) head turn h i
+Inv-loop starts lengths aggregates numbers froms tos reach head turn many h₀ i₀ h i = Ending (rowLegs head starts lengths aggregates numbers froms tos reach) head turn h i
 
 abbrev μ-loop : tie.MeasureT-loop
 μ-loop starts lengths aggregates numbers froms tos reach head turn many h₀ i₀ h i = many - i
@@ -34,7 +34,7 @@ leg-at-requires c κs =
 -- The leg that was looked up is the walk's next.
 next : (c : tie.After-leg-at Inv-loop μ-loop)
     → let a = at-start (c .before .before .before) .args in
-    NextLeg (rowLegs (a .starts .now) (a .lengths .now) (a .aggregates .now) (a .numbers .now) (a .froms .now) (a .tos .now) (a .reach)) (c .before .before .loop .h)
+    NextLeg (rowLegs (a .head) (a .starts .now) (a .lengths .now) (a .aggregates .now) (a .numbers .now) (a .froms .now) (a .tos .now) (a .reach)) (c .before .before .loop .h)
     (c .before .before .loop .i) (a .turn) (c .leg-at .result)
 next c =
     let s = at-start (c .before .before .before) in
@@ -47,7 +47,9 @@ run-right-requires : tie.Need-run-right-requires Inv-loop μ-loop
 run-right-requires c κs = rw (c .set-off .ensures) (next (c .before) .forth, next (c .before) .off)
 
 add-i : tie.Need-add-i Inv-loop μ-loop
-add-i c = search needs
+add-i c =
+    let n = c .before .before .before in
+    omega (arith, n .loop-test .taken, at-start (n .before .before) .fits .many)
 
 loop-less : tie.Need-loop-less Inv-loop μ-loop
 loop-less c = search needs
