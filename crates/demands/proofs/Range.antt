@@ -1,0 +1,2 @@
+-- The range of the figures.
+use Prim.Native.Nat.{ℕ}
