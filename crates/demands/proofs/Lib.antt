@@ -31,5 +31,7 @@ pub mod Turns
 pub mod Tapes
 pub mod Fits
 pub mod Removed
+pub mod Laps
+pub mod Range
 pub mod Instances
 pub mod Sharing

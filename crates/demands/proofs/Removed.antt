@@ -315,3 +315,218 @@ module _ (L R : ℕ → ℕ) (U : ℕ) where
                 omega (arith, past y j h k r);
             most = λ y j h k r. by-cases (decLe j (suc b)) (λ l. inside-most y j h l k r) (λ l. omega (arith, past y j (omega arith) k r));
           }
+
+    -- Inside a detour, or after it.
+    module _ (F : ℕ → ℕ) (inner after : Plan) (a d b : ℕ) (low : a ≤ d) (onward : d ≤ b) (o : Over inner (suc d) b) (q : Over after a d) (i : ℕ) where
+      abbrev both : Plan → Plan → Plan
+      both p p′ = detour d p p′
+
+      over-both : (p p′ : Plan) → Over p (suc d) b → Over p′ a d → Over (both p p′) a (suc b)
+      over-both p p′ v w = (low, onward, v, w)
+
+      -- The times of a detour's plan: of the stops left of it, of those in it, of those right of it.
+      left-time : (p p′ : Plan) (y j : ℕ) → j ≤ d → planTime L R U (both p p′) a (suc b) y j ≡ planTime L R U p′ a d (lagAfter L R U p b y + trip L R U (suc d) (suc b)) j
+      unfolding lagAfter
+      left-time p p′ y j h = time-in-rest L R U d b y j _ p p′ h
+
+      in-time : (p p′ : Plan) (y j : ℕ) → d < j → j ≤ suc b → planTime L R U (both p p′) a (suc b) y j ≡ planTime L R U p (suc d) b y j
+      in-time p p′ y j h k = time-in-inner L R U d b y j _ p p′ h k
+
+      right-time : (p p′ : Plan) (y j : ℕ) → Over p (suc d) b → Over p′ a d → suc b < j → planTime L R U (both p p′) a (suc b) y j ≡ legTime L R U (lagAfter L R U (both p p′) (suc b) y) a j
+      right-time p p′ y j v w h = unread-right L R U (both p p′) a (suc b) y j _ (over-both p p′ v w) h
+
+      both-lag : (p p′ : Plan) (y : ℕ) → lagAfter L R U (both p p′) (suc b) y ≡ lagAfter L R U p′ d (lagAfter L R U p b y + trip L R U (suc d) (suc b))
+      unfolding lagAfter
+      both-lag p p′ y = refl
+
+      both-list : (p p′ : Plan) → planDetours F (both p p′) (suc b) ≡ planDetours F p b ++ record { from = F (suc d); to = F (suc b) } ∷ planDetours F p′ d
+      unfolding planDetours
+      both-list p p′ = refl
+
+      both-grown : (p p′ : Plan) (y : ℕ) → y ≤ lagAfter L R U (both p p′) (suc b) y
+      both-grown p p′ y = lag-grows L R U (both p p′) (suc b) y
+
+      -- Two such plans of which the first leaves later by t: right of the detour it reads later by t.
+      right-later : (p p′ r r′ : Plan) (y t j : ℕ) → Over p (suc d) b → Over p′ a d → Over r (suc d) b → Over r′ a d
+          → lagAfter L R U (both p p′) (suc b) y ≡ lagAfter L R U (both r r′) (suc b) y + t → suc b < j → j ≤ n → R j ≤ y
+          → planTime L R U (both p p′) a (suc b) y j ≡ planTime L R U (both r r′) a (suc b) y j + t
+      right-later p p′ r r′ y t j v v′ w w′ e h k g =
+          right-time p p′ y j v v′ h
+          ∙ ap (λ x. legTime L R U x a j) e
+          ∙ leg-shift (lagAfter L R U (both r r′) (suc b) y) t a j (omega (arith, both-grown r r′ y)) (omega arith) k
+          ∙ ap (λ x. x + t) (sym (right-time r r′ y j w w′ h))
+
+      module _ (found : Removed F inner (suc d) b i) (l : i < length (planDetours F inner b)) where
+        abbrev τ : ℕ
+        τ = trip L R U (suc (found .d)) (found .t)
+
+        in-lag : (y : ℕ) → lagAfter L R U (both inner after) (suc b) y ≡ lagAfter L R U (both (found .plan) after) (suc b) y + τ
+        in-lag y =
+            let on : lagAfter L R U inner b y + trip L R U (suc d) (suc b) ≡ lagAfter L R U (found .plan) b y + trip L R U (suc d) (suc b) + τ = omega (arith, found .lag y) in
+            both-lag inner after y ∙ ap (lagAfter L R U after d) on ∙ lag-shift after d _ τ ∙ ap (λ x. x + τ) (sym (both-lag (found .plan) after y))
+
+        in-left : (y j : ℕ) → a ≤ j → j ≤ d → j ≤ n → R j ≤ y → planTime L R U (both inner after) a (suc b) y j ≡ planTime L R U (both (found .plan) after) a (suc b) y j + τ
+        in-left y j x h k g =
+            let on : lagAfter L R U inner b y + trip L R U (suc d) (suc b) ≡ lagAfter L R U (found .plan) b y + trip L R U (suc d) (suc b) + τ = omega (arith, found .lag y) in
+            left-time inner after y j h
+            ∙ ap (λ z. planTime L R U after a d z j) on
+            ∙ plan-shift after a d _ τ j q x k (omega (arith, lag-grows L R U (found .plan) b y))
+            ∙ ap (λ z. z + τ) (sym (left-time (found .plan) after y j h))
+
+        in-right : (y j : ℕ) → suc b < j → j ≤ n → R j ≤ y → planTime L R U (both inner after) a (suc b) y j ≡ planTime L R U (both (found .plan) after) a (suc b) y j + τ
+        in-right y j h k g = right-later inner after (found .plan) after y τ j o q (found .over) q (in-lag y) h k g
+
+        in-inner : Removed F (both inner after) a (suc b) i
+        in-inner =
+            record {
+              plan = both (found .plan) after;
+              over = over-both (found .plan) after (found .over) q;
+              lists =
+                  both-list (found .plan) after
+                  ∙ ap (λ xs. xs ++ record { from = F (suc d); to = F (suc b) } ∷ planDetours F after d) (found .lists)
+                  ∙ sym (without-front (planDetours F inner b) (record { from = F (suc d); to = F (suc b) } ∷ planDetours F after d) i l)
+                  ∙ ap (without i) (sym (both-list inner after));
+              d = found .d;
+              t = found .t;
+              parent = found .parent;
+              rest = found .rest;
+              within = found .within;
+              low = omega (arith, found .low);
+              inside = found .inside;
+              onward = found .onward;
+              high = omega (arith, found .high);
+              lag = in-lag;
+              later = λ y j x h k g.
+                  by-cases (decLe j d)
+                  (λ w. in-left y j x w k g)
+                  (λ w.
+                  let z : j ≤ suc b = omega (arith, found .onward, found .high) in
+                  rw (in-time inner after y j (omega arith) z, in-time (found .plan) after y j (omega arith) z) (found .later y j (omega arith) h k g));
+              sooner = λ y j h z k g.
+                  let u : d < j = omega (arith, found .low, found .inside) in
+                  let v : j ≤ suc b = omega (arith, found .high) in
+                  rw (in-time inner after y j u v, in-time (found .plan) after y j u v) (found .sooner y j h z k g);
+              start = λ y k g.
+                  let u : d < suc (found .d) = omega (arith, found .low, found .inside) in
+                  let v : suc (found .d) ≤ suc b = omega (arith, found .onward, found .high) in
+                  rw (in-time inner after y (suc (found .d)) u v, in-time (found .plan) after y (suc (found .d)) u v) (found .start y k g);
+              beyond = λ y j h k g.
+                  let u : d < j = omega (arith, found .low, found .inside, found .onward) in
+                  by-cases (decLe j (suc b))
+                  (λ v. rw (in-time inner after y j u v, in-time (found .plan) after y j u v) (found .beyond y j h k g))
+                  (λ v. omega (arith, in-right y j (omega arith) k g));
+              most = λ y j h k g.
+                  let u : d < j = omega (arith, found .low, found .inside) in
+                  by-cases (decLe j (suc b))
+                  (λ v. rw (in-time inner after y j u v, in-time (found .plan) after y j u v) (found .most y j h k g))
+                  (λ v. omega (arith, in-right y j (omega arith) k g));
+            }
+
+      module _ (found : Removed F after a d i) where
+        abbrev σ : ℕ
+        σ = trip L R U (suc (found .d)) (found .t)
+
+        abbrev lag-there : ℕ → ℕ
+        lag-there y = lagAfter L R U inner b y + trip L R U (suc d) (suc b)
+
+        there : (y j : ℕ) → R j ≤ y → R j ≤ lag-there y
+        there y j g = omega (arith, lag-grows L R U inner b y)
+
+        after-on : (y : ℕ) → lagAfter L R U (both inner after) (suc b) y ≡ lagAfter L R U (both inner (found .plan)) (suc b) y + σ
+        after-on y = both-lag inner after y ∙ found .lag (lag-there y) ∙ ap (λ x. x + σ) (sym (both-lag inner (found .plan) y))
+
+        after-in : (y j : ℕ) → d < j → j ≤ suc b → planTime L R U (both inner after) a (suc b) y j ≡ planTime L R U (both inner (found .plan)) a (suc b) y j
+        after-in y j h k = in-time inner after y j h k ∙ sym (in-time inner (found .plan) y j h k)
+
+        after-right : (y j : ℕ) → suc b < j → j ≤ n → R j ≤ y → planTime L R U (both inner after) a (suc b) y j ≡ planTime L R U (both inner (found .plan)) a (suc b) y j + σ
+        after-right y j h k g = right-later inner after inner (found .plan) y σ j o q o (found .over) (after-on y) h k g
+
+        in-after : (k : ℕ) → k ≡ length (planDetours F inner b) + suc i → Removed F (both inner after) a (suc b) k
+        unfolding without
+        in-after k e =
+            record {
+              plan = both inner (found .plan);
+              over = over-both inner (found .plan) o (found .over);
+              lists =
+                  both-list inner (found .plan)
+                  ∙ ap (λ xs. planDetours F inner b ++ record { from = F (suc d); to = F (suc b) } ∷ xs) (found .lists)
+                  ∙ sym (without-back (planDetours F inner b) (record { from = F (suc d); to = F (suc b) } ∷ planDetours F after d) (suc i) k e)
+                  ∙ ap (without k) (sym (both-list inner after));
+              d = found .d;
+              t = found .t;
+              parent = found .parent;
+              rest = found .rest;
+              within = found .within;
+              low = found .low;
+              inside = found .inside;
+              onward = found .onward;
+              high = omega (arith, found .high);
+              lag = after-on;
+              later = λ y j x h k g.
+                  let w : j ≤ d = omega (arith, found .onward, found .high) in
+                  rw (left-time inner after y j w, left-time inner (found .plan) y j w) (found .later (lag-there y) j x h k (there y j g));
+              sooner = λ y j h z k g.
+                  let w : j ≤ d = omega (arith, found .high) in
+                  rw (left-time inner after y j w, left-time inner (found .plan) y j w) (found .sooner (lag-there y) j h z k (there y j g));
+              start = λ y k g.
+                  let w : suc (found .d) ≤ d = omega (arith, found .onward, found .high) in
+                  rw (left-time inner after y (suc (found .d)) w, left-time inner (found .plan) y (suc (found .d)) w) (found .start (lag-there y) k (there y (suc (found .d)) g));
+              beyond = λ y j h k g.
+                  by-cases (decLe j d)
+                  (λ w. rw (left-time inner after y j w, left-time inner (found .plan) y j w) (found .beyond (lag-there y) j h k (there y j g)))
+                  (λ w.
+                  by-cases (decLe j (suc b))
+                  (λ z. omega (arith, after-in y j (omega arith) z))
+                  (λ z. omega (arith, after-right y j (omega arith) k g)));
+              most = λ y j h k g.
+                  by-cases (decLe j d)
+                  (λ w. rw (left-time inner after y j w, left-time inner (found .plan) y j w) (found .most (lag-there y) j h k (there y j g)))
+                  (λ w.
+                  by-cases (decLe j (suc b))
+                  (λ z. omega (arith, after-in y j (omega arith) z))
+                  (λ z. omega (arith, after-right y j (omega arith) k g)));
+            }
+
+    -- Past a stop that the plan leaves.
+    past-skip : (F : ℕ → ℕ) (p : Plan) (a b i : ℕ) → a ≤ b → Removed F p a b i → Removed F (skip p) a (suc b) i
+    unfolding planDetours timeIn lagAfter
+    past-skip F p a b i l found =
+        record {
+          plan = skip (found .plan);
+          over = (l, found .over);
+          lists = found .lists;
+          d = found .d;
+          t = found .t;
+          parent = found .parent;
+          rest = found .rest;
+          within = found .within;
+          low = found .low;
+          inside = found .inside;
+          onward = found .onward;
+          high = omega (arith, found .high);
+          lag = found .lag;
+          later = found .later;
+          sooner = found .sooner;
+          start = found .start;
+          beyond = found .beyond;
+          most = found .most;
+        }
+
+    -- Every detour of a plan can be taken out.
+    pub removed : (F : ℕ → ℕ) (p : Plan) (a b : ℕ) → Over p a b → b ≤ n → (i : ℕ) → i < length (planDetours F p b) → Removed F p a b i
+    unfolding planDetours whole
+    removed F empty a b o top i l = absurd (omega arith)
+    removed F (skip p) a zero o top i l = absurd o
+    removed F (skip p) a (suc b) o top i l = past-skip F p a b i (o .0) (removed F p a b (o .1) (omega arith) i l)
+    removed F (detour d inner after) a zero o top i l = absurd o
+    removed F (detour d inner after) a (suc b) o top i l =
+        let before = length (planDetours F inner b) in
+        let size = length-append (planDetours F inner b) (record { from = F (suc d); to = F (suc b) } ∷ planDetours F after d) in
+        by-cases (decLt i before)
+        (λ h. in-inner F inner after a d b (o .0) (o .1) (o .2) (o .3) i (removed F inner (suc d) b (o .2) (omega arith) i h) h)
+        (λ h.
+        by-cases (decLt before i)
+        (λ k.
+        in-after F inner after a d b (o .0) (o .1) (o .2) (o .3) (i - before - 1)
+        (removed F after a d (o .3) (omega (arith, o .1)) (i - before - 1) (omega (arith, size))) i (omega arith))
+        (λ k. let e : i ≡ before = omega arith in rw e (own F inner after a d b (o .0) (o .1) (o .2) (o .3))))
