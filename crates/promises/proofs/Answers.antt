@@ -1,7 +1,7 @@
 -- The programs that take one run sheet, by the table: each check decides its condition, and what is printed is the first refusal's two lines or the sheet asked for.
 use Prim.Native.Nat.{ℕ, _≤_, _<_}
 use mathlib.Core.Path.{_≡_, refl, ap, sym, _∙_, subst}
-use mathlib.Core.Bool.{Bool, true, false, cond, true≢false}
+use mathlib.Core.Bool.{true, false, cond}
 use mathlib.Core.Logic.{_⊎_, inl, inr, ⊎-elim}
 use mathlib.Core.List.{List, [], _∷_, _++_, append-assoc}
 use native.Mathlib.Omega.{arith}
@@ -38,7 +38,7 @@ use Rattle.demands.proofs.Lines.{tells-sweep}
 use Rattle.demands.proofs.FirstLine.{decides-line}
 use Rattle.promises.specs.Answers.{AnswerApplies, too-long, bad-line, retired-rule, run, engine, RoomApplies, short-room, EightApplies, over-eight, roomOrder, eightOrder, twoLines, PrintedByTheTable, PlanByTheTable, FieldByTheTable, BuysByTheTable}
 use Rattle.promises.proofs.Checks.{put-whole}
-use Rattle.promises.proofs.Lengths.{refusal-begins, plan-begins, figures-begin, run-judges, field-judges, run-checks-near, field-checks-near, plan-held, buys-held}
+use Rattle.promises.proofs.Lengths.{plan-begins, figures-begin, run-judges, field-judges, run-checks-near, field-checks-near, plan-held, buys-held}
 
 -- The lines of a refusal.
 regrouped : (a n f b p : List ℕ) → (a ++ n ++ f) ++ (b ++ p ++ f) ≡ a ++ n ++ (f ++ b) ++ p ++ f

@@ -1,16 +1,16 @@
 -- Worked answers: the sheet of document 01 and its plan, a sheet with the retired rule, and a plan sheet with one wrong digit.
 use Prim.Native.Nat.{ℕ}
-use mathlib.Core.Path.{_≡_, refl, ap, sym, _∙_}
-use mathlib.Core.Bool.{Bool, true, false}
+use mathlib.Core.Path.{_≡_, refl, ap, _∙_}
+use mathlib.Core.Bool.{false}
 use mathlib.Core.List.{List, [], _∷_, map}
 use native.Mathlib.Omega.{arith}
 use borrow.Author.Tests.{eq-eqb}
 use Rattle.refusals.specs.declared.Refusal.the-variants.{BadLine, RetiredRule}
 use Rattle.refusals.specs.Refusals.{accepted, firstWhere}
 use Rattle.refusals.proofs.Verdicts.{refuses}
-use Rattle.runs.specs.Run.{Run, stopsOf, goesOn, firstMember, lastWithin, wantStops, joinTo, joined}
+use Rattle.runs.specs.Run.{stopsOf, goesOn, firstMember, lastWithin, wantStops, joinTo, joined}
 use Rattle.runs.specs.Judging.{judgeOf}
-use Rattle.runs.specs.Lists.{Detour, listOf, firstBadEntry, wanted, anyBelow}
+use Rattle.runs.specs.Lists.{Detour, listOf, firstBadEntry}
 use Rattle.walk.specs.Walk.{walked, served, timeOf, timesOf, legFrom, legsFor, sumOf}
 use Rattle.walk.specs.Detours.{legsOf, startOf, endOf, unreadEnd, sweepEnd, lastSweep}
 use Rattle.walk.specs.Price.{pricedAnswer, pricedTimes, pricedLegs}

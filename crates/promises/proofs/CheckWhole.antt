@@ -1,7 +1,7 @@
 -- The whole answer of `check`: where the line that differs starts in both texts, and each line of the answer.
-use Prim.Native.Nat.{ℕ, zero, suc, _+_, _-_, _≤_}
-use mathlib.Core.Path.{_≡_, refl, ap, ap₂, sym, _∙_, subst}
-use mathlib.Core.Bool.{Bool, true, false, cond, true≢false, _||_}
+use Prim.Native.Nat.{ℕ, suc, _+_, _-_}
+use mathlib.Core.Path.{_≡_, refl, ap, sym, _∙_, subst}
+use mathlib.Core.Bool.{Bool, true, false, true≢false}
 use mathlib.Core.Logic.{⊎-elim}
 use mathlib.Core.List.{List, [], _∷_, _++_, append-assoc, append-nil}
 use native.Mathlib.Omega.{arith}
@@ -9,7 +9,6 @@ use lib.ListN.{length, drop, length-append}
 use lib.Dec.{eqb}
 use borrow.Author.Tests.{eq-eqb, eqb-true}
 use Rattle.refusals.specs.declared.Refusal.the-variants.{BadEntry}
-use Rattle.refusals.specs.Refusals.{isRefusal}
 use Rattle.refusals.proofs.Verdicts.{refuses, all-accept}
 use Rattle.runs.specs.Run.{Run, stopsOf}
 use Rattle.runs.specs.Judging.{judgeOf}
@@ -22,20 +21,19 @@ use Rattle.least.proofs.LeastList.{least-unique}
 use Rattle.figures.proofs.Answers.{list-formed}
 use Rattle.text_bytes.specs.Text.{bytes, lineFeed, has, behind, isText, decimal}
 use Rattle.text_lines.specs.Lines.{lineOf, afterLines, lineAfter}
-use Rattle.text_pages.specs.Printing.{line, numberLine}
+use Rattle.text_pages.specs.Printing.{line}
 use Rattle.sheet_reader.specs.Sheet.{sheetRun, sheetName}
 use Rattle.sheet_writer.specs.PlanSheet.{planText}
 use Rattle.sheet_writer.proofs.Reread.{after-front}
 use Rattle.sheet_lists.specs.Form.{planFroms, planTos}
 use Rattle.answer_check.specs.declared.Difference.{Difference}
-use Rattle.answer_check.specs.Checking.{formedYes, formedNo, walkYes, walkNo, leastYes, leastNo, foundKey, expectedKey, differFrom, firstDifference, walkLine, differenceLines, sameList, leastLine, verdictLines, checkText, checkChecks, checkVerdict}
+use Rattle.answer_check.specs.Checking.{formedYes, walkNo, leastNo, foundKey, expectedKey, differFrom, firstDifference, walkLine, differenceLines, sameList, leastLine, verdictLines, checkText, checkChecks}
 use Rattle.answer_check.proofs.Checked.{entry-bad}
 use Rattle.demands.specs.RefusalTable.{FirstBad, EntryIsBad, ListIsBad}
 use Rattle.demands.proofs.Checks.{Decides, refused, passed}
 use Rattle.demands.proofs.Listed.{decides-list}
 use Rattle.demands.proofs.Formed.{formed-by-the-rules}
 use Rattle.promises.specs.Checks.{Larger, FirstDiffers}
-use Rattle.promises.specs.Lengths.{checkRow}
 use Rattle.promises.specs.CheckWhole.{LeastLine, least, larger, VerdictText, unformed, the-walk, another, CheckPrintsAll}
 use Rattle.promises.proofs.Differs.{first-differs}
 use Rattle.promises.proofs.Checks.{put-whole, even-plan, text-same, same-text, list-same, same-list}

@@ -1,7 +1,7 @@
 -- The answers of `price` and `check` to an input of two texts are no longer than the rows of their programs.
 use Prim.Native.Nat.{ℕ, zero, suc, _+_, _-_, _^_, _≤_, _<_}
 use mathlib.Core.Path.{_≡_, refl, ap, sym, _∙_}
-use mathlib.Core.Bool.{Bool, true, false, cond, not}
+use mathlib.Core.Bool.{Bool, true, false, not}
 use mathlib.Core.List.{List, [], _∷_, _++_}
 use native.Mathlib.Omega.{arith}
 use lib.ListN.{length, drop, getD, length-append, length-drop}
@@ -36,15 +36,15 @@ use Rattle.sheet_lists.specs.Reading.{formChecks, planForm, listForm}
 use Rattle.sheet_lists.proofs.Counting.{up-to-few}
 use Rattle.sheet_lists.proofs.RoundTrip.{plan-small, plan-short}
 use Rattle.sheet_reader.proofs.Rows.{length-each}
-use Rattle.answer_plan.specs.Recall.{runChecks, verdictBy}
-use Rattle.answer_check.specs.Pricing.{priceChecks, pricingVerdict, priceText, RowHolds, SheetPriced}
+use Rattle.answer_plan.specs.Recall.{verdictBy}
+use Rattle.answer_check.specs.Pricing.{priceChecks, pricingVerdict, priceText, SheetPriced}
 use Rattle.answer_check.specs.Checking.{formedYes, formedNo, foundKey, expectedKey, leastNo, walkNo, differFrom, firstDifference, walkLine, differenceLines, sameList, leastLine, verdictLines, checkText, checkChecks, checkVerdict, AnswersCheck, SheetChecked}
 use Rattle.answer_check.specs.Inputs.{badInput, framedInput, AnsweredIn}
 use Rattle.answer_check.proofs.Formed.{plan-few, plan-long}
 use Rattle.answer_check.proofs.Determined.{answer-once}
-use Rattle.promises.specs.Lengths.{TakesAll, priceRow, checkRow, PriceIsWhole, CheckIsWhole}
+use Rattle.promises.specs.Lengths.{priceRow, checkRow, PriceIsWhole, CheckIsWhole}
 use Rattle.promises.proofs.Checks.{even-plan}
-use Rattle.promises.proofs.Lengths.{some-begun, Held, takes-all, first-few, unless-few, shifted-few, bad-few, count-few, at-near, verdict-near, run-checks-near, sheet-passes, run-judges, line-length, number-length, refusal-short, refusal-begins, plan-begins}
+use Rattle.promises.proofs.Lengths.{some-begun, Held, takes-all, first-few, unless-few, shifted-few, bad-few, count-few, at-near, verdict-near, run-checks-near, sheet-passes, line-length, number-length, refusal-short, refusal-begins, plan-begins}
 
 -- The first of some lines that fails its test.
 failing-few : (passed : ℕ) (tests : List (List ℕ → Bool)) (text : List ℕ) → firstFailing passed tests text ≤ passed + length tests

@@ -5,7 +5,7 @@ use mathlib.Core.Bool.{Bool, true, false, cond, not}
 use mathlib.Core.Logic.{⊎-elim}
 use mathlib.Core.List.{List, [], _∷_, _++_, map}
 use native.Mathlib.Omega.{arith}
-use lib.ListN.{length, take, drop, getD, length-append}
+use lib.ListN.{length, getD, length-append}
 use lib.Dec.{ltb, leb}
 use lib.IntN.{ℤ, pos, negsuc}
 use mir.Syntax.{w64}
@@ -15,16 +15,15 @@ use borrow.Author.Tests.{leb-true, le-ltb}
 use Rattle.refusals.specs.declared.Refusal.{Refusal}
 use Rattle.refusals.specs.declared.Refusal.the-variants.{BadLine, LongSheet, RetiredRule, ShortRoom, WantRows, OverEightWants}
 use Rattle.refusals.specs.declared.Verdict.{Verdict}
-use Rattle.refusals.specs.Refusals.{numberOf, isRefusal, accepted, refuseIf, refuseAt, firstOf}
+use Rattle.refusals.specs.Refusals.{numberOf, refuseIf, refuseAt, firstOf}
 use Rattle.refusals.proofs.Verdicts.{refuses, first-refuses, first-passes, none-refuses, all-accept, number-small}
 use Rattle.runs.specs.Run.{Run, stopsOf, total, mostWants}
 use Rattle.runs.specs.Judging.{rightEnd, tableChecks, wantsChecks, headChecks, judgeOf}
-use Rattle.runs.specs.Lists.{Detour, listOf}
+use Rattle.runs.specs.Lists.{listOf}
 use Rattle.runs.proofs.Search.{true-or-false, first-within}
 use Rattle.runs.proofs.Entries.{length-list}
 use Rattle.walk.specs.Price.{pricedAnswer, pricedTimes, pricedLegs}
 use Rattle.walk.proofs.Places.{placeMost, AllNear, first-near, if-near, judge-near}
-use Rattle.least.specs.Least.{LeastForRun}
 use Rattle.least.proofs.LeastList.{least-unique}
 use Rattle.planner.specs.Plan.{roomFor}
 use Rattle.figures.specs.Figures.{without, figureOf, figuresOf}

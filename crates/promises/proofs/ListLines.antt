@@ -1,9 +1,9 @@
 -- 11 of a plan sheet and of a list: the search over their lines, stretch by stretch, finds the first that is bad.
 use Prim.Native.Nat.{ℕ, zero, suc, _+_, _-_, _≤_, _<_}
 use mathlib.Core.Path.{_≡_, refl, ap, sym, _∙_, subst}
-use mathlib.Core.Bool.{Bool, true, false, not, cond, true≢false}
+use mathlib.Core.Bool.{Bool, true, false, not, true≢false}
 use mathlib.Core.Logic.{_⊎_, inl, inr, ⊎-elim, by-cases}
-use mathlib.Core.List.{List, [], _∷_, _++_}
+use mathlib.Core.List.{List, [], _∷_}
 use native.Mathlib.Omega.{arith}
 use native.Mathlib.Decide.{decLt}
 use lib.ListN.{length, drop}
@@ -11,12 +11,11 @@ use lib.Dec.{ltb, eqb}
 use borrow.Author.Tests.{not-true, not-false, ltb-true, ltb-false}
 use Rattle.refusals.specs.declared.Refusal.{Refusal}
 use Rattle.refusals.specs.declared.Refusal.the-variants.{BadLine, LongSheet}
-use Rattle.refusals.specs.Refusals.{refuseIf, refuseAt, firstOf, firstWhere}
-use Rattle.runs.specs.Run.{mostWants}
+use Rattle.refusals.specs.Refusals.{refuseAt, firstOf, firstWhere}
 use Rattle.runs.proofs.Search.{true-or-false, first-zero, or-false-both}
 use Rattle.text_bytes.specs.Text.{lineFeed, isEmpty, has, behind, startsWith}
 use Rattle.text_bytes.proofs.Split.{key-split}
-use Rattle.text_lines.specs.Lines.{lineOf, afterLines, lineAfter, isNumberLine, isPair, isPairLine, isTriple, isTripleLine, firstBadOf}
+use Rattle.text_lines.specs.Lines.{lineOf, afterLines, lineAfter, isNumberLine, isPairLine, isTripleLine, firstBadOf}
 use Rattle.sheet_reader.specs.Lines.{tapeKey, isTapeLine, isCountLine}
 use Rattle.sheet_reader.specs.Sheet.{longestSheet, unless, shifted, firstSome}
 use Rattle.sheet_writer.specs.PlanSheet.{sumKey, readsKey, finishKey, endKey, detoursKey, detourKey, timeKey}

@@ -1,5 +1,5 @@
 -- The texts of `month`, `mend`, `rewrite` and `ltfs` are no longer than the rows of their programs.
-use Prim.Native.Nat.{ℕ, zero, suc, _+_, _-_, _*_, _/_, _%_, _^_, _≤_, _<_}
+use Prim.Native.Nat.{ℕ, zero, suc, _+_, _-_, _*_, _^_, _≤_, _<_}
 use mathlib.Core.Path.{_≡_, refl, ap, sym, _∙_}
 use mathlib.Core.Bool.{Bool, true, false, cond, not, true≢false, _||_}
 use mathlib.Core.Logic.{_⊎_, ⊎-elim, by-cases}
@@ -7,38 +7,37 @@ use mathlib.Core.List.{List, [], _∷_, _++_}
 use native.Mathlib.Omega.{arith}
 use native.Mathlib.Decide.{decLt}
 use native.Mathlib.Nat.{mod-lt, div-le-self}
-use lib.ListN.{length, take, drop, getD, length-append, length-take}
+use lib.ListN.{length, drop, getD, length-append, length-take}
 use lib.Seq.{take-append-seam}
 use lib.Dec.{ltb, eqb}
-use borrow.Author.Tests.{le-ltb, ltb-false, eqb-true, eqb-false}
+use borrow.Author.Tests.{le-ltb, ltb-false, eqb-false}
 use Rattle.refusals.specs.declared.Refusal.{Refusal}
-use Rattle.refusals.specs.declared.Refusal.the-variants.{Accepted, WantRows, TooManyReads, ShortRow, BadLine, LongSheet, BadName, BadText, ManyExtents, FarFile, Overlap}
+use Rattle.refusals.specs.declared.Refusal.the-variants.{WantRows, TooManyReads, ShortRow, BadLine, LongSheet}
 use Rattle.refusals.specs.declared.Verdict.{Verdict}
 use Rattle.refusals.specs.Refusals.{numberOf, isRefusal, accepted, refuseIf, refuseAt, firstOf}
-use Rattle.refusals.proofs.Verdicts.{refuses, all-accept, accepts-if, number-small}
+use Rattle.refusals.proofs.Verdicts.{refuses, accepts-if, number-small}
 use Rattle.runs.specs.Run.{mostWants, mostReads}
-use Rattle.runs.proofs.Search.{true-or-false, or-false-both}
+use Rattle.runs.proofs.Search.{true-or-false}
 use Rattle.walk.proofs.Places.{placeMost, first-near, if-near}
-use Rattle.text_bytes.specs.Text.{bytes, comma, isEmpty, lineFeed, behind, decimal}
+use Rattle.text_bytes.specs.Text.{bytes, comma, isEmpty, decimal}
 use Rattle.text_lines.specs.Lines.{lineOf, lineAfter, isNumberLine, firstIn}
 use Rattle.text_pages.specs.Printing.{line, numberLine, pairText, pairLine}
 use Rattle.text_pages.proofs.Pages.{decimal-short}
 use Rattle.sheet_reader.specs.Lines.{headKey, filesKey, wantsKey, wantKey, isTapeLine, isTurnLine, isRuleLine}
-use Rattle.sheet_reader.specs.Sheet.{longestSheet, mostSheetFiles, saysSweep, sheetFiles, unless, firstBadLine}
+use Rattle.sheet_reader.specs.Sheet.{longestSheet, saysSweep, sheetFiles, unless, firstBadLine}
 use Rattle.sheet_reader.specs.Reading.{sheetVerdict}
 use Rattle.sheet_reader.proofs.Rows.{length-each}
 use Rattle.sheet_writer.specs.declared.Written.{Written}
-use Rattle.sheet_writer.specs.Writing.{rowVerdict, refusedWriting, writtenAnswer, writtenRow}
-use Rattle.sheet_writer.specs.RefusalLines.{refusalText, RefusalWritten}
+use Rattle.sheet_writer.specs.Writing.{rowVerdict, writtenAnswer, writtenRow}
+use Rattle.sheet_writer.specs.RefusalLines.{refusalText}
 use Rattle.sheet_loose.specs.Loose.{looseFiles, looseWantsText, looseWantText, looseWants, looseEnd, wantsSaid, priceLeftOut, firstBadLooseTop, firstBadLooseBelow, firstBadLoose, wantedFiles, wantedCounts}
 use Rattle.sheet_loose.specs.Reading.{looseVerdict}
 use Rattle.sheet_loose.proofs.Wants.{wants-few}
 use Rattle.answer_plan.proofs.Planned.{handed-bytes, handed-row}
-use Rattle.answer_rewrite.specs.Rewriting.{rewritten, rewriteVerdict, SheetRewritten}
-use Rattle.answer_mend.specs.declared.Mended.{Mended}
+use Rattle.answer_rewrite.specs.Rewriting.{rewritten, rewriteVerdict}
 use Rattle.answer_mend.specs.declared.wants.Fate.{Fate}
 use Rattle.answer_mend.specs.Wants.{readsInAll, fateOf}
-use Rattle.answer_mend.specs.Mending.{sheetRemaining, mendedText, changeLine, changeIf, fateLine, fateLines, changesText, wantsVerdicts, textsVerdicts, mendVerdict, SheetMended}
+use Rattle.answer_mend.specs.Mending.{sheetRemaining, mendedText, changeLine, changeIf, fateLine, fateLines, changesText, wantsVerdicts, textsVerdicts, mendVerdict}
 use Rattle.answer_mend.proofs.Texts.{few-files}
 use Rattle.answer_month.specs.declared.Month.{Month}
 use Rattle.answer_month.specs.Page.{oneIf, kindsIn, refusalLine, refusalLines, monthTop, meanOf, sumsText, longestText, monthTape, monthEnd, pageText}
@@ -46,9 +45,9 @@ use Rattle.demands.specs.RefusalTable.{FirstThatApplies, none, here, later, Som
 use Rattle.demands.proofs.Sheets.{told}
 use Rattle.promises.specs.Lengths.{InWords, monthRow, MonthIsWhole, sheetRow, changesRow, MendIsWhole, RewriteIsWhole, RefusalIsWhole}
 use Rattle.promises.specs.Mender.{SheetApplies, sheetOrder, TextsApply, long-text, short-row, textsOrder}
-use Rattle.promises.proofs.Mends.{Facts, mended-rows}
+use Rattle.promises.proofs.Mends.{mended-rows}
 use Rattle.promises.proofs.Mender.{mender-refuses, nothing-applies, says}
-use Rattle.promises.proofs.Lengths.{some-begun, Held, takes-all, first-few, unless-few, at-near, sheet-near, line-length, number-length, refusal-short, refusal-begins}
+use Rattle.promises.proofs.Lengths.{some-begun, takes-all, first-few, unless-few, at-near, sheet-near, line-length, number-length, refusal-short, refusal-begins}
 
 -- A line with two numbers.
 pair-length : (key : List ℕ) (a b : ℕ) → a < 2 ^ 64 → b < 2 ^ 64 → length (pairLine key a b) ≤ length key + 42

@@ -1,16 +1,16 @@
 -- The texts of `ltfs` are no longer than the rows of its program: a sheet is within its limit, and an index has fewer files than bytes.
-use Prim.Native.Nat.{ℕ, zero, suc, _+_, _^_, _≤_, _<_}
-use mathlib.Core.Path.{_≡_, refl, ap, sym, _∙_}
-use mathlib.Core.Bool.{Bool, true, false, cond, not, _||_}
+use Prim.Native.Nat.{ℕ, _+_, _≤_, _<_}
+use mathlib.Core.Path.{_≡_, refl, ap, _∙_}
+use mathlib.Core.Bool.{Bool, true, false, not}
 use mathlib.Core.List.{List, [], _∷_, _++_}
 use native.Mathlib.Omega.{arith}
-use lib.ListN.{length, take, drop, getD, length-append, length-take, length-drop}
+use lib.ListN.{length, drop, getD, length-append, length-take, length-drop}
 use lib.Seq.{take-append-seam}
 use lib.Dec.{ltb, eqb}
 use borrow.Author.Tests.{le-ltb, ltb-false}
 use Rattle.refusals.specs.declared.Refusal.the-variants.{BadName, BadText, ManyExtents, FarFile, Overlap}
 use Rattle.refusals.specs.declared.Verdict.{Verdict}
-use Rattle.refusals.specs.Refusals.{isRefusal, refuseIf, firstOf}
+use Rattle.refusals.specs.Refusals.{refuseIf}
 use Rattle.refusals.proofs.Verdicts.{refuses, all-accept, accepts-if}
 use Rattle.runs.proofs.Search.{or-false-both}
 use Rattle.walk.proofs.Places.{placeMost, first-near, if-near}

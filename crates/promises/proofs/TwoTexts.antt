@@ -1,17 +1,17 @@
 -- `price` and `check` by the table, stage by stage.
 use Prim.Native.Nat.{ℕ, _≤_, _<_}
 use mathlib.Core.Path.{_≡_, refl, ap, sym, _∙_, subst}
-use mathlib.Core.Bool.{Bool, true, false, cond, true≢false}
+use mathlib.Core.Bool.{true, false, cond, true≢false}
 use mathlib.Core.Logic.{⊎-elim}
-use mathlib.Core.List.{List, [], _∷_, _++_}
+use mathlib.Core.List.{List, [], _∷_}
 use native.Mathlib.Omega.{arith}
 use lib.ListN.{length, take}
 use lib.Dec.{ltb}
 use Rattle.refusals.specs.declared.Refusal.{Refusal}
-use Rattle.refusals.specs.declared.Refusal.the-variants.{Accepted, ShortRoom, BadEntry, BadLine, LongSheet, RetiredRule}
+use Rattle.refusals.specs.declared.Refusal.the-variants.{ShortRoom, BadEntry, BadLine, LongSheet, RetiredRule}
 use Rattle.refusals.specs.declared.Verdict.{Verdict}
-use Rattle.refusals.specs.Refusals.{numberOf, isRefusal, accepted, refuseIf, refuseAt, firstOf}
-use Rattle.refusals.proofs.Verdicts.{refuses, first-refuses, first-passes, none-refuses}
+use Rattle.refusals.specs.Refusals.{numberOf, isRefusal, refuseIf, refuseAt, firstOf}
+use Rattle.refusals.proofs.Verdicts.{refuses, first-refuses, first-passes}
 use Rattle.runs.specs.Run.{Run, stopsOf}
 use Rattle.runs.specs.Judging.{judgeOf}
 use Rattle.runs.specs.Lists.{listVerdict}
@@ -22,11 +22,10 @@ use Rattle.sheet_reader.specs.Lines.{sweepText}
 use Rattle.sheet_reader.specs.Sheet.{longestSheet, saysSweep, firstBadLine, sheetRun, sheetName}
 use Rattle.sheet_reader.specs.Reading.{sheetVerdict, ruleVerdict}
 use Rattle.sheet_writer.specs.RefusalLines.{refusalText}
-use Rattle.sheet_lists.specs.Form.{planFroms, planTos, listFroms, listTos, planBadLine, listBadLine}
-use Rattle.sheet_lists.specs.Reading.{formChecks, planForm, listForm}
+use Rattle.sheet_lists.specs.Form.{listFroms, listTos}
+use Rattle.sheet_lists.specs.Reading.{planForm, listForm}
 use Rattle.answer_plan.specs.Recall.{runChecks, roomWords, verdictBy}
-use Rattle.answer_check.specs.Pricing.{priceChecks, pricingVerdict, priceText}
-use Rattle.answer_check.specs.Checking.{checkChecks, checkVerdict}
+use Rattle.answer_check.specs.Pricing.{pricingVerdict, priceText}
 use Rattle.demands.specs.RefusalTable.{FirstBad, RunApplies, ListIsBad, SomeApplies}
 use Rattle.demands.specs.Lines.{LineIsBad, linesDue, Ruled}
 use Rattle.demands.proofs.Tests.{tells-below}
@@ -36,9 +35,7 @@ use Rattle.demands.proofs.Counted.{has-stops, stops-one}
 use Rattle.demands.proofs.Lines.{tells-sweep}
 use Rattle.demands.proofs.FirstLine.{decides-line}
 use Rattle.demands.proofs.Listed.{decides-list}
-use Rattle.promises.specs.Lengths.{priceRow, checkRow}
 use Rattle.promises.specs.Answers.{RoomApplies, short-room}
-use Rattle.promises.specs.CheckWhole.{VerdictText}
 use Rattle.promises.specs.ListLines.{PlanFormApplies, ListFormApplies, formOrder}
 use Rattle.promises.specs.TwoTexts.{EarlyApplies, earlyOrder, PricedApplies, pricedOrder, PlannedApplies, plannedOrder, InThreeStages, PriceByTheTable, CheckByTheTable}
 use Rattle.promises.proofs.Checks.{put-whole}

@@ -1,8 +1,7 @@
 -- 12 and 11 of a plan sheet handed in to `check`, and of a list handed in to `price`, as conditions: what must stand at each line, given those above it. Line i
 -- is the one behind i others, so it has number i + 1.
-use Prim.Native.Nat.{ℕ, suc, _+_, _≤_, _<_}
+use Prim.Native.Nat.{ℕ, _+_, _≤_, _<_}
 use mathlib.Core.Path.{_≡_}
-use mathlib.Core.Logic.{_↔_}
 use mathlib.Core.List.{List, [], _∷_, _++_}
 use lib.ListN.{length}
 use Rattle.refusals.specs.declared.Refusal.{Refusal}
