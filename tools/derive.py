@@ -11,7 +11,8 @@ trusted: a mistake of this program is a proof that is refused.
 
 The functions stand in src/lib.rt, at the left margin, each clause on a line of its own. Those with a loop are printed from a
 twin in which the struct is an array everywhere, by value too, since an entry goes from the slice to an array. The others are
-printed from a twin in which it is one behind a reference alone; there a loop has no body but `blank()`, an array for its answer.
+printed from a twin in which it is one behind a reference alone; there a loop has no body but `blank()`, an array for its answer. A function that lends a
+table of its own as such a slice takes an array of arrays, and so does what it hands that table to, which goes on with `blank()`.
 A twin's clauses say nothing, but are as many as the function's: a walk cites a clause by its number.
 
 Written are, for a function `copy_out`, proofs/Walks/CopyOutKinds.antt and CopyOutReads.antt, which its callers cite too, and
@@ -56,6 +57,8 @@ class Twins:
         over = [f for f in functions(source) if re.search(rf"&(?:mut )?\[{struct}\]", part(source, f))]
         self.loops = [f for f in over if re.search(r"^    while ", part(source, f), re.M)]
         self.thin = [f for f in over if f not in self.loops]
+        lends = rf"\b(?:{'|'.join(over)})\(\s*&mut \w+\[\.\.\]"
+        self.holders = [f for f in functions(source) if f not in over and re.search(lends, part(source, f))]
 
     def of_loops(self):
         """The loops and what they call, with arrays for structs everywhere; the crate stands on no other."""
@@ -68,13 +71,22 @@ class Twins:
 
     def of_thin(self):
         """The whole source, with arrays for structs behind references; loops without their bodies."""
-        text = self.source
-        for f in self.loops + self.thin:
+        text = re.sub(r"^ghost use Rattle·\w+·specs.*\n", "", self.source, flags=re.M)
+        for f in functions(text):
             text = put(text, f, silent(part(text, f)))
         for f in self.loops:
             head = part(text, f).split("\n{\n")[0]
             text = put(text, f, head + ("\n{\n    blank()\n}\n" if "->" in head else "\n{\n}\n"))
-        return re.sub(rf"(&(?:mut )?)\[{self.struct}\]", rf"\1[{self.array}]", text)
+        text = re.sub(rf"(&(?:mut )?)\[{self.struct}\]", rf"\1[{self.array}]", text)
+        own = rf"(\w+): \[{self.struct}; (\d+)\]"
+        for f in self.holders:
+            head, body = part(text, f).split("\n{\n")
+            for g in [g for g in functions(text) if g not in self.loops + self.thin and re.search(rf"\b{g}\(", body)]:
+                taken, made = part(text, g).split("\n{\n")
+                blanks = "".join(f"    let {name} = blank();\n" for name, _ in re.findall(own, taken))
+                text = put(text, g, re.sub(own, rf"\1: [{self.array}; \2]", taken) + "\n{\n" + blanks + made)
+            text = put(text, f, re.sub(own, rf"\1: [{self.array}; \2]", head) + "\n{\n" + body)
+        return text
 
 
 def crate_lines(root):
@@ -93,7 +105,6 @@ def printed(root, crate, source, alone, copy):
     with open(f"{copy}/crates/{crate}/src/lib.rt", "w", encoding="utf-8") as out:
         out.write(source)
     if not alone:
-        shutil.copytree(f"{root}/crates/{crate}/specs", f"{copy}/crates/{crate}/specs")
         for kept in ("rlib", "stamp", "log"):
             if os.path.isdir(f"{root}/target/{kept}"):
                 shutil.copytree(f"{root}/target/{kept}", f"{copy}/target/{kept}")
@@ -142,6 +153,7 @@ def with_struct(line, n):
     line = re.sub(rf"\({element}\)|{element}", "S.the-row", line)
     behind = r"(Syntax\.tyRef (?:\(Syntax\.named \d+\)|Syntax\.erased) Syntax\.(?:mut|imm) )"
     line = re.sub(behind + re.escape(f"({mir})"), r"\1(Memory.pointee (S.the-row .written))", line)
+    line = re.sub(behind + re.escape(f"(Syntax.tyArray ({mir}) ") + r"(\d+)\)", r"\1(Syntax.tyArray (Memory.pointee (S.the-row .written)) \2)", line)
     line = line.replace(f"({mir})", "L.mir").replace(mir, "L.mir")
     return line.replace("(λ x. x) List.[] (λ x. Unit)", f"(λ x. x) (S.struct .make {zeros} tt) (λ x. Unit)")
 
@@ -314,8 +326,8 @@ def main():
     twins = Twins(open(f"{root}/crates/{crate}/src/lib.rt", encoding="utf-8").read(), struct, fields)
     proofs = f"{root}/crates/{crate}/proofs"
     os.makedirs(f"{proofs}/Walks", exist_ok=True)
-    over = twins.loops + twins.thin
-    for names, source, alone in ((twins.loops, twins.of_loops(), True), (twins.thin, twins.of_thin(), False)):
+    over = twins.loops + twins.thin + twins.holders
+    for names, source, alone in ((twins.loops, twins.of_loops(), True), (twins.thin + twins.holders, twins.of_thin(), False)):
         with tempfile.TemporaryDirectory(prefix="twin.") as copy:
             print_of = printed(root, crate, source, alone, copy)
             for f in names:

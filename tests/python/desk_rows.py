@@ -4,8 +4,8 @@ with what desk.py works out.
 
 usage: tests/python/desk_rows.py
 
-The prover does not cover a function that lends a slice of structs, so no program of the repository can call these three. This one is made in a
-temporary folder, from the text of check_desk with three calls replaced, and is run without a proof by `rt try`: on the interpreter, compiled at -O0
+The front end does not cover a function that lends a slice of structs, so check_desk goes by value, and cmd_desk by a function of desk_rows that holds the
+table. This program is made in a temporary folder, from the text of check_desk with three calls replaced, and is run without a proof by `rt try`: on the interpreter, compiled at -O0
 and at -O3, and with the compiler's assumptions checked. The lent row has 40 places, or what the event draws; records that are not lent, or stand past
 the 32nd, are looked at after each call.
 """
@@ -106,7 +106,7 @@ def main():
     crates = os.path.join(programs.ROOT, "crates")
     with open(os.path.join(programs.ROOT, "crates.txt"), encoding="utf-8") as handle:
         lines = {line.split(":")[0].strip(): line for line in handle if ":" in line.split("#")[0]}
-    needed = [name for name in lines["desk_rows"].split(":")[1].split()] + ["desk_rows"]
+    needed = [name for name in lines["desk_rows"].split(":")[1].split() if name in lines] + ["desk_rows"]
     with tempfile.TemporaryDirectory() as folder:
         for name in needed:
             shutil.copytree(os.path.join(crates, name), os.path.join(folder, "crates", name))

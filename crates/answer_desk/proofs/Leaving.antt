@@ -3,10 +3,10 @@ use Prim.Native.Nat.{ℕ, _+_, _*_, _≤_, min}
 use mathlib.Core.Path.{_≡_, refl, sym, ap, _∙_, subst}
 use mathlib.Core.Bool.{Bool, true, false, true≢false}
 use mathlib.Core.Logic.{⊎-elim}
-use mathlib.Core.List.{List, _++_, append-assoc}
+use mathlib.Core.List.{List, _++_, map, append-assoc}
 use native.Mathlib.Omega.{arith}
 use native.Mathlib.Decide.{decLt}
-use lib.ListN.{length, take, drop}
+use lib.ListN.{length, take, drop, length-map}
 use lib.Seq.{take-all}
 use Rattle.refusals.specs.Refusals.{isRefusal}
 use Rattle.refusals.proofs.Verdicts.{refuses}
@@ -28,6 +28,10 @@ use Rattle.answer_desk.specs.declared.Reads.{Reads}
 use Rattle.answer_desk.specs.Answers.{mostText, closedLines, boardedTop, boardedText}
 use Rattle.answer_desk.specs.Private.{placesText, Leaving}
 use Rattle.answer_desk.proofs.Looking.{closed-both}
+
+-- The length of a table that is a field of a struct.
+pub unmapped : (X Y : Type 0) (f : X → Y) (l : List X) (n : ℕ) → length (map f l) ≡ n → length l ≡ n
+unmapped X Y f l n p = sym (length-map l f) ∙ p
 
 take-few : (n : ℕ) (xs : List ℕ) → length xs ≡ 8 → take (min n 8) xs ≡ take n xs
 take-few n xs l =

@@ -1,13 +1,12 @@
 // cmd_desk: a day at the desk of two offices. Standard input: a line with the byte count of a run sheet, the sheet, whose wants are not looked at, and
 // then one event a line; each event's answer goes to standard output before the next event is read.
-// The answers are proved in `answer_desk`; what is read and written here, and the order of it, is tested and not proved.
+// The answers are proved in `answer_desk`, and on a lent row of records in `desk_rows`; what is read and written here, and the order of it, is tested and not proved.
 ghost use Prim.Native.Nat.{_≤_};
 ghost use lib.ListN.{length};
 ghost use Rattle.answer_desk.specs.Answers.{mostText};
 ghost use Rattle.answer_desk.specs.Days.{mostRoom};
-use answer_desk::Answered;
 use answer_desk::Day;
-use desk_tickets::ALL_PLACES;
+use desk_rows::ToldRow;
 use libc::STDOUT_FILENO;
 use refusals::Refusal;
 use refusals::Verdict;
@@ -38,7 +37,7 @@ fn print_waiting(day: Day) {
     io::write_all(STDOUT_FILENO, text_inputs::front(&out, bytes as u64));
 }
 
-// The answer to the first n bytes of a line. The room is enough for every boarding, and the row for every answer.
+// The answer to the first n bytes of a line, on the table as a lent row. The room is enough for every boarding, and the row for every answer.
 fn answer_line(
     day: Day,
     line: &[u8; 68],
@@ -48,13 +47,15 @@ fn answer_line(
     aggregates: &[u64],
     room: &mut [u64],
     out: &mut [u8],
-) -> Answered
+) -> ToldRow
     requires { ⌜ mostRoom ≤ length (now room) ⌝ }
     requires { ⌜ mostText ≤ length (now out) ⌝ }
 {
-    answer_desk::answer(
-        ALL_PLACES,
-        day,
+    let row = day.row;
+    let lasts = day.lasts;
+    desk_rows::answer_held(
+        row,
+        lasts,
         text_inputs::front(line, n as u64),
         starts,
         lengths,
@@ -100,15 +101,17 @@ fn take_event(day: Day, place: u64, starts: &[u64], lengths: &[u64], aggregates:
         &mut room,
         &mut out,
     );
-    let verdict = answered.verdict;
+    let told = answered.told;
+    let verdict = told.verdict;
     if refusals::refused(verdict) {
         print_refusal(placed(verdict, place));
     }
-    io::write_all(STDOUT_FILENO, text_inputs::front(&out, answered.bytes));
-    let next = answered.day;
+    io::write_all(STDOUT_FILENO, text_inputs::front(&out, told.bytes));
+    let row = answered.row;
+    let lasts = told.lasts;
     let kind = verdict.refusal;
     Step {
-        day: next,
+        day: Day { row, lasts },
         goes_on: refusals::number(kind) != NO_EVENT,
     }
 }

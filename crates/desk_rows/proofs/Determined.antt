@@ -1,4 +1,4 @@
--- What the contract of a boarding says determines the answer and every row, the row of records among them.
+-- What the contracts of a boarding and of an event say determines the answer and every row, the row of records among them.
 use Prim.Native.Nat.{ℕ}
 use mathlib.Core.Path.{_≡_, refl, sym, ap, _∙_}
 use mathlib.Core.Bool.{Bool, true, false}
@@ -9,12 +9,19 @@ use Rattle.walk.specs.declared.Answer.{Answer}
 use Rattle.planner.specs.Rows.{Rows}
 use Rattle.planner.proofs.Determined.{plan-determined}
 use Rattle.desk_tickets.specs.declared.Ticket.{Ticket}
+use Rattle.desk_tickets.specs.declared.Lasts.{Lasts}
 use Rattle.desk_tickets.specs.WaitingTable.{recordsVerdict}
 use Rattle.desk_boardings.specs.declared.Boarding.{Boarding}
 use Rattle.desk_boardings.specs.declared.Boarded.{Boarded}
 use Rattle.desk_boardings.specs.declared.BoardedRow.{BoardedRow}
 use Rattle.desk_boardings.specs.Boardings.{Tape, Boards, RunPlanned, RowRefused, boardRun, boardedBy}
+use Rattle.answer_desk.specs.declared.Event.{Event}
+use Rattle.answer_desk.specs.declared.Answered.{Answered}
+use Rattle.answer_desk.proofs.Determined.{answer-determined}
+use Rattle.desk_rows.specs.declared.Told.{Told}
+use Rattle.desk_rows.specs.declared.ToldRow.{ToldRow}
 use Rattle.desk_rows.specs.Desk.{tableIn, withTable, boardedRow, BoardsLent}
+use Rattle.desk_rows.specs.Events.{dayOf, toldBy, toldRow, LentAnswered, HeldAnswered}
 
 module _ (len : ℕ) (tape : Tape) (table : List Ticket) (b : Boarding) (before : Rows) (r r′ : BoardedRow) (after after′ : Rows) where
   refused-once : RowRefused len table b before r after → RowRefused len table b before r′ after′ → (r ≡ r′) × (after ≡ after′)
@@ -40,3 +47,17 @@ module _ (ts : List Ticket) (tape : Tape) (b : Boarding) (before : Rows) (r r′
       let t = tableIn ts in
       let e = board-in-determined (length ts) tape t b before (boardedRow t r) (boardedRow t r′) after after′ (p .boards) (q .boards) in
       (ap (λ (d : BoardedRow). d .boarded) (e .0), e .1, p .row ∙ ap (λ (d : BoardedRow). withTable (d .row) ts) (e .0) ∙ sym (q .row))
+
+-- Two results of `answer` that fit its contract are equal, and two of `answer_held`.
+module _ (l : Lasts) (tape : Tape) (room out : List ℕ) (e : Event) (room′ room″ out′ out″ : List ℕ) where
+  pub lent-determined : (ts : List Ticket) (r s : Told) (exit exit′ : List Ticket) → LentAnswered ts l tape room out e r exit room′ out′ → LentAnswered ts l tape room out e s exit′ room″ out″
+      → (r ≡ s) × (exit ≡ exit′) × (room′ ≡ room″) × (out′ ≡ out″)
+  lent-determined ts r s exit exit′ p q =
+      let same = answer-determined (length ts) tape (dayOf (tableIn ts) l) room out (p .answered) (q .answered) room′ room″ out′ out″ e (p .answers) (q .answers) in
+      (p .says ∙ ap toldBy (same .0) ∙ sym (q .says), p .row ∙ ap (λ (a : Answered). withTable (a .day .row) ts) (same .0) ∙ sym (q .row), same .1 .0, same .1 .1)
+
+  pub held-determined : (row : List Ticket) (r s : ToldRow) → HeldAnswered row l tape room out e r room′ out′ → HeldAnswered row l tape room out e s room″ out″
+      → (r ≡ s) × (room′ ≡ room″) × (out′ ≡ out″)
+  held-determined row r s p q =
+      let same = answer-determined 32 tape (dayOf row l) room out (p .held) (q .held) room′ room″ out′ out″ e (p .answers) (q .answers) in
+      (p .says ∙ ap (λ (a : Answered). toldRow (a .day .row) (toldBy a)) (same .0) ∙ sym (q .says), same .1 .0, same .1 .1)

@@ -10,7 +10,7 @@ use Rattle.desk_tickets.specs.WaitingTable.{noTicket}
 use Rattle.desk_rows.specs.Desk.{tableIn, withTable}
 
 module _ (table ts : List Ticket) (whole : length table ≡ 32) (long : 32 ≤ length ts) where
-  table-then-rest : withTable table ts ≡ table ++ drop 32 ts
+  pub table-then-rest : withTable table ts ≡ table ++ drop 32 ts
   unfolding withTable
   table-then-rest = ap (λ (t : List Ticket). t ++ drop 32 ts) (take-all (length ts) table (omega arith))
 

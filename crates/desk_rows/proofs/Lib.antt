@@ -4,4 +4,5 @@ pub mod Copying
 pub mod Thin
 pub mod Determined
 pub mod Kept
+pub mod Events
 pub mod Walks

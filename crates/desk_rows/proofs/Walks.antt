@@ -9,3 +9,7 @@ pub mod WithdrawKinds
 pub mod WithdrawReads
 pub mod BoardKinds
 pub mod BoardReads
+pub mod AnswerKinds
+pub mod AnswerReads
+pub mod AnswerHeldKinds
+pub mod AnswerHeldReads

@@ -1,19 +1,40 @@
-// desk_rows: the waiting table in a lent row of records, for two offices. Thin: the first 32 records are copied out, the work is done by value, and they
-// are copied back. The walks of the functions over the row are derived by tools/derive.py; after a change of their text they are derived again.
+// desk_rows: the waiting table in a lent row of records, for two offices: filing, withdrawing, boarding, and an event of a day at the desk. Thin: the first 32
+// records are copied out, the work is done by value, and they are copied back. The walks of the functions over the row are derived by tools/derive.py;
+// after a change of their text they are derived again.
 ghost use mathlib.Core.Path.{_≡_};
 ghost use Prim.Native.Nat.{min};
 ghost use lib.ListN.{replicate};
 ghost use Rattle.planner.specs.Rows.{rowsBefore, rowsAfter};
 ghost use Rattle.desk_tickets.specs.WaitingTable.{noTicket};
 ghost use Rattle.desk_boardings.specs.Boardings.{tapeAt};
+ghost use Rattle.text_lines.specs.Lines.{lineOf};
+ghost use Rattle.answer_desk.specs.Events.{eventOf};
+ghost use Rattle.desk_rows.specs.Events.{toldBy, toldRow, LentAnswered, HeldAnswered};
 ghost use Rattle.desk_rows.specs.Desk.{tableIn, withTable, filedFrom, rowFiled, withdrawnFrom, rowWithdrawn, BoardsLent};
+use answer_desk::Answered;
+use answer_desk::Day;
 use desk_boardings::Boarded;
 use desk_boardings::Boarding;
 use desk_tickets::Filed;
 use desk_tickets::Filing;
+use desk_tickets::Lasts;
 use desk_tickets::Ticket;
 use desk_tickets::Withdrawal;
 use desk_tickets::Withdrawn;
+use refusals::Verdict;
+
+// What is answered to an event beside the row: the last numbers given, the verdict, and how many bytes the text has.
+pub struct Told {
+    pub lasts: Lasts,
+    pub verdict: Verdict,
+    pub bytes: u64,
+}
+
+// The same with the table afterwards.
+pub struct ToldRow {
+    pub row: [Ticket; 32],
+    pub told: Told,
+}
 
 // How many records of a row of this length are the table's.
 fn used(len: usize) -> usize
@@ -122,4 +143,73 @@ pub fn board(
     let next = done.row;
     copy_in(&mut ts[..], next);
     done.boarded
+}
+
+fn told_by(done: Answered) -> Told
+    ensures { λ r. ⌜ r ≡ toldBy done ⌝ }
+{
+    let day = done.day;
+    let lasts = day.lasts;
+    let verdict = done.verdict;
+    Told {
+        lasts,
+        verdict,
+        bytes: done.bytes,
+    }
+}
+
+fn told_row(row: [Ticket; 32], told: Told) -> ToldRow
+    ensures { λ r. ⌜ r ≡ toldRow row told ⌝ }
+{
+    ToldRow { row, told }
+}
+
+// The answer to one event of a day at one tape, on a lent row of records.
+pub fn answer(
+    ts: &mut [Ticket],
+    lasts: Lasts,
+    event: &[u8],
+    starts: &[u64],
+    lengths: &[u64],
+    aggregates: &[u64],
+    room: &mut [u64],
+    out: &mut [u8],
+) -> Told
+    ensures { λ r. ⌜ LentAnswered (now (ts .entry)) lasts (tapeAt starts lengths aggregates) (now (room .entry)) (now (out .entry)) (eventOf (lineOf (now (event .entry)))) r (now (ts .exit)) (now (room .exit)) (now (out .exit)) ⌝ }
+{
+    let len = ts.len();
+    let row = copy_out(&ts[..]);
+    let day = Day { row, lasts };
+    let done = answer_desk::answer(len, day, event, starts, lengths, aggregates, room, out);
+    let after = done.day;
+    let next = after.row;
+    copy_in(&mut ts[..], next);
+    told_by(done)
+}
+
+// The same on a table of its own, lent as a row.
+pub fn answer_held(
+    row: [Ticket; 32],
+    lasts: Lasts,
+    event: &[u8],
+    starts: &[u64],
+    lengths: &[u64],
+    aggregates: &[u64],
+    room: &mut [u64],
+    out: &mut [u8],
+) -> ToldRow
+    ensures { λ r. ⌜ HeldAnswered row lasts (tapeAt starts lengths aggregates) (now (room .entry)) (now (out .entry)) (eventOf (lineOf (now (event .entry)))) r (now (room .exit)) (now (out .exit)) ⌝ }
+{
+    let mut table = row;
+    let told = answer(
+        &mut table[..],
+        lasts,
+        event,
+        starts,
+        lengths,
+        aggregates,
+        room,
+        out,
+    );
+    told_row(table, told)
 }

@@ -117,10 +117,12 @@ pub held-met : Held sheetTape morningDay asked filedDay
 held-met =
     Held.goes-on
     (record {
+      len = 32;
       room = replicate 65600 0;
       room′ = replicate 65600 0;
       out = replicate 2677 0;
       out′ = bytes "filed=1,1\n" ++ drop 10 (replicate 2677 0);
+      places = omega arith;
       words = omega (arith, length-replicate {A = ℕ} 65600 0);
       bytes = omega (arith, length-replicate {A = ℕ} 2677 0);
       result = record { day = filedDay; verdict = accepted; bytes = 10 };
@@ -131,10 +133,12 @@ held-met =
     })
     (Held.goes-on
     (record {
+      len = 32;
       room = replicate 65600 0;
       room′ = replicate 65600 0;
       out = replicate 2677 0;
       out′ = replicate 2677 0;
+      places = omega arith;
       words = omega (arith, length-replicate {A = ℕ} 65600 0);
       bytes = omega (arith, length-replicate {A = ℕ} 2677 0);
       result = refusedAnswer filedDay (record { refusal = BadLine; place = 0 });

@@ -7,7 +7,7 @@ use mathlib.Core.List.{List, [], _∷_}
 use mathlib.Core.Logic.{⊎-elim, _⊎_, inl, inr}
 use native.Mathlib.Omega.{arith}
 use native.Mathlib.Decide.{decLt}
-use lib.ListN.{length}
+use lib.ListN.{length, drop}
 use borrow.Author.Tests.{le-ltb}
 use Rattle.refusals.specs.declared.Refusal.{Refusal}
 use Rattle.refusals.specs.declared.Refusal.the-variants.{Accepted, FileRows, BadFile, WantRows, BadWant, TooManyReads, TurnPrice, HeadPlace, ShortRow, ShortRoom, BadEntry, BadLine, LongSheet, BadName, BadRule, BadTicket, OfficeFull, NotWaiting, NumbersSpent, RetiredRule, BadText, ManyExtents, Overlap, FarFile, OverEightWants, BadSheetCount, BadRecord}
@@ -37,6 +37,10 @@ use Rattle.answer_desk.specs.declared.Answered.{Answered}
 use Rattle.answer_desk.specs.Events.{eventOf}
 use Rattle.answer_desk.specs.Days.{Outcome, Answers, rowsLent, filingOutcome, withdrawalOutcome, boardingOutcome, BoardingAnswered, EventAnswered}
 use Rattle.answer_desk.proofs.Rooms.{wants-few, product-few}
+use Rattle.desk_rows.specs.declared.Told.{Told}
+use Rattle.desk_rows.specs.Desk.{tableIn}
+use Rattle.desk_rows.specs.Events.{dayOf}
+use Rattle.desk_rows.proofs.Kept.{row-keeps-its-length, later-records-kept, table-comes-back}
 use Rattle.demands.specs.RefusalTable.{RunApplies, StopsFrom, FirstThatApplies}
 use Rattle.demands.specs.Demand1.{PlanApplies, planOrder}
 use Rattle.demands.proofs.Demand1.{demand1-plan}
@@ -44,7 +48,7 @@ use Rattle.demands.proofs.Judged.{table-judged, judged-table}
 use Rattle.promises.specs.Desk.{Kept, atFirst, IsTable, Call, filing, withdrawal, boarding, Fits, Day, answered}
 use Rattle.promises.specs.DeskRefusals.{RowApplies, FilingApplies, WithdrawalApplies}
 use Rattle.promises.specs.DeskWants.{OnlyTheRun, TapeAccepted, noWantsOn, ForTape}
-use Rattle.promises.specs.DeskDays.{RefusedEventChangesNothing, RowTakesEveryAnswer, Exchange, Turned, Held, IsCall, AreCalls, keptAt, IsADay, DayAtTheDesk, AtTheDesk, BoardsAtTheDesk}
+use Rattle.promises.specs.DeskDays.{RefusedEventChangesNothing, RowTakesEveryAnswer, Exchange, Turned, Held, IsCall, AreCalls, keptAt, IsADay, DayAtTheDesk, HeldOn, DeskOnALentRow, AtTheDesk, BoardsAtTheDesk}
 use Rattle.promises.proofs.Desk.{refused-changes, table-from-empty}
 use Rattle.promises.proofs.DeskRefusals.{filing-answers, withdrawal-answers, row-finds}
 use Rattle.promises.proofs.DeskTape.{refused-for-the-run-from-empty}
@@ -198,7 +202,7 @@ row-takes-every-answer len tape day room out Event.Bad r room′ out′ long tak
 abbrev OneCall : Tape → Event → desk.Day → Exchange → desk.Day → Type 0
 OneCall tape e day x next = (c : Call) × IsCall tape e c × (x .answer ≡ answered c) × Fits (keptAt day) c (keptAt next) × ((cs : List Call) → ForTape tape cs → ForTape tape (c ∷ cs))
 
-module _ (tape : Tape) (day next : desk.Day) (x : Exchange) (room room′ out out′ : List ℕ) (r : Answered) (takes : 2677 ≤ length out) (says : x .answer ≡ r .verdict .refusal) (leaves : next ≡ r .day) where
+module _ (len : ℕ) (tape : Tape) (day next : desk.Day) (x : Exchange) (room room′ out out′ : List ℕ) (r : Answered) (takes : 2677 ≤ length out) (says : x .answer ≡ r .verdict .refusal) (leaves : next ≡ r .day) where
   called : (e : Event) (o : Outcome) (c : Call) → IsCall tape e c → ((cs : List Call) → ForTape tape cs → ForTape tape (c ∷ cs)) → (space space′ : List ℕ) → Answers day o space out r space′ out′ → o .verdict .refusal ≡ answered c
       → Fits (keptAt day) c (keptAt (o .next)) → OneCall tape e day x next
   called e o c is one space space′ a same fits = (
@@ -209,16 +213,16 @@ module _ (tape : Tape) (day next : desk.Day) (x : Exchange) (room room′ out ou
     one,
   )
 
-  one-line : (e : Event) → EventAnswered 32 tape day room out e r room′ out′ → ((e ≡ Event.Bad) × (next ≡ day)) ⊎ OneCall tape e day x next
+  one-line : (e : Event) → EventAnswered len tape day room out e r room′ out′ → ((e ≡ Event.Bad) × (next ≡ day)) ⊎ OneCall tape e day x next
   one-line (Event.File o f c) p =
       let filed : Filing = record { office = o; file = f; count = c; files = length (tape .starts); lasts = day .lasts } in
-      inr (called (Event.File o f c) (filingOutcome filed (fileRow 32 (day .row) filed) room) (filing 32 filed (fileRow 32 (day .row) filed)) IsCall.a-filing (λ cs h. (refl, h)) room room (p .0 room) refl (Fits.files refl refl))
+      inr (called (Event.File o f c) (filingOutcome filed (fileRow len (day .row) filed) room) (filing len filed (fileRow len (day .row) filed)) IsCall.a-filing (λ cs h. (refl, h)) room room (p .0 room) refl (Fits.files refl refl))
   one-line (Event.Withdraw o n) p =
       let taken : Withdrawal = record { office = o; number = n; lasts = day .lasts } in
-      inr (called (Event.Withdraw o n) (withdrawalOutcome taken (withdrawRow 32 (day .row) taken) room) (withdrawal 32 taken (withdrawRow 32 (day .row) taken)) IsCall.a-withdrawal (λ cs h. h) room room (p .0 room) refl (Fits.withdraws refl refl))
+      inr (called (Event.Withdraw o n) (withdrawalOutcome taken (withdrawRow len (day .row) taken) room) (withdrawal len taken (withdrawRow len (day .row) taken)) IsCall.a-withdrawal (λ cs h. h) room room (p .0 room) refl (Fits.withdraws refl refl))
   one-line (Event.Board h t) p =
       let b : Boarding = record { head = h; turn = t; lasts = day .lasts } in
-      inr (called (Event.Board h t) (boardingOutcome (day .row) (p .done) (p .rows)) (boarding 32 tape b (rowsLent room) (p .rows) (p .done)) IsCall.a-boarding (λ cs f. f) room room′ (p .answers) refl (Fits.boards refl (p .boards)))
+      inr (called (Event.Board h t) (boardingOutcome (day .row) (p .done) (p .rows)) (boarding len tape b (rowsLent room) (p .rows) (p .done)) IsCall.a-boarding (λ cs f. f) room room′ (p .answers) refl (Fits.boards refl (p .boards)))
   one-line Event.Bad p = inl (refl, leaves ∙ ap (λ y. y .day) (p .says))
 
 record Calls (tape : Tape) (day : desk.Day) (xs : List Exchange) (last : desk.Day) : Type 0 where
@@ -238,7 +242,7 @@ held-so {tape} {day} {last} (Held.goes-on {next = next} {x = x} {xs = xs} t rest
         record { calls = more .calls; are = AreCalls.no-event (h .0) (more .are); day-so = subst (λ (d : desk.Day). Day (keptAt d) (more .calls) (keptAt last)) (h .1) (more .day-so); one-tape = more .one-tape })
         (λ (h : OneCall tape (eventOf (lineOf (x .line))) day x next).
         record { calls = h .0 ∷ more .calls; are = AreCalls.an-event (h .1) (h .2) (more .are); day-so = Day.then (h .3) (more .day-so); one-tape = h .4 (more .calls) (more .one-tape) })
-        (one-line tape day next x (t .room) (t .room′) (t .out) (t .out′) (t .result) (t .bytes) (t .says) (t .leaves) (eventOf (lineOf (x .line))) (t .fits))
+        (one-line (t .len) tape day next x (t .room) (t .room′) (t .out) (t .out′) (t .result) (t .bytes) (t .says) (t .leaves) (eventOf (lineOf (x .line))) (t .fits))
 
 pub day-at-the-desk : DayAtTheDesk
 day-at-the-desk tape xs last held =
@@ -246,9 +250,9 @@ day-at-the-desk tape xs last held =
     record { calls = c .calls; are = c .are; day = c .day-so; one-tape = c .one-tape }
 
 -- A boarding at the desk.
-table-passes : (k : Kept) → IsTable k → refuses (recordsVerdict 32 (k .row) (k .lasts)) ≡ false
+table-passes : (len : ℕ) (k : Kept) → 32 ≤ len → IsTable k → refuses (recordsVerdict len (k .row) (k .lasts)) ≡ false
 unfolding recordsVerdict
-table-passes k table = rw (none-bad (k .lasts) (waiting 1 (k .row)) (waiting 2 (k .row)) (k .row) table, le-ltb 32 allPlaces (omega arith))
+table-passes len k places table = rw (none-bad (k .lasts) (waiting 1 (k .row)) (waiting 2 (k .row)) (k .row) table, le-ltb len allPlaces places)
 
 only-desk : {kind : Refusal} → OnlyTheRun kind → (kind ≡ ShortRow → ⊥) → (kind ≡ ShortRoom → ⊥) → AtTheDesk kind
 only-desk OnlyTheRun.nothing s r = AtTheDesk.nothing
@@ -269,21 +273,21 @@ room-enough {run} few long reads (PlanApplies.short-room {stops} has l) =
       | no within ↦ let h = stops-within has in let p = product-few stops (total (run .counts)) (omega (arith, h, few)) (omega arith) in omega (arith, p, l, long)
     ]
 
-module _ (tape : Tape) (k : Kept) (cs : List Call) (day : Day atFirst cs k) (one-tape : ForTape tape cs) (rows-fit : (place : ℕ) → RunApplies (noWantsOn tape) FileRows place → ⊥)
-    (b : Boarding) (same : b .lasts ≡ k .lasts) (room : List ℕ) (long : 65600 ≤ length room) (done : BoardedRow) (rows : Rows) (boards : Boards 32 tape (k .row) b (rowsLent room) done rows) where
+module _ (len : ℕ) (places : 32 ≤ len) (tape : Tape) (k : Kept) (cs : List Call) (day : Day atFirst cs k) (one-tape : ForTape tape cs) (rows-fit : (place : ℕ) → RunApplies (noWantsOn tape) FileRows place → ⊥)
+    (b : Boarding) (same : b .lasts ≡ k .lasts) (room : List ℕ) (long : 65600 ≤ length room) (done : BoardedRow) (rows : Rows) (boards : Boards len tape (k .row) b (rowsLent room) done rows) where
   abbrev run : Run
   run = boardRun tape (k .row) b
 
-  passes : refuses (recordsVerdict 32 (k .row) (b .lasts)) ≡ false
-  passes = subst (λ (l : Lasts). refuses (recordsVerdict 32 (k .row) l) ≡ false) (sym same) (table-passes k (table-from-empty k cs day))
+  passes : refuses (recordsVerdict len (k .row) (b .lasts)) ≡ false
+  passes = subst (λ (l : Lasts). refuses (recordsVerdict len (k .row) l) ≡ false) (sym same) (table-passes len k places (table-from-empty k cs day))
 
   by-first : {kind : Refusal} {place : ℕ} → kind ≡ done .boarded .answer .refusal → FirstThatApplies (PlanApplies run (rowsLent room)) planOrder kind place → AtTheDesk kind
   by-first is (FirstThatApplies.here (PlanApplies.run (RunApplies.file-rows h))) = absurd (rows-fit 0 (RunApplies.file-rows h))
   by-first is (FirstThatApplies.later a (FirstThatApplies.here h)) = AtTheDesk.bad-file
   by-first {kind} {place} is (FirstThatApplies.later a (FirstThatApplies.later f rest)) =
       let table = judged-table (noWantsOn tape) (table-judged run (λ p h. a p (PlanApplies.run h)) (λ p h. f p (PlanApplies.run h))) in
-      let only = refused-for-the-run-from-empty 32 tape k cs b (rowsLent room) rows done day one-tape (record { rows = table .0; files = table .1 }) same boards in
-      only-desk (subst (λ (x : Refusal). OnlyTheRun x) (sym is) only) (λ s. boarding-not-short 32 tape (k .row) b room done rows boards (omega arith) (sym is ∙ s))
+      let only = refused-for-the-run-from-empty len tape k cs b (rowsLent room) rows done day one-tape (record { rows = table .0; files = table .1 }) same boards in
+      only-desk (subst (λ (x : Refusal). OnlyTheRun x) (sym is) only) (λ s. boarding-not-short len tape (k .row) b room done rows boards places (sym is ∙ s))
       (λ s. let last = room-last (subst (λ (x : Refusal). FirstThatApplies (PlanApplies run (rowsLent room)) planOrder x place) s (FirstThatApplies.later a (FirstThatApplies.later f rest))) in
       room-enough (wants-few tape (k .row) b) long (last .0) (last .1))
 
@@ -293,7 +297,43 @@ module _ (tape : Tape) (k : Kept) (cs : List Call) (day : Day atFirst cs k) (one
 pub boards-at-the-desk : BoardsAtTheDesk
 boards-at-the-desk tape xs day next x head turn held t is rows-fit =
     let c = held-so held in
-    let p : BoardingAnswered 32 tape day (record { head = head; turn = turn; lasts = day .lasts }) (t .room) (t .out) (t .result) (t .room′) (t .out′)
-    = subst (λ (e : Event). EventAnswered 32 tape day (t .room) (t .out) e (t .result) (t .room′) (t .out′)) is (t .fits) in
+    let p : BoardingAnswered (t .len) tape day (record { head = head; turn = turn; lasts = day .lasts }) (t .room) (t .out) (t .result) (t .room′) (t .out′)
+    = subst (λ (e : Event). EventAnswered (t .len) tape day (t .room) (t .out) e (t .result) (t .room′) (t .out′)) is (t .fits) in
     subst (λ (kind : Refusal). AtTheDesk kind) (sym (t .says ∙ own-verdict day _ (t .room) (t .out) (t .result) (t .room′) (t .out′) (p .answers) (t .bytes)))
-    (desk-kind tape (keptAt day) (c .calls) (c .day-so) (c .one-tape) rows-fit (record { head = head; turn = turn; lasts = day .lasts }) refl (t .room) (t .words) (p .done) (p .rows) (p .boards))
+    (desk-kind (t .len) (t .places) tape (keptAt day) (c .calls) (c .day-so) (c .one-tape) rows-fit (record { head = head; turn = turn; lasts = day .lasts }) refl (t .room) (t .words) (p .done) (p .rows) (p .boards))
+
+-- On a lent row: what a call leaves is the table that the next one finds.
+day-so : (d : desk.Day) (row : List Ticket) (l : Lasts) → row ≡ d .row → l ≡ d .lasts → dayOf row l ≡ d
+day-so d row l p q = rw (p, q)
+
+on-the-row : {tape : Tape} {ts last : List Ticket} {l m : Lasts} {xs : List Exchange} → 32 ≤ length ts → HeldOn tape ts l xs last m
+    → Held tape (dayOf (tableIn ts) l) xs (dayOf (tableIn last) m) × (drop 32 last ≡ drop 32 ts)
+on-the-row long HeldOn.row-ends = (Held.ends, refl)
+on-the-row {tape} {ts} {last} {l} {m} long (HeldOn.row-goes-on {next = next} {m = given} {x = x} {xs = xs} t rest) =
+    let f = t .fits in
+    let a = f .answered in
+    let found : tableIn next ≡ a .day .row = ap tableIn (f .row) ∙ table-comes-back (a .day .row) ts (f .whole) long in
+    let size : length next ≡ length ts = ap length (f .row) ∙ row-keeps-its-length (a .day .row) ts (f .whole) long in
+    let later : drop 32 next ≡ drop 32 ts = ap (λ (r : List Ticket). drop 32 r) (f .row) ∙ later-records-kept (a .day .row) ts (f .whole) long in
+    let more = on-the-row (omega (arith, long, size)) rest in (
+      Held.goes-on
+          (record {
+            len = length ts;
+            room = t .room;
+            room′ = t .room′;
+            out = t .out;
+            out′ = t .out′;
+            places = long;
+            words = t .words;
+            bytes = t .bytes;
+            result = a;
+            fits = f .answers;
+            says = t .says ∙ ap (λ (y : Told). y .verdict .refusal) (f .says);
+            leaves = day-so (a .day) (tableIn next) given found (t .leaves ∙ ap (λ (y : Told). y .lasts) (f .says));
+          })
+          (more .0),
+      more .1 ∙ later,
+    )
+
+pub desk-on-a-lent-row : DeskOnALentRow
+desk-on-a-lent-row tape ts last l m xs long held = on-the-row long held

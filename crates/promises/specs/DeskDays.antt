@@ -3,7 +3,7 @@
 use Prim.Native.Nat.{ℕ, _≤_}
 use mathlib.Core.Path.{_≡_}
 use mathlib.Core.List.{List, [], _∷_}
-use lib.ListN.{length, replicate}
+use lib.ListN.{length, drop, replicate}
 use Rattle.refusals.specs.declared.Refusal.{Refusal}
 use Rattle.refusals.specs.declared.Refusal.the-variants.{Accepted, FileRows, BadFile, TurnPrice, HeadPlace, ShortRow}
 use Rattle.refusals.specs.Refusals.{accepted}
@@ -24,6 +24,9 @@ use Rattle.answer_desk.specs.declared.Event.{Event}
 use Rattle.answer_desk.specs.declared.Answered.{Answered}
 use Rattle.answer_desk.specs.Events.{eventOf}
 use Rattle.answer_desk.specs.Days.{morningDay, EventAnswered}
+use Rattle.desk_rows.specs.declared.Told.{Told}
+use Rattle.desk_rows.specs.Desk.{tableIn}
+use Rattle.desk_rows.specs.Events.{dayOf, LentAnswered}
 use Rattle.demands.specs.RefusalTable.{RunApplies}
 use Rattle.promises.specs.Desk.{Kept, atFirst, Call, filing, withdrawal, boarding, Day, answered}
 use Rattle.promises.specs.DeskWants.{noWantsOn, ForTape}
@@ -52,16 +55,19 @@ pub record Exchange : Type 0 where
   pub line : List ℕ
   pub answer : Refusal
 
--- One line, answered on a day, in a room and on a row of any content and of the program's lengths or more; and the next day.
+-- One line, answered on a day, in a room and on a row of any content and of the program's lengths or more, with the table in a row of 32 places or more; and
+-- the next day.
 pub record Turned (tape : Tape) (day : desk.Day) (x : Exchange) (next : desk.Day) : Type 0 where
+  pub len : ℕ
   pub room : List ℕ
   pub room′ : List ℕ
   pub out : List ℕ
   pub out′ : List ℕ
+  pub places : 32 ≤ len
   pub words : 65600 ≤ length room
   pub bytes : 2677 ≤ length out
   pub result : Answered
-  pub fits : EventAnswered 32 tape day room out (eventOf (lineOf (x .line))) result room′ out′
+  pub fits : EventAnswered len tape day room out (eventOf (lineOf (x .line))) result room′ out′
   pub says : x .answer ≡ result .verdict .refusal
   pub leaves : next ≡ result .day
 
@@ -69,14 +75,14 @@ pub data Held (tape : Tape) : desk.Day → List Exchange → desk.Day → Type 0
   ends : {day : desk.Day} → Held tape day [] day
   goes-on : {day next last : desk.Day} {x : Exchange} {xs : List Exchange} → Turned tape day x next → Held tape next xs last → Held tape day (x ∷ xs) last
 
--- The call that an event is, at one tape: on a row of 32 records, with the numbers of its line; a boarding with rows of eight entries beside the room.
+-- The call that an event is, at one tape, with the numbers of its line; a boarding with rows of eight entries beside the room.
 pub data IsCall (tape : Tape) : Event → Call → Type 0 where
-  a-filing : {office file count : ℕ} {l : Lasts} {r : FiledRow}
-      → IsCall tape (Event.File office file count) (filing 32 (record { office = office; file = file; count = count; files = length (tape .starts); lasts = l }) r)
-  a-withdrawal : {office number : ℕ} {l : Lasts} {r : WithdrawnRow}
-      → IsCall tape (Event.Withdraw office number) (withdrawal 32 (record { office = office; number = number; lasts = l }) r)
-  a-boarding : {head turn : ℕ} {l : Lasts} {room : List ℕ} {after : Rows} {r : BoardedRow}
-      → IsCall tape (Event.Board head turn) (boarding 32 tape (record { head = head; turn = turn; lasts = l }) (rowsOf (zeros 8) (zeros 8) (zeros 8) (zeros 8) room) after r)
+  a-filing : {len office file count : ℕ} {l : Lasts} {r : FiledRow}
+      → IsCall tape (Event.File office file count) (filing len (record { office = office; file = file; count = count; files = length (tape .starts); lasts = l }) r)
+  a-withdrawal : {len office number : ℕ} {l : Lasts} {r : WithdrawnRow}
+      → IsCall tape (Event.Withdraw office number) (withdrawal len (record { office = office; number = number; lasts = l }) r)
+  a-boarding : {len head turn : ℕ} {l : Lasts} {room : List ℕ} {after : Rows} {r : BoardedRow}
+      → IsCall tape (Event.Board head turn) (boarding len tape (record { head = head; turn = turn; lasts = l }) (rowsOf (zeros 8) (zeros 8) (zeros 8) (zeros 8) room) after r)
 
 -- The calls of a day's lines, in order: a line that is an event is its call, and is answered as that; one that is none is no call.
 pub data AreCalls (tape : Tape) : List Exchange → List Call → Type 0 where
@@ -97,6 +103,32 @@ pub record IsADay (tape : Tape) (xs : List Exchange) (last : desk.Day) : Type 0 
 
 abbrev pub DayAtTheDesk : Type 0
 DayAtTheDesk = (tape : Tape) (xs : List Exchange) (last : desk.Day) → Held tape morningDay xs last → IsADay tape xs last
+
+-- The same on a lent row of records, by `desk_rows::answer`: the lines of a day, each on the row and the last numbers that the one before it left.
+pub record TurnedOn (tape : Tape) (ts : List Ticket) (l : Lasts) (x : Exchange) (next : List Ticket) (m : Lasts) : Type 0 where
+  pub room : List ℕ
+  pub room′ : List ℕ
+  pub out : List ℕ
+  pub out′ : List ℕ
+  pub words : 65600 ≤ length room
+  pub bytes : 2677 ≤ length out
+  pub result : Told
+  pub fits : LentAnswered ts l tape room out (eventOf (lineOf (x .line))) result next room′ out′
+  pub says : x .answer ≡ result .verdict .refusal
+  pub leaves : m ≡ result .lasts
+
+pub data HeldOn (tape : Tape) : List Ticket → Lasts → List Exchange → List Ticket → Lasts → Type 0 where
+  row-ends : {ts : List Ticket} {l : Lasts} → HeldOn tape ts l [] ts l
+  row-goes-on : {ts next last : List Ticket} {l m n : Lasts} {x : Exchange} {xs : List Exchange}
+      → TurnedOn tape ts l x next m → HeldOn tape next m xs last n → HeldOn tape ts l (x ∷ xs) last n
+
+-- It is a day at the desk on the table in the row's first 32 records, and later records stay as they were.
+abbrev pub DeskOnALentRow : Type 0
+DeskOnALentRow =
+    (tape : Tape) (ts last : List Ticket) (l m : Lasts) (xs : List Exchange)
+    → 32 ≤ length ts
+    → HeldOn tape ts l xs last m
+    → Held tape (dayOf (tableIn ts) l) xs (dayOf (tableIn last) m) × (drop 32 last ≡ drop 32 ts)
 
 -- A boarding at the desk is accepted, or refused for the turn price (6), the head's place (7) or a bad file of the tape (2); where the tape's rows are as long as each
 -- other and not too long, as those of a sheet are.

@@ -1,17 +1,12 @@
 -- `answer_desk::board_now` meets its contract: the boarding's refusal, or what it answers and leaves in the rows, said.
 -- Assumes nothing.
 use mathlib.Core.Path.{_≡_, sym, _∙_}
-use Prim.Native.Nat.{ℕ}
-use mathlib.Core.List.{List, map}
-use lib.ListN.{length, length-map}
-use Rattle.answer_desk.proofs.Leaving.{who-leaves}
+use lib.ListN.{length}
+use Rattle.answer_desk.proofs.Leaving.{unmapped, who-leaves}
 use Rattle.answer_desk.proofs.Rehearsing.{now-refused, now-told}
 use borrow.Author.Needs.{needs}
 use Rattle.answer_desk.proofs.board_now.Statement.{statement}
 use Rattle.answer_desk.proofs.board_now.Tie as tie
-
-unmapped : (X Y : Type 0) (f : X → Y) (l : List X) (n : ℕ) → length (map f l) ≡ n → length l ≡ n
-unmapped X Y f l n p = sym (length-map l f) ∙ p
 
 long : (s : tie.Start) → length (s .args .day .row) ≡ 32
 long s = search (needs, unmapped)
