@@ -18,7 +18,7 @@ bought sheet r is l listed row n row′ written =
     let a = answered runChecks run-judged sheet r is l listed figureText row n row′ (record { text = written .text; bytes = written .bytes; refused = written .refused; planned = written .planned }) in
     record {
       text = a .text;
-      answers = record { refused = a .refused; figured = λ e. let p = a .planned e in record { list = p .list; least = p .least; says = p .says } };
+      answers = record { refused = a .answers .refused; figured = λ e. let p = a .answers .planned e in record { list = p .list; least = p .least; says = p .says } };
       bytes = a .bytes;
       left = a .left;
     }

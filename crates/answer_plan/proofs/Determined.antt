@@ -12,27 +12,33 @@ use Rattle.sheet_writer.proofs.Sheets.{handed-determined}
 use Rattle.sheet_writer.specs.PlanSheet.{planText}
 use Rattle.answer_plan.specs.declared.PlannedList.{PlannedList}
 use Rattle.answer_plan.specs.PlannedLists.{inList, ListedUnder, ListWritten}
-use Rattle.answer_plan.specs.Recall.{PlanOf, AnswersRun, Recalled, SheetRecalled, bytesPut, rowPut}
+use Rattle.answer_plan.specs.Recall.{PlanOf, Answers, AnswersRun, Given, Recalled, SheetRecalled, bytesPut, rowPut}
 
-module _ (v : Verdict) (name : List ℕ) (run : Run) where
-  plan-once : (text text′ : List ℕ) → PlanOf name run text → PlanOf name run text′ → text ≡ text′
-  plan-once text text′ p q =
-      p .says
-      ∙ ap (λ l. planText name run (map (λ d. d .from) l) (map (λ d. d .to) l)) (least-unique (run .turn) (run .head) (stopsOf run) (p .list) (q .list) (p .least) (q .least))
-      ∙ sym (q .says)
-
-  -- One text answers.
-  pub answer-once : (text text′ : List ℕ) → AnswersRun v name run text → AnswersRun v name run text′ → text ≡ text′
-  answer-once text text′ p q = go (isRefusal (v .refusal)) refl
+-- Where one text was asked for, one text answers, and one row holds it.
+module _ (Asked : List ℕ → Run → List ℕ → Type 0) (once : (name : List ℕ) (run : Run) (text text′ : List ℕ) → Asked name run text → Asked name run text′ → text ≡ text′) (v : Verdict) (name : List ℕ) (run : Run) where
+  pub answers-once : (text text′ : List ℕ) → Answers Asked v name run text → Answers Asked v name run text′ → text ≡ text′
+  answers-once text text′ p q = go (isRefusal (v .refusal)) refl
     where
       go : (b : Bool) → isRefusal (v .refusal) ≡ b → text ≡ text′
       go true e = p .refused e ∙ sym (q .refused e)
-      go false e = plan-once text text′ (p .planned e) (q .planned e)
+      go false e = once name run text text′ (p .planned e) (q .planned e)
 
-  pub recalled-once : (row : List ℕ) (n n′ : ℕ) (row′ row″ : List ℕ) → Recalled v name run row n row′ → Recalled v name run row n′ row″ → (n ≡ n′) × (row′ ≡ row″)
-  recalled-once row n n′ row′ row″ p q =
-      let e = answer-once (p .text) (q .text) (p .answers) (q .answers) in
+  pub given-once : (row : List ℕ) (n n′ : ℕ) (row′ row″ : List ℕ) → Given Asked v name run row n row′ → Given Asked v name run row n′ row″ → (n ≡ n′) × (row′ ≡ row″)
+  given-once row n n′ row′ row″ p q =
+      let e = answers-once (p .text) (q .text) (p .answers) (q .answers) in
       (p .bytes ∙ ap (λ t. bytesPut t row) e ∙ sym (q .bytes), p .left ∙ ap (λ t. rowPut t row) e ∙ sym (q .left))
+
+plan-once : (name : List ℕ) (run : Run) (text text′ : List ℕ) → PlanOf name run text → PlanOf name run text′ → text ≡ text′
+plan-once name run text text′ p q =
+    p .says
+    ∙ ap (λ l. planText name run (map (λ d. d .from) l) (map (λ d. d .to) l)) (least-unique (run .turn) (run .head) (stopsOf run) (p .list) (q .list) (p .least) (q .least))
+    ∙ sym (q .says)
+
+pub answer-once : (v : Verdict) (name : List ℕ) (run : Run) (text text′ : List ℕ) → AnswersRun v name run text → AnswersRun v name run text′ → text ≡ text′
+answer-once v name run text text′ p q = answers-once PlanOf plan-once v name run text text′ p q
+
+pub recalled-once : (v : Verdict) (name : List ℕ) (run : Run) (row : List ℕ) (n n′ : ℕ) (row′ row″ : List ℕ) → Recalled v name run row n row′ → Recalled v name run row n′ row″ → (n ≡ n′) × (row′ ≡ row″)
+recalled-once v name run row n n′ row′ row″ p q = given-once PlanOf plan-once v name run row n n′ row′ row″ p q
 
 -- Two results that fit the contract are equal.
 pub recall-determined : (sheet row : List ℕ) (n n′ : ℕ) (row′ row″ : List ℕ) → SheetRecalled sheet row n row′ → SheetRecalled sheet row n′ row″ → (n ≡ n′) × (row′ ≡ row″)

@@ -29,7 +29,7 @@ use Rattle.sheet_writer.specs.declared.Written.{Written}
 use Rattle.sheet_writer.specs.Writing.{Handed, rowVerdict, writtenAnswer, writtenRow}
 use Rattle.answer_plan.specs.declared.PlannedList.{PlannedList}
 use Rattle.answer_plan.specs.Recall.{roomWords, runChecks, bytesPut, rowPut}
-use Rattle.answer_plan.specs.PlannedLists.{inList, ListedUnder, RunListed}
+use Rattle.answer_plan.specs.PlannedLists.{inList, ListUnder, ListsRun}
 use Rattle.answer_plan.specs.Private.{RowsPlanned}
 
 -- A text that is handed out is in the row, where it has the room.
@@ -126,16 +126,16 @@ rows-planned run rows lent zf zt a after plans =
     }
 
 -- The list of a sheet's run by value: none on its own refusal, else that of the run that it holds.
-module _ (checks : Run → List Verdict) (r : SheetRun) (f : Bool) (f-is : f ≡ isRefusal (r .verdict .refusal)) where
-  pub unlisted : f ≡ true → (l : PlannedList) → l ≡ inList (r .verdict) [] → RunListed checks r l
+module _ {Least : Run → List Detour → Type 0} (checks : Run → List Verdict) (r : SheetRun) (f : Bool) (f-is : f ≡ isRefusal (r .verdict .refusal)) where
+  pub unlisted : f ≡ true → (l : PlannedList) → l ≡ inList (r .verdict) [] → ListsRun Least checks r l
   unlisted e l is =
       let refuses-so : refuses (r .verdict) ≡ true = sym f-is ∙ e in
       let v-is = first-refuses (r .verdict) (checks (runHeld r)) refuses-so in
       record { refused = λ q. is ∙ ap (λ v. inList v []) v-is; planned = λ q. absurd (true≢false (sym refuses-so ∙ ap refuses v-is ∙ q)) }
 
-  pub run-listed : f ≡ false → (run : Run) → run ≡ runHeld r → (l : PlannedList) → ListedUnder (firstOf (checks run)) run l → RunListed checks r l
+  pub run-listed : f ≡ false → (run : Run) → run ≡ runHeld r → (l : PlannedList) → ListUnder Least (firstOf (checks run)) run l → ListsRun Least checks r l
   run-listed e run is l listed =
-      subst (λ v. ListedUnder v (runHeld r) l) (sym (first-passes (r .verdict) (checks (runHeld r)) (sym f-is ∙ e))) (subst (λ x. ListedUnder (firstOf (checks x)) x l) is listed)
+      subst (λ v. ListUnder Least v (runHeld r) l) (sym (first-passes (r .verdict) (checks (runHeld r)) (sym f-is ∙ e))) (subst (λ x. ListUnder Least (firstOf (checks x)) x l) is listed)
 
 -- What passes the planner's checks has passed the judging.
 pub run-judged : (run : Run) → refuses (firstOf (runChecks run)) ≡ false → refuses (judgeOf run) ≡ false

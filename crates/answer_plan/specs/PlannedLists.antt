@@ -13,6 +13,7 @@ use Rattle.sheet_reader.specs.Reading.{readName}
 use Rattle.sheet_runs.specs.declared.SheetRun.{SheetRun}
 use Rattle.sheet_runs.specs.SheetRuns.{filledUp, runHeld}
 use Rattle.sheet_writer.specs.declared.Written.{Written}
+use Rattle.sheet_writer.specs.Writing.{rowVerdict, Handed}
 use Rattle.sheet_writer.specs.PlanSheet.{PlanWritten}
 use Rattle.sheet_writer.specs.RefusalLines.{RefusalWritten}
 use Rattle.answer_plan.specs.declared.PlannedList.{PlannedList}
@@ -22,20 +23,29 @@ abbrev pub inList : Verdict → List Detour → PlannedList
 inList v list =
     record { verdict = v; detours = length list; froms = filledUp 63 (map (λ d. d .from) list); tos = filledUp 63 (map (λ d. d .to) list) }
 
--- The least list of a run. There is one such list.
-pub record LeastIn (run : Run) (l : PlannedList) : Type 0 where
+-- The least list of a run, by what least is. There is one such list.
+pub record ListIn (Least : Run → List Detour → Type 0) (run : Run) (l : PlannedList) : Type 0 where
   pub list : List Detour
-  pub least : LeastForRun run list
+  pub least : Least run list
   pub says : l ≡ inList accepted list
 
+abbrev pub LeastIn : Run → PlannedList → Type 0
+LeastIn run l = ListIn LeastForRun run l
+
 -- Under a verdict: no list, or the least one.
-pub record ListedUnder (v : Verdict) (run : Run) (l : PlannedList) : Type 0 where
+pub record ListUnder (Least : Run → List Detour → Type 0) (v : Verdict) (run : Run) (l : PlannedList) : Type 0 where
   pub refused : isRefusal (v .refusal) ≡ true → l ≡ inList v []
-  pub planned : isRefusal (v .refusal) ≡ false → LeastIn run l
+  pub planned : isRefusal (v .refusal) ≡ false → ListIn Least run l
+
+abbrev pub ListedUnder : Verdict → Run → PlannedList → Type 0
+ListedUnder v run l = ListUnder LeastForRun v run l
 
 -- The list of a sheet's run by value: the run's own refusal, then what an engine checks.
+abbrev pub ListsRun : (Run → List Detour → Type 0) → (Run → List Verdict) → SheetRun → PlannedList → Type 0
+ListsRun Least checks r l = ListUnder Least (firstOf (r .verdict ∷ checks (runHeld r))) (runHeld r) l
+
 abbrev pub RunListed : (Run → List Verdict) → SheetRun → PlannedList → Type 0
-RunListed checks r l = ListedUnder (firstOf (r .verdict ∷ checks (runHeld r))) (runHeld r) l
+RunListed checks r l = ListsRun LeastForRun checks r l
 
 -- What is written of a list by a writer of sheets: the two lines of a refusal, or the writer's text, which has checks of its own.
 pub record WrittenBy (Writes : List ℕ → Run → List ℕ → List ℕ → List ℕ → Written → List ℕ → Type 0) (sheet : List ℕ) (r : SheetRun) (l : PlannedList) (row : List ℕ) (n : ℕ) (row′ : List ℕ) : Type 0 where
@@ -46,3 +56,9 @@ pub record WrittenBy (Writes : List ℕ → Run → List ℕ → List ℕ → Li
 
 abbrev pub ListWritten : List ℕ → SheetRun → PlannedList → List ℕ → ℕ → List ℕ → Type 0
 ListWritten sheet r l row n row′ = WrittenBy PlanWritten sheet r l row n row′
+
+-- A text that was asked for, handed out: 8 where the row is shorter.
+pub record TextHanded (Asked : List ℕ → Type 0) (row : List ℕ) (w : Written) (row′ : List ℕ) : Type 0 where
+  pub text : List ℕ
+  pub asked : Asked text
+  pub handed : Handed (rowVerdict text row) text row w row′

@@ -35,16 +35,22 @@ verdictBy checks sheet = firstOf (sheetVerdict sheet ∷ ruleVerdict sheet ∷ c
 abbrev pub recallVerdict : List ℕ → Verdict
 recallVerdict sheet = verdictBy runChecks sheet
 
--- The plan sheet of the least list. There is one such list.
-pub record PlanOf (name : List ℕ) (run : Run) (text : List ℕ) : Type 0 where
+-- A text of the least list, by what least is and by what text is asked for; and the plan sheet. There is one such list.
+pub record TextOf (Least : Run → List Detour → Type 0) (textOf : List ℕ → Run → List ℕ → List ℕ → List ℕ) (name : List ℕ) (run : Run) (text : List ℕ) : Type 0 where
   pub list : List Detour
-  pub least : LeastForRun run list
-  pub says : text ≡ planText name run (map (λ d. d .from) list) (map (λ d. d .to) list)
+  pub least : Least run list
+  pub says : text ≡ textOf name run (map (λ d. d .from) list) (map (λ d. d .to) list)
 
--- The text of the answer, under a verdict.
-pub record AnswersRun (v : Verdict) (name : List ℕ) (run : Run) (text : List ℕ) : Type 0 where
+abbrev pub PlanOf : List ℕ → Run → List ℕ → Type 0
+PlanOf name run text = TextOf LeastForRun planText name run text
+
+-- The text of the answer, under a verdict: the two lines of a refusal, or what was asked for; and where that is the plan sheet.
+pub record Answers (Asked : List ℕ → Run → List ℕ → Type 0) (v : Verdict) (name : List ℕ) (run : Run) (text : List ℕ) : Type 0 where
   pub refused : isRefusal (v .refusal) ≡ true → text ≡ refusalText v
-  pub planned : isRefusal (v .refusal) ≡ false → PlanOf name run text
+  pub planned : isRefusal (v .refusal) ≡ false → Asked name run text
+
+abbrev pub AnswersRun : Verdict → List ℕ → Run → List ℕ → Type 0
+AnswersRun v name run text = Answers PlanOf v name run text
 
 -- A text in the first bytes of a row, the later ones as they were. A row shorter than the text keeps all its bytes, and the number of bytes is then 0.
 unfoldable pub bytesPut : List ℕ → List ℕ → ℕ
@@ -54,15 +60,21 @@ unfoldable pub rowPut : List ℕ → List ℕ → List ℕ
 rowPut text row = cond (ltb (length row) (length text)) row (text ++ drop (length text) row)
 
 -- The number of bytes of the answer, and the row that holds it.
-pub record Recalled (v : Verdict) (name : List ℕ) (run : Run) (row : List ℕ) (n : ℕ) (row′ : List ℕ) : Type 0 where
+pub record Given (Asked : List ℕ → Run → List ℕ → Type 0) (v : Verdict) (name : List ℕ) (run : Run) (row : List ℕ) (n : ℕ) (row′ : List ℕ) : Type 0 where
   pub text : List ℕ
-  pub answers : AnswersRun v name run text
+  pub answers : Answers Asked v name run text
   pub bytes : n ≡ bytesPut text row
   pub left : row′ ≡ rowPut text row
 
+abbrev pub Recalled : Verdict → List ℕ → Run → List ℕ → ℕ → List ℕ → Type 0
+Recalled v name run row n row′ = Given PlanOf v name run row n row′
+
 -- The answer to a sheet, under an engine's checks; and under the planner's.
+abbrev pub SheetGiven : (List ℕ → Run → List ℕ → Type 0) → (Run → List Verdict) → List ℕ → List ℕ → ℕ → List ℕ → Type 0
+SheetGiven Asked checks sheet row n row′ = Given Asked (verdictBy checks sheet) (sheetName sheet) (sheetRun sheet) row n row′
+
 abbrev pub SheetRecalledBy : (Run → List Verdict) → List ℕ → List ℕ → ℕ → List ℕ → Type 0
-SheetRecalledBy checks sheet row n row′ = Recalled (verdictBy checks sheet) (sheetName sheet) (sheetRun sheet) row n row′
+SheetRecalledBy checks sheet row n row′ = SheetGiven PlanOf checks sheet row n row′
 
 abbrev pub SheetRecalled : List ℕ → List ℕ → ℕ → List ℕ → Type 0
 SheetRecalled sheet row n row′ = SheetRecalledBy runChecks sheet row n row′

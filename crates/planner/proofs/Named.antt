@@ -9,15 +9,17 @@ use Rattle.refusals.proofs.Verdicts.{refuses}
 use Rattle.runs.specs.Run.{Run, Stop, stopsOf}
 use Rattle.runs.specs.Rows.{stopAt}
 use Rattle.runs.specs.Judging.{judgeOf}
+use Rattle.runs.specs.AnyHead.{smaller, pulled, judgeAnyOf, lifted}
 use Rattle.runs.specs.Lists.{Detour}
 use Rattle.runs.proofs.Sound.{Sound}
 use Rattle.runs.proofs.Stops.{accepted-sound}
+use Rattle.runs.proofs.AnyHead.{judge-any}
 use Rattle.engine_stops.proofs.Table.{joined-stops, joined-accepted, renumbered-at, renumbered-length}
-use Rattle.least.specs.Least.{LeastFor, LeastForRun}
+use Rattle.least.specs.AnyHead.{LeastAnyFor, LeastAny}
 use Rattle.least.specs.Recurrence.{Plan, empty, skip, detour, planDetours, fileAt, leftAt, rightAt, countAt, best, bestPlan, leastList}
 use Rattle.least.proofs.Plan.{Over}
 use Rattle.least.proofs.Best.{best-over}
-use Rattle.least.proofs.LeastList.{least-list, least-unique}
+use Rattle.least.proofs.LeastAny.{least-any, least-any-unique}
 use Rattle.engine_stops.specs.Private.{joinedTable, renumbered, entryNamed, listNamed}
 
 -- Renumbering changes no place and no count; the stop at an index has the next number.
@@ -73,12 +75,47 @@ named-least price (s ∷ ss) =
     ∙ ap (λ p. listNamed (s ∷ ss) (planDetours (fileAt (renumbered 1 (s ∷ ss))) p (length ss))) (sym (same-plan (s ∷ ss) price (length ss)))
     ∙ ap (λ n. listNamed (s ∷ ss) (planDetours (fileAt (renumbered 1 (s ∷ ss))) (bestPlan price (renumbered 1 (s ∷ ss)) n) n)) (sym size)
 
-module _ (r : Run) (accepts : refuses (judgeOf r) ≡ false) where
-  numbered-sound : Sound (renumbered 1 (stopsOf r)) (r .head)
-  numbered-sound = subst (λ ss. Sound ss (r .head)) (joined-stops r accepts) (accepted-sound (joinedTable r) (joined-accepted r accepts))
+-- Renumbered and pulled, either way round; and the names of pulled stops.
+renumbered-pulled : (m n : ℕ) (ss : List Stop) → renumbered n (pulled m ss) ≡ pulled m (renumbered n ss)
+unfolding renumbered pulled
+renumbered-pulled m n [] = refl
+renumbered-pulled m n (s ∷ ss) = ap (λ l. record { file = n; start = smaller (s .start) m; end = s .end; count = s .count } ∷ l) (renumbered-pulled m (suc n) ss)
 
-  pub least-named : (list : List Detour) → LeastForRun (joinedTable r) list → LeastForRun r (listNamed (stopsOf r) list)
+name-pulled : (m : ℕ) (ss : List Stop) (i : ℕ) → stopAt (pulled m ss) i .file ≡ stopAt ss i .file
+unfolding pulled
+name-pulled m [] i = refl
+name-pulled m (s ∷ ss) zero = refl
+name-pulled m (s ∷ ss) (suc i) = name-pulled m ss i
+
+list-pulled : (m : ℕ) (ss : List Stop) (list : List Detour) → listNamed (pulled m ss) list ≡ listNamed ss list
+unfolding listNamed
+list-pulled m ss [] = refl
+list-pulled m ss (d ∷ list) = rw (name-pulled m ss (d .from - 1), name-pulled m ss (d .to - 1)) (ap (λ l. entryNamed ss d ∷ l) (list-pulled m ss list))
+
+module _ (r : Run) (accepts : refuses (judgeAnyOf r) ≡ false) where
+  ok : refuses (judgeOf (lifted r)) ≡ false
+  ok = rw (judge-any r) at accepts
+
+  top : ℕ
+  top = lifted r .head
+
+  sound : Sound (stopsOf r) top
+  unfolding top
+  sound = accepted-sound (lifted r) ok
+
+  numbered-sound : Sound (renumbered 1 (stopsOf r)) top
+  unfolding top
+  numbered-sound = subst (λ ss. Sound ss (lifted r .head)) (joined-stops (lifted r) ok) (accepted-sound (joinedTable (lifted r)) (joined-accepted (lifted r) ok))
+
+  -- The list of the table by first files.
+  named-any : leastList (r .turn) (pulled (r .head) (stopsOf r)) ≡ listNamed (stopsOf r) (leastList (r .turn) (pulled (r .head) (renumbered 1 (stopsOf r))))
+  named-any =
+      named-least (r .turn) (pulled (r .head) (stopsOf r))
+      ∙ list-pulled (r .head) (stopsOf r) (leastList (r .turn) (renumbered 1 (pulled (r .head) (stopsOf r))))
+      ∙ ap (λ ss. listNamed (stopsOf r) (leastList (r .turn) ss)) (renumbered-pulled (r .head) 1 (stopsOf r))
+
+  pub least-named : (list : List Detour) → LeastAny (joinedTable r) list → LeastAny r (listNamed (stopsOf r) list)
   least-named list least =
-      let numbered = subst (λ ss. LeastFor (r .turn) (r .head) ss list) (joined-stops r accepts) least in
-      let one = least-unique (r .turn) (r .head) (renumbered 1 (stopsOf r)) list (leastList (r .turn) (renumbered 1 (stopsOf r))) numbered (least-list (r .turn) (r .head) (renumbered 1 (stopsOf r)) numbered-sound) in
-      subst (LeastFor (r .turn) (r .head) (stopsOf r)) (named-least (r .turn) (stopsOf r) ∙ ap (listNamed (stopsOf r)) (sym one)) (least-list (r .turn) (r .head) (stopsOf r) (accepted-sound r accepts))
+      let numbered = subst (λ ss. LeastAnyFor (r .turn) (r .head) ss list) (joined-stops (lifted r) ok) least in
+      let one = least-any-unique (r .turn) (r .head) (renumbered 1 (stopsOf r)) list (leastList (r .turn) (pulled (r .head) (renumbered 1 (stopsOf r)))) numbered (least-any (r .turn) (r .head) top (renumbered 1 (stopsOf r)) numbered-sound) in
+      subst (LeastAnyFor (r .turn) (r .head) (stopsOf r)) (named-any ∙ ap (listNamed (stopsOf r)) (sym one)) (least-any (r .turn) (r .head) top (stopsOf r) sound)

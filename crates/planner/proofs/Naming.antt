@@ -6,16 +6,20 @@ use mathlib.Core.List.{List, [], _∷_, _++_, map}
 use native.Mathlib.Omega.{arith}
 use lib.ListN.{length, getD, take, drop, replicate, length-map, List·getD-map}
 use lib.Dec.{ltb}
+use borrow.Author.Tests.{le-ltb}
 use Rattle.refusals.specs.declared.Refusal.the-variants.{ShortRow, ShortRoom}
 use Rattle.refusals.specs.declared.Verdict.{Verdict}
 use Rattle.refusals.specs.Refusals.{accepted, refuseIf, firstOf}
 use Rattle.refusals.proofs.Verdicts.{refuses, first-passes}
-use Rattle.runs.specs.Run.{Run, Stop, stopsOf, total}
+use Rattle.runs.specs.Run.{Run, Stop, stopsOf, total, mostWants}
 use Rattle.runs.specs.Alone.{aloneOf}
 use Rattle.runs.specs.Judging.{judgeOf}
+use Rattle.runs.specs.AnyHead.{judgeAnyOf, lifted}
 use Rattle.runs.specs.Lists.{Detour, entryOf}
 use Rattle.runs.proofs.Sound.{Sound}
-use Rattle.runs.proofs.Stops.{accepted-sound}
+use Rattle.walk.proofs.AnyHead.{any-formed}
+use Rattle.runs.proofs.Stops.{run-sound}
+use Rattle.runs.proofs.AnyHead.{judge-any, accepted-any}
 use Rattle.engine_stops.proofs.Table.{joined-stops, joined-accepted, joined-wants, joined-reads}
 use Rattle.engine_stops.proofs.Renamed.{Within, InTable, formed-within}
 use Rattle.engine_table.specs.declared.Listed.{Listed}
@@ -64,17 +68,27 @@ module _ (ss : List Stop) where
   unfolding listNamed
   named-length list = length-map list (entryNamed ss)
 
-module _ (r : Run) (accepts : refuses (judgeOf r) ≡ false) where
+module _ (r : Run) (accepts : refuses (judgeAnyOf r) ≡ false) where
+  -- As 01 would judge it, its head at the end of the tape.
+  pub lifted-accepts : refuses (judgeOf (lifted r)) ≡ false
+  lifted-accepts = rw (judge-any r) at accepts
+
+  table-accepted : refuses (judgeAnyOf (joinedTable r)) ≡ false
+  table-accepted = rw (judge-any (joinedTable r)) (joined-accepted (lifted r) lifted-accepts)
+
+  few-files : length (joinedTable r .starts) ≤ mostWants
+  few-files = omega (arith, length-map (stopsOf r) (λ s. s .start), few-stops r accepts)
+
   room-same : roomSize (joinedTable r) ≡ roomFor r
   room-same =
-      ap (λ k. k * k * (total (joinedTable r .counts) + 1)) (joined-wants r accepts)
-      ∙ ap (λ n. length (stopsOf r) * length (stopsOf r) * (n + 1)) (joined-reads r accepts)
+      ap (λ k. k * k * (total (joinedTable r .counts) + 1)) (joined-wants (lifted r) lifted-accepts)
+      ∙ ap (λ n. length (stopsOf r) * length (stopsOf r) * (n + 1)) (joined-reads (lifted r) lifted-accepts)
 
   verdict-same : (rows : ListRows) → listingVerdict (joinedTable r) rows ≡ stopsVerdict r rows
   unfolding listingVerdict
   verdict-same rows =
-      first-passes (judgeOf (joinedTable r)) (refuseIf (shortListRows (length (joinedTable r .numbers)) rows) ShortRow ∷ refuseIf (ltb (length (rows .room)) (roomSize (joinedTable r))) ShortRoom ∷ []) (joined-accepted r accepts)
-      ∙ ap (λ k. firstOf (refuseIf (shortListRows k rows) ShortRow ∷ refuseIf (ltb (length (rows .room)) (roomSize (joinedTable r))) ShortRoom ∷ [])) (joined-wants r accepts)
+      rw (le-ltb mostWants (length (joinedTable r .starts)) few-files) (first-passes (judgeAnyOf (joinedTable r)) (refuseIf (shortListRows (length (joinedTable r .numbers)) rows) ShortRow ∷ refuseIf (ltb (length (rows .room)) (roomSize (joinedTable r))) ShortRoom ∷ []) table-accepted)
+      ∙ ap (λ k. firstOf (refuseIf (shortListRows k rows) ShortRow ∷ refuseIf (ltb (length (rows .room)) (roomSize (joinedTable r))) ShortRoom ∷ [])) (joined-wants (lifted r) lifted-accepts)
       ∙ ap (λ n. firstOf (refuseIf (shortListRows (length (stopsOf r)) rows) ShortRow ∷ refuseIf (ltb (length (rows .room)) n) ShortRoom ∷ [])) room-same
 
 module _ (r : Run) (firsts lefts spans reads : List ℕ) (head turn : ℕ) (h : RunInRows r firsts lefts spans reads head turn) where
@@ -113,14 +127,14 @@ module _ (r : Run) (firsts lefts spans reads : List ℕ) (head turn : ℕ) (h : 
       n-is : l .detours ≡ length (is-listed .list)
       n-is = ap (λ x. x .detours) (is-listed .says)
 
-      sound : Sound (stopsOf r) (r .head)
-      sound = accepted-sound r (h .accepts)
+      sound : Sound (stopsOf r) (lifted r .head)
+      sound = run-sound (lifted r) (accepted-any r (h .accepts) .run)
 
       -- Every entry is a file of the joined table.
-      within : (i : ℕ) → i < l .detours → InTable (stopsOf r) (r .head) sound (entryOf (is-listed .list) i)
+      within : (i : ℕ) → i < l .detours → InTable (stopsOf r) (lifted r .head) sound (entryOf (is-listed .list) i)
       within i b =
-          formed-within (stopsOf r) (r .head) sound (is-listed .list)
-          (rw (joined-stops r (h .accepts)) at (is-listed .least .formed)) i (omega (arith, n-is))
+          formed-within (stopsOf r) (lifted r .head) sound (is-listed .list)
+          (rw (joined-stops (lifted r) (lifted-accepts r (h .accepts))) at (any-formed (r .head) (stopsOf (joinedTable r)) (is-listed .list) (is-listed .least .formed))) i (omega (arith, n-is))
 
       pub record Nameable (row : List ℕ) : Type 0 where
         pub long : l .detours ≤ length row

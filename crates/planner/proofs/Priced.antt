@@ -7,21 +7,21 @@ use lib.ListN.{length, take, drop}
 use Rattle.refusals.specs.Refusals.{isRefusal}
 use Rattle.refusals.proofs.Verdicts.{refuses}
 use Rattle.runs.specs.Run.{Run, stopsOf}
-use Rattle.runs.specs.Judging.{judgeOf}
+use Rattle.runs.specs.AnyHead.{judgeAnyOf}
 use Rattle.runs.specs.Lists.{listOf}
 use Rattle.walk.specs.declared.Answer.{Answer}
-use Rattle.walk.specs.Price.{priceVerdict, priceAnswer, priceRows}
+use Rattle.walk.specs.AnyHead.{priceAnyVerdict, priceAnyAnswer, priceAnyRows}
 use Rattle.walk.specs.Rows.{readRows}
 use Rattle.engine_table.specs.declared.Listed.{Listed}
 use Rattle.engine_table.specs.Listing.{listRows}
-use Rattle.planner.specs.Plan.{Planned}
+use Rattle.planner.specs.AnyHead.{PlannedAny}
 use Rattle.planner.specs.Rows.{Rows, rowsOf, readsIn}
 use Rattle.planner.specs.Private.{IsNamed}
 use Rattle.engine_stops.proofs.Halves.{list-of-halves, halves-even, front, holds-front}
-use Rattle.least.proofs.Priced.{price-accepted}
+use Rattle.walk.proofs.AnyHead.{any-priced}
 use Rattle.planner.proofs.Refusals.{engineRows}
 
-module _ (r : Run) (rows : Rows) (accepts : isRefusal (judgeOf r .refusal) ≡ false) (long : length (r .numbers) ≤ length (rows .times))
+module _ (r : Run) (rows : Rows) (accepts : isRefusal (judgeAnyOf r .refusal) ≡ false) (long : length (r .numbers) ≤ length (rows .times))
     (long-legs : length (r .numbers) ≤ length (rows .legs)) (l : Listed) (froms′ tos′ room′ : List ℕ) (listed : IsNamed r (engineRows rows) l (listRows froms′ tos′ room′)) where
   n-is : l .detours ≡ length (listed .list)
   n-is = ap (λ x. x .detours) (listed .says)
@@ -50,17 +50,17 @@ module _ (r : Run) (rows : Rows) (accepts : isRefusal (judgeOf r .refusal) ≡ f
       rw (froms-front, tos-front)
       (list-of-halves (listed .list))
 
-  priced : refuses (priceVerdict r (take (l .detours) froms′) (take (l .detours) tos′) (readsIn rows)) ≡ false
+  priced : refuses (priceAnyVerdict r (take (l .detours) froms′) (take (l .detours) tos′) (readsIn rows)) ≡ false
   priced =
-      price-accepted r (take (l .detours) froms′) (take (l .detours) tos′) (readsIn rows) accepts
+      any-priced r (take (l .detours) froms′) (take (l .detours) tos′) (readsIn rows) accepts
       (rw (froms-front, tos-front) (halves-even (λ d. d .from) (λ d. d .to) (listed .list)))
       (rw priced-list (listed .least .formed)) long long-legs
 
   -- The pricer's answer for the list is the planner's.
-  pub planned-so : (answer : Answer) (times′ legs′ : List ℕ) → answer ≡ priceAnswer r (take (l .detours) froms′) (take (l .detours) tos′) (readsIn rows)
-      → readRows times′ legs′ ≡ priceRows r (take (l .detours) froms′) (take (l .detours) tos′) (readsIn rows)
-      → Planned r rows answer (rowsOf froms′ tos′ times′ legs′ room′)
-  unfolding priceAnswer priceRows
+  pub planned-so : (answer : Answer) (times′ legs′ : List ℕ) → answer ≡ priceAnyAnswer r (take (l .detours) froms′) (take (l .detours) tos′) (readsIn rows)
+      → readRows times′ legs′ ≡ priceAnyRows r (take (l .detours) froms′) (take (l .detours) tos′) (readsIn rows)
+      → PlannedAny r rows answer (rowsOf froms′ tos′ times′ legs′ room′)
+  unfolding priceAnyAnswer priceAnyRows
   planned-so answer times′ legs′ a t =
       let reads = rw (priced, priced-list) at t in
       record {

@@ -11,12 +11,13 @@ use Rattle.refusals.specs.declared.Verdict.{Verdict}
 use Rattle.refusals.specs.Refusals.{isRefusal, refuseIf, firstOf}
 use Rattle.refusals.proofs.Verdicts.{refuses, first-refuses, first-passes, test-says}
 use Rattle.runs.specs.Run.{Run, stopsOf}
-use Rattle.runs.specs.Judging.{judgeOf}
+use Rattle.runs.specs.AnyHead.{judgeAnyOf}
 use Rattle.walk.specs.declared.Answer.{Answer}
 use Rattle.walk.specs.Price.{refusalAnswer, shortReadRows}
 use Rattle.engine_table.specs.declared.Listed.{Listed}
 use Rattle.engine_table.specs.Listing.{ListRows, listRows}
-use Rattle.planner.specs.Plan.{Plans, Planned, planVerdict, shortRows, roomFor}
+use Rattle.planner.specs.Plan.{shortRows, roomFor}
+use Rattle.planner.specs.AnyHead.{PlansAny, PlannedAny, planAnyVerdict}
 use Rattle.planner.specs.Rows.{Rows, rowsOf, readsIn}
 use Rattle.planner.specs.Private.{stopsVerdict, ListsNamed, IsNamed}
 use Rattle.planner.proofs.Naming.{told}
@@ -26,7 +27,7 @@ abbrev pub engineRows : Rows → ListRows
 engineRows rows = listRows (rows .froms) (rows .tos) (rows .room)
 
 module _ (r : Run) (rows : Rows) where
-  refused-so : (v : Verdict) → v ≡ planVerdict r rows → refuses v ≡ true → (a : Answer) → a ≡ refusalAnswer v → (after : Rows) → after ≡ rows → Plans r rows a after
+  refused-so : (v : Verdict) → v ≡ planAnyVerdict r rows → refuses v ≡ true → (a : Answer) → a ≡ refusalAnswer v → (after : Rows) → after ≡ rows → PlansAny r rows a after
   refused-so v e h a s after kept =
       record {
         refused = λ q. record { says = rw e at s; kept = kept };
@@ -36,31 +37,31 @@ module _ (r : Run) (rows : Rows) where
   later : List Verdict
   later = refuseIf (shortRows (length (r .numbers)) (length (stopsOf r)) rows) ShortRow ∷ refuseIf (ltb (length (rows .room)) (roomFor r)) ShortRoom ∷ []
 
-  module _ (v : Verdict) (f : Bool) (v-is : v ≡ judgeOf r) (f-is : f ≡ isRefusal (v .refusal)) where
-    pub run-refused : f ≡ true → (a : Answer) → a ≡ refusalAnswer v → Plans r rows a rows
-    unfolding planVerdict later
-    run-refused e a s = refused-so v (v-is ∙ first-refuses (judgeOf r) later (test-says v-is f-is e)) (sym f-is ∙ e) a s rows refl
+  module _ (v : Verdict) (f : Bool) (v-is : v ≡ judgeAnyOf r) (f-is : f ≡ isRefusal (v .refusal)) where
+    pub run-refused : f ≡ true → (a : Answer) → a ≡ refusalAnswer v → PlansAny r rows a rows
+    unfolding planAnyVerdict later
+    run-refused e a s = refused-so v (v-is ∙ first-refuses (judgeAnyOf r) later (test-says v-is f-is e)) (sym f-is ∙ e) a s rows refl
 
-    pub run-accepted : f ≡ false → isRefusal (judgeOf r .refusal) ≡ false
+    pub run-accepted : f ≡ false → isRefusal (judgeAnyOf r .refusal) ≡ false
     run-accepted e = test-says v-is f-is e
 
-    passes-run : f ≡ false → planVerdict r rows ≡ firstOf later
-    unfolding planVerdict later
-    passes-run e = first-passes (judgeOf r) later (test-says v-is f-is e)
+    passes-run : f ≡ false → planAnyVerdict r rows ≡ firstOf later
+    unfolding planAnyVerdict later
+    passes-run e = first-passes (judgeAnyOf r) later (test-says v-is f-is e)
 
-    reads-refused : f ≡ false → shortReadRows (length (r .numbers)) (readsIn rows) ≡ true → (a : Answer) → a ≡ refusalAnswer (record { refusal = ShortRow; place = 0 }) → Plans r rows a rows
+    reads-refused : f ≡ false → shortReadRows (length (r .numbers)) (readsIn rows) ≡ true → (a : Answer) → a ≡ refusalAnswer (record { refusal = ShortRow; place = 0 }) → PlansAny r rows a rows
     unfolding later
     reads-refused e short a s = refused-so (record { refusal = ShortRow; place = 0 }) (sym (passes-run e ∙ rw short)) refl a s rows refl
 
-    pub times-refused : f ≡ false → length (rows .times) < length (r .numbers) → (a : Answer) → a ≡ refusalAnswer (record { refusal = ShortRow; place = 0 }) → Plans r rows a rows
+    pub times-refused : f ≡ false → length (rows .times) < length (r .numbers) → (a : Answer) → a ≡ refusalAnswer (record { refusal = ShortRow; place = 0 }) → PlansAny r rows a rows
     times-refused e short a s = reads-refused e (rw (lt-ltb (length (rows .times)) (length (r .numbers)) short)) a s
 
-    pub legs-refused : f ≡ false → length (rows .legs) < length (r .numbers) → (a : Answer) → a ≡ refusalAnswer (record { refusal = ShortRow; place = 0 }) → Plans r rows a rows
+    pub legs-refused : f ≡ false → length (rows .legs) < length (r .numbers) → (a : Answer) → a ≡ refusalAnswer (record { refusal = ShortRow; place = 0 }) → PlansAny r rows a rows
     legs-refused e short a s = reads-refused e (rw (lt-ltb (length (rows .legs)) (length (r .numbers)) short, or-true)) a s
 
     module _ (passed : f ≡ false) (long : length (r .numbers) ≤ length (rows .times)) (long-legs : length (r .numbers) ≤ length (rows .legs)) where
       -- What the engine judges is what is left to judge.
-      engine-decides : stopsVerdict r (engineRows rows) ≡ planVerdict r rows
+      engine-decides : stopsVerdict r (engineRows rows) ≡ planAnyVerdict r rows
       unfolding later
       engine-decides = rw (le-ltb (length (rows .times)) (length (r .numbers)) long, le-ltb (length (rows .legs)) (length (r .numbers)) long-legs) at (sym (passes-run passed))
 
@@ -72,7 +73,7 @@ module _ (r : Run) (rows : Rows) where
             ∙ told (stopsVerdict r (engineRows rows)) (l .verdict) (λ e. ap (λ x. x .verdict) (lists .refused e .says)) (λ e. ap (λ x. x .verdict) (lists .listed e .says))
 
         pub engine-refused : g ≡ true → (a : Answer) → a ≡ refusalAnswer (l .verdict) → (froms tos room : List ℕ) → after ≡ listRows froms tos room
-            → Plans r rows a (rowsOf froms tos (rows .times) (rows .legs) room)
+            → PlansAny r rows a (rowsOf froms tos (rows .times) (rows .legs) room)
         engine-refused e a s froms tos room is =
             let no = lists .refused (sym answers ∙ e) in
             let v-says = ap (λ x. x .verdict) (no .says) ∙ engine-decides in
@@ -86,7 +87,7 @@ module _ (r : Run) (rows : Rows) where
         pub engine-listed : g ≡ false → IsNamed r (engineRows rows) l after
         engine-listed e = lists .listed (sym answers ∙ e)
 
-        pub run-planned : g ≡ false → (a : Answer) (end : Rows) → Planned r rows a end → Plans r rows a end
+        pub run-planned : g ≡ false → (a : Answer) (end : Rows) → PlannedAny r rows a end → PlansAny r rows a end
         run-planned e a end p =
-            let accepts : refuses (planVerdict r rows) ≡ false = ap refuses (sym engine-decides) ∙ sym answers ∙ e in
+            let accepts : refuses (planAnyVerdict r rows) ≡ false = ap refuses (sym engine-decides) ∙ sym answers ∙ e in
             record { refused = λ q. absurd (true≢false (sym q ∙ accepts)); planned = λ q. p }

@@ -1,4 +1,5 @@
--- What a reader of the planner must believe stands in Rows and Plan; Private is for the contracts of private functions.
+-- What a reader of the planner must believe stands in Rows, Plan and AnyHead; Private is for the contracts of private functions.
 pub mod Rows
 pub mod Plan
+pub mod AnyHead
 pub mod Private

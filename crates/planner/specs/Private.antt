@@ -9,17 +9,17 @@ use Rattle.refusals.specs.declared.Refusal.the-variants.{ShortRow, ShortRoom}
 use Rattle.refusals.specs.declared.Verdict.{Verdict}
 use Rattle.refusals.specs.Refusals.{isRefusal, accepted, refuseIf, firstOf}
 use Rattle.runs.specs.Run.{Run, stopsOf}
-use Rattle.runs.specs.Judging.{judgeOf}
+use Rattle.runs.specs.AnyHead.{judgeAnyOf}
 use Rattle.runs.specs.Lists.{Detour}
 use Rattle.engine_stops.specs.Joining.{lengthOf}
-use Rattle.least.specs.Least.{LeastForRun}
+use Rattle.least.specs.AnyHead.{LeastAny}
 use Rattle.engine_table.specs.declared.Listed.{Listed}
 use Rattle.engine_table.specs.Listing.{ListRows, shortListRows, NotListed}
 use Rattle.planner.specs.Plan.{roomFor}
 
--- Four rows that hold the stops of an accepted run.
+-- Four rows that hold the stops of an accepted run, its head anywhere.
 pub record RunInRows (r : Run) (firsts lefts spans reads : List ℕ) (head turn : ℕ) : Type 0 where
-  pub accepts : isRefusal (judgeOf r .refusal) ≡ false
+  pub accepts : isRefusal (judgeAnyOf r .refusal) ≡ false
   pub first-files : firsts ≡ map (λ s. s .file) (stopsOf r)
   pub starts : lefts ≡ map (λ s. s .start) (stopsOf r)
   pub lengths : spans ≡ map lengthOf (stopsOf r)
@@ -50,7 +50,7 @@ namedRows r list rows =
 
 pub record IsNamed (r : Run) (before : ListRows) (answer : Listed) (after : ListRows) : Type 0 where
   pub list : List Detour
-  pub least : LeastForRun r list
+  pub least : LeastAny r list
   pub says : answer ≡ record { verdict = accepted; detours = length list }
   pub rows : after ≡ namedRows r list before
 

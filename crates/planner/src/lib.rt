@@ -1,5 +1,6 @@
 // planner: the plan of a run. It stands on the promises of the joining, of the table engine and of the pricer: the least list over the
-// run's stops, then that list's own price. All is judged before the first write.
+// run's stops, then that list's own price. All is judged before the first write. The head may stand anywhere; 01's plan is the one of a run whose
+// head 01 accepts.
 ghost use mathlib.Core.Path.{_≡_};
 ghost use mathlib.Core.List.{map, _++_};
 ghost use Prim.Native.Nat.{ℕ, _≤_, _<_};
@@ -8,6 +9,7 @@ ghost use Rattle.runs.specs.Run.{Run};
 ghost use Rattle.runs.specs.Rows.{runAt};
 ghost use Rattle.engine_table.specs.Listing.{listRowsBefore, listRowsAfter};
 ghost use Rattle.planner.specs.Plan.{Plans};
+ghost use Rattle.planner.specs.AnyHead.{PlansAny};
 ghost use Rattle.planner.specs.Rows.{rowsBefore, rowsAfter};
 ghost use Rattle.planner.specs.Private.{RunInRows, HoldsSome, firstFileIn, ListsNamed};
 ghost use Rattle.engine_stops.specs.Private.{countUp};
@@ -81,8 +83,8 @@ fn list_named(
     list
 }
 
-// The plan of a run: its answer, and in the lent rows the list, the times and the legs.
-pub fn plan(
+// The plan of a run with a head anywhere: its answer, and in the lent rows the list, the times and the legs.
+pub fn plan_any(
     starts: &[u64],
     lengths: &[u64],
     aggregates: &[u64],
@@ -96,7 +98,7 @@ pub fn plan(
     legs: &mut [u64],
     room: &mut [u64],
 ) -> Answer
-    ensures { λ r. ⌜ Plans (runAt starts lengths aggregates numbers counts head turn) (rowsBefore froms tos times legs room) r (rowsAfter froms tos times legs room) ⌝ }
+    ensures { λ r. ⌜ PlansAny (runAt starts lengths aggregates numbers counts head turn) (rowsBefore froms tos times legs room) r (rowsAfter froms tos times legs room) ⌝ }
 {
     let mut firsts = [0u64; 64];
     let mut lefts = [0u64; 64];
@@ -108,7 +110,7 @@ pub fn plan(
         aggregates,
         numbers,
         counts,
-        head,
+        runs::lift_head(head),
         turn,
         &mut firsts,
         &mut lefts,
@@ -148,7 +150,7 @@ pub fn plan(
         return walk::refuse(verdict);
     }
     let n = list.detours as usize;
-    walk::price(
+    walk::price_any(
         starts,
         lengths,
         aggregates,
@@ -160,5 +162,42 @@ pub fn plan(
         &tos[..n],
         times,
         legs,
+    )
+}
+
+// The plan of a run of 01: the head is judged by its 7, and then planned from as any.
+pub fn plan(
+    starts: &[u64],
+    lengths: &[u64],
+    aggregates: &[u64],
+    numbers: &[u64],
+    counts: &[u64],
+    head: u64,
+    turn: u64,
+    froms: &mut [u64],
+    tos: &mut [u64],
+    times: &mut [u64],
+    legs: &mut [u64],
+    room: &mut [u64],
+) -> Answer
+    ensures { λ r. ⌜ Plans (runAt starts lengths aggregates numbers counts head turn) (rowsBefore froms tos times legs room) r (rowsAfter froms tos times legs room) ⌝ }
+{
+    let run = runs::judge(starts, lengths, aggregates, numbers, counts, head, turn);
+    if refused(run) {
+        return walk::refuse(run);
+    }
+    plan_any(
+        starts,
+        lengths,
+        aggregates,
+        numbers,
+        counts,
+        head,
+        turn,
+        froms,
+        tos,
+        times,
+        legs,
+        room,
     )
 }

@@ -120,7 +120,7 @@ module _ (name : List ℕ) (run : Run) (froms tos row : List ℕ) (v w : Verdict
     (f-is : f ≡ isRefusal (w .refusal)) where
   pub figures-refused : f ≡ true → figureSheetVerdict name run froms tos row ≡ w
   unfolding figureSheetVerdict
-  figures-refused e = judged-refused name run false v w v-is w-is f f-is (listVerdict (stopsOf run) froms tos ∷ rowVerdict (figureText name run froms tos) row ∷ []) e
+  figures-refused e = judged-refused name (judgeOf run) false v w v-is w-is f f-is (listVerdict (stopsOf run) froms tos ∷ rowVerdict (figureText name run froms tos) row ∷ []) e
 
   module _ (good : f ≡ false) where
     good-figures : GoodRun run
@@ -128,7 +128,7 @@ module _ (name : List ℕ) (run : Run) (froms tos row : List ℕ) (v w : Verdict
 
     figures-pass : figureSheetVerdict name run froms tos row ≡ firstOf (listVerdict (stopsOf run) froms tos ∷ rowVerdict (figureText name run froms tos) row ∷ [])
     unfolding figureSheetVerdict
-    figures-pass = judged-passes name run false v w v-is w-is f f-is good (listVerdict (stopsOf run) froms tos ∷ rowVerdict (figureText name run froms tos) row ∷ [])
+    figures-pass = judged-passes name (judgeOf run) false v w v-is w-is f f-is good (listVerdict (stopsOf run) froms tos ∷ rowVerdict (figureText name run froms tos) row ∷ [])
 
     -- a is what the figures' routine answered with a row for figures that is long enough, g whether that refuses.
     module _ (space : List ℤ) (room : mostWants ≤ length space) (a : Answer) (a-is : a ≡ figuresAnswer run froms tos space) (g : Bool) (g-is : g ≡ isRefusal (a .refusal)) where
@@ -145,11 +145,11 @@ module _ (name : List ℕ) (run : Run) (froms tos row : List ℕ) (v w : Verdict
       unfolding figuresVerdict list
       verdict-good e =
           let size = list-length e in
-          rw (run-passes name run false v w v-is w-is f f-is good, e, le-ltb (length space) (length (listOf froms tos)) (omega (arith, size .0, size .1))) refl
+          rw (run-passes name (judgeOf run) false v w v-is w-is f f-is good, e, le-ltb (length space) (length (listOf froms tos)) (omega (arith, size .0, size .1))) refl
 
       verdict-refused : isRefusal (list .refusal) ≡ true → figuresVerdict run froms tos space ≡ list
       unfolding figuresVerdict list
-      verdict-refused e = rw (run-passes name run false v w v-is w-is f f-is good, e) refl
+      verdict-refused e = rw (run-passes name (judgeOf run) false v w v-is w-is f f-is good, e) refl
 
       figured-refused : isRefusal (list .refusal) ≡ true → a ≡ refusalAnswer list
       unfolding figuresAnswer
@@ -202,7 +202,7 @@ module _ (name : List ℕ) (run : Run) (froms tos row : List ℕ) (v w : Verdict
           figures-fit page wide =
               record {
                 room = wide;
-                short = name-fits name run false v w v-is w-is f f-is good;
+                short = name-fits name (judgeOf run) false v w v-is w-is f f-is good;
                 few = few-figures;
                 even = good-list .even;
                 figured = figures-count;

@@ -117,27 +117,24 @@ name-length name e =
     let bounds = and-true-both (leb 1 (length name)) (leb (length name) 16) (both .0) in
     leb-true (length name) 16 (bounds .1)
 
--- The run's checks and the name's: w is what they say together, f whether that refuses.
-module _ (name : List ℕ) (run : Run) (over : Bool) (v w : Verdict) (v-is : v ≡ judgeOf run)
+-- The judging of the run, j, and the name's: w is what they say together, f whether that refuses.
+module _ (name : List ℕ) (j : Verdict) (over : Bool) (v w : Verdict) (v-is : v ≡ j)
     (w-is : w ≡ firstOf (v ∷ refuseIf (over || not (isName name)) BadName ∷ [])) (f : Bool) (f-is : f ≡ isRefusal (w .refusal)) where
-  judged-is : w ≡ firstOf (judgeOf run ∷ refuseIf (over || not (isName name)) BadName ∷ [])
+  judged-is : w ≡ firstOf (j ∷ refuseIf (over || not (isName name)) BadName ∷ [])
   judged-is = w-is ∙ ap (λ x. firstOf (x ∷ refuseIf (over || not (isName name)) BadName ∷ [])) v-is
 
-  pub judged-refused : (ws : List Verdict) → f ≡ true → firstOf (judgeOf run ∷ refuseIf (over || not (isName name)) BadName ∷ ws) ≡ w
-  judged-refused ws e = front-refuses (judgeOf run ∷ refuseIf (over || not (isName name)) BadName ∷ []) ws (test-says judged-is f-is e) ∙ sym judged-is
+  pub judged-refused : (ws : List Verdict) → f ≡ true → firstOf (j ∷ refuseIf (over || not (isName name)) BadName ∷ ws) ≡ w
+  judged-refused ws e = front-refuses (j ∷ refuseIf (over || not (isName name)) BadName ∷ []) ws (test-says judged-is f-is e) ∙ sym judged-is
 
   module _ (good : f ≡ false) where
-    pub judged-passes : (ws : List Verdict) → firstOf (judgeOf run ∷ refuseIf (over || not (isName name)) BadName ∷ ws) ≡ firstOf ws
-    judged-passes ws = front-passes (judgeOf run ∷ refuseIf (over || not (isName name)) BadName ∷ []) ws (test-says judged-is f-is good)
+    pub judged-passes : (ws : List Verdict) → firstOf (j ∷ refuseIf (over || not (isName name)) BadName ∷ ws) ≡ firstOf ws
+    judged-passes ws = front-passes (j ∷ refuseIf (over || not (isName name)) BadName ∷ []) ws (test-says judged-is f-is good)
 
-    passes : AllAccept (judgeOf run ∷ refuseIf (over || not (isName name)) BadName ∷ [])
-    passes = all-accept (judgeOf run ∷ refuseIf (over || not (isName name)) BadName ∷ []) (test-says judged-is f-is good)
+    passes : AllAccept (j ∷ refuseIf (over || not (isName name)) BadName ∷ [])
+    passes = all-accept (j ∷ refuseIf (over || not (isName name)) BadName ∷ []) (test-says judged-is f-is good)
 
-    pub run-passes : isRefusal (judgeOf run .refusal) ≡ false
+    pub run-passes : isRefusal (j .refusal) ≡ false
     run-passes = passes .0
-
-    pub good-run : GoodRun run
-    good-run = accepted-run run run-passes
 
     name-passes : (over ≡ false) × (not (isName name) ≡ false)
     name-passes = or-false-both over (not (isName name)) (accepts-if (over || not (isName name)) BadName refl (passes .1 .0))
@@ -148,12 +145,15 @@ module _ (name : List ℕ) (run : Run) (over : Bool) (v w : Verdict) (v-is : v �
     pub name-fits : length name ≤ 16
     name-fits = name-length name (not-false (isName name) (name-passes .1))
 
+pub good-run : (name : List ℕ) (run : Run) (over : Bool) (v w : Verdict) → v ≡ judgeOf run → w ≡ firstOf (v ∷ refuseIf (over || not (isName name)) BadName ∷ []) → (f : Bool) → f ≡ isRefusal (w .refusal) → f ≡ false → GoodRun run
+good-run name run over v w v-is w-is f f-is good = accepted-run run (run-passes name (judgeOf run) over v w v-is w-is f f-is good)
+
 -- The run sheet writer.
 module _ (name : List ℕ) (run : Run) (row : List ℕ) (v w : Verdict) (v-is : v ≡ judgeOf run)
     (w-is : w ≡ firstOf (v ∷ refuseIf (ltb mostSheetFiles (length (run .starts)) || not (isName name)) BadName ∷ [])) (f : Bool) (f-is : f ≡ isRefusal (w .refusal)) where
   pub write-refused : f ≡ true → writeVerdict name run row ≡ w
   unfolding writeVerdict
-  write-refused e = judged-refused name run (ltb mostSheetFiles (length (run .starts))) v w v-is w-is f f-is (rowVerdict (sheetText name run) row ∷ []) e
+  write-refused e = judged-refused name (judgeOf run) (ltb mostSheetFiles (length (run .starts))) v w v-is w-is f f-is (rowVerdict (sheetText name run) row ∷ []) e
 
   module _ (good : f ≡ false) where
     pub sheet-fits : (page : List ℕ) → sheetMost ≤ length page → SheetFits page name (run .starts) (run .lengths) (run .aggregates) (run .numbers) (run .counts)
@@ -162,8 +162,8 @@ module _ (name : List ℕ) (run : Run) (row : List ℕ) (v w : Verdict) (v-is : 
         let g = good-run name run over v w v-is w-is f f-is good in
         record {
           room = room;
-          short = name-fits name run over v w v-is w-is f f-is good;
-          files = ltb-false mostSheetFiles (length (run .starts)) (few-files name run over v w v-is w-is f f-is good);
+          short = name-fits name (judgeOf run) over v w v-is w-is f f-is good;
+          files = ltb-false mostSheetFiles (length (run .starts)) (few-files name (judgeOf run) over v w v-is w-is f f-is good);
           table = g .files .table .equal;
           numbered = g .files .rows;
           wants = g .wants .few;
@@ -173,7 +173,7 @@ module _ (name : List ℕ) (run : Run) (row : List ℕ) (v w : Verdict) (v-is : 
     pub sheet-last : writeVerdict name run row ≡ rowVerdict (sheetText name run) row
     unfolding writeVerdict
     sheet-last =
-        judged-passes name run (ltb mostSheetFiles (length (run .starts))) v w v-is w-is f f-is good (rowVerdict (sheetText name run) row ∷ [])
+        judged-passes name (judgeOf run) (ltb mostSheetFiles (length (run .starts))) v w v-is w-is f f-is good (rowVerdict (sheetText name run) row ∷ [])
         ∙ last-verdict (sheetText name run) row
 
 -- A writer's contract determines the answer and the row.

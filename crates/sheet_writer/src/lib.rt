@@ -11,6 +11,7 @@ pub use page::answer_to;
 pub use page::hand_out;
 pub use page::judge_name;
 pub use plan::write_plan;
+pub use plan::write_plan_any;
 pub use refusal::write_refusal;
 pub use writer::write_sheet;
 

@@ -1,9 +1,13 @@
-// The plan sheet writer: it prices the list that it is given, and writes what the pricer answers.
+// The plan sheet writer: it prices the list that it is given, and writes what the pricer answers. The head may stand anywhere; 01's sheet is the one
+// of a run whose head 01 accepts.
+ghost use mathlib.Core.Path.{_≡_};
 ghost use Prim.Native.Nat.{_≤_};
 ghost use lib.ListN.{length};
+ghost use Rattle.runs.specs.AnyHead.{judgeAnyOf};
 ghost use Rattle.runs.specs.Rows.{runAt};
 ghost use Rattle.text_pages.specs.Printing.{Wrote};
 ghost use Rattle.sheet_writer.specs.PlanSheet.{planTop, planLines, PlanWritten};
+ghost use Rattle.sheet_writer.specs.AnyHead.{PlanAnyWritten};
 ghost use Rattle.sheet_writer.specs.Private.{planMost, PlanFits};
 use crate::Written;
 use crate::page::answer_to;
@@ -49,7 +53,24 @@ fn put_plan(
     put_triples(page, time_at, b"time=", numbers, times, legs)
 }
 
-pub fn write_plan(
+// 1 to 7 for a head anywhere.
+fn judge_any(
+    starts: &[u64],
+    lengths: &[u64],
+    aggregates: &[u64],
+    numbers: &[u64],
+    counts: &[u64],
+    head: u64,
+    turn: u64,
+) -> Verdict
+    ensures { λ r. ⌜ r ≡ judgeAnyOf (runAt starts lengths aggregates numbers counts head turn) ⌝ }
+{
+    let lifted = runs::lift_head(head);
+    runs::judge(starts, lengths, aggregates, numbers, counts, lifted, turn)
+}
+
+// The plan sheet of a run with a head anywhere.
+pub fn write_plan_any(
     name: &[u8],
     starts: &[u64],
     lengths: &[u64],
@@ -62,16 +83,16 @@ pub fn write_plan(
     tos: &[u64],
     out: &mut [u8],
 ) -> Written
-    ensures { λ r. ⌜ PlanWritten (now (name .entry)) (runAt starts lengths aggregates numbers counts head turn) (now (froms .entry)) (now (tos .entry)) (now (out .entry)) r (now (out .exit)) ⌝ }
+    ensures { λ r. ⌜ PlanAnyWritten (now (name .entry)) (runAt starts lengths aggregates numbers counts head turn) (now (froms .entry)) (now (tos .entry)) (now (out .entry)) r (now (out .exit)) ⌝ }
 {
-    let run = runs::judge(starts, lengths, aggregates, numbers, counts, head, turn);
+    let run = judge_any(starts, lengths, aggregates, numbers, counts, head, turn);
     let named = judge_name(run, false, name);
     if refused(named) {
         return answer_to(named, 0);
     }
     let mut times = [0u64; 64];
     let mut legs = [0u64; 64];
-    let answer = walk::price(
+    let answer = walk::price_any(
         starts,
         lengths,
         aggregates,
@@ -106,4 +127,39 @@ pub fn write_plan(
         &legs[..wants],
     );
     hand_out(&page[..bytes], out)
+}
+
+// The plan sheet of a run of 01: the head is judged by its 7, and then priced from as any.
+pub fn write_plan(
+    name: &[u8],
+    starts: &[u64],
+    lengths: &[u64],
+    aggregates: &[u64],
+    numbers: &[u64],
+    counts: &[u64],
+    head: u64,
+    turn: u64,
+    froms: &[u64],
+    tos: &[u64],
+    out: &mut [u8],
+) -> Written
+    ensures { λ r. ⌜ PlanWritten (now (name .entry)) (runAt starts lengths aggregates numbers counts head turn) (now (froms .entry)) (now (tos .entry)) (now (out .entry)) r (now (out .exit)) ⌝ }
+{
+    let run = runs::judge(starts, lengths, aggregates, numbers, counts, head, turn);
+    if refused(run) {
+        return answer_to(run, 0);
+    }
+    write_plan_any(
+        name,
+        starts,
+        lengths,
+        aggregates,
+        numbers,
+        counts,
+        head,
+        turn,
+        froms,
+        tos,
+        out,
+    )
 }

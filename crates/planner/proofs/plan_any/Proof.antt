@@ -1,4 +1,4 @@
--- `planner::plan` meets its contract: the checks in their order, each the first that can refuse; then the price of the list that the engine wrote.
+-- `planner::plan_any` meets its contract: the checks in their order, each the first that can refuse; then the price of the list that the engine wrote.
 -- Assumes nothing.
 use mathlib.Core.Path.{_≡_, refl, sym}
 use mathlib.Core.Bool.{false}
@@ -8,18 +8,21 @@ use lib.ListN.{length, take}
 use lib.Seq.{length-take-le}
 use Rattle.refusals.proofs.Verdicts.{refuses}
 use Rattle.runs.specs.Run.{Run, runOf, stopsOf}
-use Rattle.runs.specs.Judging.{judgeOf}
-use Rattle.engine_stops.specs.Joining.{JoinRows, joinRows}
+use Rattle.runs.specs.AnyHead.{judgeAnyOf, lifted}
+use Rattle.engine_stops.specs.Joining.{JoinRows, joinRows, joinAnswer, joinRowsOf}
 use Rattle.engine_table.specs.Listing.{ListRows, listRows}
 use Rattle.planner.specs.Rows.{Rows, rowsOf}
 use Rattle.planner.specs.Private.{RunInRows, ListsNamed, IsNamed}
-use Rattle.engine_stops.proofs.Held.{Front}
+use Rattle.engine_stops.proofs.Held.{freshRows, Front}
 use Rattle.planner.proofs.Joined.{join-verdict, join-front, join-holds}
 use Rattle.planner.proofs.Refusals.{engineRows, run-refused, run-accepted, times-refused, legs-refused, engine-refused, engine-listed, run-planned}
 use Rattle.planner.proofs.Priced.{in-froms, in-tos, planned-so}
 use borrow.Author.Needs.{needs}
-use Rattle.planner.proofs.plan.Statement.{statement}
-use Rattle.planner.proofs.plan.Tie as tie
+use Rattle.planner.proofs.plan_any.Statement.{statement}
+use Rattle.planner.proofs.plan_any.Tie as tie
+
+lift-head-requires : tie.Need-lift-head-requires
+lift-head-requires c κs = search needs
 
 slice-aggregate-join : tie.Need-slice-aggregate-join
 slice-aggregate-join c = search needs
@@ -43,8 +46,11 @@ refuse-requires : tie.Need-refuse-requires
 refuse-requires c κs = search needs
 
 -- The run and the rows that were handed in; joining says of the run what judging says.
+abbrev lifting : tie.After-join → tie.After-lift-head
+lifting j = j .before .before .before .before .before
+
 abbrev start : tie.After-join → tie.Start
-start j = j .before .before .before .before .before .before .before .before .before .before .before .before .before .before .before
+start j = lifting j .before .before .before .before .before .before .before .before .before .before .before
 
 abbrev run : tie.After-join → Run
 run j = let a = start j .args in runOf (a .starts .now) (a .lengths .now) (a .aggregates .now) (a .numbers .now) (a .counts .now) (a .head) (a .turn)
@@ -52,8 +58,18 @@ run j = let a = start j .args in runOf (a .starts .now) (a .lengths .now) (a .ag
 abbrev rows : tie.After-join → Rows
 rows j = let a = start j .args in rowsOf (a .froms .now) (a .tos .now) (a .times .now) (a .legs .now) (a .room .now)
 
-judged : (j : tie.After-join) → j .join .result .verdict ≡ judgeOf (run j)
-judged j = join-verdict (run j) (j .join .result) _ (j .join .ensures .0) (j .join .ensures .1)
+abbrev after : tie.After-join → JoinRows
+after j = let l = j .join .last .1 .1 .1 .1 .1 .1 .1 in joinRows (l .0) (l .1 .0) (l .1 .1 .0) (l .1 .1 .1 .0)
+
+-- It was joined with the head at the end of the tape.
+answers : (j : tie.After-join) → j .join .result ≡ joinAnswer (lifted (run j)) (freshRows 64)
+answers j = rw (lifting j .lift-head .ensures) at (j .join .ensures .0)
+
+fills : (j : tie.After-join) → after j ≡ joinRowsOf (lifted (run j)) (freshRows 64)
+fills j = rw (lifting j .lift-head .ensures) at (j .join .ensures .1)
+
+judged : (j : tie.After-join) → j .join .result .verdict ≡ judgeAnyOf (run j)
+judged j = join-verdict (run j) (j .join .result) (after j) (answers j) (fills j)
 
 abbrev joining : tie.After-refused → tie.After-join
 joining f = f .before .before .before .before .before .before
@@ -68,7 +84,7 @@ returns c =
 abbrev joined : tie.Else1 → tie.After-join
 joined e = joining (e .before)
 
-passed : (e : tie.Else1) → refuses (judgeOf (run (joined e))) ≡ false
+passed : (e : tie.Else1) → refuses (judgeAnyOf (run (joined e))) ≡ false
 passed e = let j = joined e in run-accepted (run j) (rows j) _ _ (judged j) (e .before .refused .ensures) (e .if1 .left)
 
 refuse-requires-2 : tie.Need-refuse-requires-2
@@ -93,14 +109,11 @@ returns-3 c =
 abbrev first : tie.Else3 → tie.Else1
 first d = d .before .before
 
-abbrev after : tie.After-join → JoinRows
-after j = let l = j .join .last .1 .1 .1 .1 .1 .1 .1 in joinRows (l .0) (l .1 .0) (l .1 .1 .0) (l .1 .1 .1 .0)
-
 long : (d : tie.Else3) → Front (joined (first d) .join .result .stops) (after (joined (first d))) (stopsOf (run (joined (first d))))
-long d = let j = joined (first d) in join-front (run j) (j .join .result) (after j) (j .join .ensures .0) (j .join .ensures .1) (passed (first d))
+long d = let j = joined (first d) in join-front (run j) (j .join .result) (after j) (answers j) (fills j) (passed (first d))
 
 holds : (d : tie.Else3) → let j = joined (first d) in let k = j .join .result .stops in RunInRows (run j) (take k (after j .firsts)) (take k (after j .lefts)) (take k (after j .spans)) (take k (after j .reads)) (run j .head) (run j .turn)
-holds d = let j = joined (first d) in join-holds (run j) (j .join .result) (after j) (j .join .ensures .0) (j .join .ensures .1) (passed (first d))
+holds d = let j = joined (first d) in join-holds (run j) (j .join .result) (after j) (answers j) (fills j) (passed (first d))
 
 array-share-prefix-firsts : tie.Need-array-share-prefix-firsts
 array-share-prefix-firsts c = long c .firsts .0
@@ -186,20 +199,20 @@ in-rows x =
       in-tos (run j) (rows j) (passed (first d)) (d .before .if2 .left) (d .if3 .left) l _ _ _ (is-named x),
     )
 
-slice-reshare-prefix-price : tie.Need-slice-reshare-prefix-price
-slice-reshare-prefix-price c = omega (arith, in-rows c .0, in-rows c .1)
+slice-reshare-prefix-price-any : tie.Need-slice-reshare-prefix-price-any
+slice-reshare-prefix-price-any c = omega (arith, in-rows c .0, in-rows c .1)
 
-slice-aggregate-price : tie.Need-slice-aggregate-price
-slice-aggregate-price c = sym (length-take-le _ _ (slice-reshare-prefix-price (c .before)))
+slice-aggregate-price-any : tie.Need-slice-aggregate-price-any
+slice-aggregate-price-any c = sym (length-take-le _ _ (slice-reshare-prefix-price-any (c .before)))
 
-slice-reshare-prefix-price-2 : tie.Need-slice-reshare-prefix-price-2
-slice-reshare-prefix-price-2 c = omega (arith, in-rows (c .before) .0, in-rows (c .before) .1)
+slice-reshare-prefix-price-any-2 : tie.Need-slice-reshare-prefix-price-any-2
+slice-reshare-prefix-price-any-2 c = omega (arith, in-rows (c .before) .0, in-rows (c .before) .1)
 
-slice-aggregate-price-2 : tie.Need-slice-aggregate-price-2
-slice-aggregate-price-2 c = sym (length-take-le _ _ (slice-reshare-prefix-price-2 (c .before)))
+slice-aggregate-price-any-2 : tie.Need-slice-aggregate-price-any-2
+slice-aggregate-price-any-2 c = sym (length-take-le _ _ (slice-reshare-prefix-price-any-2 (c .before)))
 
-price-requires : tie.Need-price-requires
-price-requires c κs = search needs
+price-any-requires : tie.Need-price-any-requires
+price-any-requires c κs = search needs
 
 same-length-4 : tie.Need-same-length-4
 same-length-4 c = search needs
@@ -225,12 +238,13 @@ returns-5 c =
     let e = first d in
     let j = joined e in
     run-planned (run j) (rows j) _ _ (judged j) (e .before .refused .ensures) (e .if1 .left) (d .before .if2 .left) (d .if3 .left) _ _ (named m) _ (x .before .refused2 .ensures) (x .if4 .left) _ _
-    (planned-so (run j) (rows j) (passed e) (d .before .if2 .left) (d .if3 .left) (m .list-named .result) _ _ _ (is-named x) _ _ _ (p .price .ensures .0) (p .price .ensures .1))
+    (planned-so (run j) (rows j) (passed e) (d .before .if2 .left) (d .if3 .left) (m .list-named .result) _ _ _ (is-named x) _ _ _ (p .price-any .ensures .0) (p .price-any .ensures .1))
 
-pub plan-spec : {M : Type 1} → statement M
-plan-spec =
+pub plan-any-spec : {M : Type 1} → statement M
+plan-any-spec =
     tie.close
     (tie.spec
+    lift-head-requires
     slice-aggregate-join
     slice-aggregate-join-2
     slice-aggregate-join-3
@@ -258,11 +272,11 @@ plan-spec =
     same-length-2
     same-length-3
     returns-4
-    slice-reshare-prefix-price
-    slice-aggregate-price
-    slice-reshare-prefix-price-2
-    slice-aggregate-price-2
-    price-requires
+    slice-reshare-prefix-price-any
+    slice-aggregate-price-any
+    slice-reshare-prefix-price-any-2
+    slice-aggregate-price-any-2
+    price-any-requires
     same-length-4
     same-length-5
     same-length-6
