@@ -277,7 +277,35 @@ uint64_t violstream_plan(const uint64_t *starts, size_t starts_len,
                          uint64_t *room, size_t room_len);
 
 /*
- * The same two calls with their parameters by name. They only call the functions above. A length that several rows share
+ * The two calls for a head anywhere. Parameters, rows and results are those of the calls above; the planner's takes no rule.
+ */
+uint64_t violstream_price_any(const uint64_t *starts, size_t starts_len,
+                              const uint64_t *lengths, size_t lengths_len,
+                              const uint64_t *aggregates, size_t aggregates_len,
+                              const uint64_t *numbers, size_t numbers_len,
+                              const uint64_t *counts, size_t counts_len,
+                              uint64_t head, uint64_t turn,
+                              const uint64_t *detour_starts, size_t detour_starts_len,
+                              const uint64_t *detour_ends, size_t detour_ends_len,
+                              uint64_t *times, size_t times_len,
+                              uint64_t *legs, size_t legs_len,
+                              uint64_t *sums, size_t sums_len);
+
+uint64_t violstream_plan_any(const uint64_t *starts, size_t starts_len,
+                             const uint64_t *lengths, size_t lengths_len,
+                             const uint64_t *aggregates, size_t aggregates_len,
+                             const uint64_t *numbers, size_t numbers_len,
+                             const uint64_t *counts, size_t counts_len,
+                             uint64_t head, uint64_t turn,
+                             uint64_t *detour_starts, size_t detour_starts_len,
+                             uint64_t *detour_ends, size_t detour_ends_len,
+                             uint64_t *times, size_t times_len,
+                             uint64_t *legs, size_t legs_len,
+                             uint64_t *sums, size_t sums_len,
+                             uint64_t *room, size_t room_len);
+
+/*
+ * The two calls of before with their parameters by name. They only call the functions above. A length that several rows share
  * stands once in the struct. Set every member that a call takes, but for `sums`, which is filled by the call. Where no file
  * lies in an aggregate, `aggregates` is a row of zeros, as long as the others.
  */

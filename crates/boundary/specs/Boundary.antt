@@ -13,9 +13,12 @@ use Rattle.refusals.specs.Refusals.{numberOf, isRefusal, refuseIf, firstOf}
 use Rattle.runs.specs.Run.{Run, stopsOf}
 use Rattle.runs.specs.Judging.{judgeOf}
 use Rattle.runs.specs.Lists.{listOf}
+use Rattle.runs.specs.AnyHead.{judgeAnyOf}
 use Rattle.walk.specs.Price.{readRowsWith, priceVerdict, pricedAnswer}
+use Rattle.walk.specs.AnyHead.{readAnyRowsWith, priceAnyVerdict, pricedAnyAnswer}
 use Rattle.walk.specs.Rows.{ReadRows}
 use Rattle.planner.specs.Plan.{shortRows, roomFor, Planned}
+use Rattle.planner.specs.AnyHead.{PlannedAny}
 use Rattle.planner.specs.Rows.{Rows}
 
 -- What a verdict gives back.
@@ -79,3 +82,39 @@ pub record CallPlanned (r : Run) (before : Rows) (sums : List ℕ) (code : ℕ) 
 pub record PlanCalled (r : Run) (rule : ℕ) (before : Rows) (sums : List ℕ) (code : ℕ) (after : Rows) (out : List ℕ) : Type 0 where
   pub refused : isRefusal ((planCall r rule before sums) .refusal) ≡ true → CallRefused (planCall r rule before sums) before sums code after out
   pub planned : isRefusal ((planCall r rule before sums) .refusal) ≡ false → CallPlanned r before sums code after out
+
+-- The same calls for a head anywhere. The pricer's: its own refusals, then 8 for the row of sums.
+unfoldable pub priceAnyCall : Run → List ℕ → List ℕ → ReadRows → List ℕ → Verdict
+priceAnyCall r froms tos rows sums = firstOf (priceAnyVerdict r froms tos rows ∷ refuseIf (shortSums sums) ShortRow ∷ [])
+
+unfoldable pub priceAnyReads : Run → List ℕ → List ℕ → ReadRows → List ℕ → ReadRows
+priceAnyReads r froms tos rows sums =
+    cond (isRefusal ((priceAnyCall r froms tos rows sums) .refusal)) rows (readAnyRowsWith r (listOf froms tos) rows)
+
+unfoldable pub priceAnySums : Run → List ℕ → List ℕ → ReadRows → List ℕ → List ℕ
+priceAnySums r froms tos rows sums =
+    cond (isRefusal ((priceAnyCall r froms tos rows sums) .refusal)) sums (sumsWith (pricedAnyAnswer r (listOf froms tos)) sums)
+
+pub record PriceAnyCalled (r : Run) (froms tos : List ℕ) (rows : ReadRows) (sums : List ℕ) (code : ℕ) (rowsOut : ReadRows) (sumsOut : List ℕ) : Type 0 where
+  pub says : code ≡ codeOf (priceAnyCall r froms tos rows sums)
+  pub readsAre : rowsOut ≡ priceAnyReads r froms tos rows sums
+  pub sumsAre : sumsOut ≡ priceAnySums r froms tos rows sums
+
+-- The planner's takes no rule: 1 to 7, then 8 for any row, then 9.
+unfoldable pub planAnyCall : Run → Rows → List ℕ → Verdict
+planAnyCall r rows sums =
+    firstOf
+    (judgeAnyOf r
+    ∷ refuseIf (shortRows (length (r .numbers)) (length (stopsOf r)) rows || shortSums sums) ShortRow
+    ∷ refuseIf (ltb (length (rows .room)) (roomFor r)) ShortRoom
+    ∷ [])
+
+pub record CallAnyPlanned (r : Run) (before : Rows) (sums : List ℕ) (code : ℕ) (after : Rows) (out : List ℕ) : Type 0 where
+  pub says : code ≡ 0
+  pub answer : Answer
+  pub planned : PlannedAny r before answer after
+  pub sumsAre : out ≡ sumsWith answer sums
+
+pub record PlanAnyCalled (r : Run) (before : Rows) (sums : List ℕ) (code : ℕ) (after : Rows) (out : List ℕ) : Type 0 where
+  pub refused : isRefusal ((planAnyCall r before sums) .refusal) ≡ true → CallRefused (planAnyCall r before sums) before sums code after out
+  pub planned : isRefusal ((planAnyCall r before sums) .refusal) ≡ false → CallAnyPlanned r before sums code after out

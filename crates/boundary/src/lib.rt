@@ -1,4 +1,4 @@
-// boundary: the pricer and the planner for programs in C. Thin: judged and done by the crates below.
+// boundary: the pricer and the planner for programs in C, 01's and those for a head anywhere. Thin: judged and done by the crates below.
 // include/violstream.h tells a C programmer the same in words; parameter order and meaning are fixed there.
 ghost use mathlib.Core.Path.{_≡_};
 ghost use mathlib.Core.List.{List};
@@ -9,7 +9,7 @@ ghost use Rattle.runs.specs.Rows.{runAt};
 ghost use Rattle.runs.specs.Judging.{judgeOf};
 ghost use Rattle.walk.specs.Rows.{ReadRows, readRowsBefore, readRowsAfter};
 ghost use Rattle.planner.specs.Rows.{rowsBefore, rowsAfter};
-ghost use Rattle.boundary.specs.Boundary.{codeOf, sumsWith, priceCall, PriceCalled, PlanCalled};
+ghost use Rattle.boundary.specs.Boundary.{codeOf, sumsWith, priceCall, PriceCalled, PlanCalled, priceAnyCall, PriceAnyCalled, PlanAnyCalled};
 ghost use Rattle.boundary.specs.Private.{codeUnless};
 use walk::Answer;
 
@@ -188,4 +188,135 @@ pub extern "C" fn violstream_plan(
     }
     fill_sums(a, sums);
     plan
+}
+
+// The same for a head anywhere.
+fn short_price_any(
+    starts: &[u64],
+    lengths: &[u64],
+    aggregates: &[u64],
+    numbers: &[u64],
+    counts: &[u64],
+    head: u64,
+    turn: u64,
+    froms: &[u64],
+    tos: &[u64],
+) -> u64
+    ensures { λ r. ⌜ ((rows : ReadRows) (sums : List ℕ) → length sums < 4 → r ≡ codeOf (priceAnyCall (runAt starts lengths aggregates numbers counts head turn) (now (froms .entry)) (now (tos .entry)) rows sums)) ⌝ }
+{
+    let mut no_times = [0u64; 0];
+    let mut no_legs = [0u64; 0];
+    let a = walk::price_any(
+        starts,
+        lengths,
+        aggregates,
+        numbers,
+        counts,
+        head,
+        turn,
+        froms,
+        tos,
+        &mut no_times,
+        &mut no_legs,
+    );
+    let found = code(a);
+    if found == 0 {
+        return 8;
+    }
+    found
+}
+
+#[no_mangle]
+pub extern "C" fn violstream_price_any(
+    starts: &[u64],
+    lengths: &[u64],
+    aggregates: &[u64],
+    numbers: &[u64],
+    counts: &[u64],
+    head: u64,
+    turn: u64,
+    detour_starts: &[u64],
+    detour_ends: &[u64],
+    times: &mut [u64],
+    legs: &mut [u64],
+    sums: &mut [u64],
+) -> u64
+    ensures { λ r. ⌜ PriceAnyCalled (runAt starts lengths aggregates numbers counts head turn) (now («detour_starts» .entry)) (now («detour_ends» .entry)) (readRowsBefore times legs) (now (sums .entry)) r (readRowsAfter times legs) (now (sums .exit)) ⌝ }
+{
+    if sums.len() < 4 {
+        return short_price_any(
+            starts,
+            lengths,
+            aggregates,
+            numbers,
+            counts,
+            head,
+            turn,
+            detour_starts,
+            detour_ends,
+        );
+    }
+    let a = walk::price_any(
+        starts,
+        lengths,
+        aggregates,
+        numbers,
+        counts,
+        head,
+        turn,
+        detour_starts,
+        detour_ends,
+        times,
+        legs,
+    );
+    let priced = code(a);
+    if priced != 0 {
+        return priced;
+    }
+    fill_sums(a, sums);
+    priced
+}
+
+#[no_mangle]
+pub extern "C" fn violstream_plan_any(
+    starts: &[u64],
+    lengths: &[u64],
+    aggregates: &[u64],
+    numbers: &[u64],
+    counts: &[u64],
+    head: u64,
+    turn: u64,
+    detour_starts: &mut [u64],
+    detour_ends: &mut [u64],
+    times: &mut [u64],
+    legs: &mut [u64],
+    sums: &mut [u64],
+    room: &mut [u64],
+) -> u64
+    ensures { λ r. ⌜ PlanAnyCalled (runAt starts lengths aggregates numbers counts head turn) (rowsBefore «detour_starts» «detour_ends» times legs room) (now (sums .entry)) r (rowsAfter «detour_starts» «detour_ends» times legs room) (now (sums .exit)) ⌝ }
+{
+    if sums.len() < 4 {
+        let lifted = runs::lift_head(head);
+        return refused_code(starts, lengths, aggregates, numbers, counts, lifted, turn, 8);
+    }
+    let a = planner::plan_any(
+        starts,
+        lengths,
+        aggregates,
+        numbers,
+        counts,
+        head,
+        turn,
+        detour_starts,
+        detour_ends,
+        times,
+        legs,
+        room,
+    );
+    let planned = code(a);
+    if planned != 0 {
+        return planned;
+    }
+    fill_sums(a, sums);
+    planned
 }
