@@ -2,6 +2,9 @@
 
 A table has a start, a length and the number of an aggregate for each file, 0 for none. The files of one aggregate are read together: a want
 of any of them is a want of all, from the first start to the last end, and lists name them by the first.
+
+Walk and search go by any place of the head: a leg from a start that lies right of the head's first place turns at that place, and no
+detour starts right of the head's own stop, the first that starts at or right of the head. Right of everything wanted neither occurs.
 """
 
 
@@ -31,8 +34,8 @@ def stops(table, asked):
     return sorted(counts.items())
 
 
-def judge(head, turn, table, asked, most=64):
-    """Raises the first refusal of 2, 24 where the wants are over so many, 4, 5, 6 and 7."""
+def judge(head, turn, table, asked, most=64, anywhere=False):
+    """Raises the first refusal of 2, 24 where the wants are over so many, 4, 5, 6 and 7, which where the head may stand anywhere is the limit alone."""
     before = 0
     for i, (start, length, aggregate) in enumerate(table):
         again = aggregate != 0 and any(entry[2] == aggregate for entry in table[:i]) and table[i - 1][2] != aggregate
@@ -50,7 +53,7 @@ def judge(head, turn, table, asked, most=64):
         raise Refused(5)
     if turn > 2**32:
         raise Refused(6)
-    if head > 2**40 or (asked and head < extent(table, asked[-1][0])[1]):
+    if head > 2**40 or (asked and not anywhere and head < extent(table, asked[-1][0])[1]):
         raise Refused(7)
 
 
@@ -61,7 +64,7 @@ def walk(head, turn, table, asked, detours):
     if asked:
         unread = [first for first, _ in stops(table, asked) if not any(a <= first <= b for a, b in detours)]
         legs.append((extent(table, asked[0][0])[0], extent(table, unread[-1])[1]))
-    for i, (left, right) in enumerate(legs):
+    for i, (left, right) in enumerate((min(start, head), end) for start, end in legs):
         clock += (turn if i else 0) + (place - left) + turn
         for number, _ in asked:
             start, end = extent(table, number)
@@ -98,4 +101,5 @@ def total(head, turn, table, asked, detours):
 def least(head, turn, table, asked):
     """The least rule's list, by a search over all."""
     files = [first for first, _ in stops(table, asked)]
-    return min(lists(files), key=lambda d: (total(head, turn, table, asked, d), order(files, d)))
+    own = min((file for file in files if head <= extent(table, file)[0]), default=len(table))
+    return min((d for d in lists(files) if all(a <= own for a, _ in d)), key=lambda d: (total(head, turn, table, asked, d), order(files, d)))
