@@ -5,10 +5,10 @@
  * head at or right of everything wanted. violstream_price_any and violstream_plan_any are the same two for a head anywhere:
  * a tape just mounted, or a second run from where the first ended. Where the first two accept, they give the same.
  *
- * All work on 64-bit numbers and on rows that the caller lends. They allocate nothing and keep nothing between calls, so several
- * threads can call at once, each with rows of its own. Whatever the run, violstream_price takes at most 1,024 bytes of
- * stack beside its arguments and violstream_plan at most 6,144; a plan at the limits takes a few milliseconds, at most some
- * tens. C99 or later, or C++. Link with libviolstream.a (x86-64), which needs the C library and nothing else:
+ * All work on 64-bit numbers and on rows that the caller lends. They allocate nothing and keep nothing between calls, so
+ * several threads can call at once, each with rows of its own. Whatever the run, a price takes at most 1,024 bytes of stack
+ * beside its arguments and a plan at most 6,144; a plan at the limits takes a few milliseconds, at most some tens. C99 or
+ * later, or C++. Link with libviolstream.a (x86-64), which needs the C library and nothing else:
  *
  *   cc example.c $(pkg-config --cflags --libs violstream)
  *
