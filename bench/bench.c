@@ -370,6 +370,57 @@ static void print_worst_order(struct request *q)
            plan_best);
 }
 
+/* ---- A head anywhere ---- */
+
+static uint64_t by_anywhere(const struct request *q)
+{
+    const struct stops *p = &q->stops;
+    uint64_t result = violstream_plan_any(q->starts, q->files, q->lengths, q->files, q->aggregates, q->files, q->numbers,
+                                          q->wants, q->counts, q->wants, p->head, p->turn, from, VIOLSTREAM_MAX_WANTS, to,
+                                          VIOLSTREAM_MAX_WANTS, times, VIOLSTREAM_MAX_WANTS, legs, VIOLSTREAM_MAX_WANTS, sums,
+                                          VIOLSTREAM_SUMS, room, VIOLSTREAM_ROOM_MOST);
+    if (result != 0)
+        fail(violstream_reason(result), p->k, p->reads);
+    return sums[VIOLSTREAM_SUM];
+}
+
+/* The planner for any head beside the other, the head right of everything; then with the head amid the stops, and at 0. All in
+ * turn, the best time of each. */
+static void print_anywhere(struct request *q, const char *where)
+{
+    enum { PLAN, RIGHT, AMID, LEFT, CALLS, TURNS = 60 };
+    const uint64_t right = q->stops.head, places[CALLS] = {right, right, q->stops.start[q->stops.k / 2], 0};
+    double best[CALLS];
+    for (int turn = 0; turn < (quick ? 1 : TURNS); turn++) {
+        uint64_t sum[CALLS];
+        for (int c = 0; c < CALLS; c++) {
+            q->stops.head = places[c];
+            double began = milliseconds();
+            sum[c] = c == PLAN ? by_boundary(q) : by_anywhere(q);
+            double taken = milliseconds() - began;
+            best[c] = turn == 0 || taken < best[c] ? taken : best[c];
+        }
+        if (sum[RIGHT] != sum[PLAN])
+            fail("the sums of the two planners differ", q->stops.k, q->stops.reads);
+    }
+    q->stops.head = right;
+    printf("a head anywhere, 64 wants, 1,024 reads, most at %s: plan %.2f ms, plan_any %.2f ms (%.2f times, bar: 1.1), head amid %.2f ms, "
+           "head at 0 %.2f ms\n", where, best[PLAN], best[RIGHT], best[RIGHT] / best[PLAN], best[AMID], best[LEFT]);
+    fflush(stdout);
+}
+
+static void print_anywheres(struct request *q)
+{
+    make_request(q, 64, 1024, 128);
+    print_anywhere(q, "no file");
+    crowd(q, 0);
+    print_anywhere(q, "leftmost");
+    crowd(q, q->wants - 1);
+    print_anywhere(q, "rightmost");
+    make_halving(q);
+    print_anywhere(q, "rightmost, halving");
+}
+
 /* ---- Small plans ---- */
 
 static void print_small(size_t k, uint64_t reads)
@@ -449,6 +500,7 @@ int main(int argc, char **argv)
     printf("\n");
     print_prices(&request);
     print_worst_order(&request);
+    print_anywheres(&request);
     print_small(4, 8);
     print_small(10, 50);
     print_stack(&request);

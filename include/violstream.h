@@ -1,11 +1,14 @@
 /*
  * violstream.h - plan and price the recall of files from tape
  *
- * Two calls. violstream_price says what a list of detours costs; violstream_plan finds the best list. Both work on
- * 64-bit numbers and on rows that the caller lends. They allocate nothing and keep nothing between calls, so several
- * threads can call at once, each with rows of its own. Whatever the run, violstream_price takes at most 1,024 bytes of
- * stack beside its arguments and violstream_plan at most 6,144; a plan at the limits takes a few milliseconds, at most some
- * tens. C99 or later, or C++. Link with libviolstream.a (x86-64), which needs the C library and nothing else:
+ * Four calls. violstream_price says what a list of detours costs; violstream_plan finds the best list. Both ask for a
+ * head at or right of everything wanted. violstream_price_any and violstream_plan_any are the same two for a head anywhere:
+ * a tape just mounted, or a second run from where the first ended. Where the first two accept, they give the same.
+ *
+ * All work on 64-bit numbers and on rows that the caller lends. They allocate nothing and keep nothing between calls, so
+ * several threads can call at once, each with rows of its own. Whatever the run, a price takes at most 1,024 bytes of stack
+ * beside its arguments and a plan at most 6,144; a plan at the limits takes a few milliseconds, at most some tens. C99 or
+ * later, or C++. Link with libviolstream.a (x86-64), which needs the C library and nothing else:
  *
  *   cc example.c $(pkg-config --cflags --libs violstream)
  *
@@ -26,7 +29,8 @@
  *   aggregate, or a file that lies in none. Wants of files of one aggregate are one stop, and their reads add up; its
  *   name is the number of the aggregate's first file, wanted or not. With 0 everywhere in `aggregates` each want is a
  *   stop by itself.
- *   The head starts at `head`, at or right of the end of the rightmost stop, set to move left, at clock 0.
+ *   The head starts at `head`, at or right of the end of the rightmost stop, set to move left, at clock 0. For
+ *   violstream_price_any and violstream_plan_any `head` is any place up to 2^40.
  *   Each turn of the head costs `turn`, the first one too. A stop is read by the first rightward run that
  *   starts at or left of its start and ends at or right of its end; its time is the clock when the head reaches
  *   its end in that run. Every want of the stop, and each of its reads, has that time. The sum of a run is the total,
@@ -43,6 +47,9 @@
  *   the leftmost stop, then right to the end of the rightmost stop that no detour has read, where the
  *   run finishes: the last thing that happens is a read. Without wants there is no sweep, only the empty list is
  *   well formed, and the head stays where it is.
+ *   Where the head may stand anywhere, two things more. The head's own stop is the first that starts at or right of
+ *   `head`: a list is well formed only if no detour starts right of it. And where the start of a detour's first stop, or
+ *   for the last sweep of the leftmost stop, lies right of `head`, the leg turns at `head` and goes right at once.
  *   Legs are counted from 1: detour i of the list is leg i, and the last sweep is the last leg, leg 1 if the list is
  *   empty. A want's leg is the one whose rightward run reads its stop.
  *   Of two lists with the same sum, look at the rightmost stop at which they differ in whether a detour ends
@@ -181,11 +188,13 @@ enum violstream_refusal {
     VIOLSTREAM_TOO_MANY_READS = 5, /* over 1,024 reads; place 0 */
     VIOLSTREAM_TURN_PRICE = 6,     /* turn price above 2^32; place 0 */
     VIOLSTREAM_HEAD_PLACE = 7,     /* head above 2^40, or left of the end of the rightmost stop, which is a whole
-                                      aggregate where the last want is of a file in one; place 0 */
+                                      aggregate where the last want is of a file in one; where the head may stand
+                                      anywhere, only above 2^40; place 0 */
     VIOLSTREAM_BAD_RULE = 14,      /* violstream_plan: rule other than VIOLSTREAM_LEAST; place 0 */
     VIOLSTREAM_BAD_ENTRY = 10,     /* violstream_price: list not well formed; place: the first entry that breaks a rule
                                       by itself or against an earlier one, 0 if starts and ends differ in number. An
-                                      entry that names a file of an aggregate other than the first breaks one */
+                                      entry that names a file of an aggregate other than the first breaks one; of
+                                      violstream_price_any also one that starts right of the head's own stop */
     VIOLSTREAM_SHORT_ROW = 8,      /* times or legs shorter than the wants, or sums below 4 words; violstream_plan: also
                                       a row for starts or ends of detours shorter than the stops less one (0 for
                                       none); place 0 */

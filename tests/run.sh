@@ -255,6 +255,8 @@ run bench
 run c/rules
 run c/compare ${calls:+--calls "$calls"} --sheets "$out/c.sheets"
 run rust/compare ${calls:+--calls "$calls"} --sheets "$out/rust.sheets"
+run rust/any_head ${calls:+--calls "$calls"}
+run rust/movements
 run python/plan
 run python/field
 [ -n "$only" ] || run python/field --sheets "$out/c.sheets" --sheets "$out/rust.sheets"

@@ -1,11 +1,11 @@
-/* How much of the stack violstream_price and violstream_plan take, with all that they call: at the limits, for the empty list,
- * for the longest and the deepest list, and for every refusal. Fails where a call takes more bytes than violstream.h says, or
+/* How much of the stack violstream_price and violstream_plan take, and the same two for a head anywhere, with all that they
+ * call: at the limits, for the empty list, for the longest and the deepest list, and for every refusal. Fails where a call takes more bytes than violstream.h says, or
  * does not give the result that its case is there for.
  *
  * A figure is what a call writes on a stack painted before (bench/stack.c), less what the same call writes if it reaches a
  * function that does nothing. So it holds the return address, which is added again, and every word below it. It does not
  * hold the caller's frame, to which the arguments beyond the sixth belong (x86-64: sixteen words for violstream_price,
- * nineteen for violstream_plan).
+ * nineteen for violstream_plan, eighteen for violstream_plan_any).
  *
  * make -C tests/c stack               (Makefile beside this file says against what)
  * target/tests/stack [PRICE [PLAN]]   the bytes allowed (default 1,024 and 6,144); exit status: 0 none above, 1 some, or a wrong result */
@@ -50,6 +50,8 @@ static uint64_t *room;
 /* Read at each call, so that both callees are reached by the same instructions, from the same frame. */
 static __typeof__(&violstream_price) volatile price;
 static __typeof__(&violstream_plan) volatile plan;
+static __typeof__(&violstream_plan_any) volatile plan_any;
+static bool anywhere;                   /* the calls for a head anywhere; both pricers have the same parameters */
 
 static void call_price(void)
 {
@@ -63,7 +65,13 @@ static void call_plan(void)
                        call.rule, LEND(from), LEND(to), LEND(times), LEND(legs), LEND(sums), room, call.room_len);
 }
 
-/* In the place of either function. It looks at no argument, the caller clears them away; compiled with -O2 it writes no word. */
+static void call_plan_any(void)
+{
+    call.result = plan_any(LEND(starts), LEND(lengths), LEND(aggregates), LEND(numbers), LEND(counts), call.head, call.turn,
+                           LEND(from), LEND(to), LEND(times), LEND(legs), LEND(sums), room, call.room_len);
+}
+
+/* In the place of any function. It looks at no argument, the caller clears them away; compiled with -O2 it writes no word. */
 static uint64_t nothing(void)
 {
     return 0;
@@ -86,7 +94,7 @@ static size_t price_bytes(void)
 {
     price = (__typeof__(price))(void (*)(void))nothing;
     size_t idle = stack_bytes(call_price);
-    price = violstream_price;
+    price = anywhere ? violstream_price_any : violstream_price;
     return taken(stack_bytes(call_price), idle);
 }
 
@@ -96,6 +104,14 @@ static size_t plan_bytes(void)
     size_t idle = stack_bytes(call_plan);
     plan = violstream_plan;
     return taken(stack_bytes(call_plan), idle);
+}
+
+static size_t plan_any_bytes(void)
+{
+    plan_any = (__typeof__(plan_any))(void (*)(void))nothing;
+    size_t idle = stack_bytes(call_plan_any);
+    plan_any = violstream_plan_any;
+    return taken(stack_bytes(call_plan_any), idle);
 }
 
 /* ---- Cases ---- */
@@ -182,6 +198,13 @@ static void all_in_one(void)
         call.numbers[i] = FILES - WANTS + 1 + i;
 }
 
+/* The head at the start of the wanted file with that many others left of it, which is its own stop. */
+static void head_at(size_t want) { call.head = call.starts[call.numbers[want] - 1]; }
+
+static void head_at_zero(void) { call.head = 0; }
+static void head_amid(void) { nested(); head_at(WANTS / 2); }
+static void head_inside(void) { in_aggregates(); call.head--; }
+static void first_beyond_head(void) { nested(); head_at(WANTS / 2 - 1); }
 static void file_over(void) { call.starts_len = call.lengths_len = call.aggregates_len = FILES + 1; }
 static void lengths_short(void) { call.lengths_len--; }
 static void aggregates_short(void) { call.aggregates_len--; }
@@ -219,45 +242,50 @@ static const struct {
     const char *what;
     void (*change)(void);
     uint64_t result;
+    enum { EITHER, RIGHT, ANYWHERE } head; /* for which calls: those with the head right of everything, anywhere, or both */
 } cases[] = {
-    {"no detours", at_the_limits, 0},
-    {"63 detours apart", apart, 0},
-    {"32 detours nested", nested, 0},
-    {"4,096 aggregates of one file", each_its_own, 0},
-    {"64 aggregates of 64 files, a detour for each", in_aggregates, 0},
-    {"all files in one aggregate, 64 of them wanted", all_in_one, 0},
-    {"no wants", no_wants, 0},
-    {"no files", no_files, 0},
-    {"1: 4,097 files", file_over, VIOLSTREAM_FILE_ROWS},
-    {"1: a length too few", lengths_short, VIOLSTREAM_FILE_ROWS},
-    {"1: an aggregate number too few", aggregates_short, VIOLSTREAM_FILE_ROWS},
-    {"2: the last aggregate number is too high", number_over, AT(VIOLSTREAM_BAD_FILE, FILES)},
-    {"2: the last aggregate number is that of the first file", number_returns, AT(VIOLSTREAM_BAD_FILE, FILES)},
-    {"2: the last file is empty", file_empty, AT(VIOLSTREAM_BAD_FILE, FILES)},
-    {"2: the last file starts too early", file_early, AT(VIOLSTREAM_BAD_FILE, FILES)},
-    {"2: the last file ends past the tape", file_far, AT(VIOLSTREAM_BAD_FILE, FILES)},
-    {"2: the last file starts past the tape", file_past, AT(VIOLSTREAM_BAD_FILE, FILES)},
-    {"3: 65 wants", want_over, VIOLSTREAM_WANT_ROWS},
-    {"3: a count too few", counts_short, VIOLSTREAM_WANT_ROWS},
-    {"4: the last want is not in the table", want_unknown, AT(VIOLSTREAM_BAD_WANT, WANTS)},
-    {"4: the last want stands there twice", want_twice, AT(VIOLSTREAM_BAD_WANT, WANTS)},
-    {"4: the last count is 0", count_zero, AT(VIOLSTREAM_BAD_WANT, WANTS)},
-    {"5: 1,025 reads", reads_over, VIOLSTREAM_TOO_MANY_READS},
-    {"6: a turn price over the limit", turn_over, VIOLSTREAM_TURN_PRICE},
-    {"7: the head past the tape", head_over, VIOLSTREAM_HEAD_PLACE},
-    {"7: the head left of the last end", head_left, VIOLSTREAM_HEAD_PLACE},
-    {"7: the head left of the last aggregate's end", head_in_aggregate, VIOLSTREAM_HEAD_PLACE},
-    {"10: an end too few", ends_short, VIOLSTREAM_BAD_ENTRY},
-    {"10: the last entry starts at an unwanted file", last_unwanted, AT(VIOLSTREAM_BAD_ENTRY, WANTS - 1)},
-    {"10: the last entry ends left of its start", last_backwards, AT(VIOLSTREAM_BAD_ENTRY, WANTS - 1)},
-    {"10: the last entry starts at the leftmost want", last_leftmost, AT(VIOLSTREAM_BAD_ENTRY, WANTS - 1)},
-    {"10: the last entry starts at the second file of an aggregate", last_later_member, AT(VIOLSTREAM_BAD_ENTRY, WANTS - 1)},
-    {"10: the last start does not fall", last_not_falling, AT(VIOLSTREAM_BAD_ENTRY, WANTS - 1)},
-    {"10: the last entry ends where one inside it does", last_again, AT(VIOLSTREAM_BAD_ENTRY, WANTS / 2)},
-    {"8: a time too few", times_short, VIOLSTREAM_SHORT_ROW},
-    {"8: a leg too few", legs_short, VIOLSTREAM_SHORT_ROW},
-    {"14: a rule that is none", rule_zero, VIOLSTREAM_BAD_RULE},
-    {"9: a word of room too few", room_short, VIOLSTREAM_SHORT_ROOM},
+    {"no detours", at_the_limits, 0, EITHER},
+    {"63 detours apart", apart, 0, EITHER},
+    {"32 detours nested", nested, 0, EITHER},
+    {"4,096 aggregates of one file", each_its_own, 0, EITHER},
+    {"64 aggregates of 64 files, a detour for each", in_aggregates, 0, EITHER},
+    {"all files in one aggregate, 64 of them wanted", all_in_one, 0, EITHER},
+    {"no wants", no_wants, 0, EITHER},
+    {"no files", no_files, 0, EITHER},
+    {"the head at 0", head_at_zero, 0, ANYWHERE},
+    {"32 detours nested, the head amid them", head_amid, 0, ANYWHERE},
+    {"the head inside the last aggregate, 63 detours", head_inside, 0, ANYWHERE},
+    {"1: 4,097 files", file_over, VIOLSTREAM_FILE_ROWS, EITHER},
+    {"1: a length too few", lengths_short, VIOLSTREAM_FILE_ROWS, EITHER},
+    {"1: an aggregate number too few", aggregates_short, VIOLSTREAM_FILE_ROWS, EITHER},
+    {"2: the last aggregate number is too high", number_over, AT(VIOLSTREAM_BAD_FILE, FILES), EITHER},
+    {"2: the last aggregate number is that of the first file", number_returns, AT(VIOLSTREAM_BAD_FILE, FILES), EITHER},
+    {"2: the last file is empty", file_empty, AT(VIOLSTREAM_BAD_FILE, FILES), EITHER},
+    {"2: the last file starts too early", file_early, AT(VIOLSTREAM_BAD_FILE, FILES), EITHER},
+    {"2: the last file ends past the tape", file_far, AT(VIOLSTREAM_BAD_FILE, FILES), EITHER},
+    {"2: the last file starts past the tape", file_past, AT(VIOLSTREAM_BAD_FILE, FILES), EITHER},
+    {"3: 65 wants", want_over, VIOLSTREAM_WANT_ROWS, EITHER},
+    {"3: a count too few", counts_short, VIOLSTREAM_WANT_ROWS, EITHER},
+    {"4: the last want is not in the table", want_unknown, AT(VIOLSTREAM_BAD_WANT, WANTS), EITHER},
+    {"4: the last want stands there twice", want_twice, AT(VIOLSTREAM_BAD_WANT, WANTS), EITHER},
+    {"4: the last count is 0", count_zero, AT(VIOLSTREAM_BAD_WANT, WANTS), EITHER},
+    {"5: 1,025 reads", reads_over, VIOLSTREAM_TOO_MANY_READS, EITHER},
+    {"6: a turn price over the limit", turn_over, VIOLSTREAM_TURN_PRICE, EITHER},
+    {"7: the head past the tape", head_over, VIOLSTREAM_HEAD_PLACE, EITHER},
+    {"7: the head left of the last end", head_left, VIOLSTREAM_HEAD_PLACE, RIGHT},
+    {"7: the head left of the last aggregate's end", head_in_aggregate, VIOLSTREAM_HEAD_PLACE, RIGHT},
+    {"10: an end too few", ends_short, VIOLSTREAM_BAD_ENTRY, EITHER},
+    {"10: the last entry starts at an unwanted file", last_unwanted, AT(VIOLSTREAM_BAD_ENTRY, WANTS - 1), EITHER},
+    {"10: the last entry ends left of its start", last_backwards, AT(VIOLSTREAM_BAD_ENTRY, WANTS - 1), EITHER},
+    {"10: the last entry starts at the leftmost want", last_leftmost, AT(VIOLSTREAM_BAD_ENTRY, WANTS - 1), EITHER},
+    {"10: the last entry starts at the second file of an aggregate", last_later_member, AT(VIOLSTREAM_BAD_ENTRY, WANTS - 1), EITHER},
+    {"10: the last start does not fall", last_not_falling, AT(VIOLSTREAM_BAD_ENTRY, WANTS - 1), EITHER},
+    {"10: the last entry ends where one inside it does", last_again, AT(VIOLSTREAM_BAD_ENTRY, WANTS / 2), EITHER},
+    {"10: the first entry starts right of the head's own stop", first_beyond_head, AT(VIOLSTREAM_BAD_ENTRY, 1), ANYWHERE},
+    {"8: a time too few", times_short, VIOLSTREAM_SHORT_ROW, EITHER},
+    {"8: a leg too few", legs_short, VIOLSTREAM_SHORT_ROW, EITHER},
+    {"14: a rule that is none", rule_zero, VIOLSTREAM_BAD_RULE, RIGHT},
+    {"9: a word of room too few", room_short, VIOLSTREAM_SHORT_ROOM, EITHER},
 };
 
 enum { CASES = sizeof cases / sizeof *cases };
@@ -266,6 +294,8 @@ enum { CASES = sizeof cases / sizeof *cases };
 static bool is_tried(size_t i, bool planned)
 {
     enum violstream_refusal number = violstream_number(cases[i].result);
+    if (cases[i].head == (anywhere ? RIGHT : ANYWHERE))
+        return false;
     return planned ? number != VIOLSTREAM_BAD_ENTRY : number != VIOLSTREAM_BAD_RULE && number != VIOLSTREAM_SHORT_ROOM;
 }
 
@@ -277,7 +307,7 @@ static size_t case_bytes(size_t i, bool short_sums, bool planned)
     call.sums_len -= short_sums;
     if (planned)
         call.from_len = call.to_len = WANTS - 1;
-    size_t bytes = planned ? plan_bytes() : price_bytes();
+    size_t bytes = !planned ? price_bytes() : anywhere ? plan_any_bytes() : plan_bytes();
     bool not_before = cases[i].result == 0 || cases[i].result == VIOLSTREAM_SHORT_ROOM;
     if (call.result != (short_sums && not_before ? VIOLSTREAM_SHORT_ROW : cases[i].result))
         fail("not the result that the case is there for", cases[i].what);
@@ -313,8 +343,12 @@ int main(int argc, char **argv)
     room = calloc(VIOLSTREAM_ROOM_MOST, sizeof *room);
     if (room == NULL)
         fail("no memory", "room");
-    judge("violstream_price", false, argc > 1 ? strtoul(argv[1], NULL, 10) : PRICE_MOST);
-    judge("violstream_plan", true, argc > 2 ? strtoul(argv[2], NULL, 10) : PLAN_MOST);
+    size_t for_price = argc > 1 ? strtoul(argv[1], NULL, 10) : PRICE_MOST, for_plan = argc > 2 ? strtoul(argv[2], NULL, 10) : PLAN_MOST;
+    judge("violstream_price", false, for_price);
+    judge("violstream_plan", true, for_plan);
+    anywhere = true;
+    judge("violstream_price_any", false, for_price);
+    judge("violstream_plan_any", true, for_plan);
     free(room);
     return 0;
 }

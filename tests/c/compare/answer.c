@@ -31,7 +31,7 @@ static bool well_formed(const struct list *list)
     for (size_t i = 0; i < list->length; i++) {
         a[i] = wanted[list->start[i]];
         b[i] = wanted[list->end[i]];
-        if (broken_by(wanted, run.k, a, b, i) != NONE)
+        if (broken_at(a, b, i) != NONE)
             return false;
     }
     return true;
@@ -68,6 +68,15 @@ static void try_neighbours(const struct list *given, uint64_t sum, size_t tries)
     }
 }
 
+/* By the cells of document 000, with starts right of the head taken to be where the head is. */
+static uint64_t least_by_cells(void)
+{
+    struct stops pulled = run;
+    for (size_t i = 0; i < run.k; i++)
+        pulled.start[i] = turns_at(&run, i);
+    return paper_least_by_rows(&pulled, cells);
+}
+
 /* More stops than can be searched: the list given stands in the rows; is it least? */
 static void examine_list_given(struct list *list)
 {
@@ -77,12 +86,12 @@ static void examine_list_given(struct list *list)
     if (n >= run.k)
         differ("the number of detours is below the number of stops", run.k - 1, n);
     for (size_t i = 0; i < n; i++)
-        if (broken_by(wanted, run.k, a, b, i) != NONE)
+        if (broken_at(a, b, i) != NONE)
             differ("the list given is well formed; the first bad entry", 0, i + 1);
     take_up_list(a, b, (size_t)n, list);
     struct walk walk;
     walk_list(&run, list, &walk);
-    uint64_t least = paper_least_by_rows(&run, cells);
+    uint64_t least = least_by_cells();
     if (walk.sum != least)
         differ("the sum of the list given, against the cells of document 000", least, walk.sum);
     try_neighbours(list, walk.sum, NEIGHBOURS);

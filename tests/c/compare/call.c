@@ -160,10 +160,28 @@ const uint64_t *expected(enum row r)
     return due + offset[r];
 }
 
+const char *function_called(void)
+{
+    static const char *const names[] = {"violstream_price", "violstream_price_any", "violstream_plan", "violstream_plan_any"};
+    return names[2 * call.plan + call.any];
+}
+
 #define LENT(r) lent(r), call.length[r]
+
+static uint64_t call_library_anywhere(void)
+{
+    if (call.plan)
+        return violstream_plan_any(LENT(STARTS), LENT(LENGTHS), LENT(AGGREGATES), LENT(NUMBERS), LENT(COUNTS), call.head,
+                                   call.turn, LENT(DETOUR_STARTS), LENT(DETOUR_ENDS), LENT(TIMES), LENT(LEGS), LENT(SUMS),
+                                   LENT(ROOM));
+    return violstream_price_any(LENT(STARTS), LENT(LENGTHS), LENT(AGGREGATES), LENT(NUMBERS), LENT(COUNTS), call.head, call.turn,
+                                LENT(DETOUR_STARTS), LENT(DETOUR_ENDS), LENT(TIMES), LENT(LEGS), LENT(SUMS));
+}
 
 static uint64_t call_library(void)
 {
+    if (call.any)
+        return call_library_anywhere();
     if (call.plan)
         return violstream_plan(LENT(STARTS), LENT(LENGTHS), LENT(AGGREGATES), LENT(NUMBERS), LENT(COUNTS), call.head, call.turn,
                                call.rule, LENT(DETOUR_STARTS), LENT(DETOUR_ENDS), LENT(TIMES), LENT(LEGS), LENT(SUMS),

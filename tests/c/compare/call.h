@@ -16,6 +16,7 @@ enum { MOST_ANSWER = 8192 };      /* words in a row for an answer other than the
 
 struct call {
     bool plan;
+    bool any;                               /* one of the two calls for a head anywhere */
     uint64_t head, turn, rule;
     size_t length[ROWS];
     bool null[ROWS];                        /* lend a null pointer if the row is empty */
@@ -36,6 +37,7 @@ bool is_read(enum row r);
 uint64_t drafted_reads(void);
 uint64_t drafted_tape_end(void);
 uint64_t drafted_wanted_end(void);
+const char *function_called(void);
 size_t drafted_stops(uint64_t names[LIMIT_WANTS + 1]);
 
 void lay_out(void);

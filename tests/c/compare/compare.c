@@ -1,4 +1,5 @@
-/* Calls violstream_price and violstream_plan at random and compares every answer with one worked out here:
+/* Calls violstream_price and violstream_plan, and the same two for a head anywhere, violstream_price_any and
+ * violstream_plan_any, at random and compares every answer with one worked out here:
  *
  *   - refusals by judging the call in the order of the table, literally;
  *   - stops by taking the table apart from left to right, once, into aggregates and files that lie in none;
@@ -22,7 +23,7 @@
  * --apart lends each row in a block of its own from malloc, so that valgrind sees every word read outside a row:
  * valgrind --error-exitcode=9 target/tests/compare --apart --calls 20000
  *
- * random.c draws numbers, draw_runs.c, draw_lists.c and draw_calls.c the calls; call.c lends the rows and calls; lists.c,
+ * random.c draws numbers, draw_runs.c, draw_lists.c, draw_heads.c and draw_calls.c the calls; call.c lends the rows and calls; lists.c,
  * walk.c, judge.c and answer.c work out the answer, joined.c the call on stops alone; sheets.c writes plans down; differ.c says where it is another; met.c counts what was met;
  * worked.c has the cases that are worked by hand. */
 #define _POSIX_C_SOURCE 199309L
@@ -60,11 +61,16 @@ uint64_t check_call(void)
     return must_be;
 }
 
+static uint64_t accepted(int plan)
+{
+    return results[0][plan][0] + results[1][plan][0];
+}
+
 static uint64_t refused(int plan)
 {
     uint64_t sum = 0;
     for (int number = 1; number < 256; number++)
-        sum += results[plan][number];
+        sum += results[0][plan][number] + results[1][plan][number];
     return sum;
 }
 
@@ -100,9 +106,9 @@ static void print_summary(uint64_t calls, double taken)
 {
     printf("compare.c: %" PRIu64 " calls agree, seed %" PRIu64 ": price %" PRIu64 " accepted, %" PRIu64 " refused; plan %" PRIu64
            " accepted (%" PRIu64 " against all lists, %" PRIu64 " against document 000's cells), %" PRIu64 " refused; %" PRIu64
-           " also against their stops alone; %.1f s\n",
-           calls, seed, results[0][0], refused(0), results[1][0], plans_searched, plans_by_cells, refused(1), compared_joined,
-           taken);
+           " also against their stops alone; %" PRIu64 " accepted with the head anywhere; %.1f s\n",
+           calls, seed, accepted(0), refused(0), accepted(1), plans_searched, plans_by_cells, refused(1), compared_joined,
+           results[1][0][0] + results[1][1][0], taken);
 }
 
 static void read_arguments(char **words, uint64_t *calls, uint64_t *from)

@@ -22,9 +22,8 @@ static void print_row(enum row r)
 
 static void print_call(void)
 {
-    fprintf(stderr, "  call          %s, head %" PRIu64 ", turn %" PRIu64, call.plan ? "violstream_plan" : "violstream_price",
-            call.head, call.turn);
-    if (call.plan)
+    fprintf(stderr, "  call          %s, head %" PRIu64 ", turn %" PRIu64, function_called(), call.head, call.turn);
+    if (call.plan && !call.any)
         fprintf(stderr, ", rule %" PRIu64, call.rule);
     fprintf(stderr, "\n");
     for (int r = 0; r < (call.plan ? ROWS : ROOM); r++)

@@ -37,4 +37,8 @@ void break_list(void);
 
 void draw_call(void);
 
+/* ---- draw_heads.c ---- */
+
+void put_head_anywhere(void);
+
 #endif

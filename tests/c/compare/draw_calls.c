@@ -250,7 +250,7 @@ static void wild_call(void)
     call.rule = wild(0);
 }
 
-void draw_call(void)
+static void draw_kind(void)
 {
     uint64_t kind = below(10000);
     if (kind < 2)
@@ -275,4 +275,12 @@ void draw_call(void)
         damaged_call();
     else
         wild_call();
+}
+
+void draw_call(void)
+{
+    call.any = false;
+    draw_kind();
+    if (one_in(2))
+        put_head_anywhere();
 }

@@ -31,6 +31,10 @@ static void hand_in_stops(void)
 
 static uint64_t plan_joined(void)
 {
+    if (call.any)
+        return violstream_plan_any(run.start, run.k, joined.lengths, run.k, joined.aggregates, run.k, joined.numbers, run.k,
+                                   run.count, run.k, run.head, run.turn, joined.from, LIMIT_WANTS, joined.to, LIMIT_WANTS,
+                                   joined.times, LIMIT_WANTS, joined.legs, LIMIT_WANTS, joined.sums, 4, joined_room, MOST_ROOM);
     return violstream_plan(run.start, run.k, joined.lengths, run.k, joined.aggregates, run.k, joined.numbers, run.k, run.count,
                            run.k, run.head, run.turn, call.rule, joined.from, LIMIT_WANTS, joined.to, LIMIT_WANTS, joined.times,
                            LIMIT_WANTS, joined.legs, LIMIT_WANTS, joined.sums, 4, joined_room, MOST_ROOM);
@@ -44,6 +48,10 @@ static uint64_t price_joined(void)
         joined.from[i] = position_of(expected(DETOUR_STARTS)[i]) + 1;
         joined.to[i] = position_of(expected(DETOUR_ENDS)[i]) + 1;
     }
+    if (call.any)
+        return violstream_price_any(run.start, run.k, joined.lengths, run.k, joined.aggregates, run.k, joined.numbers, run.k,
+                                    run.count, run.k, run.head, run.turn, joined.from, n, joined.to, n, joined.times, LIMIT_WANTS,
+                                    joined.legs, LIMIT_WANTS, joined.sums, 4);
     return violstream_price(run.start, run.k, joined.lengths, run.k, joined.aggregates, run.k, joined.numbers, run.k, run.count,
                             run.k, run.head, run.turn, joined.from, n, joined.to, n, joined.times, LIMIT_WANTS, joined.legs,
                             LIMIT_WANTS, joined.sums, 4);

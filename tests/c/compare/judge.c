@@ -89,7 +89,7 @@ static bool head_is_bad(size_t wants)
 {
     if (call.head > LIMIT_POSITION)
         return true;
-    if (wants == 0)
+    if (wants == 0 || call.any)
         return false;
     return call.head < parts[part_of[expected(NUMBERS)[wants - 1] - 1]].end;
 }
@@ -130,12 +130,20 @@ static void take_up_run(void)
     }
 }
 
+/* What entry i of a list breaks: a rule for every head, or the one on where the head stands. */
+enum rule_broken broken_at(const uint64_t *a, const uint64_t *b, size_t i)
+{
+    size_t own = own_stop(&run);
+    enum rule_broken broken = broken_by(wanted, run.k, a, b, i);
+    return broken == NONE && own < run.k && a[i] > wanted[own] ? BEYOND_HEAD : broken;
+}
+
 static uint64_t judge_list(const uint64_t *a, size_t starts, const uint64_t *b, size_t ends)
 {
     if (starts != ends)
         return refuse(10, 0);
     for (size_t i = 0; i < starts; i++) {
-        enum rule_broken broken = broken_by(wanted, run.k, a, b, i);
+        enum rule_broken broken = broken_at(a, b, i);
         times_broken[broken][i < LIMIT_WANTS ? i : LIMIT_WANTS]++;
         if (broken != NONE)
             return refuse(10, i + 1);
@@ -162,7 +170,7 @@ uint64_t judge(void)
     if (refusal != 0)
         return refusal;
     take_up_run();
-    if (call.plan && call.rule != 1)
+    if (call.plan && !call.any && call.rule != 1)
         return refuse(14, 0);
     if (!call.plan)
         refusal = judge_list(expected(DETOUR_STARTS), call.length[DETOUR_STARTS],

@@ -14,7 +14,7 @@ struct list {
 
 /* ---- lists.c ---- */
 
-enum rule_broken { NONE, NOT_WANTED, BACKWARD, AT_LEFTMOST, NOT_FALLING, SAME_END, CROSSING, RULES };
+enum rule_broken { NONE, NOT_WANTED, BACKWARD, AT_LEFTMOST, NOT_FALLING, SAME_END, CROSSING, BEYOND_HEAD, RULES };
 extern const char *const rule_names[RULES];
 
 enum rule_broken broken_by(const uint64_t *wanted, size_t k, const uint64_t *a, const uint64_t *b, size_t i);
@@ -33,6 +33,8 @@ struct walk {
     uint64_t sum, finish, end, times[LIMIT_WANTS], legs[LIMIT_WANTS];
 };
 
+size_t own_stop(const struct stops *run);
+uint64_t turns_at(const struct stops *run, size_t stop);
 void walk_list(const struct stops *run, const struct list *list, struct walk *walk);
 void search_all_lists(const struct stops *run, struct list *best);
 

@@ -4,7 +4,7 @@
 #include "call.h"
 #include "oracle.h"
 
-uint64_t results[2][256];
+uint64_t results[2][2][256];
 
 enum met {
     LARGEST_PLAN, LARGEST_PRICE, FILES_4096, FILES_4097, AGGREGATE_4096, AGGREGATE_4097, RETURNS_AFTER_NONE,
@@ -13,7 +13,9 @@ enum met {
     HEAD_AT_LAST_WANT, WANTS_JOINED, FIRST_NOT_WANTED, LATER_WANTED, LATER_NOT_WANTED, ROWS_FOR_STOPS, ROOM_FOR_STOPS,
     TIMES_FOR_STOPS,
     RULE_0, RULE_0_SHORT_ROWS, RULE_2, RULE_255, RULE_256, RULE_LARGEST, UNEQUAL_HALVES, ROWS_JUST_ENOUGH, TIMES_SHORT, LEGS_SHORT,
-    SUMS_SHORT, DETOUR_STARTS_SHORT, DETOUR_ENDS_SHORT, ROOM_SHORT, NULL_ROWS, METS
+    SUMS_SHORT, DETOUR_STARTS_SHORT, DETOUR_ENDS_SHORT, ROOM_SHORT, NULL_ROWS,
+    INSIDE_A_STOP, AT_A_START, AT_AN_END, LEFT_OF_ALL, PRICED_LEFT_OF_ALL, AT_ZERO, ONE_LEFT_OF_END, DETOUR_FROM_HEAD,
+    MANY_FROM_HEAD, ANYWHERE_RIGHT_OF_ALL, METS
 };
 
 static const char *const met_names[METS] = {
@@ -37,6 +39,11 @@ static const char *const met_names[METS] = {
     "refused: detour starts one word short", "refused: detour ends one word short",
     "refused: room one word short",
     "accepted: a plan with every empty row a null pointer",
+    "anywhere: a head inside a stop", "anywhere: a head at a stop's start", "anywhere: a head at a stop's end, with another further right",
+    "anywhere: a plan with everything right of the head", "anywhere: a price with everything right of the head",
+    "anywhere: a head at 0, with wants", "anywhere: a head one left of the rightmost wanted end",
+    "anywhere: a plan with a detour from the head, left of its stop's start", "anywhere: such a plan of more stops than are searched",
+    "anywhere: a head right of everything",
 };
 
 static uint64_t times_met[METS];
@@ -147,6 +154,33 @@ static void note_rules(uint64_t result)
     note(UNEQUAL_HALVES, result == 10);
 }
 
+/* Where the head stands among the stops, of an accepted call for a head anywhere. */
+static void note_head(uint64_t result)
+{
+    uint64_t head = call.head, last_end = run.k > 0 ? run.end[run.k - 1] : 0;
+    bool is_inside = false, is_at_start = false, is_at_end = false;
+    if (result != 0 || !call.any || run.k == 0)
+        return;
+    for (size_t i = 0; i < run.k; i++) {
+        is_inside = is_inside || (run.start[i] < head && head < run.end[i]);
+        is_at_start = is_at_start || head == run.start[i];
+        is_at_end = is_at_end || (head == run.end[i] && i + 1 < run.k);
+    }
+    size_t own = own_stop(&run);
+    bool from_head = call.plan && own < run.k && due[offset[SUMS] + 3] > 0 && due[offset[DETOUR_STARTS]] == wanted[own]
+                     && head < run.start[own];
+    note(INSIDE_A_STOP, is_inside);
+    note(AT_A_START, is_at_start);
+    note(AT_AN_END, is_at_end);
+    note(LEFT_OF_ALL, call.plan && run.k > 1 && head < run.start[0]);
+    note(PRICED_LEFT_OF_ALL, !call.plan && run.k > 1 && head < run.start[0]);
+    note(AT_ZERO, head == 0);
+    note(ONE_LEFT_OF_END, head + 1 == last_end);
+    note(DETOUR_FROM_HEAD, from_head);
+    note(MANY_FROM_HEAD, from_head && run.k > MOST_SEARCHED);
+    note(ANYWHERE_RIGHT_OF_ALL, head >= last_end);
+}
+
 static bool all_empty_rows_are_null(void)
 {
     for (int r = 0; r < ROWS; r++)
@@ -177,12 +211,13 @@ static void note_rows(uint64_t result)
 
 void note_call(uint64_t result)
 {
-    results[call.plan][result % 256]++;
+    results[call.any][call.plan][result % 256]++;
     note_sizes(result);
     note_numbers(result);
     note_names(result);
     note_places(result);
     note_rules(result);
+    note_head(result);
     note_rows(result);
 }
 
@@ -194,19 +229,28 @@ static void require_met(uint64_t times, const char *what, const char *detail, si
     exit(1);
 }
 
-void require_all_met(void)
+static void require_results(bool any)
 {
     static const size_t of_both[] = {0, 1, 2, 3, 4, 5, 6, 7, 8};
+    const char *price = any ? "violstream_price_any" : "violstream_price", *plan = any ? "violstream_plan_any" : "violstream_plan";
+    for (size_t i = 0; i < sizeof of_both / sizeof *of_both; i++) {
+        require_met(results[any][0][of_both[i]], price, "giving", of_both[i]);
+        require_met(results[any][1][of_both[i]], plan, "giving", of_both[i]);
+    }
+    require_met(results[any][0][10], price, "giving", 10);
+    require_met(results[any][1][9], plan, "giving", 9);
+}
+
+void require_all_met(void)
+{
     enum { ENTRIES = 8 };
-    for (size_t i = 0; i < sizeof of_both / sizeof *of_both; i++)
-        for (int plan = 0; plan < 2; plan++)
-            require_met(results[plan][of_both[i]], plan ? "violstream_plan" : "violstream_price", "giving", of_both[i]);
-    require_met(results[0][10], "violstream_price", "giving", 10);
-    require_met(results[1][14], "violstream_plan", "giving", 14);
-    require_met(results[1][9], "violstream_plan", "giving", 9);
+    require_results(false);
+    require_results(true);
+    require_met(results[0][1][14], "violstream_plan", "giving", 14);
     for (int m = 0; m < METS; m++)
         require_met(times_met[m], met_names[m], "- condition", (size_t)m);
-    for (int rule = NOT_WANTED; rule < RULES; rule++)
+    for (int rule = NOT_WANTED; rule <= CROSSING; rule++)
         for (size_t entry = rule < NOT_FALLING ? 0 : 1; entry < ENTRIES; entry++)
             require_met(times_broken[rule][entry], rule_names[rule], "at entry", entry + 1);
+    require_met(times_broken[BEYOND_HEAD][0], rule_names[BEYOND_HEAD], "at entry", 1);
 }

@@ -15,6 +15,7 @@ extern uint64_t times_broken[RULES][LIMIT_WANTS + 1];
 
 uint64_t refuse(uint64_t number, uint64_t place);
 size_t room_words(void);
+enum rule_broken broken_at(const uint64_t *a, const uint64_t *b, size_t i);
 uint64_t judge(void);
 uint64_t name_of(uint64_t file);
 
@@ -41,7 +42,7 @@ void close_sheets(void);
 
 /* ---- met.c ---- */
 
-extern uint64_t results[2][256];            /* by function and number */
+extern uint64_t results[2][2][256];         /* by whether the head may stand anywhere, by function and number */
 
 void note_call(uint64_t result);
 void require_all_met(void);

@@ -53,7 +53,7 @@ static void print_plan(void)
 
 void note_sheet(void)
 {
-    if (sheets == NULL || !call.plan || sheets_written == MOST_SHEETS || call.length[STARTS] > MOST_FILES
+    if (sheets == NULL || !call.plan || call.any || sheets_written == MOST_SHEETS || call.length[STARTS] > MOST_FILES
         || call.length[NUMBERS] > MOST_WANTS)
         return;
     print_run();

@@ -6,6 +6,21 @@ struct head {
     uint64_t place, clock, leg;
 };
 
+/* The head's own stop, the first that starts at or right of the head; k if none does. No detour starts right of it. */
+size_t own_stop(const struct stops *run)
+{
+    size_t i = 0;
+    while (i < run->k && run->start[i] < run->head)
+        i++;
+    return i;
+}
+
+/* Where a leg from a stop turns right: at its start, or where the head began if the start lies right of that. */
+uint64_t turns_at(const struct stops *run, size_t stop)
+{
+    return run->start[stop] < run->head ? run->start[stop] : run->head;
+}
+
 static void move_left(struct head *head, uint64_t to)
 {
     if (to > head->place)
@@ -43,14 +58,14 @@ void walk_list(const struct stops *run, const struct list *list, struct walk *wa
     for (size_t i = 0; i < run->k; i++)
         walk->legs[i] = 0;
     for (size_t i = 0; i < list->length; i++) {
-        go_leg(run, &head, run->start[list->start[i]], run->end[list->end[i]], walk);
+        go_leg(run, &head, turns_at(run, list->start[i]), run->end[list->end[i]], walk);
         head.clock += run->turn;
     }
     if (run->k > 0) {
         size_t last = run->k - 1;
         while (last > 0 && walk->legs[last] > 0)
             last--;
-        go_leg(run, &head, run->start[0], run->end[last], walk);
+        go_leg(run, &head, turns_at(run, 0), run->end[last], walk);
     }
     walk->sum = 0;
     for (size_t i = 0; i < run->k; i++)
@@ -59,14 +74,23 @@ void walk_list(const struct stops *run, const struct list *list, struct walk *wa
     walk->end = head.place;
 }
 
+/* The first start is the furthest right. */
+static bool within_reach(const struct list *list, size_t own)
+{
+    return list->length == 0 || list->start[0] <= own;
+}
+
 void search_all_lists(const struct stops *run, struct list *best)
 {
     struct walk walk;
+    size_t own = own_stop(run);
     *best = all_lists[run->k][0];
     walk_list(run, best, &walk);
     uint64_t least = walk.sum;
     for (size_t i = 1; i < number_of_lists[run->k]; i++) {
         const struct list *list = &all_lists[run->k][i];
+        if (!within_reach(list, own))
+            continue;
         walk_list(run, list, &walk);
         if (walk.sum < least || (walk.sum == least && comes_first(list, best, run->k))) {
             least = walk.sum;

@@ -15,10 +15,12 @@ struct worked {
     size_t detours;
     uint64_t from[2], to[2], result, sum, leg[4];
     bool least;                             /* the planner gives this list */
-    uint64_t aggregate[4], finish, end, time[4];        /* of those with aggregates */
+    uint64_t aggregate[4], finish, end, time[4];        /* of those with aggregates, or with a head anywhere */
+    bool any;
 };
 
-#define ALONE {0}, 0, 0, {0}                         /* no file in an aggregate */
+#define ALONE {0}, 0, 0, {0}, false                  /* no file in an aggregate, and a head right of everything */
+#define SHEET 3, {0, 10, 20}, {10, 4, 30}, 3, {1, 2, 3}, {1, 3, 1}
 #define GAP 4, {0, 10, 16, 20}, {10, 4, 4, 30}       /* files 2 and 3 with a gap between them */
 
 static const struct worked worked_cases[] = {
@@ -40,16 +42,25 @@ static const struct worked worked_cases[] = {
     {"four files, empty", 4, {0, 2, 4, 6}, {2, 2, 2, 2}, 4, {1, 2, 3, 4}, {1, 1, 1, 1}, 8, 1, 0, {0}, {0}, 0, 56, {1, 1, 1, 1}, true, ALONE},
     {"equal ends", 4, {0, 2, 4, 6}, {2, 2, 2, 2}, 4, {1, 2, 3, 4}, {1, 1, 1, 1}, 8, 1, 2, {3, 2}, {4, 4}, 10 + 2 * 256, 0, {0}, false, ALONE},
     {"crossing", 4, {0, 2, 4, 6}, {2, 2, 2, 2}, 4, {1, 2, 3, 4}, {1, 1, 1, 1}, 8, 1, 2, {3, 2}, {4, 3}, 10 + 2 * 256, 0, {0}, false, ALONE},
-    {"aggregate, (2,2)", GAP, 3, {1, 3, 4}, {1, 3, 1}, 60, 1, 1, {2}, {2}, 0, 409, {2, 1, 2}, true, {0, 7, 7, 0}, 133, 50, {93, 61, 133}},
-    {"aggregate, by its second file", GAP, 3, {1, 3, 4}, {1, 3, 1}, 60, 1, 1, {3}, {3}, 10 + 256, 0, {0}, false, {0, 7, 7, 0}, 0, 0, {0}},
-    {"none, (3,3)", GAP, 3, {1, 3, 4}, {1, 3, 1}, 60, 1, 1, {3}, {3}, 0, 349, {2, 1, 2}, true, {0}, 121, 50, {81, 49, 121}},
-    {"both members", GAP, 4, {1, 2, 3, 4}, {1, 2, 1, 1}, 60, 1, 1, {2}, {2}, 0, 409, {2, 1, 1, 2}, true, {0, 7, 7, 0}, 133, 50, {93, 61, 61, 133}},
-    {"head left of the aggregate's end", 2, {0, 10}, {4, 4}, 1, {1}, {1}, 13, 0, 0, {0}, {0}, 7, 0, {0}, true, {9, 9}, 0, 0, {0}},
-    {"head at the aggregate's end", 2, {0, 10}, {4, 4}, 1, {1}, {1}, 14, 0, 0, {0}, {0}, 0, 28, {1}, true, {9, 9}, 28, 14, {28}},
-    {"5, 0, 5", GAP, 1, {1}, {1}, 60, 1, 0, {0}, {0}, 2 + 3 * 256, 0, {0}, true, {5, 0, 5, 0}, 0, 0, {0}},
-    {"5, 3, 3, 5", GAP, 1, {1}, {1}, 60, 1, 0, {0}, {0}, 2 + 4 * 256, 0, {0}, true, {5, 3, 3, 5}, 0, 0, {0}},
-    {"4,096", GAP, 1, {1}, {1}, 60, 1, 0, {0}, {0}, 0, 71, {1}, true, {4096, 3, 3, 2}, 71, 10, {71}},
-    {"4,097", GAP, 1, {1}, {1}, 60, 1, 0, {0}, {0}, 2 + 2 * 256, 0, {0}, true, {4096, 4097, 3, 2}, 0, 0, {0}},
+    {"aggregate, (2,2)", GAP, 3, {1, 3, 4}, {1, 3, 1}, 60, 1, 1, {2}, {2}, 0, 409, {2, 1, 2}, true, {0, 7, 7, 0}, 133, 50, {93, 61, 133}, false},
+    {"aggregate, by its second file", GAP, 3, {1, 3, 4}, {1, 3, 1}, 60, 1, 1, {3}, {3}, 10 + 256, 0, {0}, false, {0, 7, 7, 0}, 0, 0, {0}, false},
+    {"none, (3,3)", GAP, 3, {1, 3, 4}, {1, 3, 1}, 60, 1, 1, {3}, {3}, 0, 349, {2, 1, 2}, true, {0}, 121, 50, {81, 49, 121}, false},
+    {"both members", GAP, 4, {1, 2, 3, 4}, {1, 2, 1, 1}, 60, 1, 1, {2}, {2}, 0, 409, {2, 1, 1, 2}, true, {0, 7, 7, 0}, 133, 50, {93, 61, 61, 133}, false},
+    {"head left of the aggregate's end", 2, {0, 10}, {4, 4}, 1, {1}, {1}, 13, 0, 0, {0}, {0}, 7, 0, {0}, true, {9, 9}, 0, 0, {0}, false},
+    {"head at the aggregate's end", 2, {0, 10}, {4, 4}, 1, {1}, {1}, 14, 0, 0, {0}, {0}, 0, 28, {1}, true, {9, 9}, 28, 14, {28}, false},
+    {"5, 0, 5", GAP, 1, {1}, {1}, 60, 1, 0, {0}, {0}, 2 + 3 * 256, 0, {0}, true, {5, 0, 5, 0}, 0, 0, {0}, false},
+    {"5, 3, 3, 5", GAP, 1, {1}, {1}, 60, 1, 0, {0}, {0}, 2 + 4 * 256, 0, {0}, true, {5, 3, 3, 5}, 0, 0, {0}, false},
+    {"4,096", GAP, 1, {1}, {1}, 60, 1, 0, {0}, {0}, 0, 71, {1}, true, {4096, 3, 3, 2}, 71, 10, {71}, false},
+    {"4,097", GAP, 1, {1}, {1}, 60, 1, 0, {0}, {0}, 2 + 2 * 256, 0, {0}, true, {4096, 4097, 3, 2}, 0, 0, {0}, false},
+    {"just mounted", SHEET, 0, 1, 0, {0}, {0}, 0, 107, {1, 1, 1}, true, {0}, 51, 50, {11, 15, 51}, true},
+    {"just mounted, (2,2)", SHEET, 0, 1, 1, {2}, {2}, 10 + 256, 0, {0}, false, {0}, 0, 0, {0}, true},
+    {"head at 14, empty", SHEET, 14, 1, 0, {0}, {0}, 0, 177, {1, 1, 1}, false, {0}, 65, 50, {25, 29, 65}, true},
+    {"head at 14, (2,2)", SHEET, 14, 1, 1, {2}, {2}, 0, 137, {2, 1, 2}, true, {0}, 75, 50, {35, 9, 75}, true},
+    {"head at 14, (2,3)", SHEET, 14, 1, 1, {2}, {3}, 0, 179, {2, 1, 1}, false, {0}, 107, 10, {107, 9, 45}, true},
+    {"head at 14, (3,3)", SHEET, 14, 1, 1, {3}, {3}, 0, 445, {2, 2, 1}, false, {0}, 103, 14, {99, 103, 37}, true},
+    {"head at 10, (3,3)", SHEET, 10, 1, 1, {3}, {3}, 10 + 256, 0, {0}, false, {0}, 0, 0, {0}, true},
+    {"a detour from the head", 2, {0, 5}, {1, 1}, 2, {1, 2}, {1, 5}, 4, 0, 1, {2}, {2}, 0, 19, {2, 1}, true, {0}, 9, 1, {9, 2}, true},
+    {"head above the limit", SHEET, LIMIT_POSITION + 1, 1, 0, {0}, {0}, 7, 0, {0}, true, {0}, 0, 0, {0}, true},
 };
 
 static void draft_words(enum row r, const uint64_t *words, size_t n)
@@ -61,6 +72,7 @@ static void draft_words(enum row r, const uint64_t *words, size_t n)
 static void check_worked(const struct worked *w, bool plan)
 {
     call.plan = plan;
+    call.any = w->any;
     call.head = w->head;
     call.turn = w->turn;
     call.rule = 1;

@@ -22,6 +22,7 @@ pub const NAMES: [&str; ROWS] = [
 #[derive(Clone, Default)]
 pub struct Call {
     pub plan: bool,
+    pub any: bool, // one of the calls for a head anywhere
     pub head: u64,
     pub turn: u64,
     pub rule: u64,
@@ -43,8 +44,9 @@ impl Call {
 impl fmt::Display for Call {
     fn fmt(&self, f: &mut fmt::Formatter) -> fmt::Result {
         let name = if self.plan { "violstream_plan" } else { "violstream_price" };
-        write!(f, "  {}: head {}, turn {}", name, self.head, self.turn)?;
-        if self.plan {
+        let anywhere = if self.any { "_any" } else { "" };
+        write!(f, "  {}{}: head {}, turn {}", name, anywhere, self.head, self.turn)?;
+        if self.plan && !self.any {
             write!(f, ", rule {}", self.rule)?;
         }
         for row in 0..if self.plan { ROWS } else { ROOM } {

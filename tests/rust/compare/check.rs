@@ -1,12 +1,13 @@
 //! One call checked, and what was met.
 
 use crate::call::*;
-use crate::draw::{last_file_end, last_wanted_end, reads_drawn, stop_names};
-use crate::fence::{make, Fenced};
+use crate::draw::{last_file_end, last_wanted_end, own_stop_name, reads_drawn, stop_names};
+use crate::fence::Fenced;
 use crate::joined::compare_with_joined;
 use crate::judge::{judge, read_with};
 use crate::limits::*;
 use crate::lists::{all_lists, Detour};
+use crate::make::make;
 use crate::rows::{by_position, compare_rows, difference, written, Difference, Written};
 use crate::sheets::Sheets;
 use crate::walk::{search, Run};
@@ -68,8 +69,11 @@ fn joined(call: &Call) -> bool {
     stop_names(call).len() < call.len(NUMBERS)
 }
 
-/// What a long run must have met, each by what it is and how it is told from the call and the result.
-pub const TO_MEET: &[(&str, fn(&Call, u64) -> bool)] = &[
+/// Something to be met: what it is, and how it is told from the call and the result.
+pub type ToMeet = (&'static str, fn(&Call, u64) -> bool);
+
+/// What a long run must have met, wherever the head may stand.
+pub const TO_MEET: &[ToMeet] = &[
     ("plan of 64 stops and 1,024 reads", |c, r| r == 0 && c.plan && stop_names(c).len() == WANTS && reads_drawn(c) == READS),
     ("price of 64 wants and 1,024 reads", |c, r| r == 0 && !c.plan && c.len(NUMBERS) == WANTS && reads_drawn(c) == READS),
     ("4,096 files", |c, r| r == 0 && c.len(STARTS) == FILES),
@@ -85,9 +89,6 @@ pub const TO_MEET: &[(&str, fn(&Call, u64) -> bool)] = &[
     ("wants that are joined", |c, r| r == 0 && c.plan && joined(c) && stop_names(c).len() > 1),
     ("a stop whose first file is not wanted", |c, r| r == 0 && stop_names(c).iter().any(|f| !c.rows[NUMBERS].contains(f))),
     ("a list that names a file which is not the first", |c, r| later_member(c, r)),
-    ("head right of the last wanted file, left of its aggregate's end", |c, r| {
-        r == 7 && c.head <= POSITION && c.len(NUMBERS) > 0 && last_file_end(c) <= c.head
-    }),
     ("times for the stops and not for the wants", |c, r| {
         r == 8 && c.len(TIMES) < c.len(NUMBERS) && stop_names(c).len() <= c.len(TIMES)
     }),
@@ -101,14 +102,6 @@ pub const TO_MEET: &[(&str, fn(&Call, u64) -> bool)] = &[
     ("turn price over the limit", |c, r| r == 6 && c.turn == TURN + 1),
     ("head at the limit", |c, r| r == 0 && c.head == POSITION),
     ("head over the limit", |c, r| r == 7 && c.head == POSITION + 1),
-    ("head at the rightmost wanted end", |c, r| r == 0 && c.len(NUMBERS) > 0 && c.head == last_wanted_end(c)),
-    ("head one left of it", |c, r| r == 7 && c.head.wrapping_add(1) == last_wanted_end(c)),
-    ("rule 0", |c, r| r == 14 && c.rule == 0),
-    ("rule 0, before a short room", |c, r| r == 14 && c.rule == 0 && c.len(ROOM) < room_needed(c)),
-    ("rule 2", |c, r| r == 14 && c.rule == 2),
-    ("rule 255", |c, r| r == 14 && c.rule == 255),
-    ("rule 256", |c, r| r == 14 && c.rule == 256),
-    ("rule 2^64 - 1", |c, r| r == 14 && c.rule == u64::MAX),
     ("unequal halves of a list", |_, r| r == 10),
     ("times one short", |c, r| r == 8 && one_short(c, TIMES)),
     ("legs one short", |c, r| r == 8 && one_short(c, LEGS)),
@@ -120,25 +113,43 @@ pub const TO_MEET: &[(&str, fn(&Call, u64) -> bool)] = &[
     ("no wants and null rows", |c, r| r == 0 && c.plan && c.len(NUMBERS) == 0 && c.len(ROOM) == 0 && c.nulls[ROOM]),
 ];
 
+/// And where it must stand at or right of every wanted end.
+pub const TO_MEET_FROM_THE_RIGHT: &[ToMeet] = &[
+    ("head right of the last wanted file, left of its aggregate's end", |c, r| {
+        r == 7 && c.head <= POSITION && c.len(NUMBERS) > 0 && last_file_end(c) <= c.head
+    }),
+    ("head at the rightmost wanted end", |c, r| r == 0 && c.len(NUMBERS) > 0 && c.head == last_wanted_end(c)),
+    ("head one left of it", |c, r| r == 7 && c.head.wrapping_add(1) == last_wanted_end(c)),
+    ("rule 0", |c, r| r == 14 && c.rule == 0),
+    ("rule 0, before a short room", |c, r| r == 14 && c.rule == 0 && c.len(ROOM) < room_needed(c)),
+    ("rule 2", |c, r| r == 14 && c.rule == 2),
+    ("rule 255", |c, r| r == 14 && c.rule == 255),
+    ("rule 256", |c, r| r == 14 && c.rule == 256),
+    ("rule 2^64 - 1", |c, r| r == 14 && c.rule == u64::MAX),
+];
+
 pub struct Checker {
     lists: Vec<Vec<Vec<Detour>>>,
-    pub met: Vec<u64>, // how often each of TO_MEET
+    pub met: Vec<(ToMeet, u64)>, // how often each
     pub results: BTreeMap<(bool, u64), u64>,
     pub broken: BTreeMap<(&'static str, usize), u64>,
     pub searched: u64,
     pub by_windows: u64,
     pub also_joined: u64,
     pub sheets: Sheets,
+    pub last: Written, // what the last call checked had to write
 }
 
 impl Checker {
-    pub fn new() -> Checker {
+    /// `to_meet` beside TO_MEET.
+    pub fn new(to_meet: &[ToMeet]) -> Checker {
         let lists: Vec<_> = (0..=SEARCHED).map(all_lists).collect();
         let numbers: Vec<usize> = lists.iter().map(Vec::len).collect();
         assert_eq!(numbers, [1, 1, 2, 5, 14, 42, 132, 429, 1430, 4862, 16796], "the numbers of well-formed lists");
-        let met = vec![0; TO_MEET.len()];
+        let met = TO_MEET.iter().chain(to_meet).map(|&what| (what, 0)).collect();
         let sheets = Sheets::default();
-        Checker { lists, met, results: BTreeMap::new(), broken: BTreeMap::new(), searched: 0, by_windows: 0, also_joined: 0, sheets }
+        let (results, broken) = (BTreeMap::new(), BTreeMap::new());
+        Checker { lists, met, results, broken, searched: 0, by_windows: 0, also_joined: 0, sheets, last: Written::default() }
     }
 
     fn least(&mut self, run: &Run) -> Vec<Detour> {
@@ -156,7 +167,8 @@ impl Checker {
             Err((number, place)) => {
                 if number == 10 && place > 0 {
                     let list: Vec<Detour> = call.rows[FROM].iter().cloned().zip(call.rows[TO].iter().cloned()).collect();
-                    *self.broken.entry((rule_broken(&stop_names(call), &list, place - 1), place)).or_insert(0) += 1;
+                    let rule = rule_broken(&stop_names(call), own_stop_name(call), &list, place - 1);
+                    *self.broken.entry((rule, place)).or_insert(0) += 1;
                 }
                 (number + 256 * place as u64, Written::default())
             }
@@ -185,19 +197,20 @@ impl Checker {
             self.also_joined += 1;
         }
         self.note(call, must_be);
+        self.last = written;
         Ok(())
     }
 
     fn note(&mut self, call: &Call, result: u64) {
         *self.results.entry((call.plan, result % 256)).or_insert(0) += 1;
-        for (times, (_, is_met)) in self.met.iter_mut().zip(TO_MEET) {
+        for ((_, is_met), times) in &mut self.met {
             *times += is_met(call, result) as u64;
         }
     }
 }
 
 /// Which rule entry i breaks, for the count of what was met; the judging does not use it.
-pub fn rule_broken(names: &[u64], list: &[Detour], i: usize) -> &'static str {
+pub fn rule_broken(names: &[u64], own: Option<u64>, list: &[Detour], i: usize) -> &'static str {
     let (a, b) = list[i];
     if !names.contains(&a) || !names.contains(&b) {
         "no stop"
@@ -205,6 +218,8 @@ pub fn rule_broken(names: &[u64], list: &[Detour], i: usize) -> &'static str {
         "backward"
     } else if names[0] == a {
         "at leftmost"
+    } else if own.map_or(false, |own| own < a) {
+        "right of the head's own stop"
     } else if list[..i].iter().any(|d| d.0 <= a) {
         "not falling"
     } else if list[..i].iter().any(|d| d.1 == b) {

@@ -27,6 +27,7 @@ mod judge;
 mod kinds;
 mod limits;
 mod lists;
+mod make;
 mod random;
 mod rows;
 mod sheets;
@@ -35,7 +36,7 @@ mod windows;
 mod worked;
 
 use call::Call;
-use check::{Checker, TO_MEET};
+use check::{Checker, TO_MEET_FROM_THE_RIGHT};
 use kinds::draw_call;
 use random::Random;
 use std::process::exit;
@@ -65,8 +66,8 @@ fn require_all_met(checker: &Checker) {
             require(checker.results.contains_key(&(plan, number)), format!("plan: {}, number {}", plan, number));
         }
     }
-    for (&times, (what, _)) in checker.met.iter().zip(TO_MEET) {
-        require(times > 0, what.to_string());
+    for ((what, _), times) in &checker.met {
+        require(*times > 0, what.to_string());
     }
     for entry in 1..=8 {
         for rule in ["no stop", "backward", "at leftmost", "not falling", "same end", "crossing"].iter() {
@@ -121,7 +122,7 @@ fn write_sheets(path: &str, text: &str) {
 fn main() {
     let (calls, seed, from, sheets) = arguments();
     let began = Instant::now();
-    let mut checker = Checker::new();
+    let mut checker = Checker::new(TO_MEET_FROM_THE_RIGHT);
     check_worked(&mut checker);
     checker.results.clear();
     checker.searched = 0;

@@ -61,6 +61,11 @@ pub fn stop_names(call: &Call) -> Vec<u64> {
     stops_of(call).0.iter().map(|stop| stop.file).collect()
 }
 
+/// That of the first stop whose start is at or right of the head.
+pub fn own_stop_name(call: &Call) -> Option<u64> {
+    stops_of(call).0.iter().find(|stop| call.head <= stop.start).map(|stop| stop.file)
+}
+
 /// In which aggregates the files lie: of 100 stretches of neighbours so many in one, with numbers shuffled, the first `first`.
 pub fn draw_aggregates(random: &mut Random, call: &mut Call, first: u64) {
     let inside = random.pick(&[0, 0, 30, 60, 100, 100]);

@@ -1,33 +1,11 @@
-//! Rows between guard words, and the two functions as this program declares them.
-
-use crate::call::*;
-
-extern "C" {
-    fn violstream_price(
-        starts: *const u64, starts_len: usize, lengths: *const u64, lengths_len: usize,
-        aggregates: *const u64, aggregates_len: usize,
-        numbers: *const u64, numbers_len: usize, counts: *const u64, counts_len: usize,
-        head: u64, turn: u64,
-        detour_starts: *const u64, detour_starts_len: usize, detour_ends: *const u64, detour_ends_len: usize,
-        times: *mut u64, times_len: usize, legs: *mut u64, legs_len: usize, sums: *mut u64, sums_len: usize,
-    ) -> u64;
-    fn violstream_plan(
-        starts: *const u64, starts_len: usize, lengths: *const u64, lengths_len: usize,
-        aggregates: *const u64, aggregates_len: usize,
-        numbers: *const u64, numbers_len: usize, counts: *const u64, counts_len: usize,
-        head: u64, turn: u64, rule: u64,
-        detour_starts: *mut u64, detour_starts_len: usize, detour_ends: *mut u64, detour_ends_len: usize,
-        times: *mut u64, times_len: usize, legs: *mut u64, legs_len: usize, sums: *mut u64, sums_len: usize,
-        room: *mut u64, room_len: usize,
-    ) -> u64;
-}
+//! Rows between guard words.
 
 const GUARD: usize = 6;
 
 pub struct Fenced {
     pub words: Vec<u64>,
     before: usize,
-    len: usize,
+    pub len: usize,
     null: bool,
 }
 
@@ -45,7 +23,7 @@ impl Fenced {
         Fenced { words, before, len: row.len(), null: null && row.is_empty() }
     }
 
-    fn pointer(&mut self) -> *mut u64 {
+    pub fn pointer(&mut self) -> *mut u64 {
         if self.null {
             return std::ptr::null_mut();
         }
@@ -59,29 +37,5 @@ impl Fenced {
     pub fn first_bad_guard(&self) -> Option<usize> {
         let after = self.before + self.len;
         (0..self.before).chain(after..self.words.len()).find(|&at| self.words[at] != guard_word(at))
-    }
-}
-
-pub fn make(call: &Call, rows: &mut [Fenced]) -> u64 {
-    let p: Vec<*mut u64> = rows.iter_mut().map(Fenced::pointer).collect();
-    let n: Vec<usize> = rows.iter().map(|row| row.len).collect();
-    // Sound: each pointer is that of a row of its length, or null for an empty one, and no two rows overlap.
-    unsafe {
-        if call.plan {
-            violstream_plan(
-                p[STARTS], n[STARTS], p[LENGTHS], n[LENGTHS], p[AGGREGATES], n[AGGREGATES],
-                p[NUMBERS], n[NUMBERS], p[COUNTS], n[COUNTS],
-                call.head, call.turn, call.rule,
-                p[FROM], n[FROM], p[TO], n[TO], p[TIMES], n[TIMES], p[LEGS], n[LEGS], p[SUMS], n[SUMS],
-                p[ROOM], n[ROOM],
-            )
-        } else {
-            violstream_price(
-                p[STARTS], n[STARTS], p[LENGTHS], n[LENGTHS], p[AGGREGATES], n[AGGREGATES],
-                p[NUMBERS], n[NUMBERS], p[COUNTS], n[COUNTS],
-                call.head, call.turn,
-                p[FROM], n[FROM], p[TO], n[TO], p[TIMES], n[TIMES], p[LEGS], n[LEGS], p[SUMS], n[SUMS],
-            )
-        }
     }
 }

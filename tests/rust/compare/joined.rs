@@ -3,12 +3,13 @@
 
 use crate::call::*;
 use crate::draw::reads_drawn;
-use crate::fence::{make, Fenced};
+use crate::fence::Fenced;
+use crate::make::make;
 use crate::rows::{difference, Difference};
 
 /// The table joined, and for each of its files the first and the last file of the table handed in.
 fn join_table(call: &Call) -> (Call, Vec<(u64, u64)>) {
-    let mut joined = Call { plan: call.plan, head: call.head, turn: call.turn, rule: call.rule, ..Call::default() };
+    let mut joined = Call { plan: call.plan, any: call.any, head: call.head, turn: call.turn, rule: call.rule, ..Call::default() };
     let mut spans: Vec<(u64, u64)> = Vec::new();
     for (i, &number) in call.rows[AGGREGATES].iter().enumerate() {
         let file = i as u64 + 1;

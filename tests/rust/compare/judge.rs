@@ -79,15 +79,18 @@ fn judge_run(call: &Call) -> Result<Run, Refusal> {
         return Err((6, 0));
     }
     let (stops, of_wants) = stops_of(call);
-    if call.head > POSITION || stops.last().map_or(false, |stop| call.head < stop.end) {
+    let too_far_left = !call.any && stops.last().map_or(false, |stop| call.head < stop.end);
+    if call.head > POSITION || too_far_left {
         return Err((7, 0));
     }
     Ok(Run { stops, of_wants, head: call.head, turn: call.turn })
 }
 
+/// Two stops from left to right, of which the first is not right of the head's own stop.
 fn names_stops(run: &Run, detour: &Detour) -> bool {
     let is_stop = |file: u64| run.stops.iter().any(|stop| stop.file == file);
-    is_stop(detour.0) && is_stop(detour.1) && detour.0 <= detour.1
+    let in_reach = run.stops.get(run.own_stop()).map_or(true, |own| detour.0 <= own.file);
+    is_stop(detour.0) && is_stop(detour.1) && detour.0 <= detour.1 && in_reach
 }
 
 /// The list as first files, if it is well formed; else the first number of entries that is not.
@@ -114,7 +117,7 @@ fn a_row_is_short(run: &Run, call: &Call) -> bool {
 /// The run and, for the pricer, its list; or the refusal.
 pub fn judge(call: &Call) -> Result<(Run, Vec<Detour>), Refusal> {
     let run = judge_run(call)?;
-    if call.plan && call.rule != 1 {
+    if call.plan && !call.any && call.rule != 1 {
         return Err((14, 0));
     }
     let list = if call.plan { Vec::new() } else { judge_list(&run, call)? };

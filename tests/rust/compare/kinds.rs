@@ -60,7 +60,7 @@ fn broken_list_call(random: &mut Random) -> Call {
         let list: Vec<Detour> = call.rows[FROM].iter().cloned().zip(call.rows[TO].iter().cloned()).collect();
         let leftmost = names.first().cloned().unwrap_or(0);
         let sound = list[at].0 <= list[at].1 && well_formed(&list[..=at], leftmost);
-        if !sound && !names.is_empty() && rule_broken(&names, &list, at) == aim {
+        if !sound && !names.is_empty() && rule_broken(&names, None, &list, at) == aim {
             break;
         }
     }

@@ -27,6 +27,16 @@ impl Run {
         self.stops.iter().map(|stop| stop.count).sum()
     }
 
+    /// The head's own stop, the first whose start is at or right of the head; k where there is none. No detour starts right of it.
+    pub fn own_stop(&self) -> usize {
+        self.stops.iter().position(|stop| self.head <= stop.start).unwrap_or(self.k())
+    }
+
+    /// Where a leg from a stop on turns right: at its start, or at the head's first place where the start lies right of that.
+    pub fn turns_at(&self, stop: usize) -> u64 {
+        self.stops[stop].start.min(self.head)
+    }
+
     pub fn room(&self) -> usize {
         self.k() * self.k() * (self.reads() as usize + 1)
     }
@@ -36,21 +46,22 @@ impl Run {
 pub struct Head {
     pub place: u64,
     pub clock: u64,
+    pub rightward: bool,
 }
 
 impl Head {
     fn left_to(self, place: u64) -> Head {
-        assert!(place <= self.place, "a leg goes left");
-        Head { place, clock: self.clock + (self.place - place) }
+        assert!(!self.rightward && place <= self.place, "a leg goes left");
+        Head { place, clock: self.clock + (self.place - place), ..self }
     }
 
     fn turned(self, price: u64) -> Head {
-        Head { place: self.place, clock: self.clock + price }
+        Head { clock: self.clock + price, rightward: !self.rightward, ..self }
     }
 
     fn right_to(self, place: u64) -> Head {
-        assert!(self.place <= place, "a rightward run goes right");
-        Head { place, clock: self.clock + (place - self.place) }
+        assert!(self.rightward && self.place <= place, "a rightward run goes right");
+        Head { place, clock: self.clock + (place - self.place), ..self }
     }
 }
 
@@ -62,7 +73,7 @@ pub struct Rightward {
 
 /// The rightward runs of a list with its last sweep, and the head at the end.
 pub fn rightward_runs(run: &Run, list: &[Detour]) -> (Vec<Rightward>, Head) {
-    let mut head = Head { place: run.head, clock: 0 };
+    let mut head = Head { place: run.head, clock: 0, rightward: false };
     let mut runs = Vec::with_capacity(list.len() + 1);
     if run.k() == 0 {
         return (runs, head);
@@ -74,7 +85,7 @@ pub fn rightward_runs(run: &Run, list: &[Detour]) -> (Vec<Rightward>, Head) {
         if !runs.is_empty() {
             head = head.turned(run.turn);
         }
-        let from = head.left_to(run.stops[a as usize].start).turned(run.turn);
+        let from = head.left_to(run.turns_at(a as usize)).turned(run.turn);
         let to = run.stops[b as usize].end;
         runs.push(Rightward { from, to });
         head = from.right_to(to);
@@ -102,11 +113,12 @@ pub fn sum_of(run: &Run, list: &[Detour]) -> u64 {
     run.stops.iter().map(|stop| stop.count * time_of(stop, &runs)).sum()
 }
 
-/// Of all lists, those of smallest sum; of those, the one that comes first.
+/// Of all lists without a start right of the head's own stop, those of smallest sum; of those, the one that comes first.
 pub fn search(run: &Run, lists: &[Vec<Detour>]) -> Vec<Detour> {
     let mut least = u64::MAX;
     let mut cheapest: Vec<&Vec<Detour>> = Vec::new();
-    for list in lists {
+    let own = run.own_stop() as u64;
+    for list in lists.iter().filter(|list| list.iter().all(|detour| detour.0 <= own)) {
         let sum = sum_of(run, list);
         if sum < least {
             least = sum;

@@ -23,14 +23,15 @@ impl<'a> Windows<'a> {
     /// What skipping stop b costs, or reading it by a detour that starts at c.
     fn choice(&mut self, a: usize, b: usize, s: u64, detour: Option<usize>) -> u64 {
         let stops = &self.run.stops;
+        let turns_at = |stop: usize| self.run.turns_at(stop);
         let from = detour.unwrap_or(a);
-        let wait = 2 * (stops[b].start - stops[from].start) * stops[b].count;
+        let wait = 2 * (turns_at(b) - turns_at(from)) * stops[b].count;
         let waiting_after = s + stops[b].count;
         let c = match detour {
             None => return wait + self.cost(a, b - 1, waiting_after),
             Some(c) => c,
         };
-        let delay = 2 * (self.run.turn + stops[b].end - stops[c].start) * (self.left[c] + s);
+        let delay = 2 * (self.run.turn + stops[b].end - turns_at(c)) * (self.left[c] + s);
         let inner = if c == b { 0 } else { self.cost(c, b - 1, waiting_after) };
         delay + wait + inner + self.cost(a, c - 1, s)
     }
