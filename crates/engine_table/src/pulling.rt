@@ -14,7 +14,8 @@ pub(crate) fn pulled_starts(starts: &[u64], head: u64) -> [u64; 64]
     let mut row = [0u64; 64];
     let mut i: usize = 0;
     while i < starts.len() {
-        row[i] = smaller(starts[i], head);
+        let start = starts[i];
+        row[i] = smaller(start, head);
         i += 1;
     }
     row
