@@ -83,26 +83,21 @@ fn detour_leg(
     Leg { left, right }
 }
 
-// Whether a leg's rightward run starts at or left of a file's start and ends at or right of its end.
-fn reads_file(leg: Leg, start: u64, end: u64) -> bool
-    ensures { λ r. ⌜ r ≡ (leb (leg .left) start && leb end (leg .right)) ⌝ }
+// Whether two numbers lie between two others.
+fn lie_between(left: u64, right: u64, start: u64, end: u64) -> bool
+    ensures { λ r. ⌜ r ≡ (leb left start && leb end right) ⌝ }
 {
-    let left = leg.left;
-    let right = leg.right;
     if left <= start {
         return end <= right;
     }
     false
 }
 
-// Whether a number lies between two.
-fn lies_between(from: u64, to: u64, number: u64) -> bool
-    ensures { λ r. ⌜ r ≡ (leb from number && leb number to) ⌝ }
+// Whether a leg's rightward run starts at or left of a file's start and ends at or right of its end.
+fn reads_file(leg: Leg, start: u64, end: u64) -> bool
+    ensures { λ r. ⌜ r ≡ (leb (leg .left) start && leb end (leg .right)) ⌝ }
 {
-    if from <= number {
-        return number <= to;
-    }
-    false
+    lie_between(leg.left, leg.right, start, end)
 }
 
 // Whether a detour reads the aggregate of a file of the table: those do that start at or left of its first file and end at or right of it.
@@ -115,7 +110,7 @@ fn detour_reads(aggregates: &[u64], froms: &[u64], tos: &[u64], file: u64) -> bo
     let first = first_member(aggregates, at) as u64 + 1;
     let mut i: usize = 0;
     while i < froms.len() {
-        if lies_between(froms[i], tos[i], first) {
+        if lie_between(froms[i], tos[i], first, first) {
             return true;
         }
         i += 1;
@@ -314,19 +309,26 @@ fn fill_reads(
     sum
 }
 
-// The answer of a refusal: kind and place, and every other number 0.
-pub fn refuse(v: Verdict) -> Answer
-    ensures { λ r. ⌜ r ≡ refusalAnswer v ⌝ }
+// Kind and place, and every other number 0.
+fn answer_at(kind: Refusal, place: u64) -> Answer
+    ensures { λ r. ⌜ r ≡ refusalAnswer (record { refusal = kind; place = place }) ⌝ }
 {
-    let kind = v.refusal;
     Answer {
         refusal: kind,
-        place: v.place,
+        place,
         sum: 0,
         finish: 0,
         end: 0,
         detours: 0,
     }
+}
+
+// The answer of a refusal.
+pub fn refuse(v: Verdict) -> Answer
+    ensures { λ r. ⌜ r ≡ refusalAnswer v ⌝ }
+{
+    let kind = v.refusal;
+    answer_at(kind, v.place)
 }
 
 // Whether a row for times or for legs has no entry for each want.

@@ -37,22 +37,22 @@ add-first c = omega (arith, c .first-member .ensures, first-below (c .before .be
 loop-holds : tie.Need-loop-holds Inv-loop μ-loop
 loop-holds c = search-start _ _ _
 
-mul-lies-between : tie.Need-mul-lies-between Inv-loop μ-loop
-mul-lies-between c = search needs
+mul-lie-between : tie.Need-mul-lie-between Inv-loop μ-loop
+mul-lie-between c = search needs
 
-shared-slice-read-lies-between : tie.Need-shared-slice-read-lies-between Inv-loop μ-loop
-shared-slice-read-lies-between c = search needs
+shared-slice-read-lie-between : tie.Need-shared-slice-read-lie-between Inv-loop μ-loop
+shared-slice-read-lie-between c = search needs
 
-mul-lies-between-2 : tie.Need-mul-lies-between-2 Inv-loop μ-loop
-mul-lies-between-2 c = search needs
+mul-lie-between-2 : tie.Need-mul-lie-between-2 Inv-loop μ-loop
+mul-lie-between-2 c = search needs
 
-shared-slice-read-lies-between-2 : tie.Need-shared-slice-read-lies-between-2 Inv-loop μ-loop
-shared-slice-read-lies-between-2 c =
+shared-slice-read-lie-between-2 : tie.Need-shared-slice-read-lie-between-2 Inv-loop μ-loop
+shared-slice-read-lie-between-2 c =
     let l = c .before .before in
     omega (arith, l .before .before .before .before .before .before .pre .1, l .loop-test .taken)
 
-lies-between-requires : tie.Need-lies-between-requires Inv-loop μ-loop
-lies-between-requires c κs = search needs
+lie-between-requires : tie.Need-lie-between-requires Inv-loop μ-loop
+lie-between-requires c κs = search needs
 
 returns : tie.Need-returns Inv-loop μ-loop
 returns c =
@@ -60,7 +60,7 @@ returns c =
     let l = b .before .before .before in
     let m = l .before .before in
     let s = m .before .before .before .before in
-    found-here _ _ _ _ (l .before .loop .inv) (s .pre .1) (l .loop-test .taken) _ (b .lies-between .ensures) (c .if1 .taken) ∙ ap (readByNumber (s .args .froms .now) (s .args .tos .now)) (name m)
+    found-here _ _ _ _ (l .before .loop .inv) (s .pre .1) (l .loop-test .taken) _ (b .lie-between .ensures) (c .if1 .taken) ∙ ap (readByNumber (s .args .froms .now) (s .args .tos .now)) (name m)
 
 add-i : tie.Need-add-i Inv-loop μ-loop
 add-i c = search needs
@@ -72,7 +72,7 @@ loop-again : tie.Need-loop-again Inv-loop μ-loop
 loop-again c =
     let b = c .before in
     let l = b .before .before .before in
-    search-on _ _ _ _ (l .before .loop .inv) (l .before .before .before .before .before .before .pre .1) (l .loop-test .taken) _ (b .lies-between .ensures) (c .if1 .left)
+    search-on _ _ _ _ (l .before .loop .inv) (l .before .before .before .before .before .before .pre .1) (l .loop-test .taken) _ (b .lie-between .ensures) (c .if1 .left)
 
 returns-2 : tie.Need-returns-2 Inv-loop μ-loop
 returns-2 c =
@@ -90,11 +90,11 @@ detour-reads-spec =
     first-member-requires
     add-first
     loop-holds
-    mul-lies-between
-    shared-slice-read-lies-between
-    mul-lies-between-2
-    shared-slice-read-lies-between-2
-    lies-between-requires
+    mul-lie-between
+    shared-slice-read-lie-between
+    mul-lie-between-2
+    shared-slice-read-lie-between-2
+    lie-between-requires
     returns
     add-i
     loop-less
