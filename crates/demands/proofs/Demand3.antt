@@ -16,7 +16,7 @@ use Rattle.demands.proofs.Planned.{plan-in-rows, run-accepted, reported
 use Rattle.demands.proofs.Demand2.{demand2-walk}
 
 -- Runs over one tape table have their files at the same places.
-one-table : (first second : Run) → first .starts ≡ second .starts → first .lengths ≡ second .lengths → first .aggregates ≡ second .aggregates → SameTable (stopsOf first) (stopsOf second)
+pub one-table : (first second : Run) → first .starts ≡ second .starts → first .lengths ≡ second .lengths → first .aggregates ≡ second .aggregates → SameTable (stopsOf first) (stopsOf second)
 one-table first second s l a = rw (s, l, a) (same-table (second .starts) (second .lengths) (second .aggregates) (first .numbers) (first .counts) (second .numbers) (second .counts))
 
 pub demand3 : Demand3

@@ -60,12 +60,12 @@ module _ (r : Run) where
   run-small (RunApplies.head-far h) = omega arith
   run-small (RunApplies.head-near a w h) = omega arith
 
--- The checks of a run at the front of a row find the first of 1 to 7 that applies, and then what the others find.
-module _ (r : Run) (applies : Refusal → ℕ → Type 0) (there : (k : Refusal) (p : ℕ) → RunApplies r k p → applies k p)
-    (back : (k : Refusal) (p : ℕ) → numberOf k ≤ 7 → applies k p → RunApplies r k p) where
-  of-run : (k : Refusal) {v : Verdict} {A : ℕ → Type 0} → numberOf k ≤ 7 → ((p : ℕ) → A p → RunApplies r k p) → ((p : ℕ) → RunApplies r k p → A p)
+-- The checks of the table, the wants and the turn price at the front of a row find the first of 1 to 6 that applies, and then what the others find.
+module _ (r : Run) (applies : Refusal → ℕ → Type 0) (there : (k : Refusal) (p : ℕ) → numberOf k ≤ 6 → RunApplies r k p → applies k p)
+    (back : (k : Refusal) (p : ℕ) → numberOf k ≤ 6 → applies k p → RunApplies r k p) where
+  of-run : (k : Refusal) {v : Verdict} {A : ℕ → Type 0} → numberOf k ≤ 6 → ((p : ℕ) → A p → RunApplies r k p) → ((p : ℕ) → RunApplies r k p → A p)
       → Decides k A v → Decides k (applies k) v
-  of-run k l on off d = decides-reworded (λ p h. there k p (on p h)) (λ p h. off p (back k p l h)) d
+  of-run k l on off d = decides-reworded (λ p h. there k p l (on p h)) (λ p h. off p (back k p l h)) d
 
   pub table-finds : (rest : List Refusal) (vs : List Verdict) → (refuses (firstOf (tableChecks (r .starts) (r .lengths) (r .aggregates))) ≡ false → Finds applies rest (firstOf vs))
       → Finds applies (FileRows ∷ BadFile ∷ rest) (firstOf (firstOf (tableChecks (r .starts) (r .lengths) (r .aggregates)) ∷ vs))
@@ -78,7 +78,7 @@ module _ (r : Run) (applies : Refusal → ℕ → Type 0) (there : (k : Refusal)
       (λ a. finds-first applies vs refl (of-run BadFile (omega arith) (λ p h. RunApplies.bad-file h) (bad-file-only r) (decides-at (badFile (r .starts) (r .lengths) (r .aggregates)) (FileIsBad r) (length (r .starts)) (file-is-bad r) BadFile))
       (λ b. others (both-pass first (second ∷ []) a (both-pass second [] b refl)))))
 
-  wants-find : (rest : List Refusal) (vs : List Verdict) → (refuses (firstOf (wantsChecks (length (r .starts)) (r .numbers) (r .counts))) ≡ false → Finds applies rest (firstOf vs))
+  pub wants-find : (rest : List Refusal) (vs : List Verdict) → (refuses (firstOf (wantsChecks (length (r .starts)) (r .numbers) (r .counts))) ≡ false → Finds applies rest (firstOf vs))
       → Finds applies (WantRows ∷ BadWant ∷ TooManyReads ∷ rest) (firstOf (firstOf (wantsChecks (length (r .starts)) (r .numbers) (r .counts)) ∷ vs))
   wants-find rest vs others =
       let first = refuseIf (ltb mostWants (length (r .numbers)) || not (eqb (length (r .numbers)) (length (r .counts)))) WantRows in
@@ -92,19 +92,31 @@ module _ (r : Run) (applies : Refusal → ℕ → Type 0) (there : (k : Refusal)
       (λ b. finds-first applies vs refl (of-run TooManyReads (omega arith) (λ p h. rw (h .0) (RunApplies.many-reads (h .1))) (many-reads-only r) (decides-if _ TooManyReads (tells-below mostReads (total (r .counts)))))
       (λ c. others (both-pass first (second ∷ third ∷ []) a (both-pass second (third ∷ []) b (both-pass third [] c refl)))))))
 
-  head-finds : (rest : List Refusal) (vs : List Verdict) → GoodTable (r .starts) (r .lengths) (r .aggregates) → GoodWants (length (r .starts)) (r .numbers) (r .counts)
-      → (refuses (firstOf (headChecks (r .turn) (r .head) (rightEnd (stopsOf r)))) ≡ false → Finds applies rest (firstOf vs))
-      → Finds applies (TurnPrice ∷ HeadPlace ∷ rest) (firstOf (firstOf (headChecks (r .turn) (r .head) (rightEnd (stopsOf r))) ∷ vs))
-  head-finds rest vs files wants others =
+  pub turn-finds : (second : Verdict) (rest : List Refusal) (vs : List Verdict) → Decides HeadPlace (applies HeadPlace) second
+      → (refuses (firstOf (refuseIf (ltb highestTurn (r .turn)) TurnPrice ∷ second ∷ [])) ≡ false → Finds applies rest (firstOf vs))
+      → Finds applies (TurnPrice ∷ HeadPlace ∷ rest) (firstOf (firstOf (refuseIf (ltb highestTurn (r .turn)) TurnPrice ∷ second ∷ []) ∷ vs))
+  turn-finds second rest vs head others =
       let first = refuseIf (ltb highestTurn (r .turn)) TurnPrice in
-      let second = refuseIf (ltb lastPlace (r .head) || ltb (r .head) (rightEnd (stopsOf r))) HeadPlace in
       rw
-      (first-of-joined (headChecks (r .turn) (r .head) (rightEnd (stopsOf r))) vs)
+      (first-of-joined (first ∷ second ∷ []) vs)
       (finds-first applies (second ∷ vs) refl (of-run TurnPrice (omega arith) (λ p h. rw (h .0) (RunApplies.turn-price (h .1))) (turn-price-only r) (decides-if _ TurnPrice (tells-below highestTurn (r .turn))))
-      (λ a. finds-first applies vs refl
-      (of-run HeadPlace (omega arith) (only-head-place r) (head-place-only r) (decides-if _ HeadPlace
-      (tells-either (ltb lastPlace (r .head)) (ltb (r .head) (rightEnd (stopsOf r))) (tells-below lastPlace (r .head)) (head-left-of-end r files wants))))
+      (λ a. finds-first applies vs refl head
       (λ b. others (both-pass first (second ∷ []) a (both-pass second [] b refl)))))
+
+-- With 7 after them.
+module _ (r : Run) (applies : Refusal → ℕ → Type 0) (there : (k : Refusal) (p : ℕ) → RunApplies r k p → applies k p)
+    (back : (k : Refusal) (p : ℕ) → numberOf k ≤ 7 → applies k p → RunApplies r k p) where
+  sooner : (k : Refusal) (p : ℕ) → numberOf k ≤ 6 → RunApplies r k p → applies k p
+  sooner k p l h = there k p h
+
+  sooner-back : (k : Refusal) (p : ℕ) → numberOf k ≤ 6 → applies k p → RunApplies r k p
+  sooner-back k p l h = back k p (omega arith) h
+
+  head-decides : GoodTable (r .starts) (r .lengths) (r .aggregates) → GoodWants (length (r .starts)) (r .numbers) (r .counts)
+      → Decides HeadPlace (applies HeadPlace) (refuseIf (ltb lastPlace (r .head) || ltb (r .head) (rightEnd (stopsOf r))) HeadPlace)
+  head-decides files wants =
+      decides-reworded (λ p h. there HeadPlace p (only-head-place r p h)) (λ p h. head-place-only r p (back HeadPlace p (omega arith) h)) (decides-if _ HeadPlace
+      (tells-either (ltb lastPlace (r .head)) (ltb (r .head) (rightEnd (stopsOf r))) (tells-below lastPlace (r .head)) (head-left-of-end r files wants)))
 
   pub run-finds : (rest : List Refusal) (vs : List Verdict) → (refuses (judgeOf r) ≡ false → Finds applies rest (firstOf vs))
       → Finds applies (FileRows ∷ BadFile ∷ WantRows ∷ BadWant ∷ TooManyReads ∷ TurnPrice ∷ HeadPlace ∷ rest) (firstOf (judgeOf r ∷ vs))
@@ -115,9 +127,10 @@ module _ (r : Run) (applies : Refusal → ℕ → Type 0) (there : (k : Refusal)
       let head = firstOf (headChecks (r .turn) (r .head) (rightEnd (stopsOf r))) in
       rw
       (first-of-joined (table ∷ wants ∷ head ∷ []) vs)
-      (table-finds (WantRows ∷ BadWant ∷ TooManyReads ∷ TurnPrice ∷ HeadPlace ∷ rest) (wants ∷ head ∷ vs)
-      (λ a. wants-find (TurnPrice ∷ HeadPlace ∷ rest) (head ∷ vs)
-      (λ b. head-finds rest vs (accepted-table (r .starts) (r .lengths) (r .aggregates) a) (accepted-wants (length (r .starts)) (r .numbers) (r .counts) b)
+      (table-finds r applies sooner sooner-back (WantRows ∷ BadWant ∷ TooManyReads ∷ TurnPrice ∷ HeadPlace ∷ rest) (wants ∷ head ∷ vs)
+      (λ a. wants-find r applies sooner sooner-back (TurnPrice ∷ HeadPlace ∷ rest) (head ∷ vs)
+      (λ b. turn-finds r applies sooner sooner-back (refuseIf (ltb lastPlace (r .head) || ltb (r .head) (rightEnd (stopsOf r))) HeadPlace) rest vs
+      (head-decides (accepted-table (r .starts) (r .lengths) (r .aggregates) a) (accepted-wants (length (r .starts)) (r .numbers) (r .counts) b))
       (λ c. others (both-pass table (wants ∷ head ∷ []) a (both-pass wants (head ∷ []) b (both-pass head [] c refl)))))))
 
 -- The order of 1 to 7.
@@ -178,7 +191,7 @@ module _ (r : Run) where
   table = firstOf (tableChecks (r .starts) (r .lengths) (r .aggregates))
 
   table-found : Finds (RunApplies r) (FileRows ∷ BadFile ∷ []) (firstOf (table ∷ []))
-  table-found = table-finds r (RunApplies r) (λ k p h. h) (λ k p l h. h) [] [] (λ a. finds-none (RunApplies r))
+  table-found = table-finds r (RunApplies r) (λ k p l h. h) (λ k p l h. h) [] [] (λ a. finds-none (RunApplies r))
 
   pub table-judged : ((p : ℕ) → RunApplies r FileRows p → ⊥) → ((p : ℕ) → RunApplies r BadFile p → ⊥) → refuses table ≡ false
   table-judged rows files = none-found (RunApplies r) table table-found (refl, (refl, tt)) (⊎-elim (λ h. rows (h .0) (h .1)) (⊎-elim (λ h. files (h .0) (h .1)) (λ s. s)))

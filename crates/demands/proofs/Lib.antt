@@ -12,6 +12,10 @@ pub mod Planned
 pub mod Demand2
 pub mod Demand3
 pub mod Multiplied
+pub mod AnyLifted
+pub mod AnyJudged
+pub mod AnyHead
+pub mod AnyChain
 pub mod Offices
 pub mod Plain
 pub mod Stops

@@ -115,7 +115,7 @@ module _ (r : Run) (good : GoodRun r) where
               let same = goes-on-same (r .aggregates) i on in
               s .first (suc i) (record { least = omega arith; most = omega (arith, s .file .most) }) (omega arith) (inr (rw (up, down) (same .0), rw up (same .1)))
 
-  names-stop : (f : ℕ) → Tells (rowNamed (r .aggregates) (r .numbers) f) (NamesStop r f)
+  pub names-stop : (f : ℕ) → Tells (rowNamed (r .aggregates) (r .numbers) f) (NamesStop r f)
   names-stop f = record { when-true = test-names f; when-false = λ e s. true≢false (sym (names-test f s) ∙ e) }
 
   bad-by-itself : (from to : ℕ) → Tells (rowAlone (r .aggregates) (r .numbers) from to) (BadByItself r from to)
@@ -132,7 +132,7 @@ module _ (r : Run) (good : GoodRun r) where
       (tells-at-most from first)))
 
   module _ (froms tos : List ℕ) where
-    entry-is-bad : (i : ℕ) → Tells (rowBad (r .aggregates) (r .numbers) froms tos i) (EntryIsBad r froms tos i)
+    pub entry-is-bad : (i : ℕ) → Tells (rowBad (r .aggregates) (r .numbers) froms tos i) (EntryIsBad r froms tos i)
     entry-is-bad i =
         tells-either (rowAlone (r .aggregates) (r .numbers) (getD froms i 0) (getD tos i 0)) (rowClash froms tos i)
         (bad-by-itself (getD froms i 0) (getD tos i 0))

@@ -110,7 +110,7 @@ module _ (r : Run) (rows : PlainRows) where
   unfolding plainVerdict rowsCheck
   plain-finds =
       let over = refuseIf (ltb mostPlainWants (length (r .numbers))) OverEightWants in
-      table-finds r (PlainApplies r rows) (λ k p. PlainApplies.run) plain-of-run
+      table-finds r (PlainApplies r rows) (λ k p l. PlainApplies.run) (λ k p l h. plain-of-run k p (omega arith) h)
       (WantRows ∷ OverEightWants ∷ BadWant ∷ TooManyReads ∷ TurnPrice ∷ HeadPlace ∷ ShortRow ∷ []) (refuseIf (unevenWants r) WantRows ∷ over ∷ judgeOf r ∷ rowsCheck ∷ [])
       (λ t. finds-first (PlainApplies r rows) (over ∷ judgeOf r ∷ rowsCheck ∷ []) refl
       (decides-reworded (λ p h. rw (h .0) (PlainApplies.run (RunApplies.want-rows (h .1)))) (λ p h. want-rows-only r p (plain-of-run WantRows p (omega arith) h)) (decides-if (unevenWants r) WantRows (rows-unfit mostWants (length (r .numbers)) (length (r .counts)))))

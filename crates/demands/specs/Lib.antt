@@ -6,6 +6,7 @@ pub mod Demand1
 pub mod Demand2
 pub mod Demand3
 pub mod Movements
+pub mod AnyHead
 pub mod Ends
 pub mod Legs
 pub mod Offices
