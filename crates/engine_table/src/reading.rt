@@ -139,9 +139,9 @@ pub(crate) fn read_off(
     requires { ⌜ length (now numbers) ≤ length (now tos) + 1 ⌝ }
     ensures { λ r. ⌜ ListWritten (listAt (plainStopsAt starts lengths numbers counts) turn 0 (length (now (numbers .entry)) - 1) 0) r (now (froms .entry)) (now (tos .entry)) (now (froms .exit)) (now (tos .exit)) ⌝ }
 {
-    let mut edges = [0usize; 64];
-    let mut ends = [0usize; 64];
-    let mut skips = [0usize; 64];
+    let mut edges = [0u8; 64];
+    let mut ends = [0u8; 64];
+    let mut skips = [0u16; 64];
     let mut depth: usize = 0;
     let mut n: usize = 0;
     let mut a: usize = 0;
@@ -154,11 +154,11 @@ pub(crate) fn read_off(
             }
             depth -= 1;
             froms[n] = numbers[a];
-            tos[n] = numbers[ends[depth]];
+            tos[n] = numbers[ends[depth] as usize];
             n += 1;
             b = a - 1;
-            s = skips[depth];
-            a = edges[depth];
+            s = skips[depth] as usize;
+            a = edges[depth] as usize;
         } else {
             let c = choice_of(
                 starts,
@@ -176,9 +176,9 @@ pub(crate) fn read_off(
                 s += counts[b] as usize;
                 b -= 1;
             } else {
-                edges[depth] = a;
-                ends[depth] = b;
-                skips[depth] = s;
+                edges[depth] = a as u8;
+                ends[depth] = b as u8;
+                skips[depth] = s as u16;
                 depth += 1;
                 s += counts[b] as usize;
                 b -= 1;

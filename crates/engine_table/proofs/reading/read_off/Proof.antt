@@ -1,7 +1,7 @@
 -- `engine_table::reading::read_off` meets its contract: what is written, what the window still lists and what the waiting windows owe are the whole list.
 -- Assumes nothing.
 use mathlib.Core.Path.{refl}
-use Rattle.engine_table.proofs.Facts.{even-counts}
+use Rattle.engine_table.proofs.Facts.{even-counts, few-stops, few-reads}
 use Rattle.engine_table.proofs.ReadLoop.{ReadLoop, read-starts, stack-room, window-asked, skips-small, read-skip, read-push, frame, frame-depth, from-room, to-room, read-pop, read-ends}
 use Prim.Native.Nat.{_+_, _*_}
 use native.Mathlib.Omega.{arith}
@@ -71,20 +71,20 @@ slice-write-froms c =
     let z = at-start l in
     from-room _ _ _ _ _ _ _ (z .pre .0) _ _ _ _ _ _ _ _ _ _ _ _ (l .loop .inv) (c .before .before .if1 .taken) (c .before .if2 .left)
 
-mul-tos : tie.Need-mul-tos Inv-loop μ-loop
-mul-tos c =
-    let l = c .before .before .before in
-    let z = at-start l in
-    omega (arith, frame-depth _ _ _ _ _ _ _ (z .pre .0) _ _ _ _ _ _ _ _ _ _ _ _ (l .loop .inv) (c .before .before .if1 .taken) (c .before .if2 .left))
-
 array-read-tos : tie.Need-array-read-tos Inv-loop μ-loop
 array-read-tos c =
     let l = c .before .before .before in
     let z = at-start l in
     omega (arith, frame-depth _ _ _ _ _ _ _ (z .pre .0) _ _ _ _ _ _ _ _ _ _ _ _ (l .loop .inv) (c .before .before .if1 .taken) (c .before .if2 .left))
 
-mul-tos-2 : tie.Need-mul-tos-2 Inv-loop μ-loop
-mul-tos-2 c =
+cast-tos : tie.Need-cast-tos Inv-loop μ-loop
+cast-tos c =
+    let l = c .before .before .before in
+    let z = at-start l in
+    omega (arith, z .good, frame _ _ _ _ _ _ _ (z .pre .0) _ _ _ _ _ _ _ _ _ _ _ _ (l .loop .inv) (c .before .before .if1 .taken) (c .before .if2 .left) .end)
+
+mul-tos : tie.Need-mul-tos Inv-loop μ-loop
+mul-tos c =
     let l = c .before .before .before in
     let z = at-start l in
     omega (arith, z .good, frame _ _ _ _ _ _ _ (z .pre .0) _ _ _ _ _ _ _ _ _ _ _ _ (l .loop .inv) (c .before .before .if1 .taken) (c .before .if2 .left) .end)
@@ -96,8 +96,8 @@ shared-slice-read-tos c =
     let z = at-start l in
     frame _ _ _ _ _ _ _ (z .pre .0) _ _ _ _ _ _ _ _ _ _ _ _ (l .loop .inv) (t1 .if1 .taken) (c .before .before .if2 .left) .end
 
-mul-tos-3 : tie.Need-mul-tos-3 Inv-loop μ-loop
-mul-tos-3 c =
+mul-tos-2 : tie.Need-mul-tos-2 Inv-loop μ-loop
+mul-tos-2 c =
     let t1 = c .before .before .before in
     let c4 = t1 .before in
     let z = at-start c4 in
@@ -141,12 +141,12 @@ array-read-s c =
     let l = c4 in
     omega (arith, frame-depth _ _ _ _ _ _ _ (z .pre .0) _ _ _ _ _ _ _ _ _ _ _ _ (l .loop .inv) (t1 .if1 .taken) (c .before .before .if2 .left))
 
-mul-a : tie.Need-mul-a Inv-loop μ-loop
-mul-a c =
+cast-s : tie.Need-cast-s Inv-loop μ-loop
+cast-s c =
     let t1 = c .before .before .before in
     let l = t1 .before in
     let z = at-start l in
-    omega (arith, frame-depth _ _ _ _ _ _ _ (z .pre .0) _ _ _ _ _ _ _ _ _ _ _ _ (l .loop .inv) (t1 .if1 .taken) (c .before .before .if2 .left))
+    omega (arith, frame _ _ _ _ _ _ _ (z .pre .0) _ _ _ _ _ _ _ _ _ _ _ _ (l .loop .inv) (t1 .if1 .taken) (c .before .before .if2 .left) .span, few-reads _ _ _ _ _ _ (z .pre .0 .judged))
 
 array-read-a : tie.Need-array-read-a Inv-loop μ-loop
 array-read-a c =
@@ -155,6 +155,13 @@ array-read-a c =
     let z = at-start c4 in
     let l = c4 in
     omega (arith, frame-depth _ _ _ _ _ _ _ (z .pre .0) _ _ _ _ _ _ _ _ _ _ _ _ (l .loop .inv) (t1 .if1 .taken) (c .before .before .if2 .left))
+
+cast-a : tie.Need-cast-a Inv-loop μ-loop
+cast-a c =
+    let t1 = c .before .before .before in
+    let l = t1 .before in
+    let z = at-start l in
+    omega (arith, frame _ _ _ _ _ _ _ (z .pre .0) _ _ _ _ _ _ _ _ _ _ _ _ (l .loop .inv) (t1 .if1 .taken) (c .before .before .if2 .left) .edge, l .loop .inv .left-in, few-stops _ _ _ _ _ _ (z .pre .0 .judged))
 
 loop-less : tie.Need-loop-less Inv-loop μ-loop
 loop-less c =
@@ -218,11 +225,11 @@ loop-again-2 c =
     let l = c4 in
     read-skip _ _ _ _ _ _ _ (z .pre .0) _ _ _ _ _ _ _ _ _ _ _ _ (l .loop .inv) (e1 .if1 .left) _ (c .before .before .choice-of .ensures) (c .before .if3 .taken)
 
-mul-edges : tie.Need-mul-edges Inv-loop μ-loop
-mul-edges c =
+cast-edges : tie.Need-cast-edges Inv-loop μ-loop
+cast-edges c =
     let l = c .before .before .before in
     let z = at-start l in
-    omega (arith, stack-room _ _ _ _ _ _ _ (z .pre .0) _ _ _ _ _ _ _ _ _ _ _ _ (l .loop .inv) (c .before .before .if1 .left))
+    omega (arith, l .loop .inv .left-in, few-stops _ _ _ _ _ _ (z .pre .0 .judged))
 
 array-write-edges : tie.Need-array-write-edges Inv-loop μ-loop
 array-write-edges c =
@@ -230,17 +237,23 @@ array-write-edges c =
     let z = at-start l in
     stack-room _ _ _ _ _ _ _ (z .pre .0) _ _ _ _ _ _ _ _ _ _ _ _ (l .loop .inv) (c .before .before .if1 .left)
 
-mul-ends : tie.Need-mul-ends Inv-loop μ-loop
-mul-ends c =
+cast-ends : tie.Need-cast-ends Inv-loop μ-loop
+cast-ends c =
     let l = c .before .before .before in
     let z = at-start l in
-    omega (arith, stack-room _ _ _ _ _ _ _ (z .pre .0) _ _ _ _ _ _ _ _ _ _ _ _ (l .loop .inv) (c .before .before .if1 .left))
+    omega (arith, l .loop .inv .inside, few-stops _ _ _ _ _ _ (z .pre .0 .judged))
 
 array-write-ends : tie.Need-array-write-ends Inv-loop μ-loop
 array-write-ends c =
     let l = c .before .before .before in
     let z = at-start l in
     stack-room _ _ _ _ _ _ _ (z .pre .0) _ _ _ _ _ _ _ _ _ _ _ _ (l .loop .inv) (c .before .before .if1 .left)
+
+cast-skips : tie.Need-cast-skips Inv-loop μ-loop
+cast-skips c =
+    let l = c .before .before .before in
+    let z = at-start l in
+    omega (arith, l .loop .inv .span, few-reads _ _ _ _ _ _ (z .pre .0 .judged))
 
 mul-skips : tie.Need-mul-skips Inv-loop μ-loop
 mul-skips c =
@@ -309,18 +322,19 @@ read-off-spec =
     shared-slice-read-froms
     mul-froms-2
     slice-write-froms
-    mul-tos
     array-read-tos
-    mul-tos-2
+    cast-tos
+    mul-tos
     shared-slice-read-tos
-    mul-tos-3
+    mul-tos-2
     slice-write-tos
     add-n
     sub-b-2
     mul-s
     array-read-s
-    mul-a
+    cast-s
     array-read-a
+    cast-a
     loop-less
     loop-again
     sub-choice-of
@@ -331,10 +345,11 @@ read-off-spec =
     sub-b-3
     loop-less-2
     loop-again-2
-    mul-edges
+    cast-edges
     array-write-edges
-    mul-ends
+    cast-ends
     array-write-ends
+    cast-skips
     mul-skips
     array-write-skips
     add-depth
