@@ -258,6 +258,7 @@ run rust/compare ${calls:+--calls "$calls"} --sheets "$out/rust.sheets"
 run rust/any_head ${calls:+--calls "$calls"}
 run rust/movements
 run python/plan
+run python/plan --any
 run python/field
 [ -n "$only" ] || run python/field --sheets "$out/c.sheets" --sheets "$out/rust.sheets"
 run python/buys

@@ -1,8 +1,10 @@
 #!/usr/bin/env python3
 """Runs the program behind `./violstream plan` on whole and damaged sheets and compares every byte it prints with an answer worked out here.
 
-usage: tests/python/plan.py [--native] [PROGRAM]           (default target/bin/cmd_plan)
-       tests/python/plan.py [--native] --time [PROGRAM]    how long one call takes on a full sheet, and on none
+usage: tests/python/plan.py [--native] [--any] [PROGRAM]           (default target/bin/cmd_plan, with --any target/bin/cmd_plan_any)
+       tests/python/plan.py [--native] [--any] --time [PROGRAM]    how long one call takes on a full sheet, and on none
+
+With --any it is the program for a head anywhere, with more room; every sheet is tried with the head at other places too.
 
 The program is for x86-64; on another processor it is started as tools/machine.sh says.
 
@@ -18,21 +20,21 @@ from runs import Refused, judge, least, stops, total, walk
 from sheets import read
 
 
-def accepted(sheet):
-    """Name, head, turn price, table and wants of a sheet that can be planned in 5,120 words."""
+def accepted(sheet, anywhere=False):
+    """Name, head, turn price, table and wants of a sheet that can be planned in 5,120 words; in 655,360 where the head may stand anywhere."""
     name, head, turn, table, asked = read(sheet)
-    judge(head, turn, table, asked)
-    if len(stops(table, asked)) ** 2 * (sum(count for _, count in asked) + 1) > 5120:
+    judge(head, turn, table, asked, anywhere=anywhere)
+    if len(stops(table, asked)) ** 2 * (sum(count for _, count in asked) + 1) > (655360 if anywhere else 5120):
         raise Refused(9)
     return name, head, turn, table, asked
 
 
-def answer(sheet):
+def answer(sheet, anywhere=False):
     try:
-        name, head, turn, table, asked = accepted(sheet)
+        name, head, turn, table, asked = accepted(sheet, anywhere)
     except Refused as refusal:
         return refusal.args[0]
-    return None if len(stops(table, asked)) > 10 else sheet_of_plan(name, head, turn, table, asked)
+    return None if len(stops(table, asked)) > (8 if anywhere else 10) else sheet_of_plan(name, head, turn, table, asked)
 
 
 def sheet_of_plan(name, head, turn, table, asked):
@@ -128,6 +130,22 @@ def cases():
             yield drawn(draw, wants, draw.randrange(wants, 51))
 
 
+def cases_anywhere():
+    """The same sheets; those that can be read also with the head at the start, left of, within and right of what is wanted; and the limits of the room."""
+    draw = random.Random(2)
+    for sheet in cases():
+        yield sheet
+        if b"\nhead=" in sheet and draw.random() < 0.25:
+            before, behind = sheet.split(b"\nhead=", 1)
+            for head in {0, 1, draw.randrange(60), draw.randrange(400)}:
+                yield before + b"\nhead=%d\n" % head + behind.split(b"\n", 1)[-1]
+    for wants, reads in ((64, 159), (64, 160), (16, 1024), (25, 1024), (26, 1024)):
+        for head in (0, wants * 5, wants * 10):
+            yield sheet_of(wants, reads).replace(b"head=%d\n" % (wants * 10), b"head=%d\n" % head)
+    yield sheet_of(3, 3).replace(b"head=30\n", b"head=1099511627776\n")
+    yield sheet_of(3, 3).replace(b"head=30\n", b"head=1099511627777\n")
+
+
 def planned_anywhere(sheet):
     """The plan sheet of a run whose head may stand anywhere."""
     name, head, turn, table, asked = read(sheet)
@@ -144,10 +162,10 @@ def compare_stored(start):
             sys.exit(f"plan.py: {plan} is not what the program prints for the run sheet beside it")
 
 
-def compare(start):
+def compare(start, anywhere=False):
     seen, tried = set(), 0
-    for sheet in cases():
-        must = answer(sheet)
+    for sheet in cases_anywhere() if anywhere else cases():
+        must = answer(sheet, anywhere)
         out = subprocess.run(start, input=sheet, capture_output=True).stdout
         tried += 1
         if must is None:
@@ -171,12 +189,32 @@ def full_sheet():
     return b"tape=ABCDEFGHIJKLMNOP\nhead=1099511627776\nturn=1000000\nrule=least\nfiles=256\n" + files + b"wants=10\n" + wants
 
 
+def compare_both(start):
+    """Whatever the one program prints other than 7 and 9, the other prints byte for byte."""
+    same = 0
+    for sheet in cases():
+        first, second = (subprocess.run(words, input=sheet, capture_output=True).stdout for words in (start[:-1] + [start[-1].replace("cmd_plan_any", "cmd_plan")], start))
+        if not first.startswith((b"refused=7\n", b"refused=9\n")):
+            same += 1
+            if first != second:
+                sys.exit(f"plan.py: for the sheet\n{sheet!r}\nplan prints\n{first!r}\nand plan --any\n{second!r}")
+    print(f"plan.py: of {same} sheets plan --any prints what plan does")
+
+
 def main():
     def stored_and_drawn(start):
         compare_stored(start)
         compare(start)
 
-    programs.tried(__doc__, "cmd_plan", stored_and_drawn, [("full sheet", full_sheet()), ("empty sheet, refused at once", b"")])
+    def anywhere(start):
+        compare(start, True)
+        compare_both(start)
+
+    if "--any" in sys.argv:
+        sys.argv.remove("--any")
+        programs.tried(__doc__, "cmd_plan_any", anywhere, [("full sheet", full_sheet()), ("64 wants, 159 reads", sheet_of(64, 159)), ("empty sheet, refused at once", b"")])
+    else:
+        programs.tried(__doc__, "cmd_plan", stored_and_drawn, [("full sheet", full_sheet()), ("empty sheet, refused at once", b"")])
 
 
 if __name__ == "__main__":
