@@ -111,7 +111,7 @@ less-above a b z (IsLess.over {n} e) l = (n, omega (arith, e, l), refl)
 less-above a b z (IsLess.under e) l = absurd (omega (arith, e, l))
 
 -- The list without an entry, in other words.
-without-is : (list : List Detour) (i : ℕ) → without i list ≡ leftOut list i
+pub without-is : (list : List Detour) (i : ℕ) → without i list ≡ leftOut list i
 unfolding without
 without-is [] zero = refl
 without-is [] (suc i) = refl
@@ -171,6 +171,9 @@ module _ (r : Run) (froms tos : List ℕ) (row : List ℤ) (answer : Answer) (sa
   figures-pass =
       let all = all-accept (judgeOf r ∷ listVerdict (stopsOf r) froms tos ∷ refuseIf (ltb (length row) (length (listOf froms tos))) ShortRow ∷ []) figures-accept in
       (record { run = all .0; list = all .1 .0 }, accepts-if _ ShortRow refl (all .1 .1 .0))
+
+  pub figures-run : refuses (judgeOf r) ≡ false
+  figures-run = figures-pass .0 .run
 
 pub figures-tell : FiguresTell
 unfolding figuresAnswer figuresRow

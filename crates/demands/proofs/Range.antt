@@ -4,18 +4,22 @@ use Prim.Native.Nat.{ℕ, zero, suc, _+_, _-_, _*_, _≤_, _<_}
 use native.Mathlib.Omega.{arith}
 use native.Mathlib.Decide.{decLe, decLt}
 use native.Mathlib.Nat.{mul-le-mul, le-refl}
-use mathlib.Core.Path.{_≡_, refl, sym, ap, _∙_}
+use mathlib.Core.Path.{_≡_, refl, sym, ap, subst, _∙_}
 use mathlib.Core.Logic.{by-cases}
 use mathlib.Core.List.{List, [], _∷_}
-use lib.ListN.{length}
+use lib.IntN.{ℤ, pos, negsuc}
+use lib.ListN.{length, getD}
 use Rattle.runs.specs.Run.{Run, Stop, lastPlace, highestTurn, total, stopsOf}
 use Rattle.runs.specs.Rows.{stopAt}
-use Rattle.runs.specs.Lists.{Detour, WellFormed}
+use Rattle.runs.specs.Lists.{Detour, WellFormed, listOf}
 use Rattle.runs.proofs.Joined.{readsOf}
-use Rattle.runs.proofs.Judged.{GoodRun}
+use Rattle.runs.proofs.Entries.{length-list}
+use Rattle.runs.proofs.Judged.{GoodRun, accepted-run}
 use Rattle.runs.proofs.Sound.{Sound}
 use Rattle.runs.proofs.Stops.{run-sound, stops-few, stops-reads}
-use Rattle.figures.specs.Figures.{without}
+use Rattle.figures.specs.Figures.{without, figuresAnswer, figuresRow}
+use Rattle.demands.specs.Buys.{IsLess, over, under, FigureWithin, gained, lost, FiguresInRange, smallestBought}
+use Rattle.demands.proofs.Buys.{without-is, figures-run, figures-tell, bought-worked}
 use Rattle.least.specs.Least.{listSum}
 use Rattle.least.specs.Recurrence.{Plan, W, trip, planDetours, fileAt, leftAt, rightAt, countAt}
 use Rattle.least.proofs.Plan.{Over, lagAfter}
@@ -314,3 +318,43 @@ module _ (U m n : ℕ) (stops : List Stop) (ok : Sound stops m) (size : length s
       (omega (arith, left-part, left-reads))
       left-reads
       trip-long))
+
+-- So it is of every accepted run and every entry of a well-formed list.
+pub record Near (with-it without-it : ℕ) : Type 0 where
+  pub below : with-it ≤ without-it + 2258388293515264
+  pub above : without-it ≤ with-it + 67950368350460032
+
+near-of-stops : (U m : ℕ) (stops : List Stop) → Sound stops m → length stops ≤ 64 → m ≤ lastPlace → U ≤ highestTurn → W (countAt stops) (length stops) ≤ 1024
+    → (list : List Detour) → WellFormed stops list → (i : ℕ) → i < length list → Near (listSum U m stops list) (listSum U m stops (without i list))
+near-of-stops U m [] ok few near cheap reads list formed i l = absurd (omega (arith, ap length (none-wanted list formed)))
+near-of-stops U m (s ∷ ss) ok few near cheap reads list formed i l =
+    record {
+      below = not-below U m (length ss) (s ∷ ss) ok refl (omega arith) near cheap reads list formed i l;
+      above = not-above U m (length ss) (s ∷ ss) ok refl (omega arith) near cheap reads list formed i l;
+    }
+
+near-of-run : (r : Run) → GoodRun r → (list : List Detour) → WellFormed (stopsOf r) list → (i : ℕ) → i < length list
+    → Near (listSum (r .turn) (r .head) (stopsOf r) list) (listSum (r .turn) (r .head) (stopsOf r) (without i list))
+near-of-run r good list formed i l =
+    near-of-stops (r .turn) (r .head) (stopsOf r) (run-sound r good) (omega (arith, stops-few r good, good .wants .few)) (good .start .near) (good .start .cheap)
+    (omega (arith, reads-all (stopsOf r), stops-reads r good, good .wants .reads)) list formed i l
+
+less-in-range : {a b : ℕ} {figure : ℤ} → IsLess a b figure → Near b a → FigureWithin figure
+less-in-range (over {n} e) near = gained {n = n} (omega (arith, near .above))
+less-in-range (under {n} e) near = lost {n = n} (omega (arith, near .below))
+
+pub figures-in-range : FiguresInRange
+figures-in-range r froms tos row answer out says fills accepts i l =
+    let told = figures-tell r froms tos row answer out says fills accepts in
+    let list = listOf froms tos in
+    let near = near-of-run r (accepted-run r (figures-run r froms tos row answer says accepts)) list (told .formed) i (omega (arith, length-list froms tos (told .even))) in
+    less-in-range (told .each i l .less) (rw (without-is list i) at near)
+
+-- The worked case at the lower end meets the hypotheses.
+pub smallest-within : FigureWithin (negsuc 2258388293515263)
+smallest-within =
+    let worked = bought-worked .1 .0 in
+    let row = pos 7 ∷ [] in
+    subst (λ z. FigureWithin z) (ap (λ found. getD found 0 (pos 0)) (worked .fills))
+    (figures-in-range (smallestBought .run) (smallestBought .froms) (smallestBought .tos) row (figuresAnswer (smallestBought .run) (smallestBought .froms) (smallestBought .tos) row)
+    (figuresRow (smallestBought .run) (smallestBought .froms) (smallestBought .tos) row) refl refl (worked .accepted) 0 (omega arith))

@@ -107,6 +107,19 @@ PlansPay =
     → (out : List ℤ) → out ≡ figuresRow r (take (planned .detours) (after .froms)) (take (planned .detours) (after .tos)) row
     → PlanPays planned answer out
 
+-- The range that the limits give: from -2,258,388,293,515,264 to 67,950,368,350,460,032. No figure lies outside it; below, both ends are met with.
+pub data FigureWithin : ℤ → Type 0 where
+  gained : {n : ℕ} → n ≤ 67950368350460032 → FigureWithin (pos n)
+  lost : {n : ℕ} → suc n ≤ 2258388293515264 → FigureWithin (negsuc n)
+
+abbrev pub FiguresInRange : Type 0
+FiguresInRange =
+    (r : Run) (froms tos : List ℕ) (row : List ℤ) (answer : Answer) (out : List ℤ)
+    → answer ≡ figuresAnswer r froms tos row
+    → out ≡ figuresRow r froms tos row
+    → answer .refusal ≡ Accepted
+    → (i : ℕ) → i < length froms → FigureWithin (getD out i (pos 0))
+
 -- Worked by hand: the figures of a list, in a row of as many entries.
 pub record WorkedFigures : Type 0 where
   pub run : Run
@@ -122,7 +135,7 @@ pub record IsWorked (b : WorkedFigures) (row : List ℤ) : Type 0 where
 abbrev pub nothingBought : WorkedFigures
 nothingBought = record { run = twoFiles (1 ∷ 2 ∷ []) (1 ∷ 1 ∷ []) 0; froms = 2 ∷ []; tos = 2 ∷ []; figures = pos 0 ∷ [] }
 
--- The smallest that the limits allow, worked on paper: 2 - 2046 (2^40 + 2^32 - 1).
+-- The smallest that the limits allow: 2 - 2046 (2^40 + 2^32 - 1).
 abbrev pub smallestBought : WorkedFigures
 smallestBought =
     record {
@@ -139,7 +152,7 @@ sheetBought = record { run = exampleRun; froms = 3 ∷ 2 ∷ []; tos = 3 ∷ 2 �
 abbrev pub planBought : WorkedFigures
 planBought = record { run = exampleRun; froms = 2 ∷ []; tos = 2 ∷ []; figures = pos 40 ∷ [] }
 
--- The largest, worked on paper too: 63 files up to the last place, all wanted, 31 of length 1 at either side of a long one; the entry (63,63) before (32,32)(31,33) … (2,62).
+-- The largest: 63 files up to the last place, all wanted, 31 of length 1 at either side of a long one; the entry (63,63) before (32,32)(31,33) … (2,62).
 abbrev numbersFrom : ℕ → ℕ → List ℕ
 numbersFrom zero first = []
 numbersFrom (suc n) first = first ∷ numbersFrom n (suc first)
