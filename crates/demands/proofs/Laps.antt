@@ -93,21 +93,22 @@ module _ (L R : ℕ → ℕ) (U : ℕ) where
   lag-by-spans (detour d inner rest) a zero y o = absurd o
   lag-by-spans (detour d inner rest) a (suc b) y o = omega (arith, lag-by-spans inner (suc d) b y (o .2), lag-by-spans rest a d (lagAfter L R U inner b y + 2 * (U + (R (suc b) - L (suc d)))) (o .3))
 
-  module _ (n : ℕ) (spaced : Spaced L R n) where
+  -- Of stops that do not overlap.
+  module _ (n : ℕ) (spaced : Spaced L R n) (apart : (i : ℕ) → i < n → R i ≤ L (suc i)) where
     -- Ends rise by at least one from stop to stop.
     ends-rise : (i j : ℕ) → i ≤ j → j ≤ n → R i + (j - i) ≤ R j
     ends-rise i zero l h = let e : i ≡ 0 = omega arith in rw e (omega arith)
     ends-rise i (suc j) l h =
         let before = ends-rise i j in
         by-cases (decLe i j)
-        (λ k. omega (arith, before k (omega arith), spaced .apart j h, spaced .extends (suc j) h))
+        (λ k. omega (arith, before k (omega arith), spaced .ends j h))
         (λ k. let e : i ≡ suc j = omega arith in rw e (omega arith))
 
     ends-up : (i j : ℕ) → i ≤ j → j ≤ n → R i ≤ R j
     ends-up i j l h = omega (arith, ends-rise i j l h)
 
     end-next : (i : ℕ) → i < n → R i < R (suc i)
-    end-next i h = omega (arith, spaced .apart i h, spaced .extends (suc i) h)
+    end-next i h = spaced .ends i h
 
     -- Inside a detour there is less room by two.
     room-inside : (d b : ℕ) → d < b → suc b ≤ n → R b - R (suc d) + 2 ≤ R (suc b) - R d
@@ -124,7 +125,7 @@ module _ (L R : ℕ → ℕ) (U : ℕ) where
     spans-wide (detour d inner rest) a zero X o top x = absurd o
     spans-wide (detour d inner rest) a (suc b) X o top x =
         let low = ends-up a d (o .0) (omega (arith, o .1)) in
-        let next = spaced .apart d (omega (arith, o .1)) in
+        let next = apart d (omega (arith, o .1)) in
         let high = ends-up d (suc b) (omega (arith, o .1)) top in
         let after = spans-wide rest a d X (o .3) (omega (arith, o .1)) (omega arith) in
         by-cases (decLe b d)
@@ -150,7 +151,7 @@ module _ (L R : ℕ → ℕ) (U : ℕ) where
     spans-many (detour d inner rest) a zero o top = absurd o
     spans-many (detour d inner rest) a (suc b) o top =
         let low = ends-rise a d (o .0) (omega (arith, o .1)) in
-        let next = spaced .apart d (omega (arith, o .1)) in
+        let next = apart d (omega (arith, o .1)) in
         let high = ends-rise d (suc b) (omega (arith, o .1)) top in
         let all : R (suc b) - R a ≡ (R (suc b) - R d) + (R d - R a) = omega arith in
         rw all

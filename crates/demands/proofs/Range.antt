@@ -15,7 +15,7 @@ use Rattle.runs.specs.Lists.{Detour, WellFormed, listOf}
 use Rattle.runs.proofs.Joined.{readsOf}
 use Rattle.runs.proofs.Entries.{length-list}
 use Rattle.runs.proofs.Judged.{GoodRun, accepted-run}
-use Rattle.runs.proofs.Sound.{Sound}
+use Rattle.runs.proofs.Sound.{Sound, sound-any}
 use Rattle.runs.proofs.Stops.{run-sound, stops-few, stops-reads}
 use Rattle.figures.specs.Figures.{without, figuresAnswer, figuresRow}
 use Rattle.demands.specs.Buys.{IsLess, over, under, FigureWithin, gained, lost, FiguresInRange, smallestBought}
@@ -27,7 +27,7 @@ use Rattle.least.proofs.Times.{Spaced, starts-rise, planTime}
 use Rattle.least.proofs.Sums.{W-suc, W-front}
 use Rattle.least.proofs.Identity.{runSum}
 use Rattle.least.proofs.Lists.{none-wanted, PlanOf, parse}
-use Rattle.least.proofs.Walks.{sound-spaced, walk-sum}
+use Rattle.least.proofs.Walks.{sound-spaced, sound-owned, walk-sum}
 use Rattle.demands.proofs.Removed.{Removed, removed}
 use Rattle.demands.proofs.Laps.{many, wide, spans, stops-taken, lag-by-spans, spans-wide, spans-many}
 
@@ -182,18 +182,21 @@ module _ (U m n : ℕ) (stops : List Stop) (ok : Sound stops m) (size : length s
   spaced : Spaced (leftAt stops) (rightAt stops) n
   spaced = sound-spaced stops m n ok size
 
+  apart : (i : ℕ) → i < n → rightAt stops i ≤ leftAt stops (suc i)
+  apart i h = ok .apart i (omega arith)
+
   parsed : PlanOf stops n list
-  parsed = parse m n stops ok size list formed
+  parsed = parse m n stops (sound-any stops m ok) size list formed
 
   out : Removed (leftAt stops) (rightAt stops) U n spaced (fileAt stops) (parsed .plan) 0 n i
   out = removed (leftAt stops) (rightAt stops) U n spaced (fileAt stops) (parsed .plan) 0 n (parsed .over) (le-refl n) i (rw (parsed .lists) l)
 
   -- The sums of the list with the entry and without it.
   sum-with : listSum U m stops list ≡ runSum (leftAt stops) (rightAt stops) (countAt stops) U (parsed .plan) n m
-  sum-with = ap (λ x. listSum U m stops x) (sym (parsed .lists)) ∙ walk-sum m n stops ok size (parsed .plan) (parsed .over) U
+  sum-with = ap (λ x. listSum U m stops x) (sym (parsed .lists)) ∙ walk-sum m n stops (sound-any stops m ok) size (parsed .plan) (parsed .over) (sound-owned stops m n ok size (parsed .plan) (parsed .over)) U
 
   sum-without : listSum U m stops (without i list) ≡ runSum (leftAt stops) (rightAt stops) (countAt stops) U (out .plan) n m
-  sum-without = ap (λ x. listSum U m stops x) (sym (out .lists ∙ ap (without i) (parsed .lists))) ∙ walk-sum m n stops ok size (out .plan) (out .over) U
+  sum-without = ap (λ x. listSum U m stops x) (sym (out .lists ∙ ap (without i) (parsed .lists))) ∙ walk-sum m n stops (sound-any stops m ok) size (out .plan) (out .over) (sound-owned stops m n ok size (out .plan) (out .over)) U
 
   reached : (j : ℕ) → j ≤ n → rightAt stops j ≤ m
   reached j h = ok .reached j (omega arith)
@@ -213,12 +216,12 @@ module _ (U m n : ℕ) (stops : List Stop) (ok : Sound stops m) (size : length s
 
   -- That leg starts left of the detour, where a stop of some length begins.
   parent-left : rightAt stops (out .d) ≤ leftAt stops first
-  parent-left = spaced .apart (out .d) (omega (arith, first-in))
+  parent-left = apart (out .d) (omega (arith, first-in))
 
   parent-ends : rightAt stops (out .parent) ≤ rightAt stops (out .d)
   parent-ends =
       by-cases (decLt (out .parent) (out .d))
-      (λ h. omega (arith, starts-rise (leftAt stops) (rightAt stops) n spaced (suc (out .parent)) (out .d) h (omega (arith, first-in)), spaced .apart (out .parent) (omega (arith, first-in)), spaced .extends (out .d) (omega (arith, first-in))))
+      (λ h. omega (arith, starts-rise (leftAt stops) (rightAt stops) n spaced (suc (out .parent)) (out .d) h (omega (arith, first-in)), apart (out .parent) (omega (arith, first-in)), spaced .extends (out .d) (omega (arith, first-in))))
       (λ h. let z : out .parent ≡ out .d = omega (arith, out .inside) in rw z (omega arith))
 
   parent-long : leftAt stops (out .parent) < rightAt stops (out .parent)
@@ -283,14 +286,14 @@ module _ (U m n : ℕ) (stops : List Stop) (ok : Sound stops m) (size : length s
   between-many : between + laps * laps ≤ laps * back
   between-many =
       let room : laps * (rightAt stops (out .d) - rightAt stops (out .parent) + 1) ≤ laps * back = mul-le-mul (le-refl laps) within-back in
-      omega (arith, spans-many (leftAt stops) (rightAt stops) U n spaced (out .rest) (out .parent) (out .d) (out .within) (omega (arith, first-in)))
+      omega (arith, spans-many (leftAt stops) (rightAt stops) U n spaced apart (out .rest) (out .parent) (out .d) (out .within) (omega (arith, first-in)))
 
   between-wide : between ≤ wide (out .rest) (out .d) * back + back
   between-wide =
       omega (
         arith,
         within-back,
-        spans-wide (leftAt stops) (rightAt stops) U n spaced (out .rest) (out .parent) (out .d) back (out .within) (omega (arith, first-in)) (omega (arith, parent-left, parent-long)),
+        spans-wide (leftAt stops) (rightAt stops) U n spaced apart (out .rest) (out .parent) (out .d) back (out .within) (omega (arith, first-in)) (omega (arith, parent-left, parent-long)),
       )
 
   -- How much longer its stops wait without it.

@@ -140,7 +140,9 @@ module _ (L R : ℕ → ℕ) (U : ℕ) where
 
   module _ (n : ℕ) (spaced : Spaced L R n) where
     leg-shift : (y t a j : ℕ) → R j ≤ y → a ≤ j → j ≤ n → legTime L R U (y + t) a j ≡ legTime L R U y a j + t
-    leg-shift y t a j r l h = omega (arith, legTime-exact L R n spaced U y a j r l h, legTime-exact L R n spaced U (y + t) a j (omega arith) l h)
+    leg-shift y t a j r l h =
+        let reach : L a ≤ y = omega (arith, starts-rise L R n spaced a j l h, spaced .extends j h) in
+        omega (arith, legTime-exact L R n spaced U y a j reach l h, legTime-exact L R n spaced U (y + t) a j (omega arith) l h)
 
     -- A head that comes later by t reads everything later by t.
     time-shift : (p : Plan) (a b y t j e : ℕ) → Over p a b → j ≤ n → R j ≤ y → timeIn L R U p b (y + t) j (e + t) ≡ timeIn L R U p b y j e + t
@@ -253,11 +255,12 @@ module _ (L R : ℕ → ℕ) (U : ℕ) where
       leg-later y j h k r =
           let grown = lag-grows L R U inner b y in
           let more = after-lag y in
+          let reach : L (suc d) ≤ y = omega (arith, starts-rise L R n spaced (suc d) j h k, spaced .extends j k) in
+          let left : L a ≤ L (suc d) = starts-rise L R n spaced a (suc d) (omega arith) (omega arith) in
           omega (
             arith,
             legTime-exact L R n spaced U (lagAfter L R U after d (lagAfter L R U inner b y)) a j (omega arith) (omega arith) k,
             legTime-exact L R n spaced U (lagAfter L R U inner b y) (suc d) j (omega arith) h k,
-            starts-rise L R n spaced a (suc d) (omega arith) (omega arith),
           )
 
       own-list : without (length (planDetours F inner b)) (planDetours F inner b ++ record { from = F (suc d); to = F (suc b) } ∷ planDetours F after d) ≡ planDetours F inner b ++ planDetours F after d
