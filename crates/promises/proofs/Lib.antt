@@ -39,6 +39,7 @@ pub mod Lengths
 pub mod InputLengths
 pub mod PageLengths
 pub mod TapeLengths
+pub mod MonthWords
 pub mod CheckWhole
 pub mod ListLines
 pub mod Answers

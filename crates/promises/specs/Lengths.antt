@@ -2,6 +2,7 @@
 -- tests/python/rows.py compares them.
 use Prim.Native.Nat.{ℕ, _^_, _≤_, _<_}
 use mathlib.Core.Path.{_≡_}
+use mathlib.Core.Bool.{Bool}
 use mathlib.Core.List.{List}
 use lib.ListN.{length, take, getD}
 use Rattle.refusals.specs.declared.Refusal.the-variants.{Accepted, ShortRow}
@@ -12,6 +13,8 @@ use Rattle.answer_rewrite.specs.Rewriting.{rewritten, SheetRewritten}
 use Rattle.answer_mend.specs.declared.Mended.{Mended}
 use Rattle.answer_mend.specs.Mending.{mendedText, changesText, SheetMended}
 use Rattle.answer_month.specs.declared.Month.{Month}
+use Rattle.answer_month.specs.Month.{emptyMonth}
+use Rattle.answer_month.specs.Parts.{inputVerdict}
 use Rattle.answer_month.specs.Page.{PagePut}
 use Rattle.answer_ltfs.specs.declared.Told.{Told}
 use Rattle.answer_ltfs.specs.Input.{answerText, reportText, InputAnswered}
@@ -19,6 +22,7 @@ use Rattle.answer_plan.specs.Recall.{SheetRecalled}
 use Rattle.answer_field.specs.Field.{SheetFielded}
 use Rattle.answer_buys.specs.Buys.{SheetBought}
 use Rattle.answer_check.specs.Inputs.{InputPriced, InputChecked}
+use Rattle.promises.specs.Months.{ReadsOn}
 
 -- A row of so many bytes takes every answer whole: something is printed, no more than these, and another such row prints the same, however long it is.
 abbrev pub TakesAll : ℕ → (List ℕ → ℕ → List ℕ → Type 0) → Type 0
@@ -75,6 +79,10 @@ monthRow = 2048
 
 abbrev pub MonthIsWhole : Type 0
 MonthIsWhole = (m : Month) (v : Verdict) → InWords m v → TakesAll monthRow (PagePut m v)
+
+-- Whatever the input is, its month is held so.
+abbrev pub MonthsAreInWords : Type 0
+MonthsAreInWords = (input : List ℕ) (m : Month) (good : Bool) → ReadsOn emptyMonth input m good → InWords m (inputVerdict m good)
 
 -- `mend` and `rewrite`: 8 is never answered; the texts stand in front; and a refusal's two lines fit the same row.
 abbrev pub sheetRow : ℕ
