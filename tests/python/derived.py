@@ -21,8 +21,8 @@ BACK = "    copy_in(&mut ts[..], next);\n"
 WRONG = {
     "file": (BACK, "    copy_in(&mut ts[..], row);\n"),
     "withdraw": ("withdraw_in(len, row,", "withdraw_in(32, row,"),
-    "board": (BACK, "    copy_in(&mut ts[..], row);\n"),
-    "answer": ("        len,\n", "        32,\n"),
+    "board": ("    let next = done.row;\n", "    let next = row;\n"),
+    "answer": (BACK, "    copy_in(&mut ts[..], row);\n"),
 }
 SHOWS_NOTHING = ("was not admitted", "that can be named from here")
 

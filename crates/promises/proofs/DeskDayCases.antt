@@ -28,11 +28,13 @@ use Rattle.answer_desk.specs.declared.Event.{Event}
 use Rattle.answer_desk.specs.declared.Answered.{Answered}
 use Rattle.answer_desk.specs.Events.{pairEventOf, eventOf}
 use Rattle.answer_desk.specs.Days.{morningDay, refusedAnswer, EventAnswered}
+use Rattle.desk_rows.specs.Desk.{tableIn, withTable}
+use Rattle.desk_rows.specs.Events.{LentAnswered}
 use Rattle.demands.specs.Cases.{exampleRun}
 use Rattle.demands.proofs.Fits.{planAnswer, planRows, plans-for-every-input}
 use Rattle.promises.specs.Desk.{files, boards, over, then}
 use Rattle.promises.specs.DeskCases.{ticket, lasts, alone}
-use Rattle.promises.specs.DeskDays.{Exchange, Turned, Held, sheetTape, sheetBoarding, sheetBoarded, sheetAfter, AcceptedBoardingCase}
+use Rattle.promises.specs.DeskDays.{Exchange, Turned, Held, TurnedOn, HeldOn, sheetTape, sheetBoarding, sheetBoarded, sheetAfter, AcceptedBoardingCase}
 
 -- The tickets that wait, and the rows and the room that are lent.
 abbrev three : List Ticket
@@ -148,3 +150,34 @@ held-met =
       leaves = refl;
     })
     Held.ends)
+
+-- The first of them on a lent row of 32 records.
+on-the-row : eventOf (lineOf filingLine) ≡ Event.File 1 1 1 → LentAnswered (morningDay .row) (lasts 0 0) sheetTape (replicate 65600 0) (replicate 2677 0) (eventOf (lineOf filingLine))
+    (record { lasts = lasts 1 0; verdict = accepted; bytes = 10 }) (alone 1 1) (replicate 65600 0) (bytes "filed=1,1\n" ++ drop 10 (replicate 2677 0))
+unfolding tableIn withTable
+on-the-row is =
+    record {
+      answered = record { day = filedDay; verdict = accepted; bytes = 10 };
+      answers = subst (λ (e : Event). EventAnswered 32 sheetTape morningDay (replicate 65600 0) (replicate 2677 0) e (record { day = filedDay; verdict = accepted; bytes = 10 }) (replicate 65600 0) (bytes "filed=1,1\n" ++ drop 10 (replicate 2677 0)))
+          (sym is) (answered-filing (replicate 65600 0) (replicate 2677 0) (omega (arith, length-replicate {A = ℕ} 2677 0)));
+      whole = refl;
+      says = refl;
+      row = refl;
+    }
+
+pub held-on-met : HeldOn sheetTape (morningDay .row) (lasts 0 0) (record { line = filingLine; answer = Accepted } ∷ []) (alone 1 1) (lasts 1 0)
+held-on-met =
+    HeldOn.row-goes-on
+    (record {
+      room = replicate 65600 0;
+      room′ = replicate 65600 0;
+      out = replicate 2677 0;
+      out′ = bytes "filed=1,1\n" ++ drop 10 (replicate 2677 0);
+      words = omega (arith, length-replicate {A = ℕ} 65600 0);
+      bytes = omega (arith, length-replicate {A = ℕ} 2677 0);
+      result = record { lasts = lasts 1 0; verdict = accepted; bytes = 10 };
+      fits = on-the-row line-read;
+      says = refl;
+      leaves = refl;
+    })
+    HeldOn.row-ends
