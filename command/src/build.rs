@@ -15,7 +15,7 @@ use nix::sys::stat::{utimensat, UtimensatFlags};
 use nix::sys::time::TimeSpec;
 use nix::unistd::{access, AccessFlags};
 use std::ffi::OsStr;
-use std::fs;
+use std::fs::{self, DirEntry, Metadata};
 use std::io::Read;
 use std::os::unix::io::AsRawFd;
 use std::path::{Path, PathBuf};
@@ -102,10 +102,10 @@ impl Build<'_> {
     }
 
     fn is_fresh(&self) -> bool {
-        let sources = [self.places.root.join("crates"), self.places.root.join("crates.txt")];
+        let (sources, order) = (self.places.root.join("crates"), self.places.root.join("crates.txt"));
         let stamped = self.stamp.as_ref().map_or(true, |stamp| stamp.exists());
         match fs::metadata(&self.made).and_then(|about| about.modified()) {
-            Ok(made) => stamped && !sources.iter().any(|source| is_newer(source, made)),
+            Ok(made) => stamped && !is_newer(fs::metadata(order), made) && !any_newer(&sources, made),
             Err(_) => false,
         }
     }
@@ -171,13 +171,19 @@ impl Build<'_> {
     }
 }
 
-/// Whether a file, or any below a folder, was written after a time.
-fn is_newer(path: &Path, than: SystemTime) -> bool {
-    match fs::symlink_metadata(path) {
-        Ok(about) if about.is_dir() => fs::read_dir(path).map_or(true, |entries| entries.flatten().any(|entry| is_newer(&entry.path(), than))),
-        Ok(about) => about.is_file() && about.modified().map_or(true, |time| time > than),
+/// Whether any file below a folder was written after a time. What was built is proved by the proofs that stood there then, whatever becomes of them;
+/// wrong programs are built by nobody.
+fn any_newer(folder: &Path, than: SystemTime) -> bool {
+    let is_newer = |entry: DirEntry| match entry.file_type() {
+        Ok(kind) if kind.is_dir() => !["proofs", "must-fail"].contains(&&*entry.file_name().to_string_lossy()) && any_newer(&entry.path(), than),
+        Ok(kind) => kind.is_file() && is_newer(entry.metadata(), than),
         Err(_) => true,
-    }
+    };
+    fs::read_dir(folder).map_or(true, |entries| entries.flatten().any(is_newer))
+}
+
+fn is_newer(about: std::io::Result<Metadata>, than: SystemTime) -> bool {
+    about.and_then(|about| about.modified()).map_or(true, |time| time > than)
 }
 
 // ---- What rt says ----
