@@ -16,7 +16,7 @@ use std::ffi::OsStr;
 use std::fs::{self, File};
 use std::io::{self, Write};
 use std::os::unix::ffi::OsStrExt;
-use std::os::unix::fs::{symlink, OpenOptionsExt};
+use std::os::unix::fs::{symlink, OpenOptionsExt, PermissionsExt};
 use std::os::unix::io::AsRawFd;
 use std::path::{Path, PathBuf};
 
@@ -101,14 +101,10 @@ impl Installation<'_> {
     }
 
     fn lock(&mut self) -> Result<(), Stop> {
-        let folder = match File::open(self.path(OWN)) {
-            Ok(folder) => folder,
-            Err(error) => return self.cannot("read", OWN, &error),
-        };
-        if let Err(errno) = flock(folder.as_raw_fd(), FlockArg::LockExclusive) {
-            return self.cannot("lock", OWN, &errno.into());
+        match lock(self.root) {
+            Ok(lock) => self._lock = Some(lock),
+            Err(error) => return self.cannot("lock", OWN, &error),
         }
-        self._lock = Some(folder);
         Ok(())
     }
 
@@ -124,7 +120,7 @@ impl Installation<'_> {
             if self.path(&folder).is_dir() {
                 continue;
             }
-            match fs::create_dir(self.path(&folder)) {
+            match make_for_all(&self.path(&folder)) {
                 Ok(()) => new.push(folder),
                 Err(error) if error.kind() == io::ErrorKind::AlreadyExists => {}
                 Err(error) => return self.cannot("make", &folder, &error),
@@ -142,7 +138,7 @@ impl Installation<'_> {
                 self.write_list()?;
             }
         }
-        let beside = format!("{}.violstream-new", item.to);
+        let beside = beside(&item.to);
         if let Err(error) = self.write(item, &beside).and_then(|()| fs::rename(self.path(&beside), self.path(&item.to))) {
             let _ = fs::remove_file(self.path(&beside));
             return self.cannot("write", &item.to, &error);
@@ -163,7 +159,7 @@ impl Installation<'_> {
         let mut file = fs::OpenOptions::new().write(true).create_new(true).mode(item.mode).open(path)?;
         file.write_all(&item.bytes)?;
         // Whatever the umask is.
-        file.set_permissions(std::os::unix::fs::PermissionsExt::from_mode(item.mode))?;
+        file.set_permissions(fs::Permissions::from_mode(item.mode))?;
         file.sync_all()
     }
 
@@ -187,6 +183,23 @@ impl Installation<'_> {
             Err(error) => self.cannot("write", list::NAME, &error),
         }
     }
+}
+
+fn lock(root: &Path) -> io::Result<File> {
+    let folder = File::open(root.join(OWN))?;
+    flock(folder.as_raw_fd(), FlockArg::LockExclusive)?;
+    Ok(folder)
+}
+
+/// A folder that everybody can enter, whatever the umask is.
+fn make_for_all(path: &Path) -> io::Result<()> {
+    fs::create_dir(path)?;
+    fs::set_permissions(path, fs::Permissions::from_mode(0o755))
+}
+
+/// The name under which a file is written, before it is put in its place.
+fn beside(name: &str) -> String {
+    format!("{name}.violstream-new")
 }
 
 enum Removed {
@@ -213,8 +226,8 @@ pub fn uninstall(prefix: Option<&OsStr>, call: &Call) -> Result<Status, Stop> {
     let default = if call.places.installed { call.places.root.clone() } else { PathBuf::from("/usr/local") };
     let root = root_for(&prefix.map_or(default, PathBuf::from));
     let shown = quoted(root.as_os_str());
-    let list = match List::read_present(&root) {
-        Ok(list) => list,
+    let (list, _lock) = match lock(&root).and_then(|lock| Ok((List::read_present(&root)?, lock))) {
+        Ok(read) => read,
         Err(error) => {
             let path = quoted(root.join(list::NAME).as_os_str());
             return failed(format!("nothing that this command knows of is installed below {shown}: {path}: {}", reason(&error)));
@@ -232,7 +245,10 @@ pub fn uninstall(prefix: Option<&OsStr>, call: &Call) -> Result<Status, Stop> {
             Ok(Removed::Foreign) => stays(format!("{path} was changed since it was installed, and stays")),
             Err(error) => stays(format!("cannot remove {path}: {}", reason(&error))),
         }
+        // Of an installation that was cut off.
+        let _ = fs::remove_file(root.join(beside(name)));
     }
+    let _ = fs::remove_file(root.join(beside(list::NAME)));
     if worst == Status::Answered {
         // The list last: a removal that was cut off can be done again.
         if let Err(error) = fs::remove_file(root.join(list::NAME)) {

@@ -693,6 +693,96 @@ def as_json(at):
     at.must(f"./violstream plan --json {run} > /dev/full", 1, b"", ["cannot write to standard output"])
 
 
+def installing(at):
+    """What is installed works by itself; nothing foreign is overwritten or removed; what was cut off can be removed."""
+    os.makedirs(at.path("target/staticlib"))
+    at.write("target/staticlib/libboundary.a", b"!<arch>\n")
+    prefix = at.path("prefix")
+    listed = os.path.join(prefix, "libexec/violstream/installed")
+
+    def files():
+        return sorted(os.path.relpath(os.path.join(folder, name), prefix) for folder, _, names in os.walk(prefix) for name in names)
+
+    at.must(f"umask 077 && ./violstream install {prefix}", 0, silent=True)
+    whole = files()
+    for name in ("bin/violstream", "libexec/violstream/cmd_plan", "share/man/man1/violstream.1", "share/doc/violstream/OPERATOR.md", "share/doc/violstream/examples/VX0041.run",
+                 "share/bash-completion/completions/violstream", "lib/libviolstream.a", "lib/libviolstream.so", "lib/pkgconfig/violstream.pc", "include/violstream.h"):
+        if name not in whole or not os.stat(os.path.join(prefix, name)).st_mode & 0o004 or not os.stat(os.path.dirname(os.path.join(prefix, name))).st_mode & 0o001:
+            raise Wrong(f"{name} was not installed, or not for everybody")
+    at.must("cd / && $OLDPWD/prefix/bin/violstream plan -", 0, PLAN, data=RUN, silent=True)
+    at.must("prefix/bin/violstream version", 0, at.shell("./violstream version")[0], silent=True)
+    at.must("prefix/bin/violstream build", 2, b"", ["build is for a checkout of the sources", "usage: violstream build"])
+    text = at.shell("prefix/bin/violstream help")[0]
+    if b"./violstream" in text or b"violstream build" in text or b"violstream uninstall" not in text:
+        raise Wrong(f"the installed help is {text!r}")
+    at.must(f"./violstream install {prefix}/ && ./violstream install {prefix}", 0, silent=True)
+    if files() != whole:
+        raise Wrong(f"installed again: {files()} and not {whole}")
+    # Somebody's own files stay.
+    at.must(f"echo mine > {prefix}/include/violstream.h && ./violstream uninstall {prefix}", 1, b"", ["include/violstream.h was changed since it was installed, and stays"])
+    at.must(f"rm {prefix}/include/violstream.h && ./violstream uninstall {prefix} && find {prefix} -mindepth 1", 0, f"removed what was installed below {prefix}\n".encode(), silent=True)
+    at.must(f"mkdir -p {prefix}/bin && echo mine > {prefix}/bin/violstream && ./violstream install {prefix}", 1, b"", ["bin/violstream is there, and was not installed by this command; nothing was installed"])
+    at.must(f"cat {prefix}/bin/violstream && find {prefix} -type f | wc -l && ls {prefix}", 0, b"mine\n1\nbin\n")
+    at.must(f"rm -r {prefix} && mkdir -p {prefix} elsewhere && ln -s ../elsewhere {prefix}/lib && ./violstream install {prefix} && test -e elsewhere/libviolstream.a && ./violstream uninstall {prefix} && ls elsewhere {prefix}", 0, None, silent=True)
+    # What an older version has left goes.
+    at.must(f"rm -rf {prefix} && mkdir -p {prefix}/libexec/violstream && cd {prefix}/libexec/violstream && touch machine.sh && printf '%s\\n' libexec/violstream/machine.sh libexec/violstream/installed libexec/violstream/ libexec/ > installed", 0)
+    at.must(f"./violstream install {prefix} && test ! -e {prefix}/libexec/violstream/machine.sh && ./violstream uninstall {prefix} && find {prefix} -mindepth 1 | wc -l", 0, None, silent=True)
+    for odd in ("'/a b'", "'/a\"b'", "'/a$b'", "$'/a\\nb'"):
+        at.must(f"./violstream install {odd}", 1, b"", ["PREFIX may not contain"])
+    at.must("./violstream install /proc/no-such", 1, b"", ["cannot make /proc/no-such"])
+    # Two at once.
+    shutil.rmtree(prefix)
+    calls = [subprocess.Popen(["./violstream", "install", prefix], cwd=at.root, stdout=subprocess.DEVNULL, stderr=subprocess.PIPE, env=at.surroundings) for _ in range(2)]
+    ended = [(call.communicate(timeout=LIMIT)[1], call.returncode) for call in calls]
+    if ended != [(b"", 0)] * 2 or files() != whole:
+        raise Wrong(f"two at once ended so: {ended}, with {files()}")
+    # Cut off at any moment.
+    for moment in range(8):
+        shutil.rmtree(prefix, ignore_errors=True)
+        call = subprocess.Popen([at.path(BUILT), "install", prefix], cwd=at.root, stdout=subprocess.PIPE, stderr=subprocess.DEVNULL, env=at.surroundings)
+        for _ in range(6 * moment):
+            call.stdout.readline()
+        call.kill()
+        call.communicate()
+        if os.path.exists(listed):
+            at.must(f"./violstream uninstall {prefix}", 0, silent=True)
+        if files():
+            raise Wrong(f"cut off, {files()} stay")
+
+
+def limits(at):
+    """Few descriptors, small files, little stack: a whole answer, or a sentence."""
+    sheet = "./violstream plan examples/VX0041.run"
+    for limit in list(range(3, 20)):
+        out, said, status = at.shell(f"ulimit -n {limit} && {sheet}")
+        if (status, out) != (0, PLAN) and (status == 0 or out or not said):
+            raise Wrong(f"with {limit} descriptors plan printed {out!r}, said {said!r} and ended with status {status}")
+    at.must(f"ulimit -f 0 && {sheet} > out", 1, b"", ["cannot write to standard output: File too large"])
+    at.must("ulimit -f 0 && ./violstream explain --svg out examples/VX0041.run", 1, b"", ["cannot write out: File too large"])
+    # The stack that is enough for every program, as docs/OPERATOR.md says, and less.
+    at.write("large.run", b"tape=A\nhead=1099511627776\nturn=0\nrule=least\nfiles=256\n" + b"".join(b"file=%d,1,0\n" % (n * 4294967296) for n in range(256)) + b"wants=16\n" + b"".join(b"want=%d,1\n" % n for n in range(1, 17)))
+    at.write("large.month", (b"%d\n" % len(contents("examples/VX0041.run")) + RUN) * 1000)
+    at.write("deep.xml", b"<ltfsindex>" + b"<a>" * 31 + b"</a>" * 31 + b"<directory><contents/></directory>" + b"<a/>" * 120000 + b"</ltfsindex>")
+    for words in ("plan large.run", "buys large.run", "price large.run /dev/null", "explain large.run", "rewrite large.run", "mend large.run", "month large.month", "field examples/VX0041.run",
+                  "check examples/VX0041.run examples/VX0041.plan", "desk examples/day.run examples/day.events", f"ltfs VX0041 {LABEL} deep.xml"):
+        must = at.shell(f"./violstream {words}")
+        if must[2] != 0 or at.shell(f"ulimit -s 1024 && ./violstream {words}") != must:
+            raise Wrong(f"with a stack of 1,024 KiB violstream {words} does not give {must}")
+        for limit in (512, 256, 128, 96, 64, 32):
+            out, said, status = at.shell(f"ulimit -s {limit} && ./violstream {words}")
+            if (out, said, status) != must and (status in (0, 2, 3) or out or not said and status < 128):
+                raise Wrong(f"with a stack of {limit} KiB violstream {words} printed {out!r}, said {said!r} and ended with status {status}")
+
+
+def other_user(at):
+    """Another user, in a checkout that is not theirs to write."""
+    if os.getuid() != 0 or shutil.which("setpriv") is None:
+        return
+    at.must("chmod -R go+rX . && chmod 755 .. . && setpriv --reuid 65534 --regid 65534 --clear-groups ./violstream plan examples/VX0041.run", 0, PLAN, silent=True)
+    at.must("mkdir theirs && printf '#!/bin/sh\\n' > theirs/cargo && chmod 755 theirs theirs/cargo && touch -d '+1 minute' command/Cargo.toml && "
+            "PATH=$PWD/theirs:$PATH setpriv --reuid 65534 --regid 65534 --clear-groups ./violstream plan examples/VX0041.run", 1, b"", ["cannot write ", "/target/command/"])
+
+
 def without_compiler(at):
     """Where nothing can compile the command, the proved program answers by itself, and one sentence says what to install."""
     os.remove(at.path(BUILT))
@@ -933,7 +1023,7 @@ def until(true, otherwise):
 
 
 TESTS = (answers, fielding, figures, pairs, explained, rewriting, mending, monthly, desk, statuses, help_and_version, nothing_lost, broken_program, several, ltfs_inputs, words_of_sheets, words_of_damaged_sheets,
-         words_of_tapes, keyboard, transcripts, manual, interrupted, manners, as_json, without_compiler, building, building_fails, building_twice, building_interrupted, surrounded)
+         words_of_tapes, keyboard, transcripts, manual, interrupted, manners, as_json, installing, limits, other_user, without_compiler, building, building_fails, building_twice, building_interrupted, surrounded)
 
 
 def main():

@@ -63,7 +63,7 @@ impl List {
         }
         text.push_str(&format!("{NAME}\n"));
         self.folders().for_each(|folder| text.push_str(&format!("{folder}/\n")));
-        let beside = root.join(format!("{NAME}.violstream-new"));
+        let beside = root.join(super::beside(NAME));
         put_in_place(&beside, &root.join(NAME), text.as_bytes()).map_err(|error| {
             let _ = fs::remove_file(&beside);
             error
