@@ -51,8 +51,8 @@ pub fn is_plain(c: char) -> bool {
 
 fn in_dollar_quotes(name: &[u8]) -> String {
     let mut out = String::new();
-    for chunk in chunks(name) {
-        match chunk {
+    for c in characters(name) {
+        match c {
             Ok('\n') => out.push_str("\\n"),
             Ok('\t') => out.push_str("\\t"),
             Ok('\r') => out.push_str("\\r"),
@@ -70,7 +70,7 @@ fn hex(out: &mut String, byte: u8) {
 }
 
 /// The characters of a text, and each byte that is of none.
-fn chunks(mut text: &[u8]) -> Vec<Result<char, u8>> {
+pub fn characters(mut text: &[u8]) -> Vec<Result<char, u8>> {
     let mut out = Vec::new();
     while !text.is_empty() {
         let whole = match std::str::from_utf8(text) {

@@ -40,13 +40,13 @@ fn too_large(tape: &Tape) -> String {
 /// Of several faults the first is told, a label's before an index's.
 fn find(number: u64, tape: &Tape) -> Option<String> {
     let mut files = Files::default();
-    let label = Text::new("label", &mut files).read(tape.label)?;
+    let label = Text::new("label", number == 20, &mut files).read(tape.label)?;
     if number == 20 {
         if let Some(fault) = label {
             return Some(format!("label ({}), {fault}", tape.label_name));
         }
     }
-    let index = Text::new("index", &mut files).read(tape.index);
+    let index = Text::new("index", number == 20, &mut files).read(tape.index);
     let index_says = |words: String| format!("index ({}), {words}", tape.index_name);
     match number {
         20 => index?.map(index_says),

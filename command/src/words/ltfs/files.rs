@@ -1,6 +1,6 @@
 //! The files of an index, as far as a refusal speaks of them.
 
-use crate::say::is_plain;
+use crate::say::{characters, is_plain};
 use crate::words::in_quotes;
 use std::collections::HashMap;
 
@@ -31,13 +31,14 @@ pub struct Files {
 /// A text with its control characters shown, in quotes.
 pub fn shown(text: &[u8]) -> String {
     let mut out = String::new();
-    for c in String::from_utf8_lossy(text).chars() {
+    for c in characters(text) {
         match c {
-            '\n' => out.push_str("\\n"),
-            '\r' => out.push_str("\\r"),
-            '\t' => out.push_str("\\t"),
-            c if is_plain(c) => out.push(c),
-            _ => out.push('?'),
+            Ok('\n') => out.push_str("\\n"),
+            Ok('\r') => out.push_str("\\r"),
+            Ok('\t') => out.push_str("\\t"),
+            Ok(c) if is_plain(c) => out.push(c),
+            Ok(_) => out.push('?'),
+            Err(byte) => out.push_str(&format!("\\x{byte:02x}")),
         }
     }
     in_quotes(&out)

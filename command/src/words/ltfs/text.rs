@@ -28,24 +28,16 @@ pub struct Text<'a> {
     /// The end that is waited for.
     waiting: &'static [u8],
     seen: HashSet<Vec<u8>>,
+    /// Of a text that is not refused for its form, what cannot be read is passed over.
+    looks_for_faults: bool,
     fault: Option<String>,
     given_up: bool,
 }
 
 impl<'a> Text<'a> {
-    pub fn new(part: &'static str, files: &'a mut Files) -> Text<'a> {
-        Text {
-            part,
-            files,
-            line: 1,
-            open: Vec::new(),
-            path: Vec::new(),
-            held: Vec::new(),
-            waiting: b"",
-            seen: HashSet::new(),
-            fault: None,
-            given_up: false,
-        }
+    pub fn new(part: &'static str, looks_for_faults: bool, files: &'a mut Files) -> Text<'a> {
+        let (open, path, held, seen) = (Vec::new(), Vec::new(), Vec::new(), HashSet::new());
+        Text { part, files, line: 1, open, path, held, waiting: b"", seen, looks_for_faults, fault: None, given_up: false }
     }
 
     /// The first fault, if there is one; nothing where the text was given up.
@@ -71,7 +63,7 @@ impl<'a> Text<'a> {
     }
 
     fn found(&mut self, words: String) {
-        if self.fault.is_none() {
+        if self.looks_for_faults && self.fault.is_none() {
             self.fault = Some(words);
         }
     }
