@@ -136,7 +136,7 @@ command_installed() {
     step "the installed command's explanation" env -u RATTLE_HOME PATH="${path%:}" "$prefix/bin/violstream" explain --svg "$out/picture.svg" "$here/examples/VX0041.run" > "$out/explained.is"
     grep -q 'detour 2,2 buys 40' "$out/explained.is" || fail "the installed command does not explain a plan"
     grep -q '</svg>' "$out/picture.svg" || fail "the installed command draws no picture"
-    step "the installed command's desk" env -u RATTLE_HOME PATH="${path%:}" "$prefix/bin/violstream" desk "$here/examples/day.run" "$here/examples/day.events" > "$out/day.is"
+    step "the installed command's desk" env -u RATTLE_HOME PATH="${path%:}" "$prefix/bin/violstream" desk "$here/examples/day.run" "$here/examples/day.events" > "$out/day.is" 2> "$out/day.said"
     same "the installed command's desk" "$here/examples/day.answers" "$out/day.is"
     sed 's/^turn=$/turn=0/' "$here/examples/no-wants.run" > "$out/sheet.must"
     step "the installed command's rewriting" env -u RATTLE_HOME PATH="${path%:}" "$prefix/bin/violstream" rewrite "$here/examples/no-wants.run" > "$out/sheet.is"
