@@ -7,7 +7,7 @@ use crate::usage;
 use std::path::Path;
 
 const WHOLE: &str = include_str!("../help/whole.txt");
-const EACH: [(&str, &str); 18] = [
+const EACH: [(&str, &str); 19] = [
     ("plan", include_str!("../help/plan.txt")),
     ("field", include_str!("../help/field.txt")),
     ("buys", include_str!("../help/buys.txt")),
@@ -22,6 +22,7 @@ const EACH: [(&str, &str); 18] = [
     ("build", include_str!("../help/build.txt")),
     ("test", include_str!("../help/test.txt")),
     ("install", include_str!("../help/install.txt")),
+    ("deb", include_str!("../help/deb.txt")),
     ("uninstall", include_str!("../help/uninstall.txt")),
     ("completions", include_str!("../help/completions.txt")),
     ("version", include_str!("../help/version.txt")),

@@ -1,7 +1,7 @@
 //! Installing and removing. The list of what is installed is written before the first file, so that whatever happens then can be removed; every file
 //! is put in place by a rename; a file that is not ours is neither overwritten nor removed.
 
-mod contents;
+pub mod contents;
 mod list;
 
 use crate::commands::Call;

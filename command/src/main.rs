@@ -11,6 +11,7 @@
 mod answers;
 mod build;
 mod commands;
+mod deb;
 mod explain;
 mod help;
 mod input;

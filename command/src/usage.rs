@@ -29,7 +29,7 @@ const fn known(name: &'static str, synopsis: &'static str, about: &'static str, 
     Known { name, synopsis, about, options, words }
 }
 
-pub const COMMANDS: [Known; 18] = [
+pub const COMMANDS: [Known; 19] = [
     known("plan", "[--json] [FILE...]", "the plan sheet of each run sheet", &["json"], Words::Files),
     known("field", "[FILE...]", "the same by the plain engine, for at most eight wants", &[], Words::Files),
     known("buys", "[--json] [FILE...]", "what each detour of a plan buys", &["json"], Words::Files),
@@ -44,6 +44,7 @@ pub const COMMANDS: [Known; 18] = [
     known("build", "", "prove and build what the others need", &[], Words::None),
     known("test", "", "prove everything from nothing and run every test", &[], Words::None),
     known("install", "[PREFIX]", "install this command and the library", &[], Words::Folder),
+    known("deb", "", "a Debian package of what install puts in place", &[], Words::None),
     known("uninstall", "[PREFIX]", "remove what was installed", &[], Words::Folder),
     known("completions", "SHELL", "completions for bash, zsh or fish", &[], Words::Other),
     known("version", "", "the version of the product", &[], Words::None),
@@ -51,7 +52,7 @@ pub const COMMANDS: [Known; 18] = [
 ];
 
 /// Commands that need the sources.
-pub const FOR_CHECKOUTS: [&str; 3] = ["build", "test", "install"];
+pub const FOR_CHECKOUTS: [&str; 4] = ["build", "test", "install", "deb"];
 
 // ---- For clap ----
 
@@ -285,6 +286,7 @@ impl Usage<'_> {
         Ok(match name {
             "build" => Asked::Build,
             "test" => Asked::Test,
+            "deb" => Asked::Deb,
             _ => Asked::Version,
         })
     }

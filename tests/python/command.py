@@ -46,7 +46,7 @@ class Checkout:
         self.root = os.path.join(folder, "checkout")
         self.temporary = os.path.join(folder, "temporary")
         os.makedirs(self.temporary)
-        for name in ("violstream", "README.md", "command", "docs", "tools", "include", "examples", "crates.txt"):
+        for name in ("violstream", "README.md", "CHANGELOG.md", "command", "docs", "tools", "include", "examples", "crates.txt"):
             source, to = os.path.join(programs.ROOT, name), os.path.join(self.root, name)
             os.makedirs(os.path.dirname(to), exist_ok=True)
             (shutil.copytree if os.path.isdir(source) else shutil.copy2)(source, to)
@@ -306,7 +306,7 @@ def statuses(at):
     at.must(f"set -o pipefail; ./violstream ltfs VX0041 {INDEX} {INDEX} | ./violstream plan", 3, refusal(11, 1))
     at.must("./violstream help", 0, silent=True)
     for line in ("nothing", "plan -x", "plan - -", "field -x", "field - -", "buys -x", "buys - -", "price", "price A", "price A B C", "price -x A", "check A", "check - -", "explain", "explain A B", "explain --svg", "explain -x", "rewrite -x", "rewrite - -", "mend -x", "mend - -", "month -x", "month - -", "month a ''", "plan ''", "plan a ''", "price '' a", "explain --svg= a", "explain --svg a", "desk ''", "install ''", "uninstall ''", "plan --json=1", "field --json", "plan --svg a b", "help no-such", "help plan buys", "completions", "completions csh", "version x", "--no-such", "ltfs", "ltfs A B", "ltfs A B C D", "ltfs A - -", "ltfs -A B C", "install a", "install /a /b",
-                 "uninstall a", "install -x", "build x", "test x"):
+                 "uninstall a", "install -x", "build x", "test x", "deb x"):
         at.must(f"./violstream {line}", 2, b"", ["violstream: ", "\nusage: ./violstream "])
         said = at.shell(f"./violstream {line}")[1]
         if said.count("\n") != 2 or not said.endswith("(more: ./violstream help)\n"):
@@ -316,7 +316,7 @@ def statuses(at):
     at.must("./violstream uninstall /no-such", 1, b"", ["nothing that this command knows of is installed below /no-such"])
 
 
-COMMANDS = ("plan", "field", "buys", "price", "check", "explain", "rewrite", "mend", "month", "ltfs", "desk", "build", "test", "install", "uninstall", "completions", "version", "help")
+COMMANDS = ("plan", "field", "buys", "price", "check", "explain", "rewrite", "mend", "month", "ltfs", "desk", "build", "test", "install", "deb", "uninstall", "completions", "version", "help")
 
 
 def help_and_version(at):
@@ -750,6 +750,26 @@ def installing(at):
             raise Wrong(f"cut off, {files()} stay")
 
 
+def packaged(at):
+    """The Debian package has what install puts in place, and lintian finds no error in it."""
+    if shutil.which("dpkg-deb") is None:
+        return
+    archive = os.path.join(programs.ROOT, "target/staticlib/libboundary.a")
+    os.makedirs(at.path("target/staticlib"))
+    at.write("target/staticlib/libboundary.a", contents(archive) if os.path.exists(archive) else b"!<arch>\n")
+    at.must("umask 077 && ./violstream deb", 0, f"made {at.root}/target/command/deb/violstream_3.0.0-1_amd64.deb\n".encode(), silent=True)
+    at.must("dpkg-deb -x target/command/deb/*.deb unpacked && unpacked/usr/bin/violstream plan examples/VX0041.run", 0, PLAN, silent=True)
+    for name in ("share/man/man1/violstream.1.gz", "share/doc/violstream/copyright", "lib/x86_64-linux-gnu/libviolstream.a", "lib/x86_64-linux-gnu/pkgconfig/violstream.pc", "include/violstream.h"):
+        if not os.path.exists(at.path(f"unpacked/usr/{name}")):
+            raise Wrong(f"the package has no {name}")
+    at.must("find unpacked ! -perm -044 ! -type l", 0, b"")
+    at.must("grep '^libdir=' unpacked/usr/lib/x86_64-linux-gnu/pkgconfig/violstream.pc", 0, b"libdir=${prefix}/lib/x86_64-linux-gnu\n")
+    if shutil.which("lintian") and os.path.exists(archive):
+        found = at.shell("mkdir theirs && TMPDIR=$PWD/theirs lintian --allow-root target/command/deb/*.deb")[0]
+        if b"E: " in found:
+            raise Wrong(f"lintian finds {found.decode()}")
+
+
 def limits(at):
     """Few descriptors, small files, little stack: a whole answer, or a sentence."""
     sheet = "./violstream plan examples/VX0041.run"
@@ -947,7 +967,7 @@ def building_interrupted(at):
 
 SCRIPTS = ("violstream", "tools/build.sh", "tools/edits.sh", "tools/machine.sh", "tools/native.sh")
 # Names that are the caller's to set, and those of the shell itself.
-OUTSIDE = {"PATH", "TMPDIR", "DESTDIR", "PREFIX", "RATTLE_HOME", "RT_JOBS", "VIOLSTREAM_SILENCE", "PIPESTATUS", "SECONDS"}
+OUTSIDE = {"PATH", "TMPDIR", "DESTDIR", "PREFIX", "RATTLE_HOME", "RT_JOBS", "VIOLSTREAM_SILENCE", "VIOLSTREAM_MAINTAINER", "PIPESTATUS", "SECONDS"}
 
 
 def names_in(script):
@@ -1023,7 +1043,7 @@ def until(true, otherwise):
 
 
 TESTS = (answers, fielding, figures, pairs, explained, rewriting, mending, monthly, desk, statuses, help_and_version, nothing_lost, broken_program, several, ltfs_inputs, words_of_sheets, words_of_damaged_sheets,
-         words_of_tapes, keyboard, transcripts, manual, interrupted, manners, as_json, installing, limits, other_user, without_compiler, building, building_fails, building_twice, building_interrupted, surrounded)
+         words_of_tapes, keyboard, transcripts, manual, interrupted, manners, as_json, installing, packaged, limits, other_user, without_compiler, building, building_fails, building_twice, building_interrupted, surrounded)
 
 
 def main():

@@ -9,6 +9,7 @@ mod sheets;
 
 use crate::answers::Refusal;
 use crate::build;
+use crate::deb;
 use crate::help;
 use crate::install;
 use crate::output::put;
@@ -37,6 +38,7 @@ pub enum Asked {
     Install { prefix: Option<OsString> },
     Uninstall { prefix: Option<OsString> },
     Completions { shell: String },
+    Deb,
     Version,
     Help(Option<&'static str>),
 }
@@ -65,6 +67,10 @@ pub fn answer(asked: &Asked, call: &Call) -> Result<Status, Stop> {
         Asked::Install { prefix } => {
             build::everything(call)?;
             install::install(prefix.as_deref(), call)
+        }
+        Asked::Deb => {
+            build::everything(call)?;
+            deb::make(call)
         }
         Asked::Uninstall { prefix } => install::uninstall(prefix.as_deref(), call),
     }

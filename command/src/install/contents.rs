@@ -52,7 +52,7 @@ pub fn everything(prefix: &Path, call: &Call) -> Result<Vec<Item>, Stop> {
     Ok(items)
 }
 
-fn read(path: &Path) -> Result<Vec<u8>, Stop> {
+pub fn read(path: &Path) -> Result<Vec<u8>, Stop> {
     match fs::read(path) {
         Ok(bytes) => Ok(bytes),
         Err(error) => failed(format!("cannot read {}: {}", quoted(path.as_os_str()), reason(&error))),
