@@ -16,6 +16,9 @@ use std::process::Command;
 const LIBRARIES: &str = "lib/x86_64-linux-gnu";
 
 pub fn make(call: &Call) -> Result<Status, Stop> {
+    if !cfg!(target_arch = "x86_64") {
+        return failed("the package is for amd64, and this machine is not");
+    }
     for tool in ["dpkg-deb", "gzip", "strip"] {
         if on_path(tool).is_none() {
             return failed(format!("{tool} is not on PATH; on Debian, as root: apt-get install dpkg gzip binutils"));

@@ -752,7 +752,7 @@ def installing(at):
 
 def packaged(at):
     """The Debian package has what install puts in place, and lintian finds no error in it."""
-    if shutil.which("dpkg-deb") is None:
+    if shutil.which("dpkg-deb") is None or os.uname().machine != "x86_64":
         return
     archive = os.path.join(programs.ROOT, "target/staticlib/libboundary.a")
     os.makedirs(at.path("target/staticlib"))
@@ -1046,11 +1046,17 @@ TESTS = (answers, fielding, figures, pairs, explained, rewriting, mending, month
          words_of_tapes, keyboard, transcripts, manual, interrupted, manners, as_json, installing, packaged, limits, other_user, without_compiler, building, building_fails, building_twice, building_interrupted, surrounded)
 
 
+def built():
+    """The command of this checkout is built, where it must be."""
+    subprocess.run([os.path.join(programs.ROOT, "violstream"), "version"], check=True, stdout=subprocess.DEVNULL)
+
+
 def main():
     reader = argparse.ArgumentParser(description=__doc__.split("\n")[0])
     reader.add_argument("--only", choices=[one.__name__ for one in TESTS], help="this test alone")
     only = reader.parse_args().only
     tried = [one for one in TESTS if only in (None, one.__name__)]
+    built()
     for one in tried:
         with tempfile.TemporaryDirectory() as folder:
             try:

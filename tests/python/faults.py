@@ -15,7 +15,7 @@ import sys
 import tempfile
 
 import programs
-from command import BUILT, INDEX, LABEL, Checkout
+from command import BUILT, INDEX, LABEL, Checkout, built
 
 KINDS = {"read": errno.EIO, "write": errno.ENOSPC, "open": errno.EMFILE, "close": errno.EIO, "poll": errno.ENOMEM, "pipe2": errno.EMFILE, "fork": errno.EAGAIN,
          "waitpid": errno.ECHILD, "dup2": errno.EMFILE, "execvp": errno.EACCES, "fcntl": errno.EBADF, "flock": errno.ENOLCK, "rename": errno.EXDEV, "fsync": errno.EIO,
@@ -89,6 +89,7 @@ def main():
     reader = argparse.ArgumentParser(description=__doc__.split("\n")[0])
     reader.add_argument("--only", help="calls that contain this word alone")
     only = reader.parse_args().only
+    built()
     with tempfile.TemporaryDirectory() as folder:
         shim = os.path.join(folder, "faults.so")
         source = os.path.join(programs.ROOT, "tests/c/faults.c")

@@ -59,14 +59,21 @@ pub fn read(path: &Path) -> Result<Vec<u8>, Stop> {
     }
 }
 
-/// Sheets, lists, days: what an operator tries.
+/// Sheets, lists, days, labels and indexes: what an operator tries.
 fn examples(folder: &Path) -> Result<Vec<String>, Stop> {
     let entries = match fs::read_dir(folder) {
         Ok(entries) => entries,
         Err(error) => return failed(format!("cannot read {}: {}", quoted(folder.as_os_str()), reason(&error))),
     };
-    let mut names: Vec<String> =
-        entries.flatten().filter(|entry| entry.path().is_file()).filter_map(|entry| entry.file_name().into_string().ok()).collect();
+    let mut names = Vec::new();
+    for entry in entries.flatten() {
+        let name = entry.file_name().to_string_lossy().into_owned();
+        if entry.path().is_dir() {
+            names.extend(examples(&entry.path())?.into_iter().map(|inner| format!("{name}/{inner}")));
+        } else {
+            names.push(name);
+        }
+    }
     names.sort();
     Ok(names)
 }
