@@ -8,7 +8,7 @@ use crate::programs::on_path;
 use crate::say::{line, quoted, reason, say};
 use crate::status::{failed, Stop};
 use crate::system;
-use lock::Lock;
+pub use lock::Lock;
 use nix::libc;
 use nix::poll::{poll, PollFd, PollFlags};
 use nix::sys::stat::{utimensat, UtimensatFlags};
@@ -60,13 +60,18 @@ pub fn everything(call: &Call) -> Result<(), Stop> {
 
 /// The gate, alone in this checkout.
 pub fn test(call: &Call) -> Result<bool, Stop> {
-    let _lock = Lock::take(&call.places.root)?;
+    let _lock = alone(call)?;
     let gate = call.places.root.join(".ci/run");
     let mut command = Command::new(&gate);
     match command.status() {
         Ok(ended) => Ok(ended.success()),
         Err(error) => failed(format!("cannot run {}: {}", quoted(gate.as_os_str()), reason(&error))),
     }
+}
+
+/// Nobody else builds in this checkout as long as it is held.
+pub fn alone(call: &Call) -> Result<Lock, Stop> {
+    Lock::take(&call.places.root)
 }
 
 /// Seconds after which a call that waits or builds says that it does.

@@ -1,5 +1,6 @@
 //! deb: a Debian package of what `install` puts in place, below /usr. What dpkg has installed, dpkg removes: the package has no list of ours.
 
+use crate::build;
 use crate::commands::Call;
 use crate::help;
 use crate::install::contents::{self, Item};
@@ -28,6 +29,7 @@ pub fn make(call: &Call) -> Result<Status, Stop> {
     let number = version.split(' ').nth(1).unwrap_or_default().to_string();
     let folder = call.places.root.join("target/command/deb");
     let package = Package { stage: folder.join("stage"), made: folder.join(format!("violstream_{number}-1_amd64.deb")), number };
+    let _lock = build::alone(call)?;
     package.fill(call)?;
     package.run("dpkg-deb", &["--root-owner-group", "--build"], &[&package.stage, &package.made])?;
     put(format!("made {}\n", quoted(package.made.as_os_str())).as_bytes())?;

@@ -232,7 +232,12 @@ def monthly(at):
     at.must("./violstream month no-such", 1, b"", ["cannot read no-such"])
     at.must("./violstream month crates", 1, b"", ["cannot read crates: it is a folder"])
     at.must("./violstream month < /", 1, b"", ["cannot read standard input: Is a directory"])
-    at.must("(printf '00\\n'; sleep 60) | ./violstream month", 3, none + b"refused=25\nplace=1\n", ["refused (25): sheet 1"])
+    # An input that is refused need not come to its end.
+    with subprocess.Popen(["./violstream", "month"], cwd=at.root, stdin=subprocess.PIPE, stdout=subprocess.PIPE, stderr=subprocess.DEVNULL, env=at.surroundings) as call:
+        call.stdin.write(b"00\n12345")
+        call.stdin.flush()
+        if call.stdout.read() != none + b"refused=25\nplace=1\n" or call.wait(LIMIT) != 3:
+            raise Wrong("month waits for the end of an input that is refused")
     one, two, three = "examples/VX0041.run", "examples/aggregate.run", "examples/retired-rule.run"
     framed = b"".join(b"%d\n" % len(contents(name)) + contents(name) for name in (one, two, three))
     page = at.shell("./violstream month", framed)[0]
@@ -273,7 +278,14 @@ def desk(at):
     at.must("./violstream desk examples/VX0041.run", 0, b"".join(b"filed=2,%d\n" % n for n in range(1, 17)) + refusal(16) + b"waiting=0,16\n", ["event 17", "office 2 has 16 tickets waiting"], data=b"file=2,1,1\n" * 17)
     at.must("./violstream desk examples/day.run < /", 1, b"", ["cannot read standard input: Is a directory"])
     at.must("./violstream desk examples/day.run /dev/zero", 3, refusal(11, 1), ["event 1 is not file="])
-    at.must("set -o pipefail; (printf 'file=1,1,1\\n'; sleep 60) | ./violstream desk examples/day.run | true", 141, b"", silent=True)
+    # Where nobody reads the answers any more, the day ends, though more events may come.
+    with subprocess.Popen(["./violstream", "desk", "examples/day.run"], cwd=at.root, stdin=subprocess.PIPE, stdout=subprocess.PIPE, stderr=subprocess.PIPE, env=at.surroundings) as call:
+        call.stdin.write(b"file=1,1,1\n")
+        call.stdin.flush()
+        call.stdout.readline()
+        call.stdout.close()
+        if call.wait(LIMIT) != -signal.SIGPIPE or call.stderr.read():
+            raise Wrong("desk goes on where nobody reads its answers")
     at.must("./violstream desk examples/day.run -", 0, b"waiting=0,0\n", silent=True)
     at.must("./violstream desk examples/day.run", 3, b"filed=1,1\n" + refusal(11, 2), ["event 2 is not file="], data=b"file=1,1,1\nfile=1,1\nfile=1,2,1\n")
     at.must("./violstream desk examples/day.run", 3, refusal(11, 1), ["event 1 is not file="], data=b"file=1,1,1")

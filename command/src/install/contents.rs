@@ -9,7 +9,7 @@ use crate::programs::on_path;
 use crate::say::{quoted, reason};
 use crate::status::{failed, Stop};
 use std::fs;
-use std::path::{Path, PathBuf};
+use std::path::Path;
 use std::process::Command;
 
 pub struct Item {
@@ -108,9 +108,16 @@ fn compiler() -> &'static str {
 
 /// The shared library, from the archive: the functions for C and nothing else are seen from outside.
 fn link(soname: &str, call: &Call) -> Result<Vec<u8>, Stop> {
-    let folder = call.places.root.join("target/command/shared");
-    let (map, made): (PathBuf, PathBuf) = (folder.join("map"), folder.join(soname));
-    let prepared = fs::create_dir_all(&folder).and_then(|()| fs::write(&map, "{ global: violstream_*; local: *; };\n"));
+    // Of this call alone: another may be installing too.
+    let folder = call.places.root.join(format!("target/command/shared.{}", std::process::id()));
+    let linked = link_in(&folder, soname, call);
+    let _ = fs::remove_dir_all(&folder);
+    linked
+}
+
+fn link_in(folder: &Path, soname: &str, call: &Call) -> Result<Vec<u8>, Stop> {
+    let (map, made) = (folder.join("map"), folder.join(soname));
+    let prepared = fs::create_dir_all(folder).and_then(|()| fs::write(&map, "{ global: violstream_*; local: *; };\n"));
     if let Err(error) = prepared {
         return failed(format!("cannot write {}: {}", quoted(folder.as_os_str()), reason(&error)));
     }
