@@ -35,9 +35,11 @@ fn begin() -> Began {
     if !is_open(2) {
         hold(b"/dev/null\0", libc::O_RDWR);
     }
-    // SAFETY: SIG_IGN is no function; nothing else of this program looks at these signals. A file that may not grow is an error like others.
+    // A file that may not grow is an error like others; a program that has ended is waited for, whatever whoever started this has said.
+    // SAFETY: SIG_IGN and SIG_DFL are no functions; nothing else of this program looks at these signals.
     let before = unsafe {
         libc::signal(libc::SIGXFSZ, libc::SIG_IGN);
+        libc::signal(libc::SIGCHLD, libc::SIG_DFL);
         libc::signal(libc::SIGPIPE, libc::SIG_IGN)
     };
     let began = Began { input_is_open, output_is_open, dies_of_broken_pipe: before == libc::SIG_DFL };

@@ -379,6 +379,34 @@ def nothing_lost(at):
     at.must("mkdir writing && ./violstream plan writing examples/VX0041.run", 1, b"sheet=examples/VX0041.run\n" + PLAN, ["cannot read writing: Is a directory"])
 
 
+def odd_ends(at):
+    """Descriptors that do not wait, a reader that is slow, signals that were ignored before: the answer is whole all the same."""
+    mine, theirs = os.pipe()
+    os.set_blocking(mine, False)
+    call = subprocess.Popen([at.path(BUILT), "plan"], stdin=mine, stdout=subprocess.PIPE, env=at.surroundings)
+    os.close(mine)
+    for part in (RUN[:5], RUN[5:70], RUN[70:]):
+        time.sleep(0.05)
+        os.write(theirs, part)
+    os.close(theirs)
+    if call.communicate(timeout=LIMIT)[0] != PLAN or call.returncode != 0:
+        raise Wrong("plan does not wait for an input that does not wait")
+    mine, theirs = os.pipe()
+    os.set_blocking(theirs, False)
+    call = subprocess.Popen([at.path(BUILT), "plan", *["examples/VX0041.run"] * 800], cwd=at.root, stdout=theirs, env=at.surroundings)
+    os.close(theirs)
+    time.sleep(0.5)
+    with os.fdopen(mine, "rb") as answers:
+        whole = answers.read()
+    if whole != (b"sheet=examples/VX0041.run\n" + PLAN) * 800 or call.wait(LIMIT) != 0:
+        raise Wrong("plan does not wait for an output that does not wait")
+    for number in (signal.SIGCHLD, signal.SIGPIPE, signal.SIGINT, signal.SIGHUP):
+        done = subprocess.run([at.path(BUILT), "plan"], input=RUN, capture_output=True, env=at.surroundings, timeout=LIMIT, restore_signals=False,
+                              preexec_fn=lambda number=number: signal.signal(number, signal.SIG_IGN))
+        if (done.stdout, done.returncode) != (PLAN, 0):
+            raise Wrong(f"with signal {number} ignored plan gives {done}")
+
+
 def broken_program(at):
     """A program that ends early, or prints half of an answer, is no answer."""
     kept = at.path("target/bin/cmd_plan")
@@ -1054,7 +1082,7 @@ def until(true, otherwise):
     raise Wrong(otherwise)
 
 
-TESTS = (answers, fielding, figures, pairs, explained, rewriting, mending, monthly, desk, statuses, help_and_version, nothing_lost, broken_program, several, ltfs_inputs, words_of_sheets, words_of_damaged_sheets,
+TESTS = (answers, fielding, figures, pairs, explained, rewriting, mending, monthly, desk, statuses, help_and_version, nothing_lost, odd_ends, broken_program, several, ltfs_inputs, words_of_sheets, words_of_damaged_sheets,
          words_of_tapes, keyboard, transcripts, manual, interrupted, manners, as_json, installing, packaged, limits, other_user, without_compiler, building, building_fails, building_twice, building_interrupted, surrounded)
 
 

@@ -28,6 +28,11 @@ CALLS = (f"plan {RUN}", f"plan {RUN} examples/no-wants.run", f"field {RUN}", f"b
 MAKING = ("install PREFIX", "uninstall PREFIX")
 
 
+def chosen(count, many):
+    """Every call of a kind, or where many do the same for one file after the other, the first and the last and some between."""
+    return [number for number in range(1, count + 1) if not many or number <= 12 or number > count - 12 or number % 9 == 0]
+
+
 class Tries:
     def __init__(self, at, shim):
         self.at, self.shim, self.count = at, shim, 0
@@ -57,7 +62,7 @@ class Tries:
         whole = self.call(words)
         for kind in KINDS:
             self.prepare(words)
-            for number in range(1, self.call(words, kind, 0)[3] + 1):
+            for number in chosen(self.call(words, kind, 0)[3], words in MAKING):
                 self.prepare(words)
                 out, said, status, _ = self.call(words, kind, number)
                 self.count += 1
