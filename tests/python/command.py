@@ -10,6 +10,7 @@ import json
 import os
 import pty
 import re
+import resource
 import shutil
 import signal
 import subprocess
@@ -405,6 +406,27 @@ def odd_ends(at):
                               preexec_fn=lambda number=number: signal.signal(number, signal.SIG_IGN))
         if (done.stdout, done.returncode) != (PLAN, 0):
             raise Wrong(f"with signal {number} ignored plan gives {done}")
+
+
+def quick(at):
+    """Of the processor a plan takes at most 10 ms more by the command than by the proved program alone."""
+    if os.uname().machine != "x86_64":
+        return
+
+    def seconds(words):
+        before = resource.getrusage(resource.RUSAGE_CHILDREN)
+        for _ in range(20):
+            subprocess.run(words, cwd=at.root, input=RUN, capture_output=True, env=at.surroundings, check=True)
+        after = resource.getrusage(resource.RUSAGE_CHILDREN)
+        return (after.ru_utime + after.ru_stime - before.ru_utime - before.ru_stime) / 20
+
+    shutil.rmtree(at.path("crates"))
+    shutil.copytree(os.path.join(programs.ROOT, "crates"), at.path("crates"))
+    alone = seconds([at.path("target/bin/cmd_plan")])
+    for words in (["./violstream", "plan", "-"], [at.path(BUILT), "plan", "-"]):
+        taken = seconds(words)
+        if taken > alone + 0.010:
+            raise Wrong(f"{words} takes {1000 * taken:.1f} ms, and the program by itself {1000 * alone:.1f}")
 
 
 def broken_program(at):
@@ -1082,7 +1104,7 @@ def until(true, otherwise):
     raise Wrong(otherwise)
 
 
-TESTS = (answers, fielding, figures, pairs, explained, rewriting, mending, monthly, desk, statuses, help_and_version, nothing_lost, odd_ends, broken_program, several, ltfs_inputs, words_of_sheets, words_of_damaged_sheets,
+TESTS = (answers, fielding, figures, pairs, explained, rewriting, mending, monthly, desk, statuses, help_and_version, nothing_lost, odd_ends, quick, broken_program, several, ltfs_inputs, words_of_sheets, words_of_damaged_sheets,
          words_of_tapes, keyboard, transcripts, manual, interrupted, manners, as_json, installing, packaged, limits, other_user, without_compiler, building, building_fails, building_twice, building_interrupted, surrounded)
 
 
