@@ -380,6 +380,22 @@ def nothing_lost(at):
     at.must("mkdir writing && ./violstream plan writing examples/VX0041.run", 1, b"sheet=examples/VX0041.run\n" + PLAN, ["cannot read writing: Is a directory"])
 
 
+def closed(at):
+    """With any of the three descriptors closed: as without, but for what cannot be read, or that nobody can be told."""
+    run, plan = "examples/VX0041.run", "examples/VX0041.plan"
+    at.write("month", b"%d\n" % len(RUN) + RUN)
+    for words in (f"plan {run}", f"plan --json {run} {plan}", f"field {run}", f"buys {run}", f"price {run} /dev/null", f"check {run} {plan}", f"explain {run} --svg picture", f"rewrite {run}",
+                  f"mend {run}", "month month", f"month {run} {plan}", f"ltfs VX0041 {LABEL} {INDEX}", "desk examples/day.run examples/day.events", "version", "help", "help plan", "completions fish"):
+        out, said, status = at.shell(f"./violstream {words}")
+        at.must(f"./violstream {words} <&-", status, out, said.split("\n"))
+        at.must(f"./violstream {words} 2>&-", status, out)
+        at.must(f"./violstream {words} <&- 2>&-", status, out)
+        at.must(f"./violstream {words} >&-", 1, b"", ["standard output is closed"])
+        at.must(f"./violstream {words} <&- >&- 2>&-", 1, b"")
+    for words in ("plan", "field -", "price - /dev/null", f"check {run} -", "explain -", "mend", "month", "month -", f"ltfs A - {INDEX}", "desk -  examples/day.events", "desk examples/day.run"):
+        at.must(f"./violstream {words} <&-", 1, b"", ["cannot read standard input: it is closed"])
+
+
 def odd_ends(at):
     """Descriptors that do not wait, a reader that is slow, signals that were ignored before: the answer is whole all the same."""
     mine, theirs = os.pipe()
@@ -1104,7 +1120,7 @@ def until(true, otherwise):
     raise Wrong(otherwise)
 
 
-TESTS = (answers, fielding, figures, pairs, explained, rewriting, mending, monthly, desk, statuses, help_and_version, nothing_lost, odd_ends, quick, broken_program, several, ltfs_inputs, words_of_sheets, words_of_damaged_sheets,
+TESTS = (answers, fielding, figures, pairs, explained, rewriting, mending, monthly, desk, statuses, help_and_version, nothing_lost, closed, odd_ends, quick, broken_program, several, ltfs_inputs, words_of_sheets, words_of_damaged_sheets,
          words_of_tapes, keyboard, transcripts, manual, interrupted, manners, as_json, installing, packaged, limits, other_user, without_compiler, building, building_fails, building_twice, building_interrupted, surrounded)
 
 

@@ -15,7 +15,7 @@ import sys
 import tempfile
 
 import programs
-from command import BUILT, INDEX, LABEL, Checkout, built
+from command import BUILT, INDEX, LABEL, Checkout, built, forget_built, unbuilt
 
 KINDS = {"read": errno.EIO, "write": errno.ENOSPC, "open": errno.EMFILE, "close": errno.EIO, "poll": errno.ENOMEM, "pipe2": errno.EMFILE, "fork": errno.EAGAIN,
          "waitpid": errno.ECHILD, "dup2": errno.EMFILE, "execvp": errno.EACCES, "fcntl": errno.EBADF, "flock": errno.ENOLCK, "rename": errno.EXDEV, "fsync": errno.EIO,
@@ -25,7 +25,7 @@ CALLS = (f"plan {RUN}", f"plan {RUN} examples/no-wants.run", f"field {RUN}", f"b
          f"explain {RUN} --svg picture", "rewrite examples/no-wants.run", "mend loose.run", "month may.month", f"month {RUN} examples/retired-rule.run",
          f"ltfs VX0041 {LABEL} {INDEX}", "desk examples/day.run examples/day.events", f"plan {PLAN}", f"price {RUN} {RUN}", "version", "help", "plan --help")
 # Calls that leave something behind, which are put right before each try.
-MAKING = ("install PREFIX", "uninstall PREFIX")
+MAKING = ("install PREFIX", "uninstall PREFIX", f"first plan {RUN}")
 
 
 def chosen(count, many):
@@ -42,7 +42,7 @@ class Tries:
         """What a call prints and says, its status, and how many calls of a kind it made."""
         counted = self.at.path("counted")
         surroundings = dict(self.at.surroundings, LD_PRELOAD=self.shim, VIOLSTREAM_FAULT=f"{kind}:{number}:{KINDS.get(kind, 0)}", VIOLSTREAM_FAULT_COUNT=counted)
-        words = [self.prefix if word == "PREFIX" else word for word in words.split()]
+        words = [self.prefix if word == "PREFIX" else word for word in words.removeprefix("first ").split()]
         done = subprocess.run([self.at.path(BUILT), *words], cwd=self.at.root, stdin=subprocess.DEVNULL, capture_output=True, env=surroundings, timeout=60)
         met = 0
         if os.path.exists(counted):
@@ -56,6 +56,11 @@ class Tries:
             shutil.rmtree(self.prefix, ignore_errors=True)
         if words.startswith("uninstall"):
             self.call("install PREFIX")
+        if words.startswith("first"):
+            # Nothing is built, and a stand-in for rt is there to build it.
+            if not os.path.exists(self.at.path("kept")):
+                unbuilt(self.at)
+            forget_built(self.at)
 
     def try_call(self, words):
         self.prepare(words)
@@ -78,6 +83,8 @@ class Tries:
             sys.exit(f"faults.py: {tell}; it must say why")
         if words.startswith("install"):
             self.removable(tell)
+        if words.startswith("first") and self.call(words)[:3:2] != whole[:3:2]:
+            sys.exit(f"faults.py: {tell}; and the next call does not answer")
 
     def removable(self, tell):
         """Whatever an installation that has failed has left can be removed."""
