@@ -3,6 +3,7 @@
 
 pub mod contents;
 mod list;
+mod lock;
 
 use crate::commands::Call;
 use crate::output::put;
@@ -11,13 +12,11 @@ use crate::say::{quoted, reason, say};
 use crate::status::{failed, Status, Stop};
 use contents::Item;
 use list::{Entry, List};
-use nix::fcntl::{flock, FlockArg};
 use std::ffi::OsStr;
 use std::fs::{self, File};
 use std::io::{self, Write};
 use std::os::unix::ffi::OsStrExt;
 use std::os::unix::fs::{symlink, OpenOptionsExt, PermissionsExt};
-use std::os::unix::io::AsRawFd;
 use std::path::{Path, PathBuf};
 
 /// The folder below which everything goes: DESTDIR, for packages, before the prefix.
@@ -72,38 +71,49 @@ impl Installation<'_> {
     /// Nothing is written but the list until it is clear that everything may be.
     fn begin(&mut self, items: &[Item]) -> Result<(), Stop> {
         let made = self.make_folder(OWN)?;
-        self.lock()?;
+        let begun = self.lock().and_then(|()| self.announce(items, &made));
+        if begun.is_err() && !self.path(list::NAME).exists() {
+            self.leave(&made);
+        }
+        begun
+    }
+
+    fn announce(&mut self, items: &[Item], made: &[String]) -> Result<(), Stop> {
         self.list = match List::read(self.root) {
             Ok(list) => list,
             Err(error) => return self.cannot("read", list::NAME, &error),
         };
+        self.nothing_foreign(items)?;
         made.iter().for_each(|folder| self.list.add_folder(folder));
-        let before: Vec<String> = self.list.files().map(str::to_string).collect();
-        for item in items {
-            if self.path(&item.to).symlink_metadata().is_ok() && !self.list.has(&item.to) {
-                self.leave(&made);
-                return failed(format!(
-                    "{} is there, and was not installed by this command; nothing was installed",
-                    quoted(self.path(&item.to).as_os_str())
-                ));
-            }
-        }
-        items.iter().filter(|item| !before.contains(&item.to)).for_each(|item| self.list.add_file(&item.to));
-        self.write_list().map_err(|stop| {
-            self.leave(&made);
-            stop
-        })
+        // From here on each of them may be the old one or the new.
+        items.iter().for_each(|item| self.list.add_file(&item.to));
+        self.write_list()
     }
 
-    /// Folders that were made for nothing, where nothing is in them.
+    fn nothing_foreign(&self, items: &[Item]) -> Result<(), Stop> {
+        for item in items {
+            let path = self.path(&item.to);
+            let how = match self.list.entry(&item.to) {
+                _ if path.symlink_metadata().is_err() => continue,
+                None => "was not installed by this command",
+                Some(entry) if entry.is_known() && *entry != Entry::of(&path) => "was changed since it was installed",
+                Some(_) => continue,
+            };
+            return failed(format!("{} is there, and {how}; nothing was installed", quoted(path.as_os_str())));
+        }
+        Ok(())
+    }
+
+    /// What was made for nothing.
     fn leave(&self, made: &[String]) {
+        let _ = fs::remove_file(self.path(lock::NAME));
         made.iter().rev().for_each(|folder| drop(fs::remove_dir(self.path(folder))));
     }
 
     fn lock(&mut self) -> Result<(), Stop> {
-        match lock(self.root) {
+        match lock::take(self.root) {
             Ok(lock) => self._lock = Some(lock),
-            Err(error) => return self.cannot("lock", OWN, &error),
+            Err(error) => return self.cannot("lock", lock::NAME, &error),
         }
         Ok(())
     }
@@ -111,7 +121,7 @@ impl Installation<'_> {
     /// With those around it; which of them are new.
     fn make_folder(&mut self, name: &str) -> Result<Vec<String>, Stop> {
         let mut new = Vec::new();
-        if let Err(error) = fs::create_dir_all(self.root) {
+        if let Err(error) = make_all_for_all(self.root) {
             return self.cannot("make", "", &error);
         }
         let parts: Vec<&str> = name.split('/').collect();
@@ -185,16 +195,24 @@ impl Installation<'_> {
     }
 }
 
-fn lock(root: &Path) -> io::Result<File> {
-    let folder = File::open(root.join(OWN))?;
-    flock(folder.as_raw_fd(), FlockArg::LockExclusive)?;
-    Ok(folder)
-}
-
 /// A folder that everybody can enter, whatever the umask is.
 fn make_for_all(path: &Path) -> io::Result<()> {
     fs::create_dir(path)?;
     fs::set_permissions(path, fs::Permissions::from_mode(0o755))
+}
+
+/// With those around it.
+fn make_all_for_all(path: &Path) -> io::Result<()> {
+    if path.is_dir() {
+        return Ok(());
+    }
+    if let Some(around) = path.parent() {
+        make_all_for_all(around)?;
+    }
+    match make_for_all(path) {
+        Err(error) if error.kind() == io::ErrorKind::AlreadyExists && path.is_dir() => Ok(()),
+        made => made,
+    }
 }
 
 /// The name under which a file is written, before it is put in its place.
@@ -226,7 +244,9 @@ pub fn uninstall(prefix: Option<&OsStr>, call: &Call) -> Result<Status, Stop> {
     let default = if call.places.installed { call.places.root.clone() } else { PathBuf::from("/usr/local") };
     let root = root_for(&prefix.map_or(default, PathBuf::from));
     let shown = quoted(root.as_os_str());
-    let (list, _lock) = match lock(&root).and_then(|lock| Ok((List::read_present(&root)?, lock))) {
+    // There must be a list, and be it still when the call that was waited for has ended.
+    let read = List::read_present(&root).and_then(|_| lock::take(&root)).and_then(|lock| Ok((List::read_present(&root)?, lock)));
+    let (list, _lock) = match read {
         Ok(read) => read,
         Err(error) => {
             let path = quoted(root.join(list::NAME).as_os_str());
@@ -254,6 +274,7 @@ pub fn uninstall(prefix: Option<&OsStr>, call: &Call) -> Result<Status, Stop> {
         if let Err(error) = fs::remove_file(root.join(list::NAME)) {
             return failed(format!("cannot remove {}: {}", quoted(root.join(list::NAME).as_os_str()), reason(&error)));
         }
+        let _ = fs::remove_file(root.join(lock::NAME));
         list.folders().for_each(|folder| drop(fs::remove_dir(root.join(folder))));
         put(format!("removed what was installed below {shown}\n").as_bytes())?;
     }

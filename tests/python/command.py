@@ -797,6 +797,8 @@ def installing(at):
     if files() != whole:
         raise Wrong(f"installed again: {files()} and not {whole}")
     # Somebody's own files stay.
+    at.must(f"cp -a {prefix}/bin/violstream kept && echo mine > {prefix}/bin/violstream && ./violstream install {prefix}", 1, b"", ["bin/violstream is there, and was changed since it was installed; nothing was installed"])
+    at.must(f"cp -a kept {prefix}/bin/violstream && ./violstream install {prefix}", 0, silent=True)
     at.must(f"echo mine > {prefix}/include/violstream.h && ./violstream uninstall {prefix}", 1, b"", ["include/violstream.h was changed since it was installed, and stays"])
     at.must(f"rm {prefix}/include/violstream.h && ./violstream uninstall {prefix} && find {prefix} -mindepth 1", 0, f"removed what was installed below {prefix}\n".encode(), silent=True)
     at.must(f"mkdir -p {prefix}/bin && echo mine > {prefix}/bin/violstream && ./violstream install {prefix}", 1, b"", ["bin/violstream is there, and was not installed by this command; nothing was installed"])
@@ -812,13 +814,15 @@ def installing(at):
     shutil.rmtree(prefix)
     calls = [subprocess.Popen(["./violstream", "install", prefix], cwd=at.root, stdout=subprocess.DEVNULL, stderr=subprocess.PIPE, env=at.surroundings) for _ in range(2)]
     ended = [(call.communicate(timeout=LIMIT)[1], call.returncode) for call in calls]
-    if ended != [(b"", 0)] * 2 or files() != whole:
+    if [status for _, status in ended] != [0, 0] or files() != whole:
         raise Wrong(f"two at once ended so: {ended}, with {files()}")
-    # Cut off at any moment.
-    for moment in range(8):
+    # Cut off at any moment, also where something is installed already.
+    for moment in range(16):
         shutil.rmtree(prefix, ignore_errors=True)
+        if moment % 2:
+            at.must(f"./violstream install {prefix}", 0, silent=True)
         call = subprocess.Popen([at.path(BUILT), "install", prefix], cwd=at.root, stdout=subprocess.PIPE, stderr=subprocess.DEVNULL, env=at.surroundings)
-        for _ in range(6 * moment):
+        for _ in range(3 * moment):
             call.stdout.readline()
         call.kill()
         call.communicate()

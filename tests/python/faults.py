@@ -30,7 +30,7 @@ MAKING = ("install PREFIX", "uninstall PREFIX", f"first plan {RUN}")
 
 def chosen(count, many):
     """Every call of a kind, or where many do the same for one file after the other, the first and the last and some between."""
-    return [number for number in range(1, count + 1) if not many or number <= 12 or number > count - 12 or number % 9 == 0]
+    return [number for number in range(1, count + 1) if not many or number <= 6 or number > count - 6 or number % 25 == 0]
 
 
 class Tries:

@@ -45,7 +45,7 @@ impl List {
         for line in fs::read_to_string(root.join(NAME))?.lines() {
             if let Some(folder) = line.strip_suffix('/') {
                 list.folders.insert(folder.to_string());
-            } else if line != NAME {
+            } else if line != NAME && line != super::lock::NAME {
                 let (name, entry) = read_file(line);
                 list.files.insert(name, entry);
             }
@@ -61,17 +61,13 @@ impl List {
                 None => text.push_str(&format!("{name}\n")),
             }
         }
-        text.push_str(&format!("{NAME}\n"));
+        text.push_str(&format!("{NAME}\n{}\n", super::lock::NAME));
         self.folders().for_each(|folder| text.push_str(&format!("{folder}/\n")));
         let beside = root.join(super::beside(NAME));
         put_in_place(&beside, &root.join(NAME), text.as_bytes()).map_err(|error| {
             let _ = fs::remove_file(&beside);
             error
         })
-    }
-
-    pub fn has(&self, name: &str) -> bool {
-        self.files.contains_key(name)
     }
 
     /// Known by its name, until it is in its place.
