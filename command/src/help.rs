@@ -78,3 +78,27 @@ pub fn completions(shell: &str) -> String {
     }
     String::from_utf8_lossy(&out).into_owned()
 }
+
+#[cfg(test)]
+mod tests {
+    use super::*;
+
+    #[test]
+    fn the_whole_has_every_refusal_in_the_words_of_the_table() {
+        let text = WHOLE.split_whitespace().collect::<Vec<_>>().join(" ");
+        for (number, words) in crate::words::table::REFUSALS {
+            assert!(text.contains(&format!("{number} {words}")), "{number}");
+        }
+    }
+
+    #[test]
+    fn every_command_has_a_screen() {
+        for known in usage::COMMANDS {
+            assert!(
+                EACH.iter().any(|(name, text)| *name == known.name && text.starts_with(&format!("usage: {{me}} {}", known.name))),
+                "{}",
+                known.name
+            );
+        }
+    }
+}
