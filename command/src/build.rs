@@ -224,7 +224,7 @@ impl Progress<'_> {
         };
         let mut room = [0; 4096];
         loop {
-            let waited = poll(&mut [PollFd::new(from.as_raw_fd(), PollFlags::POLLIN)], silence().as_millis() as i32);
+            let waited = poll(&mut [PollFd::new(from.as_raw_fd(), PollFlags::POLLIN)], silence().as_millis().min(i32::MAX as u128) as i32);
             if waited == Ok(0) {
                 self.still();
                 continue;
