@@ -349,6 +349,8 @@ def help_and_version(at):
     version = at.shell("./violstream --version")[0]
     if re.fullmatch(rb"violstream [0-9]+\.[0-9]+\.[0-9]+ \(rattle-kit-\S+ logic [0-9a-f]{16}\)\n", version) is None:
         raise Wrong(f"./violstream --version prints {version!r}")
+    if b'\nversion = "%s"\n' % version.split()[1] not in contents("command/Cargo.toml"):
+        raise Wrong("command/Cargo.toml is of another version")
     for line in ("version", "plan --version", "ltfs --version", "test --version", "plan no-such --version"):
         at.must(f"./violstream {line}", 0, version, silent=True)
     at.must("./violstream version > /dev/full", 1, b"", ["cannot write to standard output"])
@@ -839,7 +841,8 @@ def packaged(at):
     archive = os.path.join(programs.ROOT, "target/staticlib/libboundary.a")
     os.makedirs(at.path("target/staticlib"))
     at.write("target/staticlib/libboundary.a", contents(archive) if os.path.exists(archive) else b"!<arch>\n")
-    at.must("umask 077 && ./violstream deb", 0, f"made {at.root}/target/command/deb/violstream_3.0.0-1_amd64.deb\n".encode(), silent=True)
+    number = at.shell("./violstream version")[0].decode().split()[1]
+    at.must("umask 077 && ./violstream deb", 0, f"made {at.root}/target/command/deb/violstream_{number}-1_amd64.deb\n".encode(), silent=True)
     at.must("dpkg-deb -x target/command/deb/*.deb unpacked && unpacked/usr/bin/violstream plan examples/VX0041.run", 0, PLAN, silent=True)
     for name in ("share/man/man1/violstream.1.gz", "share/doc/violstream/copyright", "lib/x86_64-linux-gnu/libviolstream.a", "lib/x86_64-linux-gnu/pkgconfig/violstream.pc", "include/violstream.h"):
         if not os.path.exists(at.path(f"unpacked/usr/{name}")):
