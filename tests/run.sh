@@ -136,7 +136,7 @@ command_installed() {
     step "the installed command's explanation" env -u RATTLE_HOME PATH="${path%:}" "$prefix/bin/violstream" explain --svg "$out/picture.svg" "$here/examples/VX0041.run" > "$out/explained.is"
     grep -q 'detour 2,2 buys 40' "$out/explained.is" || fail "the installed command does not explain a plan"
     grep -q '</svg>' "$out/picture.svg" || fail "the installed command draws no picture"
-    step "the installed command's desk" env -u RATTLE_HOME PATH="${path%:}" "$prefix/bin/violstream" desk "$here/examples/day.run" "$here/examples/day.events" > "$out/day.is"
+    step "the installed command's desk" env -u RATTLE_HOME PATH="${path%:}" "$prefix/bin/violstream" desk "$here/examples/day.run" "$here/examples/day.events" > "$out/day.is" 2> "$out/day.said"
     same "the installed command's desk" "$here/examples/day.answers" "$out/day.is"
     sed 's/^turn=$/turn=0/' "$here/examples/no-wants.run" > "$out/sheet.must"
     step "the installed command's rewriting" env -u RATTLE_HOME PATH="${path%:}" "$prefix/bin/violstream" rewrite "$here/examples/no-wants.run" > "$out/sheet.is"
@@ -179,10 +179,10 @@ uninstalled() {
 
 installed() {
     prefix=$out/prefix
-    step "install.sh" env -u DESTDIR "$here/install.sh" PREFIX="$prefix" "$archive" > "$out/install.log"
-    step "install.sh, again" env -u DESTDIR "$here/install.sh" PREFIX="$prefix" "$archive" > "$out/install.log"
+    step "install" env -u DESTDIR "$here/violstream" install "$prefix" > "$out/install.log"
+    step "install, again" env -u DESTDIR "$here/violstream" install "$prefix" > "$out/install.log"
     daemon_by "against the installed archive" "$out/daemon_installed" -I "$prefix/include" -L "$prefix/lib" -l:libviolstream.a
-    step "install.sh with DESTDIR" "$here/install.sh" PREFIX=/usr DESTDIR="$out/stage" "$archive" > "$out/install.log"
+    step "install with DESTDIR" env DESTDIR="$out/stage" "$here/violstream" install /usr > "$out/install.log"
     grep -qx 'prefix=/usr' "$out/stage/usr/lib/pkgconfig/violstream.pc" || fail "violstream.pc does not name PREFIX, or not without DESTDIR"
     if command -v pkg-config > /dev/null; then
         words=$(PKG_CONFIG_PATH=$prefix/lib/pkgconfig pkg-config --cflags --libs violstream) || fail "pkg-config does not find violstream"
@@ -201,9 +201,19 @@ bench() {
     printf 'bench: planner, table.c and paper.c give the same sums\n'
 }
 
+# The command, by cargo: its layout, what clippy finds, and the tests beside its sources. The script at the top of the checkout builds it first.
+command_sources() {
+    step "building the command" "$here/violstream" version
+    made=$here/target/command/made
+    step "the layout of the command's sources" cargo fmt --check --manifest-path "$here/command/Cargo.toml"
+    (cd "$made/crate" && step "clippy" cargo clippy -q --release --target-dir "$made/target" -- -D warnings) || exit 1
+    (cd "$made/crate" && step "the command's own tests" cargo test -q --release --target-dir "$made/target" > "$out/cargo.log") || exit 1
+    printf 'command_sources: in the layout of rustfmt, nothing found by clippy, its own tests passed\n'
+}
+
 # Every shell script, those that others read among them.
 scripts() {
-    for script in "$here"/violstream "$here"/install.sh "$here"/.ci/run "$here"/bench/*.sh "$here"/bench/rules/*.sh "$here"/tests/*.sh "$here"/tools/*.sh; do
+    for script in "$here"/violstream "$here"/.ci/run "$here"/bench/*.sh "$here"/bench/rules/*.sh "$here"/tests/*.sh "$here"/tools/*.sh; do
         step "shellcheck of $script" shellcheck -x -P "$here" "$script"
     done
     printf 'scripts: shellcheck finds nothing\n'
@@ -245,6 +255,7 @@ tests_run=0
 
 # A new test is a file in c/, rust/ or python/ and a line here.
 run scripts
+run command_sources
 run manual
 run header_example
 run daemon
@@ -279,6 +290,7 @@ run python/pages
 run python/paths
 run python/rows
 run python/command
+run python/faults
 
 [ "$tests_run" -gt 0 ] || fail "no test is called $only"
 printf 'tests/run.sh: all as it must be; tests run: %d\n' "$tests_run"

@@ -2,6 +2,7 @@
 # The tools that the tests need, for tests/run.sh to read by `.`: find_tools finds them or, if $install_tools is yes and this
 # is Debian and the user root, installs them.
 #
+# The command needs cargo, rustfmt, clippy and, from Debian's packages, the sources of the libraries that it uses.
 # On x86-64: make, gcc, g++, rustc, python3, shellcheck and man. On another processor cross compilers for x86-64 and an emulator in place of
 # gcc and g++ (tools/machine.sh), and Rust with its standard library for x86-64.
 
@@ -11,6 +12,12 @@ missing_tools() {
         command -v "$tool" > /dev/null || printf ' %s' "$tool"
     done
     command -v man > /dev/null || printf ' man-db'
+    command -v cargo > /dev/null || printf ' cargo'
+    command -v cargo-fmt > /dev/null || printf ' rustfmt'
+    command -v cargo-clippy > /dev/null || printf ' rust-clippy'
+    for crate in clap clap_complete nix serde_json; do
+        [ -n "$(find /usr/share/cargo/registry -maxdepth 1 -name "$crate-[0-9]*" 2> /dev/null)" ] || printf ' librust-%s-dev' "$(printf '%s' "$crate" | tr _ -)"
+    done
     if [ "$emulated" = no ]; then
         for tool in gcc g++ rustc; do
             command -v "$tool" > /dev/null || printf ' %s' "$tool"

@@ -1,14 +1,16 @@
 #!/usr/bin/env python3
 """Calls `./violstream` as a person or a script does and looks at what it prints, what it says on standard error and how it ends.
 
-usage: tests/python/command.py [--only NAME]    (the programs are those in target/bin)
+usage: tests/python/command.py [--only NAME]    (the programs are those in target/bin, the command is that in target/command)
 
 It works in a copy of the command's own files in a temporary folder, with the programs beside it, so that nothing is proved here.
 """
 import argparse
+import json
 import os
 import pty
 import re
+import resource
 import shutil
 import signal
 import subprocess
@@ -20,6 +22,8 @@ import programs
 from plan import answer, cases as sheets_of_plan
 
 LIMIT = 120
+BUILT = "target/command/violstream"
+PROGRAMS = ("cmd_plan", "cmd_field", "cmd_buys", "cmd_price", "cmd_check", "cmd_rewrite", "cmd_mend", "cmd_month", "cmd_ltfs", "cmd_desk")
 LABEL, INDEX = "examples/ltfs/VX0041.label.xml", "examples/ltfs/VX0041.index.xml"
 
 
@@ -43,17 +47,20 @@ class Checkout:
         self.root = os.path.join(folder, "checkout")
         self.temporary = os.path.join(folder, "temporary")
         os.makedirs(self.temporary)
-        for name in ("violstream", "install.sh", "README.md", "tools", "include", "examples", "crates.txt"):
+        for name in ("violstream", "README.md", "CHANGELOG.md", "command", "docs", "tools", "include", "examples", "crates.txt"):
             source, to = os.path.join(programs.ROOT, name), os.path.join(self.root, name)
             os.makedirs(os.path.dirname(to), exist_ok=True)
             (shutil.copytree if os.path.isdir(source) else shutil.copy2)(source, to)
         os.makedirs(os.path.join(self.root, "crates/refusals"))
-        os.makedirs(os.path.join(self.root, "target/bin"))
-        for name in ("cmd_plan", "cmd_field", "cmd_buys", "cmd_price", "cmd_check", "cmd_rewrite", "cmd_mend", "cmd_month", "cmd_ltfs", "cmd_desk"):
+        for folder in ("bin", "command", "stamp"):
+            os.makedirs(os.path.join(self.root, "target", folder))
+        for name in PROGRAMS:
             source = os.path.join(programs.ROOT, "target/bin", name)
             if not os.path.exists(source):
                 sys.exit(f"command.py: no program {source}; 'rt check {name}' makes it")
             shutil.copy(source, os.path.join(self.root, "target/bin", name))
+            self.write(f"target/stamp/{name}", b"\n")
+        shutil.copy(os.path.join(programs.ROOT, BUILT), os.path.join(self.root, BUILT))
         self.surroundings = dict(os.environ, TMPDIR=self.temporary)
 
     def path(self, name):
@@ -84,7 +91,7 @@ class Checkout:
                 raise Wrong(f"{tell}; it must say {words!r}")
         if silent and said:
             raise Wrong(f"{tell}; it must say nothing")
-        if status not in (0, 3) and not said and "2>" not in line:
+        if status in (1, 2) and not said and "2>" not in line:
             raise Wrong(f"{tell}; it must say why")
 
 
@@ -198,10 +205,15 @@ def mending(at):
     at.must("./violstream mend - < loose.run 2> /dev/null | ./violstream mend", 0, new, silent=True)
     at.must("./violstream mend loose.run 2> /dev/null | ./violstream plan", 0, answer(new), silent=True)
     at.must("./violstream mend examples/VX0041.run", 0, RUN, silent=True)
-    at.must("./violstream mend", 3, refusal(11, 3), ["refused (11): a line that is not as described"], data=changed(3, b"turn=x"))
-    at.must("./violstream mend < /dev/zero", 3, refusal(12), ["refused (12): a sheet over 16,384 bytes"])
+    at.must("./violstream mend", 3, refusal(11, 3), ['refused (11): line 3: expected turn=NUMBER; found "turn=x"'], data=changed(3, b"turn=x"))
+    at.must("./violstream mend", 3, refusal(11, 7), ['line 7: expected file=START,LENGTH,AGGREGATE or wants=NUMBER; found "file=10,4": three numbers'], data=changed(7, b"file=10,4"))
+    at.must("./violstream mend", 3, refusal(11, 13), ['line 13: expected want=FILE,READS or the end of the sheet; found "x"'], data=RUN + b"x\n")
+    at.must("./violstream mend < /dev/zero", 3, refusal(12), ["refused (12): the sheet has over 16384 bytes"])
     at.must("./violstream mend", 3, refusal(3), ["refused (3): over 64 wants left"], data=RUN + b"".join(b"want=%d,1\n" % (n + 4) for n in range(62)))
-    at.must("./violstream mend", 3, refusal(5), ["refused (5): over 1,024 reads"], data=RUN + b"want=3,1020\n")
+    at.must("./violstream mend", 3, refusal(5), ["refused (5): the wants have 1025 reads in all; at most 1024"], data=RUN + b"want=3,1020\n")
+    at.must("./violstream mend loose.run examples/VX0041.run loose.run", 0, b"sheet=loose.run\n" + new + b"sheet=examples/VX0041.run\n" + RUN + b"sheet=loose.run\n" + new,
+            ["sheet=loose.run\n" + "".join(words), "".join(words) + "sheet=loose.run\n"])
+    at.must("./violstream mend loose.run 2> /dev/full", 1)
     at.must("./violstream mend examples/VX0041.run > /dev/full", 1, b"", ["cannot write to standard output"])
 
 
@@ -220,6 +232,23 @@ def monthly(at):
     at.must("./violstream month cut.month | tail -n 2", 0, b"refused=25\nplace=7\n", ["cut.month: refused (25): sheet 7"])
     at.must("./violstream month no-such", 1, b"", ["cannot read no-such"])
     at.must("./violstream month crates", 1, b"", ["cannot read crates: it is a folder"])
+    at.must("./violstream month < /", 1, b"", ["cannot read standard input: Is a directory"])
+    # An input that is refused need not come to its end.
+    with subprocess.Popen(["./violstream", "month"], cwd=at.root, stdin=subprocess.PIPE, stdout=subprocess.PIPE, stderr=subprocess.DEVNULL, env=at.surroundings) as call:
+        call.stdin.write(b"00\n12345")
+        call.stdin.flush()
+        if call.stdout.read() != none + b"refused=25\nplace=1\n" or call.wait(LIMIT) != 3:
+            raise Wrong("month waits for the end of an input that is refused")
+    one, two, three = "examples/VX0041.run", "examples/aggregate.run", "examples/retired-rule.run"
+    framed = b"".join(b"%d\n" % len(contents(name)) + contents(name) for name in (one, two, three))
+    page = at.shell("./violstream month", framed)[0]
+    at.must(f"./violstream month {one} {two} {three}", 0, page, [f"violstream: {three}: refused (19): the rule"])
+    at.must(f"./violstream month {one}", 0, at.shell("./violstream month", b"%d\n" % len(RUN) + RUN)[0], silent=True)
+    at.must(f"./violstream month {one} no-such {two}", 1, b"", ["cannot read no-such"])
+    at.must(f"cat {two} | ./violstream month {one} -", 0, silent=True)
+    at.write("far.run", RUN.replace(b"turn=1\n", b"turn=600\n"))
+    at.must(f"./violstream month {one} far.run", 0, None, [f"warning: {one} has turn=1 and far.run turn=600"])
+    at.must("./violstream month $(yes examples/no-wants.run | head -n 1001) | tail -n 2", 0, b"refused=25\nplace=1001\n", ["refused (25): sheet 1001"])
     at.must("./violstream month may.month > /dev/full", 1, b"", ["cannot write to standard output"])
 
 
@@ -239,9 +268,25 @@ def fielding(at):
 def desk(at):
     """A day of two offices: each event is answered as it comes."""
     day = contents("examples/day.answers")
-    at.must("./violstream desk examples/day.run examples/day.events", 0, day, silent=True)
-    at.must("./violstream desk examples/day.run < examples/day.events", 0, day, silent=True)
-    at.must("cat examples/day.run | ./violstream desk - <(cat examples/day.events)", 0, day, silent=True)
+    at.must("./violstream desk examples/day.run examples/day.events", 0, day, ["examples/day.events: event 5, "])
+    at.must("./violstream desk examples/day.run < examples/day.events", 0, day, ["standard input: event 5, "])
+    at.must("cat examples/day.run | ./violstream desk - <(cat examples/day.events)", 0, day)
+    for event, number, words in (("file=3,1,1", 15, "there is no office 3, only 1 and 2"), ("file=1,4,1", 15, "the tape has no file 4: the table has files 1 to 3"),
+                                 ("file=1,1,129", 15, "a count is 1 to 128, and not 129"), ("withdraw=2,7", 17, "no ticket 7 of office 2 waits"),
+                                 ("board=60,4294967297", 6, "the turn price 4294967297 is above 4294967296 (2^32)"), ("board=1099511627777,1", 7, "the head, 1099511627777, stands above 1099511627776 (2^40)")):
+        at.must("./violstream desk examples/VX0041.run", 0, refusal(number) + b"waiting=0,0\n", [f'violstream: standard input: event 1, "{event}": refused ({number}): {words}\n'], data=event.encode() + b"\n")
+    at.must("./violstream desk examples/VX0041.run", 0, b"filed=1,1\n" + refusal(7) + b"waiting=1,0\n", ["refused (7): the head, 49, stands left of the end of the rightmost file"], data=b"file=1,3,1\nboard=49,1\n")
+    at.must("./violstream desk examples/VX0041.run", 0, b"".join(b"filed=2,%d\n" % n for n in range(1, 17)) + refusal(16) + b"waiting=0,16\n", ["event 17", "office 2 has 16 tickets waiting"], data=b"file=2,1,1\n" * 17)
+    at.must("./violstream desk examples/day.run < /", 1, b"", ["cannot read standard input: Is a directory"])
+    at.must("./violstream desk examples/day.run /dev/zero", 3, refusal(11, 1), ["event 1 is not file="])
+    # Where nobody reads the answers any more, the day ends, though more events may come.
+    with subprocess.Popen(["./violstream", "desk", "examples/day.run"], cwd=at.root, stdin=subprocess.PIPE, stdout=subprocess.PIPE, stderr=subprocess.PIPE, env=at.surroundings) as call:
+        call.stdin.write(b"file=1,1,1\n")
+        call.stdin.flush()
+        call.stdout.readline()
+        call.stdout.close()
+        if call.wait(LIMIT) != -signal.SIGPIPE or call.stderr.read():
+            raise Wrong("desk goes on where nobody reads its answers")
     at.must("./violstream desk examples/day.run -", 0, b"waiting=0,0\n", silent=True)
     at.must("./violstream desk examples/day.run", 3, b"filed=1,1\n" + refusal(11, 2), ["event 2 is not file="], data=b"file=1,1,1\nfile=1,1\nfile=1,2,1\n")
     at.must("./violstream desk examples/day.run", 3, refusal(11, 1), ["event 1 is not file="], data=b"file=1,1,1")
@@ -273,8 +318,8 @@ def statuses(at):
     at.must(f"./violstream ltfs vx0041 {LABEL} {INDEX}", 3, refusal(13))
     at.must(f"set -o pipefail; ./violstream ltfs VX0041 {INDEX} {INDEX} | ./violstream plan", 3, refusal(11, 1))
     at.must("./violstream help", 0, silent=True)
-    for line in ("nothing", "plan -x", "plan - -", "field -x", "field - -", "buys -x", "buys - -", "price", "price A", "price A B C", "price -x A", "check A", "check - -", "explain", "explain A B", "explain --svg", "explain -x", "rewrite -x", "rewrite - -", "mend -x", "mend - -", "month -x", "month a b", "ltfs", "ltfs A B", "ltfs A B C D", "ltfs A - -", "ltfs -A B C", "install a", "install /a /b",
-                 "uninstall a", "install -x", "build x", "test x"):
+    for line in ("nothing", "plan -x", "plan - -", "field -x", "field - -", "buys -x", "buys - -", "price", "price A", "price A B C", "price -x A", "check A", "check - -", "explain", "explain A B", "explain --svg", "explain -x", "rewrite -x", "rewrite - -", "mend -x", "mend - -", "month -x", "month - -", "month a ''", "plan ''", "plan a ''", "price '' a", "explain --svg= a", "explain --svg a", "desk ''", "install ''", "uninstall ''", "plan --json=1", "field --json", "plan --svg a b", "help no-such", "help plan buys", "completions", "completions csh", "version x", "--no-such", "ltfs", "ltfs A B", "ltfs A B C D", "ltfs A - -", "ltfs -A B C", "install a", "install /a /b",
+                 "uninstall a", "install -x", "build x", "test x", "deb x"):
         at.must(f"./violstream {line}", 2, b"", ["violstream: ", "\nusage: ./violstream "])
         said = at.shell(f"./violstream {line}")[1]
         if said.count("\n") != 2 or not said.endswith("(more: ./violstream help)\n"):
@@ -284,17 +329,29 @@ def statuses(at):
     at.must("./violstream uninstall /no-such", 1, b"", ["nothing that this command knows of is installed below /no-such"])
 
 
+COMMANDS = ("plan", "field", "buys", "price", "check", "explain", "rewrite", "mend", "month", "ltfs", "desk", "build", "test", "install", "deb", "uninstall", "completions", "version", "help")
+
+
 def help_and_version(at):
     """Behind every command, and alone."""
     text = at.shell("./violstream help")[0]
     if not text.startswith(b"usage: ./violstream plan"):
         raise Wrong(f"./violstream help prints {text!r}")
-    for line in ("--help", "-h", "", "plan --help", "field --help", "buys --help", "price --help", "check -h", "explain --help", "rewrite --help", "mend --help", "month --help", "ltfs -h", "build --help", "test --help", "install --help", "version --help"):
+    for line in ("--help", "-h", ""):
         at.must(f"./violstream {line}", 0, text, silent=True)
+    for name in COMMANDS:
+        screen = at.shell(f"./violstream help {name}")[0]
+        lines = screen.decode().split("\n")
+        if not screen.startswith(b"usage: ./violstream %s" % name.encode()) or len(lines) > 25 or max(map(len, lines)) > 80 or screen.count(b"\n  ") < 2:
+            raise Wrong(f"./violstream help {name} prints {screen!r}, and not one screen of 24 lines of 80 columns, with two examples")
+        for line in (f"{name} --help", f"{name} -h", f"{name} no-such --help"):
+            at.must(f"./violstream {line}", 0, screen, silent=True)
     version = at.shell("./violstream --version")[0]
     if re.fullmatch(rb"violstream [0-9]+\.[0-9]+\.[0-9]+ \(rattle-kit-\S+ logic [0-9a-f]{16}\)\n", version) is None:
         raise Wrong(f"./violstream --version prints {version!r}")
-    for line in ("version", "plan --version", "ltfs --version", "test --version"):
+    if b'\nversion = "%s"\n' % version.split()[1] not in contents("command/Cargo.toml"):
+        raise Wrong("command/Cargo.toml is of another version")
+    for line in ("version", "plan --version", "ltfs --version", "test --version", "plan no-such --version"):
         at.must(f"./violstream {line}", 0, version, silent=True)
     at.must("./violstream version > /dev/full", 1, b"", ["cannot write to standard output"])
     for number in (2, 3, 4, 5, 6, 7, 9, 10, 11, 12, 13, 15, 16, 17, 18, 19, 20, 21, 22, 23, 24, 25):
@@ -308,7 +365,7 @@ def nothing_lost(at):
     at.must(f"{sheet} >&-", 1, b"", ["standard output is closed"])
     at.must(f"{sheet} | head -n 1", 0, b"tape=VX0041\n", silent=True)
     at.must(f"set -o pipefail; (trap '' PIPE; sleep 0.2; {sheet}) | true", 1, b"", ["cannot write to standard output"])
-    at.must(f"set -o pipefail; (sleep 0.2; {sheet}) | true", 1, b"", ["cannot write to standard output"])
+    at.must(f"set -o pipefail; (sleep 0.2; exec {sheet}) | true", 141, b"", silent=True)
     at.must("./violstream help > /dev/full", 1, b"", ["cannot write to standard output"])
     at.must(f"./violstream ltfs VX0041 {LABEL} {INDEX} > /dev/full", 1, b"", ["cannot write to standard output"])
     at.must("./violstream plan < /", 1, b"", ["cannot read standard input: Is a directory"])
@@ -319,9 +376,75 @@ def nothing_lost(at):
     at.must(f"{sheet} <&-", 0, PLAN, silent=True)
     at.must("./violstream plan examples", 1, b"", ["cannot read examples: Is a directory"])
     at.must("./violstream plan no-such.run", 1, b"", ["cannot read no-such.run: No such file or directory"])
-    at.must("./violstream plan ''", 1, b"", ["No such file"])
     at.must(f"./violstream ltfs VX0041 no-such examples", 1, b"", ["cannot read no-such:", "cannot read examples:"])
-    at.must(f"TMPDIR=/no-such {sheet}", 1, b"", ["temporary folder"])
+    at.must(f"TMPDIR=/no-such {sheet}", 0, PLAN, silent=True)
+    at.must(f"umask 777; {sheet}", 0, PLAN, silent=True)
+    at.must("mkdir writing && ./violstream plan writing examples/VX0041.run", 1, b"sheet=examples/VX0041.run\n" + PLAN, ["cannot read writing: Is a directory"])
+
+
+def closed(at):
+    """With any of the three descriptors closed: as without, but for what cannot be read, or that nobody can be told."""
+    run, plan = "examples/VX0041.run", "examples/VX0041.plan"
+    at.write("month", b"%d\n" % len(RUN) + RUN)
+    for words in (f"plan {run}", f"plan --json {run} {plan}", f"field {run}", f"buys {run}", f"price {run} /dev/null", f"check {run} {plan}", f"explain {run} --svg picture", f"rewrite {run}",
+                  f"mend {run}", "month month", f"month {run} {plan}", f"ltfs VX0041 {LABEL} {INDEX}", "desk examples/day.run examples/day.events", "version", "help", "help plan", "completions fish"):
+        out, said, status = at.shell(f"./violstream {words}")
+        at.must(f"./violstream {words} <&-", status, out, said.split("\n"))
+        at.must(f"./violstream {words} 2>&-", status, out)
+        at.must(f"./violstream {words} <&- 2>&-", status, out)
+        at.must(f"./violstream {words} >&-", 1, b"", ["standard output is closed"])
+        at.must(f"./violstream {words} <&- >&- 2>&-", 1, b"")
+    for words in ("plan", "field -", "price - /dev/null", f"check {run} -", "explain -", "mend", "month", "month -", f"ltfs A - {INDEX}", "desk -  examples/day.events", "desk examples/day.run"):
+        at.must(f"./violstream {words} <&-", 1, b"", ["cannot read standard input: it is closed"])
+
+
+def odd_ends(at):
+    """Descriptors that do not wait, a reader that is slow, signals that were ignored before: the answer is whole all the same."""
+    mine, theirs = os.pipe()
+    os.set_blocking(mine, False)
+    call = subprocess.Popen([at.path(BUILT), "plan"], stdin=mine, stdout=subprocess.PIPE, env=at.surroundings)
+    os.close(mine)
+    for part in (RUN[:5], RUN[5:70], RUN[70:]):
+        time.sleep(0.05)
+        os.write(theirs, part)
+    os.close(theirs)
+    if call.communicate(timeout=LIMIT)[0] != PLAN or call.returncode != 0:
+        raise Wrong("plan does not wait for an input that does not wait")
+    mine, theirs = os.pipe()
+    os.set_blocking(theirs, False)
+    call = subprocess.Popen([at.path(BUILT), "plan", *["examples/VX0041.run"] * 800], cwd=at.root, stdout=theirs, env=at.surroundings)
+    os.close(theirs)
+    time.sleep(0.5)
+    with os.fdopen(mine, "rb") as answers:
+        whole = answers.read()
+    if whole != (b"sheet=examples/VX0041.run\n" + PLAN) * 800 or call.wait(LIMIT) != 0:
+        raise Wrong("plan does not wait for an output that does not wait")
+    for number in (signal.SIGCHLD, signal.SIGPIPE, signal.SIGINT, signal.SIGHUP):
+        done = subprocess.run([at.path(BUILT), "plan"], input=RUN, capture_output=True, env=at.surroundings, timeout=LIMIT, restore_signals=False,
+                              preexec_fn=lambda number=number: signal.signal(number, signal.SIG_IGN))
+        if (done.stdout, done.returncode) != (PLAN, 0):
+            raise Wrong(f"with signal {number} ignored plan gives {done}")
+
+
+def quick(at):
+    """Of the processor a plan takes at most 10 ms more by the command than by the proved program alone."""
+    if os.uname().machine != "x86_64":
+        return
+
+    def seconds(words):
+        before = resource.getrusage(resource.RUSAGE_CHILDREN)
+        for _ in range(20):
+            subprocess.run(words, cwd=at.root, input=RUN, capture_output=True, env=at.surroundings, check=True)
+        after = resource.getrusage(resource.RUSAGE_CHILDREN)
+        return (after.ru_utime + after.ru_stime - before.ru_utime - before.ru_stime) / 20
+
+    shutil.rmtree(at.path("crates"))
+    shutil.copytree(os.path.join(programs.ROOT, "crates"), at.path("crates"))
+    alone = seconds([at.path("target/bin/cmd_plan")])
+    for words in (["./violstream", "plan", "-"], [at.path(BUILT), "plan", "-"]):
+        taken = seconds(words)
+        if taken > alone + 0.010:
+            raise Wrong(f"{words} takes {1000 * taken:.1f} ms, and the program by itself {1000 * alone:.1f}")
 
 
 def broken_program(at):
@@ -422,22 +545,19 @@ def words_of_sheets(at):
 def words_of_damaged_sheets(at):
     """Of every sheet that plan.py tries, the words speak of the place that a reader of its own finds, and are fit for a terminal."""
     begin = {2: "file %d (line ", 4: "want %d (line ", 11: "line %d: expected ", 12: "the sheet has over", 19: "the rule (line %d, "}
-    tried = 0
-    for sheet in sheets_of_plan():
-        out = answer(sheet)
-        if out is None or not out.startswith(b"refused="):
-            continue
-        number, place = (int(line.split(b"=")[1]) for line in out.split())
-        numbers = " ".join(map(str, sheet))
-        done = subprocess.run(["awk", "-v", f"number={number}", "-v", f"place={place}", "-f", at.path("tools/words/shared.awk"), "-f",
-                               at.path("tools/words/sheet.awk")], input=numbers.encode(), capture_output=True, env=dict(os.environ, LC_ALL="C"))
-        said = done.stdout.decode("ascii")
-        must = begin.get(number, "")
-        if done.returncode or done.stderr or len(said) < 20 or not said[:-1].isprintable() or not said.startswith(must % place if "%" in must else must):
-            raise Wrong(f"for {sheet!r}, refused by {number} at {place}, the words are {done!r}")
-        tried += 1
-    if tried < 500:
-        raise Wrong(f"only {tried} sheets were refused")
+    refused = [(sheet, out) for sheet, out in ((sheet, answer(sheet)) for sheet in sheets_of_plan()) if out is not None and out.startswith(b"refused=")]
+    if len(refused) < 500:
+        raise Wrong(f"only {len(refused)} sheets were refused")
+    os.makedirs(at.path("refused"))
+    for number, (sheet, _) in enumerate(refused):
+        at.write(f"refused/{number}", sheet)
+    said = at.shell(f"./violstream plan $(seq -f refused/%.0f 0 {len(refused) - 1})")[1].split("\n")
+    for number, ((sheet, out), line) in enumerate(zip(refused, said)):
+        reason, place = (int(part.split(b"=")[1]) for part in out.split())
+        must = begin.get(reason, "")
+        begins = f"violstream: refused/{number}: refused ({reason}): " + (must % place if "%" in must else must)
+        if not line.startswith(begins) or len(line) < len(begins) + 8 or not line.isascii() or not line.isprintable():
+            raise Wrong(f"for {sheet!r}, refused by {reason} at {place}, the words are {line!r}")
 
 
 def words_of_tapes(at):
@@ -553,16 +673,235 @@ def manual(at):
             raise Wrong(f"docs/violstream.1 does not say of refusal {number} what the help says: {words and words[1]!r}")
 
 
+def waits(call):
+    """Whether a process waits for something: all that it does before was done."""
+    with open(f"/proc/{call.pid}/stat") as handle:
+        return handle.read().rsplit(")", 1)[1].split()[0] == "S"
+
+
 def interrupted(at):
-    """A call that is ended from outside leaves nothing behind."""
-    for number in (signal.SIGINT, signal.SIGTERM, signal.SIGHUP):
-        call = subprocess.Popen(["./violstream", "plan"], cwd=at.root, stdin=subprocess.PIPE, stdout=subprocess.PIPE, stderr=subprocess.PIPE,
-                                env=at.surroundings, start_new_session=True)
-        until(lambda: os.listdir(at.temporary), "no temporary folder was made")
-        os.killpg(call.pid, number)
-        call.communicate(timeout=LIMIT)
-        if call.returncode == 0 or os.listdir(at.temporary):
-            raise Wrong(f"ended by signal {number}: status {call.returncode}, left {os.listdir(at.temporary)}")
+    """A call that is ended from outside, alone or with its group, ends at once, and so do its programs. It leaves nothing behind."""
+    for words in (["plan"], ["month"], ["desk", "examples/day.run"]):
+        for number in (signal.SIGINT, signal.SIGTERM, signal.SIGHUP, signal.SIGKILL):
+            for end in (os.kill, os.killpg):
+                call = subprocess.Popen([at.path(BUILT), *words], cwd=at.root, stdin=subprocess.PIPE, stdout=subprocess.PIPE, stderr=subprocess.PIPE,
+                                        env=at.surroundings, start_new_session=True)
+                if words[0] == "desk":
+                    call.stdin.write(b"file=1,1,1\n")
+                    call.stdin.flush()
+                    call.stdout.readline()
+                until(lambda: waits(call), f"{words} does not wait for its input")
+                began = time.monotonic()
+                end(call.pid, number)
+                # Its input is not at its end.
+                said = call.stderr.read()
+                call.wait(LIMIT)
+                if call.returncode != -number or said or time.monotonic() - began > 5 or os.listdir(at.temporary):
+                    raise Wrong(f"{words} ended by signal {number}: status {call.returncode}, said {said!r}, left {os.listdir(at.temporary)}")
+                until(lambda: not in_session(call.pid), f"{words} ended by signal {number}: a program goes on")
+
+
+def in_session(session):
+    """The processes of a session."""
+    found = []
+    for name in filter(str.isdigit, os.listdir("/proc")):
+        try:
+            with open(f"/proc/{name}/stat") as handle:
+                fields = handle.read().rsplit(")", 1)[1].split()
+        except OSError:
+            continue
+        if int(fields[3]) == session and fields[0] != "Z":
+            found.append(int(name))
+    return found
+
+
+def manners(at):
+    """Options in any place, words that begin with a dash, names that a terminal would obey."""
+    run = "examples/VX0041.run"
+    text = at.shell(f"./violstream explain {run}")[0]
+    for line in (f"explain --svg=picture {run}", f"explain {run} --svg picture", f"explain {run} --svg=picture", f"explain --svg picture -- {run}", f"explain --svg first --svg=picture {run}"):
+        at.must(f"rm -f picture && ./violstream {line} && tail -n 1 picture", 0, text + b"</svg>\n", silent=True)
+    at.must("cp examples/VX0041.run ./-x && ./violstream plan -- -x", 0, PLAN, silent=True)
+    at.must("./violstream plan ./-x", 0, PLAN, silent=True)
+    at.must("./violstream plan -- - < ./-x", 0, PLAN, silent=True)
+    at.must("./violstream plan -x", 2, b"", ["plan has no option -x (a file of that name is ./-x)"])
+    at.must(f"./violstream plan {run} --no-such", 2, b"", ["plan has no option --no-such"])
+    for line in ("plan $'no\\e[2Jsuch'", "price $'\\e]0;x\\a' /dev/null", "month $'\\xc2\\x9b31m'", "ltfs A $'\\r' /dev/null", "desk $'\\xff'", "$'no\\e[2Jsuch'", "plan $'-\\e[2J'", "install $'\\e[2J'"):
+        said = at.shell(f"./violstream {line}")[1]
+        if not said or not said.replace("\n", "").isprintable() or not said.isascii():
+            raise Wrong(f"./violstream {line} says {said!r}, which is not fit for a terminal")
+    at.write("list", b"detour=2,2\n\x1b]0;x\x07\n")
+    at.must(f"./violstream price {run} list", 3, refusal(11, 2), ['line 2 of list is not as described: "\\x1b]0;x\\x07"'])
+    at.write("events", b"file=1,1,1\x1b[2J\n")
+    at.must("./violstream desk examples/day.run events", 3, refusal(11, 1))
+    for shell in ("bash", "zsh", "fish"):
+        made = at.shell(f"./violstream completions {shell}")[0]
+        if b"explain" not in made or b"svg" not in made:
+            raise Wrong(f"completions for {shell} do not know explain --svg")
+        at.must(f"command -v {shell} > /dev/null || exit 0; ./violstream completions {shell} | {shell} -n /dev/stdin", 0)
+
+
+def as_json(at):
+    """--json: one object for each answer, that says what the text says."""
+    def objects(line, status=0):
+        at.must(line, status)
+        return [json.loads(one, parse_float=lambda text: 1 / 0) for one in at.shell(line)[0].decode().split("\n")[:-1]]
+
+    def must(line, expected, status=0):
+        found = objects(line, status)
+        for one in found:
+            one.pop("why", None)
+        if found != expected:
+            raise Wrong(f"{line} gives {found}, and must give {expected}")
+
+    run = "examples/VX0041.run"
+    plan = {"tape": "VX0041", "sum": 367, "reads": 5, "finish": 121, "end": 50, "detours": [{"from": 2, "to": 2}],
+            "times": [{"file": 1, "time": 81, "leg": 2}, {"file": 2, "time": 55, "leg": 1}, {"file": 3, "time": 121, "leg": 2}]}
+    must(f"./violstream plan --json {run}", [plan])
+    must(f"./violstream plan {run} --json examples/head-too-far-left.run", [dict(plan, sheet=run), {"sheet": "examples/head-too-far-left.run", "refused": 7, "place": 0}], 3)
+    if not objects("./violstream plan --json examples/head-too-far-left.run", 3)[0]["why"].startswith("the head (line 2, "):
+        raise Wrong("a refusal in JSON does not say why")
+    must(f"./violstream buys --json {run}", [{"tape": "VX0041", "sum": 367, "detours": [{"from": 2, "to": 2, "buys": 40}]}])
+    must(f"./violstream check --json {run} examples/VX0041.plan", [{"formed": True, "walk": True, "least": True}])
+    must(f"./violstream check --json {run} examples/VX0041-damaged.plan",
+         [{"formed": True, "walk": False, "line": 9, "least": True, "found": "time=2,56,1", "expected": "time=2,55,1"}], 3)
+    must(f"sed 's/^detour=2,2/detour=1,2/' examples/VX0041.plan | ./violstream check {run} - --json", [{"formed": False, "detour": 1}], 3)
+    must(f"./violstream month --json {run} examples/retired-rule.run", [{"accepted": 1, "refusals": [{"number": 19, "sheets": 1}], "reads": 5, "sum": 367,
+         "mean": {"whole": 73, "remainder": 2}, "longest": {"time": 121, "tape": "VX0041", "file": 3}, "saved": 40}])
+    must("printf '00\\n' | ./violstream month --json", [{"accepted": 0, "refusals": [], "reads": 0, "sum": 0, "mean": {"whole": 0, "remainder": 0},
+         "longest": {"time": 0, "tape": "", "file": 0}, "saved": 0, "refused": 25, "place": 1}], 3)
+    at.must(f"./violstream plan --json {run} > /dev/full", 1, b"", ["cannot write to standard output"])
+
+
+def installing(at):
+    """What is installed works by itself; nothing foreign is overwritten or removed; what was cut off can be removed."""
+    os.makedirs(at.path("target/staticlib"))
+    at.write("target/staticlib/libboundary.a", b"!<arch>\n")
+    prefix = at.path("prefix")
+    listed = os.path.join(prefix, "libexec/violstream/installed")
+
+    def files():
+        return sorted(os.path.relpath(os.path.join(folder, name), prefix) for folder, _, names in os.walk(prefix) for name in names)
+
+    at.must(f"umask 077 && ./violstream install {prefix}", 0, silent=True)
+    whole = files()
+    for name in ("bin/violstream", "libexec/violstream/cmd_plan", "share/man/man1/violstream.1", "share/doc/violstream/OPERATOR.md", "share/doc/violstream/examples/VX0041.run",
+                 "share/bash-completion/completions/violstream", "lib/libviolstream.a", "lib/libviolstream.so", "lib/pkgconfig/violstream.pc", "include/violstream.h"):
+        if name not in whole or not os.stat(os.path.join(prefix, name)).st_mode & 0o004 or not os.stat(os.path.dirname(os.path.join(prefix, name))).st_mode & 0o001:
+            raise Wrong(f"{name} was not installed, or not for everybody")
+    at.must("cd / && $OLDPWD/prefix/bin/violstream plan -", 0, PLAN, data=RUN, silent=True)
+    at.must("prefix/bin/violstream version", 0, at.shell("./violstream version")[0], silent=True)
+    at.must("prefix/bin/violstream build", 2, b"", ["build is for a checkout of the sources", "usage: violstream build"])
+    text = at.shell("prefix/bin/violstream help")[0]
+    if b"./violstream" in text or b"violstream build" in text or b"violstream uninstall" not in text:
+        raise Wrong(f"the installed help is {text!r}")
+    at.must(f"./violstream install {prefix}/ && ./violstream install {prefix}", 0, silent=True)
+    if files() != whole:
+        raise Wrong(f"installed again: {files()} and not {whole}")
+    # Somebody's own files stay.
+    at.must(f"cp -a {prefix}/bin/violstream kept && echo mine > {prefix}/bin/violstream && ./violstream install {prefix}", 1, b"", ["bin/violstream is there, and was changed since it was installed; nothing was installed"])
+    at.must(f"cp -a kept {prefix}/bin/violstream && ./violstream install {prefix}", 0, silent=True)
+    at.must(f"echo mine > {prefix}/include/violstream.h && ./violstream uninstall {prefix}", 1, b"", ["include/violstream.h was changed since it was installed, and stays"])
+    at.must(f"rm {prefix}/include/violstream.h && ./violstream uninstall {prefix} && find {prefix} -mindepth 1", 0, f"removed what was installed below {prefix}\n".encode(), silent=True)
+    at.must(f"mkdir -p {prefix}/bin && echo mine > {prefix}/bin/violstream && ./violstream install {prefix}", 1, b"", ["bin/violstream is there, and was not installed by this command; nothing was installed"])
+    at.must(f"cat {prefix}/bin/violstream && find {prefix} -type f | wc -l && ls {prefix}", 0, b"mine\n1\nbin\n")
+    at.must(f"rm -r {prefix} && mkdir -p {prefix} elsewhere && ln -s ../elsewhere {prefix}/lib && ./violstream install {prefix} && test -e elsewhere/libviolstream.a && ./violstream uninstall {prefix} && ls elsewhere {prefix}", 0, None, silent=True)
+    # What an older version has left goes.
+    at.must(f"rm -rf {prefix} && mkdir -p {prefix}/libexec/violstream && cd {prefix}/libexec/violstream && touch machine.sh && printf '%s\\n' libexec/violstream/machine.sh libexec/violstream/installed libexec/violstream/ libexec/ > installed", 0)
+    at.must(f"./violstream install {prefix} && test ! -e {prefix}/libexec/violstream/machine.sh && ./violstream uninstall {prefix} && find {prefix} -mindepth 1 | wc -l", 0, None, silent=True)
+    for odd in ("'/a b'", "'/a\"b'", "'/a$b'", "$'/a\\nb'"):
+        at.must(f"./violstream install {odd}", 1, b"", ["PREFIX may not contain"])
+    at.must("./violstream install /proc/no-such", 1, b"", ["cannot make /proc/no-such"])
+    # Two at once.
+    shutil.rmtree(prefix)
+    calls = [subprocess.Popen(["./violstream", "install", prefix], cwd=at.root, stdout=subprocess.DEVNULL, stderr=subprocess.PIPE, env=at.surroundings) for _ in range(2)]
+    ended = [(call.communicate(timeout=LIMIT)[1], call.returncode) for call in calls]
+    if [status for _, status in ended] != [0, 0] or files() != whole:
+        raise Wrong(f"two at once ended so: {ended}, with {files()}")
+    # Cut off at any moment, also where something is installed already.
+    for moment in range(16):
+        shutil.rmtree(prefix, ignore_errors=True)
+        if moment % 2:
+            at.must(f"./violstream install {prefix}", 0, silent=True)
+        call = subprocess.Popen([at.path(BUILT), "install", prefix], cwd=at.root, stdout=subprocess.PIPE, stderr=subprocess.DEVNULL, env=at.surroundings)
+        for _ in range(3 * moment):
+            call.stdout.readline()
+        call.kill()
+        call.communicate()
+        if os.path.exists(listed):
+            at.must(f"./violstream uninstall {prefix}", 0, silent=True)
+        if files():
+            raise Wrong(f"cut off, {files()} stay")
+
+
+def packaged(at):
+    """The Debian package has what install puts in place, and lintian finds no error in it."""
+    if shutil.which("dpkg-deb") is None or os.uname().machine != "x86_64":
+        return
+    archive = os.path.join(programs.ROOT, "target/staticlib/libboundary.a")
+    os.makedirs(at.path("target/staticlib"))
+    at.write("target/staticlib/libboundary.a", contents(archive) if os.path.exists(archive) else b"!<arch>\n")
+    number = at.shell("./violstream version")[0].decode().split()[1]
+    at.must("umask 077 && ./violstream deb", 0, f"made {at.root}/target/command/deb/violstream_{number}-1_amd64.deb\n".encode(), silent=True)
+    at.must("dpkg-deb -x target/command/deb/*.deb unpacked && unpacked/usr/bin/violstream plan examples/VX0041.run", 0, PLAN, silent=True)
+    for name in ("share/man/man1/violstream.1.gz", "share/doc/violstream/copyright", "lib/x86_64-linux-gnu/libviolstream.a", "lib/x86_64-linux-gnu/pkgconfig/violstream.pc", "include/violstream.h"):
+        if not os.path.exists(at.path(f"unpacked/usr/{name}")):
+            raise Wrong(f"the package has no {name}")
+    at.must("find unpacked ! -perm -044 ! -type l", 0, b"")
+    at.must("grep '^libdir=' unpacked/usr/lib/x86_64-linux-gnu/pkgconfig/violstream.pc", 0, b"libdir=${prefix}/lib/x86_64-linux-gnu\n")
+    if shutil.which("lintian") and os.path.exists(archive):
+        found = at.shell("mkdir theirs && TMPDIR=$PWD/theirs lintian --allow-root target/command/deb/*.deb")[0]
+        if b"E: " in found:
+            raise Wrong(f"lintian finds {found.decode()}")
+
+
+def limits(at):
+    """Few descriptors, small files, little stack: a whole answer, or a sentence."""
+    sheet = "./violstream plan examples/VX0041.run"
+    for limit in list(range(3, 20)):
+        out, said, status = at.shell(f"ulimit -n {limit} && {sheet}")
+        if (status, out) != (0, PLAN) and (status == 0 or out or not said):
+            raise Wrong(f"with {limit} descriptors plan printed {out!r}, said {said!r} and ended with status {status}")
+    at.must(f"ulimit -f 0 && {sheet} > out", 1, b"", ["cannot write to standard output: File too large"])
+    at.must("ulimit -f 0 && ./violstream explain --svg out examples/VX0041.run", 1, b"", ["cannot write out: File too large"])
+    # The stack that is enough for every program, as docs/OPERATOR.md says, and less.
+    at.write("large.run", b"tape=A\nhead=1099511627776\nturn=0\nrule=least\nfiles=256\n" + b"".join(b"file=%d,1,0\n" % (n * 4294967296) for n in range(256)) + b"wants=16\n" + b"".join(b"want=%d,1\n" % n for n in range(1, 17)))
+    at.write("large.month", (b"%d\n" % len(contents("examples/VX0041.run")) + RUN) * 1000)
+    at.write("deep.xml", b"<ltfsindex>" + b"<a>" * 31 + b"</a>" * 31 + b"<directory><contents/></directory>" + b"<a/>" * 120000 + b"</ltfsindex>")
+    for words in ("plan large.run", "buys large.run", "price large.run /dev/null", "explain large.run", "rewrite large.run", "mend large.run", "month large.month", "field examples/VX0041.run",
+                  "check examples/VX0041.run examples/VX0041.plan", "desk examples/day.run examples/day.events", f"ltfs VX0041 {LABEL} deep.xml"):
+        must = at.shell(f"./violstream {words}")
+        if must[2] != 0 or at.shell(f"ulimit -s 1024 && ./violstream {words}") != must:
+            raise Wrong(f"with a stack of 1,024 KiB violstream {words} does not give {must}")
+        for limit in (512, 256, 128, 96, 64, 32):
+            out, said, status = at.shell(f"ulimit -s {limit} && ./violstream {words}")
+            if (out, said, status) != must and (status in (0, 2, 3) or out or not said and status < 128):
+                raise Wrong(f"with a stack of {limit} KiB violstream {words} printed {out!r}, said {said!r} and ended with status {status}")
+
+
+def other_user(at):
+    """Another user, in a checkout that is not theirs to write."""
+    if os.getuid() != 0 or shutil.which("setpriv") is None:
+        return
+    at.must("chmod -R go+rX . && chmod 755 .. . && setpriv --reuid 65534 --regid 65534 --clear-groups ./violstream plan examples/VX0041.run", 0, PLAN, silent=True)
+    at.must("mkdir theirs && printf '#!/bin/sh\\n' > theirs/cargo && chmod 755 theirs theirs/cargo && touch -d '+1 minute' command/Cargo.toml && "
+            "PATH=$PWD/theirs:$PATH setpriv --reuid 65534 --regid 65534 --clear-groups ./violstream plan examples/VX0041.run", 1, b"", ["cannot write ", "/target/command/"])
+
+
+def without_compiler(at):
+    """Where nothing can compile the command, the proved program answers by itself, and one sentence says what to install."""
+    os.remove(at.path(BUILT))
+    os.makedirs(at.path("tools-alone"))
+    for name in ("sh", "bash", "readlink", "dirname", "find", "uname", "cat", "grep", "sed", "touch", "rm", "mkdir", "cp", "ln", "mv"):
+        os.symlink(shutil.which(name), at.path(f"tools-alone/{name}"))
+    at.surroundings.update(PATH=at.path("tools-alone"))
+    words = ["so the proved program answers by itself", "apt-get install cargo"]
+    at.must("./violstream plan examples/VX0041.run", 0, PLAN, words)
+    at.must("./violstream plan < examples/VX0041.run", 0, PLAN, words)
+    at.must("./violstream plan examples/head-too-far-left.run", 3, refusal(7), words)
+    at.must("./violstream plan no-such", 1, b"", ["cannot read no-such"])
+    at.must("./violstream desk examples/day.run", 1, b"", ["the command itself is needed", "apt-get install cargo"])
+    at.must("./violstream help", 1, b"", ["the command itself is needed"])
 
 
 # A stand-in for rt, which proves nothing: it says what rt says, and makes what it is asked for from the programs kept beside it. It may be called
@@ -586,15 +925,22 @@ esac
 
 
 def unbuilt(at):
-    """The checkout with nothing built, and a stand-in for rt on PATH."""
+    """The checkout with nothing built but the command, and a stand-in for rt on PATH."""
     os.makedirs(at.path("stand-in"))
     os.rename(at.path("target/bin"), at.path("kept"))
-    shutil.rmtree(at.path("target"))
+    forget_built(at)
     at.write("stand-in/rt", STAND_IN.encode())
     os.chmod(at.path("stand-in/rt"), 0o755)
     at.write("calls", b"")
     kit = subprocess.run(["sh", "-c", '. "$0" && kit', programs.MACHINE], capture_output=True, text=True).stdout.strip()
     at.surroundings.update(PATH=at.path("stand-in") + ":" + os.environ["PATH"], RATTLE_HOME=kit)
+
+
+def forget_built(at):
+    """What rt has made goes."""
+    for name in os.listdir(at.path("target")):
+        if name != "command":
+            shutil.rmtree(at.path(f"target/{name}"))
 
 
 def called(at):
@@ -655,12 +1001,16 @@ def below(at, program):
 def building_fails(at):
     unbuilt(at)
     sheet = "./violstream plan examples/VX0041.run"
-    at.must(f"touch target && {sheet}", 1, b"", ["cannot write ", "/target/: File exists"])
-    at.must(f"rm target && mkdir target && touch target/bin && {sheet}", 1, b"", ["cannot write ", "/target/bin/"])
-    os.remove(at.path("target/bin"))
+    at.must(f"touch target/bin && {sheet}", 1, b"", ["cannot write ", "/target/bin/"])
+    at.must(f"rm target/bin && mkdir -m 755 target/lock && {sheet}", 1, b"", ["cannot write ", "/target/lock/: it is not a folder of this user alone"])
+    os.rmdir(at.path("target/lock"))
     if called(at):
         raise Wrong("rt was called although target/ cannot be written")
     at.must(f"FAULT='error: it is not so' {sheet}", 1, b"", ["error: it is not so", "'rt check cmd_plan' failed"])
+    at.must(f"mkdir -p target/bin && cp kept/cmd_plan target/bin/ && {sheet}", 0, PLAN, ["building cmd_plan"])
+    at.must(f"rm target/stamp/cmd_plan && FAULT='error: it is not so' {sheet}", 1, b"", ["'rt check cmd_plan' failed"])
+    at.must(f"{sheet}", 0, PLAN, ["building cmd_plan"])
+    at.must(f"rm -r target/bin target/stamp && TMPDIR=/no-such {sheet}", 1, b"", ["cannot make a temporary folder in /no-such"])
     at.must(f"FAULT='cp: No space left on device' {sheet}", 1, b"", ["cannot write ", "/target/: No space left on device"])
     at.must(f"rm -f kept/cmd_plan && {sheet}", 1, b"", ["made no "])
     without = ":".join(one for one in os.environ["PATH"].split(":") if not os.path.exists(os.path.join(one, "rt")))
@@ -684,21 +1034,25 @@ def building_twice(at):
 
 
 def building_interrupted(at):
-    """Ctrl-C while rt is at work leaves no temporary files, and the next call builds."""
+    """Ctrl-C while rt is at work, or a signal to the command alone, leaves no temporary files, and the next call builds."""
     unbuilt(at)
-    call = subprocess.Popen(["./violstream", "plan", "examples/VX0041.run"], cwd=at.root, stdout=subprocess.PIPE, stderr=subprocess.PIPE,
-                            env=dict(at.surroundings, SLOW="30"), start_new_session=True)
-    until(lambda: called(at), "rt was not called")
-    os.killpg(call.pid, signal.SIGINT)
-    call.communicate(timeout=LIMIT)
-    if call.returncode in (0, 3) or os.listdir(at.temporary):
-        raise Wrong(f"Ctrl-C: status {call.returncode}, left {os.listdir(at.temporary)}")
+    for number, end in ((signal.SIGINT, os.killpg), (signal.SIGTERM, os.kill), (signal.SIGKILL, os.kill)):
+        at.write("calls", b"")
+        call = subprocess.Popen(["./violstream", "plan", "examples/VX0041.run"], cwd=at.root, stdout=subprocess.PIPE, stderr=subprocess.DEVNULL,
+                                env=dict(at.surroundings, SLOW="30"), start_new_session=True)
+        until(lambda: called(at), "rt was not called")
+        end(call.pid, number)
+        call.wait(LIMIT)
+        if call.returncode != -number:
+            raise Wrong(f"signal {number}: status {call.returncode}")
+        until(lambda: not os.listdir(at.temporary), f"signal {number}: left {os.listdir(at.temporary)}")
+        shutil.rmtree(at.path("target/stamp"), ignore_errors=True)
     at.must("./violstream plan examples/VX0041.run", 0, PLAN, ["building cmd_plan"])
 
 
-SCRIPTS = ("violstream", "install.sh", "tools/edits.sh", "tools/machine.sh", "tools/native.sh", "tools/prove.sh")
+SCRIPTS = ("violstream", "tools/build.sh", "tools/edits.sh", "tools/machine.sh", "tools/native.sh")
 # Names that are the caller's to set, and those of the shell itself.
-OUTSIDE = {"PATH", "TMPDIR", "DESTDIR", "PREFIX", "RATTLE_HOME", "RT_JOBS", "VIOLSTREAM_SILENCE", "PIPESTATUS", "SECONDS"}
+OUTSIDE = {"PATH", "TMPDIR", "DESTDIR", "PREFIX", "RATTLE_HOME", "RT_JOBS", "VIOLSTREAM_SILENCE", "VIOLSTREAM_MAINTAINER", "PIPESTATUS", "SECONDS"}
 
 
 def names_in(script):
@@ -710,8 +1064,17 @@ def names_in(script):
     return set(re.findall(r"\$(?:\{[#!]?|\(\()?([A-Za-z_][A-Za-z_0-9]*)", text)) - OUTSIDE, emptied
 
 
+def sources():
+    """The command's own sources."""
+    for folder, _, names in os.walk(os.path.join(programs.ROOT, "command/src")):
+        yield from (os.path.relpath(os.path.join(folder, name), programs.ROOT) for name in names)
+
+
 def surrounded(at):
-    """No name of the environment reaches into the scripts: every one that they use is set to something hostile, and all is as without."""
+    """No name of the environment reaches into the command: every one that a script uses is set to something hostile, and all is as without."""
+    asked = re.findall(r'env::var(?:_os)?\("(\w+)"\)', "".join(contents(name).decode() for name in sources()))
+    if set(asked) - OUTSIDE:
+        raise Wrong(f"the command reads {sorted(set(asked) - OUTSIDE)} of the environment")
     names = {"CDPATH"}
     for script in SCRIPTS:
         read, emptied = names_in(script)
@@ -727,13 +1090,13 @@ def surrounded(at):
              "./violstream desk examples/day.run examples/day.events", f"./violstream plan {plan}", f"./violstream ltfs VX0041 {LABEL} /dev/null",
              "./violstream version", "./violstream help", "./violstream", "./violstream nothing", "./violstream build",
              "./violstream install /nowhere/../proc/none", f"./violstream install '{at.root}/prefix'", f"./violstream uninstall '{at.root}/prefix'",
-             f"./install.sh 'PREFIX={at.root}/prefix' no-such", "tools/edits.sh no-such", "tools/native.sh"]
+             "./violstream completions bash", "tools/edits.sh no-such", "tools/native.sh"]
     unbuilt(at)
     os.rename(at.path("kept"), at.path("target.kept"))
 
     def all_lines():
         """What every line gives, from nothing built on."""
-        shutil.rmtree(at.path("target"), ignore_errors=True)
+        forget_built(at)
         shutil.copytree(at.path("target.kept"), at.path("kept"), dirs_exist_ok=True)
         return [(line, *at.shell(line)) for line in lines]
 
@@ -764,8 +1127,13 @@ def until(true, otherwise):
     raise Wrong(otherwise)
 
 
-TESTS = (answers, fielding, figures, pairs, explained, rewriting, mending, monthly, desk, statuses, help_and_version, nothing_lost, broken_program, several, ltfs_inputs, words_of_sheets, words_of_damaged_sheets,
-         words_of_tapes, keyboard, transcripts, manual, interrupted, building, building_fails, building_twice, building_interrupted, surrounded)
+TESTS = (answers, fielding, figures, pairs, explained, rewriting, mending, monthly, desk, statuses, help_and_version, nothing_lost, closed, odd_ends, quick, broken_program, several, ltfs_inputs, words_of_sheets, words_of_damaged_sheets,
+         words_of_tapes, keyboard, transcripts, manual, interrupted, manners, as_json, installing, packaged, limits, other_user, without_compiler, building, building_fails, building_twice, building_interrupted, surrounded)
+
+
+def built():
+    """The command of this checkout is built, where it must be."""
+    subprocess.run([os.path.join(programs.ROOT, "violstream"), "version"], check=True, stdout=subprocess.DEVNULL)
 
 
 def main():
@@ -773,6 +1141,7 @@ def main():
     reader.add_argument("--only", choices=[one.__name__ for one in TESTS], help="this test alone")
     only = reader.parse_args().only
     tried = [one for one in TESTS if only in (None, one.__name__)]
+    built()
     for one in tried:
         with tempfile.TemporaryDirectory() as folder:
             try:

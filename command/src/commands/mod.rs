@@ -1,0 +1,98 @@
+//! What each command does, a module each.
+
+mod desk;
+mod explain;
+mod ltfs;
+mod month;
+mod pair;
+mod sheets;
+
+use crate::answers::Refusal;
+use crate::build;
+use crate::deb;
+use crate::help;
+use crate::install;
+use crate::output::put;
+use crate::places::Places;
+use crate::say::say;
+use crate::status::{Status, Stop};
+use crate::system::Began;
+use std::ffi::OsString;
+
+/// What every command may look at.
+pub struct Call {
+    pub began: Began,
+    pub places: Places,
+}
+
+/// What a call asks for, with its words.
+pub enum Asked {
+    Sheets { command: &'static str, files: Vec<OsString>, json: bool },
+    Pair { command: &'static str, run: OsString, other: OsString, json: bool },
+    Explain { run: OsString, picture: Option<OsString> },
+    Month { files: Vec<OsString>, json: bool },
+    Ltfs { tape: OsString, label: OsString, index: OsString },
+    Desk { sheet: OsString, events: OsString },
+    Build,
+    Test,
+    Install { prefix: Option<OsString> },
+    Uninstall { prefix: Option<OsString> },
+    Completions { shell: String },
+    Deb,
+    Version,
+    Help(Option<&'static str>),
+}
+
+/// The most that is read of a sheet: a byte more than it may have.
+const SHEET: usize = 16385;
+
+pub fn answer(asked: &Asked, call: &Call) -> Result<Status, Stop> {
+    match asked {
+        Asked::Sheets { command, files, json } => sheets::answer(command, files, *json, call),
+        Asked::Pair { command, run, other, json } => pair::answer(command, run, other, *json, call),
+        Asked::Explain { run, picture } => explain::answer(run, picture.as_deref(), call),
+        Asked::Month { files, json } => month::answer(files, *json, call),
+        Asked::Ltfs { tape, label, index } => ltfs::answer(tape, label, index, call),
+        Asked::Desk { sheet, events } => desk::answer(sheet, events, call),
+        Asked::Version => print(&help::version(&call.places)?),
+        Asked::Help(None) => print(&help::whole(&call.places)),
+        Asked::Help(Some(command)) => print(&help::of(command, &call.places)),
+        Asked::Completions { shell } => print(&help::completions(shell)),
+        Asked::Build => {
+            build::everything(call)?;
+            say("built: what plan, field, buys, price, check, explain, rewrite, mend, month, ltfs, desk and install need");
+            Ok(Status::Answered)
+        }
+        Asked::Test => Ok(if build::test(call)? { Status::Answered } else { Status::Failed }),
+        Asked::Install { prefix } => {
+            build::everything(call)?;
+            install::install(prefix.as_deref(), call)
+        }
+        Asked::Deb => {
+            build::everything(call)?;
+            deb::make(call)
+        }
+        Asked::Uninstall { prefix } => install::uninstall(prefix.as_deref(), call),
+    }
+}
+
+fn print(text: &str) -> Result<Status, Stop> {
+    put(text.as_bytes())?;
+    Ok(Status::Answered)
+}
+
+/// The refusal in words, on standard error.
+fn say_refused(what: &str, refusal: &Refusal, words: &str) {
+    say(&format!("{what}: refused ({}): {words}", refusal.number));
+}
+
+/// Told, and counted as a failure; the call goes on.
+fn told(sentence: &str) -> Status {
+    say(sentence);
+    Status::Failed
+}
+
+/// A run sheet and another text as a program takes them: the former behind a line with its size.
+fn frame_pair(run: &[u8], other: &[u8]) -> Vec<u8> {
+    [format!("{}\n", run.len()).as_bytes(), run, other].concat()
+}

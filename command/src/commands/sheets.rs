@@ -1,0 +1,105 @@
+//! plan, field, buys, rewrite and mend: each run sheet by a program of its own.
+
+use super::{say_refused, told, Call, SHEET};
+use crate::answers::{refusal, Refusal};
+use crate::input::take;
+use crate::output::put;
+use crate::programs::Program;
+use crate::say::{quoted, reason, shown};
+use crate::status::{Status, Stop};
+use crate::{json, say, words};
+use std::ffi::{OsStr, OsString};
+
+struct Sheets<'a> {
+    command: &'a str,
+    several: bool,
+    json: bool,
+    program: Option<Program>,
+    call: &'a Call,
+}
+
+pub fn answer(command: &str, files: &[OsString], json: bool, call: &Call) -> Result<Status, Stop> {
+    let mut sheets = Sheets { command, several: files.len() > 1, json, program: None, call };
+    let mut worst = Status::Answered;
+    for file in files {
+        worst = worst.and(sheets.answer(file)?);
+    }
+    Ok(worst)
+}
+
+fn program_of(command: &str) -> &'static str {
+    match command {
+        "field" => "cmd_field",
+        "buys" => "cmd_buys",
+        "rewrite" => "cmd_rewrite",
+        "mend" => "cmd_mend",
+        _ => "cmd_plan",
+    }
+}
+
+impl Sheets<'_> {
+    fn answer(&mut self, file: &OsStr) -> Result<Status, Stop> {
+        let sheet = match take(file, SHEET, &self.call.began) {
+            Ok(sheet) => sheet,
+            Err(sentence) => return Ok(told(&sentence)),
+        };
+        // Nothing is built for a call that cannot be answered.
+        let program = match self.program.take() {
+            Some(program) => program,
+            None => Program::ready(program_of(self.command), self.call)?,
+        };
+        let printed = program.ask(&sheet);
+        self.program = Some(program);
+        match printed {
+            Err(sentence) => Ok(told(&sentence)),
+            Ok(printed) => {
+                let aside = self.put_aside(file, &printed.aside);
+                Ok(aside.and(self.give(file, &sheet, &printed.answer)?))
+            }
+        }
+    }
+
+    /// What the program says on standard error is part of its answer.
+    fn put_aside(&self, file: &OsStr, aside: &[u8]) -> Status {
+        if aside.is_empty() {
+            return Status::Answered;
+        }
+        let text = [self.heading(file).as_bytes(), aside].concat();
+        match say::bytes(&text) {
+            Ok(()) => Status::Answered,
+            Err(error) => told(&format!("cannot write to standard error: {}", reason(&error))),
+        }
+    }
+
+    fn heading(&self, file: &OsStr) -> String {
+        if self.several {
+            format!("sheet={}\n", quoted(file))
+        } else {
+            String::new()
+        }
+    }
+
+    fn give(&self, file: &OsStr, sheet: &[u8], answer: &[u8]) -> Result<Status, Stop> {
+        let why = refusal(answer).map(|refused| (self.words(&refused, sheet), refused));
+        if self.json {
+            let name = if self.several { Some(quoted(file)) } else { None };
+            put(json::sheet(self.command, answer, name, why.as_ref().map(|(words, _)| words.as_str())).as_bytes())?;
+        } else {
+            put(&[self.heading(file).as_bytes(), answer].concat())?;
+        }
+        Ok(match why {
+            None => Status::Answered,
+            Some((words, refused)) => {
+                say_refused(&shown(file), &refused, &words);
+                Status::Refused
+            }
+        })
+    }
+
+    fn words(&self, refused: &Refusal, sheet: &[u8]) -> String {
+        match self.command {
+            "mend" => words::loose::words(refused, sheet),
+            _ => words::of_sheet(refused, sheet),
+        }
+    }
+}

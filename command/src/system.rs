@@ -1,0 +1,95 @@
+//! What must be asked of the system in its own terms: the only file with `unsafe` in it.
+
+use nix::libc;
+use nix::sys::signal::{raise, Signal};
+use std::os::unix::process::CommandExt;
+use std::process::Command;
+
+/// What the call was given by whoever started it.
+pub struct Began {
+    pub input_is_open: bool,
+    pub output_is_open: bool,
+    /// A broken pipe ends the call as it ends any other program, unless whoever started it has said otherwise.
+    pub dies_of_broken_pipe: bool,
+}
+
+/// The call begins here and not in Rust's own start, which opens /dev/null for a descriptor that is closed, and ignores a broken pipe,
+/// before anybody could ask.
+#[cfg(not(test))]
+#[no_mangle]
+pub extern "C" fn main(_count: libc::c_int, _words: *const *const libc::c_char) -> libc::c_int {
+    crate::run(begin())
+}
+
+/// A descriptor that is closed would be taken by the next file that is opened. From a folder nothing can be read, by any name.
+#[cfg_attr(test, allow(dead_code))]
+fn begin() -> Began {
+    let input_is_open = is_open(0);
+    if !input_is_open {
+        hold(b"/\0", libc::O_RDONLY);
+    }
+    let output_is_open = is_open(1);
+    if !output_is_open {
+        hold(b"/dev/null\0", libc::O_RDWR);
+    }
+    if !is_open(2) {
+        hold(b"/dev/null\0", libc::O_RDWR);
+    }
+    // A file that may not grow is an error like others; a program that has ended is waited for, whatever whoever started this has said.
+    // SAFETY: SIG_IGN and SIG_DFL are no functions; nothing else of this program looks at these signals.
+    let before = unsafe {
+        libc::signal(libc::SIGXFSZ, libc::SIG_IGN);
+        libc::signal(libc::SIGCHLD, libc::SIG_DFL);
+        libc::signal(libc::SIGPIPE, libc::SIG_IGN)
+    };
+    let began = Began { input_is_open, output_is_open, dies_of_broken_pipe: before == libc::SIG_DFL };
+    crate::output::begin(began.dies_of_broken_pipe);
+    began
+}
+
+fn is_open(descriptor: libc::c_int) -> bool {
+    // SAFETY: no memory is handed over.
+    unsafe { libc::fcntl(descriptor, libc::F_GETFD) != -1 }
+}
+
+/// Takes the lowest descriptor that is free, and keeps it.
+fn hold(path: &'static [u8], how: libc::c_int) {
+    // SAFETY: the path ends in a NUL.
+    unsafe { libc::open(path.as_ptr().cast(), how) };
+}
+
+/// Ends as a program ends whose reader has gone.
+pub fn end_by_broken_pipe() -> ! {
+    // SAFETY: SIG_DFL is no function.
+    unsafe { libc::signal(libc::SIGPIPE, libc::SIG_DFL) };
+    let _ = raise(Signal::SIGPIPE);
+    // SAFETY: ends the process at once, where the signal was blocked.
+    unsafe { libc::_exit(128 + libc::SIGPIPE) }
+}
+
+/// However this call ends, what it has started ends with it.
+pub fn end_together(command: &mut Command) {
+    end_by(command, libc::SIGKILL);
+}
+
+/// The same for a program that has something to put away first.
+pub fn ask_to_end_together(command: &mut Command) {
+    end_by(command, libc::SIGTERM);
+}
+
+fn end_by(command: &mut Command, signal: libc::c_int) {
+    let caller = std::process::id();
+    let in_child = move || {
+        // SAFETY: both calls are allowed between fork and exec, and hand over no memory.
+        let gone = unsafe {
+            libc::prctl(libc::PR_SET_PDEATHSIG, signal);
+            libc::getppid() != caller as libc::pid_t
+        };
+        if gone {
+            return Err(std::io::Error::from_raw_os_error(libc::ESRCH));
+        }
+        Ok(())
+    };
+    // SAFETY: the closure allocates nothing and takes no lock.
+    unsafe { command.pre_exec(in_child) };
+}

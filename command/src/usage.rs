@@ -1,0 +1,303 @@
+//! The words of a call, read by clap, and what to say of those that are wrong.
+
+use crate::commands::Asked;
+use crate::places::Places;
+use crate::say::quoted;
+use crate::status::Stop;
+use clap::error::{ContextKind, ContextValue, ErrorKind};
+use clap::{value_parser, Arg, ArgAction, ArgMatches, Command, ValueHint};
+use std::ffi::{OsStr, OsString};
+
+/// A command's name, the words that it takes, and a line on what it does.
+pub struct Known {
+    pub name: &'static str,
+    pub synopsis: &'static str,
+    pub about: &'static str,
+    options: &'static [&'static str],
+    words: Words,
+}
+
+#[derive(Clone, Copy, PartialEq)]
+enum Words {
+    Files,
+    Folder,
+    None,
+    Other,
+}
+
+const fn known(name: &'static str, synopsis: &'static str, about: &'static str, options: &'static [&'static str], words: Words) -> Known {
+    Known { name, synopsis, about, options, words }
+}
+
+pub const COMMANDS: [Known; 19] = [
+    known("plan", "[--json] [FILE...]", "the plan sheet of each run sheet", &["json"], Words::Files),
+    known("field", "[FILE...]", "the same by the plain engine, for at most eight wants", &[], Words::Files),
+    known("buys", "[--json] [FILE...]", "what each detour of a plan buys", &["json"], Words::Files),
+    known("price", "RUN LIST", "the plan sheet of a list of your own", &[], Words::Files),
+    known("check", "[--json] RUN PLAN", "whether a plan sheet is right", &["json"], Words::Files),
+    known("explain", "[--svg FILE] RUN", "the plan for a person, and its picture", &["svg"], Words::Files),
+    known("rewrite", "[FILE...]", "each run sheet with turn=0 for an empty turn=", &[], Words::Files),
+    known("mend", "[FILE...]", "each run sheet put in order", &[], Words::Files),
+    known("month", "[--json] [FILE...]", "one page over up to 1,000 run sheets", &["json"], Words::Files),
+    known("ltfs", "NAME LABEL INDEX", "the run sheet of a tape from its LTFS label and index", &[], Words::Files),
+    known("desk", "SHEET [EVENTS]", "a day at the desk of two offices", &[], Words::Files),
+    known("build", "", "prove and build what the others need", &[], Words::None),
+    known("test", "", "prove everything from nothing and run every test", &[], Words::None),
+    known("install", "[PREFIX]", "install this command and the library", &[], Words::Folder),
+    known("deb", "", "a Debian package of what install puts in place", &[], Words::None),
+    known("uninstall", "[PREFIX]", "remove what was installed", &[], Words::Folder),
+    known("completions", "SHELL", "completions for bash, zsh or fish", &[], Words::Other),
+    known("version", "", "the version of the product", &[], Words::None),
+    known("help", "[COMMAND]", "all commands, or one", &[], Words::Other),
+];
+
+/// Commands that need the sources.
+pub const FOR_CHECKOUTS: [&str; 4] = ["build", "test", "install", "deb"];
+
+// ---- For clap ----
+
+fn option(name: &str) -> Arg {
+    match name {
+        "json" => Arg::new("json").long("json").action(ArgAction::SetTrue).help("one object of JSON for each answer"),
+        "svg" => {
+            Arg::new("svg").long("svg").value_name("FILE").value_parser(value_parser!(OsString)).value_hint(ValueHint::FilePath).help("a picture too")
+        }
+        _ => unreachable!("no option {name}"),
+    }
+}
+
+fn definition(known: &Known) -> Command {
+    let hint = match known.words {
+        Words::Files => ValueHint::FilePath,
+        Words::Folder => ValueHint::DirPath,
+        Words::None | Words::Other => ValueHint::Other,
+    };
+    let words = Arg::new("words").num_args(0..).action(ArgAction::Append).value_parser(value_parser!(OsString)).value_hint(hint);
+    Command::new(known.name)
+        .about(known.about)
+        .no_binary_name(true)
+        .disable_help_flag(true)
+        .args_override_self(true)
+        .arg(Arg::new("help").long("help").short('h').action(ArgAction::Help).help("what this command does"))
+        .arg(Arg::new("version").long("version").action(ArgAction::Version).help("the version of the product"))
+        .version("0")
+        .args(known.options.iter().map(|name| option(name)))
+        .arg(words)
+}
+
+/// All commands, for completions.
+pub fn whole() -> Command {
+    Command::new("violstream").disable_help_subcommand(true).subcommands(COMMANDS.iter().map(|known| definition(known).no_binary_name(false)))
+}
+
+// ---- Reading ----
+
+pub struct Usage<'a> {
+    known: &'a Known,
+    places: &'a Places,
+}
+
+/// What is asked, or what to say of it.
+pub fn read(words: impl Iterator<Item = OsString>, places: &Places) -> Result<Asked, Stop> {
+    let mut words = words;
+    let first = match words.next() {
+        None => return Ok(Asked::Help(None)),
+        Some(first) => first,
+    };
+    if first == "--help" || first == "-h" {
+        return Ok(Asked::Help(None));
+    }
+    if first == "--version" {
+        return Ok(Asked::Version);
+    }
+    match COMMANDS.iter().find(|known| first == known.name) {
+        Some(known) => Usage { known, places }.read(words.collect()),
+        None => Err(misused(format!("unknown command '{}'", quoted(&first)), places.me(), &every_name(places))),
+    }
+}
+
+fn every_name(places: &Places) -> String {
+    let here = |known: &&Known| known.name != "completions" && !(places.installed && FOR_CHECKOUTS.contains(&known.name));
+    COMMANDS.iter().filter(here).map(|known| known.name).collect::<Vec<_>>().join(" | ")
+}
+
+fn misused(sentence: String, me: &str, synopsis: &str) -> Stop {
+    Stop::Misused { sentence, usage: format!("usage: {me} {synopsis}   (more: {me} help)") }
+}
+
+impl Usage<'_> {
+    pub fn misused<T>(&self, sentence: impl Into<String>) -> Result<T, Stop> {
+        let synopsis = format!("{} {}", self.known.name, self.known.synopsis);
+        Err(misused(sentence.into(), self.places.me(), synopsis.trim_end()))
+    }
+
+    fn read(&self, words: Vec<OsString>) -> Result<Asked, Stop> {
+        match definition(self.known).try_get_matches_from(words) {
+            Ok(matches) => self.understand(&matches),
+            Err(error) => match error.kind() {
+                ErrorKind::DisplayHelp => Ok(Asked::Help(Some(self.known.name))),
+                ErrorKind::DisplayVersion => Ok(Asked::Version),
+                _ => self.misused(self.fault(&error)),
+            },
+        }
+    }
+
+    fn fault(&self, error: &clap::Error) -> String {
+        let about = match error.get(ContextKind::InvalidArg) {
+            Some(ContextValue::String(about)) => about.split([' ', '=']).next().unwrap_or_default().to_string(),
+            _ => String::new(),
+        };
+        let shown = quoted(OsStr::new(&about));
+        match error.kind() {
+            ErrorKind::UnknownArgument => format!("{} has no option {shown} (a file of that name is ./{shown})", self.known.name),
+            ErrorKind::TooManyValues => format!("{shown} takes no value"),
+            _ if about == "--svg" => "--svg needs the name of a file".to_string(),
+            _ => error.to_string().lines().next().unwrap_or_default().trim_start_matches("error: ").to_string(),
+        }
+    }
+
+    fn understand(&self, matches: &ArgMatches) -> Result<Asked, Stop> {
+        let name = self.known.name;
+        if self.places.installed && FOR_CHECKOUTS.contains(&name) {
+            return self.misused(format!("{name} is for a checkout of the sources, and this command is installed"));
+        }
+        let words: Vec<OsString> = matches.get_many::<OsString>("words").unwrap_or_default().cloned().collect();
+        let json = self.known.options.contains(&"json") && matches.get_flag("json");
+        // A tape's name is judged by the program.
+        if words.iter().skip(usize::from(name == "ltfs")).any(|word| word.is_empty()) {
+            return self.misused("an empty word is no name");
+        }
+        match name {
+            "plan" | "field" | "buys" | "rewrite" | "mend" => self.sheets(words, json),
+            "month" => self.month(words, json),
+            "price" | "check" => self.pair(words, json),
+            "explain" => self.explain(words, matches.get_one::<OsString>("svg")),
+            "ltfs" => self.ltfs(words),
+            "desk" => self.desk(words),
+            "install" | "uninstall" => self.folder(words),
+            "completions" => self.completions(words),
+            "help" => self.help(words),
+            _ => self.nothing(&words),
+        }
+    }
+
+    /// Standard input can be read once.
+    fn only_once(&self, names: &[&OsString]) -> Result<(), Stop> {
+        if names.iter().filter(|name| **name == "-").count() > 1 {
+            return self.misused("- is standard input, and can be given once only");
+        }
+        Ok(())
+    }
+
+    fn sheets(&self, mut files: Vec<OsString>, json: bool) -> Result<Asked, Stop> {
+        self.only_once(&files.iter().collect::<Vec<_>>())?;
+        if files.is_empty() {
+            files.push("-".into());
+        }
+        Ok(Asked::Sheets { command: self.known.name, files, json })
+    }
+
+    fn month(&self, mut files: Vec<OsString>, json: bool) -> Result<Asked, Stop> {
+        self.only_once(&files.iter().collect::<Vec<_>>())?;
+        if files.is_empty() {
+            files.push("-".into());
+        }
+        Ok(Asked::Month { files, json })
+    }
+
+    fn pair(&self, words: Vec<OsString>, json: bool) -> Result<Asked, Stop> {
+        let command = self.known.name;
+        let other = if command == "price" { "a list" } else { "a plan sheet" };
+        match <[OsString; 2]>::try_from(words) {
+            Ok([run, other]) => {
+                self.only_once(&[&run, &other])?;
+                Ok(Asked::Pair { command, run, other, json })
+            }
+            Err(_) => self.misused(format!("{command} takes two files: a run sheet, and {other}")),
+        }
+    }
+
+    fn explain(&self, words: Vec<OsString>, picture: Option<&OsString>) -> Result<Asked, Stop> {
+        if picture.map_or(false, |picture| picture.is_empty()) {
+            return self.misused("--svg needs the name of a file");
+        }
+        match <[OsString; 1]>::try_from(words) {
+            Ok([run]) => Ok(Asked::Explain { run, picture: picture.cloned() }),
+            Err(_) => self.misused("explain takes one run sheet"),
+        }
+    }
+
+    fn ltfs(&self, words: Vec<OsString>) -> Result<Asked, Stop> {
+        match <[OsString; 3]>::try_from(words) {
+            Ok([tape, label, index]) => {
+                self.only_once(&[&label, &index])?;
+                Ok(Asked::Ltfs { tape, label, index })
+            }
+            Err(_) => self.misused("ltfs takes a tape name, a file with the label and a file with the index"),
+        }
+    }
+
+    fn desk(&self, words: Vec<OsString>) -> Result<Asked, Stop> {
+        let mut words = words.into_iter();
+        match (words.next(), words.next(), words.next()) {
+            (Some(sheet), events, None) => {
+                let events = events.unwrap_or_else(|| "-".into());
+                self.only_once(&[&sheet, &events])?;
+                Ok(Asked::Desk { sheet, events })
+            }
+            _ => self.misused("desk takes a file with a run sheet and, if not standard input, one with the events"),
+        }
+    }
+
+    fn folder(&self, words: Vec<OsString>) -> Result<Asked, Stop> {
+        let name = self.known.name;
+        if words.len() > 1 {
+            return self.misused(format!("{name} takes one folder"));
+        }
+        let prefix = words.into_iter().next();
+        if let Some(prefix) = prefix.as_ref().filter(|prefix| !std::path::Path::new(prefix).is_absolute()) {
+            return self.misused(format!("the folder must be an absolute path, not '{}'", quoted(prefix)));
+        }
+        Ok(if name == "install" { Asked::Install { prefix } } else { Asked::Uninstall { prefix } })
+    }
+
+    fn completions(&self, words: Vec<OsString>) -> Result<Asked, Stop> {
+        match words.first().and_then(|shell| shell.to_str()) {
+            Some(shell @ ("bash" | "zsh" | "fish")) if words.len() == 1 => Ok(Asked::Completions { shell: shell.to_string() }),
+            _ => self.misused("completions takes the name of a shell: bash, zsh or fish"),
+        }
+    }
+
+    fn help(&self, words: Vec<OsString>) -> Result<Asked, Stop> {
+        match words.first() {
+            None => Ok(Asked::Help(None)),
+            Some(word) => match COMMANDS.iter().find(|known| word == known.name) {
+                Some(known) if words.len() == 1 => Ok(Asked::Help(Some(known.name))),
+                _ => self.misused("help takes the name of one command"),
+            },
+        }
+    }
+
+    fn nothing(&self, words: &[OsString]) -> Result<Asked, Stop> {
+        let name = self.known.name;
+        if !words.is_empty() {
+            return self.misused(format!("{name} takes no words"));
+        }
+        Ok(match name {
+            "build" => Asked::Build,
+            "test" => Asked::Test,
+            "deb" => Asked::Deb,
+            _ => Asked::Version,
+        })
+    }
+}
+
+#[cfg(test)]
+mod tests {
+    use super::*;
+
+    #[test]
+    fn clap_finds_no_fault_in_the_definitions() {
+        whole().debug_assert();
+    }
+}

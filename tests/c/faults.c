@@ -1,0 +1,124 @@
+/* Makes one call of the system fail, for tests/python/faults.py, which compiles this as a shared object and has it loaded before libc. The call is
+   the N-th of one kind in the process called `violstream`, and in no other:
+
+       VIOLSTREAM_FAULT=KIND:N:ERRNO      the N-th fails; with N = 0 none does
+       VIOLSTREAM_FAULT_COUNT=FILE        the number of calls of that kind is written there at the end
+
+   Descriptors above 2 that are not sockets or terminals, and 0 to 2, are all the same here: whatever the command reads and writes may fail. */
+#define _GNU_SOURCE
+#include <dlfcn.h>
+#include <errno.h>
+#include <fcntl.h>
+#include <poll.h>
+#include <stdarg.h>
+#include <stdio.h>
+#include <stdlib.h>
+#include <string.h>
+#include <sys/file.h>
+#include <sys/stat.h>
+#include <sys/types.h>
+#include <sys/wait.h>
+#include <unistd.h>
+
+static char kind[32];
+static long at, error, met;
+static int active;
+
+__attribute__((constructor)) static void begin(void)
+{
+    const char *fault = getenv("VIOLSTREAM_FAULT");
+    active = fault && !strcmp(program_invocation_short_name, "violstream") && sscanf(fault, "%31[a-z0-9_]:%ld:%ld", kind, &at, &error) == 3;
+}
+
+__attribute__((destructor)) static void end(void)
+{
+    const char *name = getenv("VIOLSTREAM_FAULT_COUNT");
+    FILE *count;
+    if (!active || !name)
+        return;
+    active = 0;
+    count = fopen(name, "w");
+    if (count) {
+        fprintf(count, "%ld\n", met);
+        fclose(count);
+    }
+}
+
+/* Whether this call is the one. */
+static int fails(const char *what)
+{
+    if (!active || strcmp(what, kind) || ++met != at)
+        return 0;
+    errno = (int)error;
+    return 1;
+}
+
+#define NEXT(result, name, types) \
+    static result (*next)types; \
+    if (!next) \
+    *(void **)&next = dlsym(RTLD_NEXT, name)
+
+#define WRAP(result, name, types, words) \
+    result name types \
+    { \
+        NEXT(result, #name, types); \
+        return fails(#name) ? (result)-1 : next words; \
+    }
+
+WRAP(ssize_t, read, (int fd, void *to, size_t size), (fd, to, size))
+WRAP(ssize_t, write, (int fd, const void *from, size_t size), (fd, from, size))
+WRAP(int, poll, (struct pollfd *fds, nfds_t count, int limit), (fds, count, limit))
+WRAP(int, pipe2, (int ends[2], int how), (ends, how))
+WRAP(pid_t, fork, (void), ())
+WRAP(pid_t, waitpid, (pid_t pid, int *status, int how), (pid, status, how))
+WRAP(int, dup2, (int from, int to), (from, to))
+WRAP(int, execvp, (const char *file, char *const words[]), (file, words))
+WRAP(int, flock, (int fd, int how), (fd, how))
+WRAP(int, rename, (const char *from, const char *to), (from, to))
+WRAP(int, fsync, (int fd), (fd))
+WRAP(int, mkdir, (const char *path, mode_t mode), (path, mode))
+WRAP(int, unlink, (const char *path), (path))
+WRAP(int, symlink, (const char *to, const char *path), (to, path))
+WRAP(int, fchmod, (int fd, mode_t mode), (fd, mode))
+WRAP(ssize_t, readlink, (const char *path, char *to, size_t size), (path, to, size))
+
+/* Some errors come only when a file is closed, and it is closed then all the same. */
+int close(int fd)
+{
+    NEXT(int, "close", (int));
+    int ended = next(fd);
+    return fails("close") ? -1 : ended;
+}
+
+int open64(const char *path, int how, ...)
+{
+    NEXT(int, "open64", (const char *, int, ...));
+    va_list words;
+    mode_t mode;
+    va_start(words, how);
+    mode = va_arg(words, mode_t);
+    va_end(words);
+    return fails("open") ? -1 : next(path, how, mode);
+}
+
+int fcntl64(int fd, int what, ...)
+{
+    NEXT(int, "fcntl64", (int, int, ...));
+    va_list words;
+    long word;
+    va_start(words, what);
+    word = va_arg(words, long);
+    va_end(words);
+    return fails("fcntl") ? -1 : next(fd, what, word);
+}
+
+int fcntl(int fd, int what, ...)
+{
+    NEXT(int, "fcntl", (int, int, ...));
+    va_list words;
+    long word;
+    va_start(words, what);
+    word = va_arg(words, long);
+    va_end(words);
+    return fails("fcntl") ? -1 : next(fd, what, word);
+}

@@ -1,0 +1,130 @@
+#!/usr/bin/env bash
+# Has rt make something: `tools/build.sh check CRATE`, a program, or `tools/build.sh staticlib boundary`, the library. The status is rt's.
+#
+# rt by itself proves floor by floor, and begins a floor when the one below is done. For a program it is called here for one crate at a time first,
+# each as soon as what it names is proved, in as many lanes as there are processors, so that no core waits. A lane is a folder that is a checkout to
+# rt: the crates and what was proved are those of this one, its logs are its own, so that two calls do not meet. Nothing is decided here: rt itself
+# comes last, and proves whatever is not proved.
+#
+# Printed is what rt prints, behind a line `rooms=` with the folder of the lanes and of rt's temporary files. It goes when this ends, also by a signal.
+set -u
+unset -v CDPATH crate ended folder free here job lane lanes met name named names order rooms running state status unproved
+here=$(cd "$(dirname "$0")/.." && pwd)
+rooms=
+
+# A second signal does not cut this short.
+end_all() {
+    trap '' HUP INT TERM
+    for job in $(jobs -p); do
+        kill "$job" 2> /dev/null
+    done
+    rm -rf "${rooms:-}"
+}
+
+trap end_all EXIT
+trap 'trap "" HUP INT TERM; exit 129' HUP
+trap 'trap "" HUP INT TERM; exit 130' INT
+trap 'trap "" HUP INT TERM; exit 143' TERM
+folder=${TMPDIR:-/tmp}
+rooms=$(mktemp -d "$folder/violstream.XXXXXX" 2> /dev/null) || { printf 'error: cannot make a temporary folder in %s\n' "$folder"; exit 1; }
+chmod 711 "$rooms" # rt runs programs as nobody
+printf 'rooms=%s\n' "$rooms"
+
+declare -A met=() names=() state=()
+order=() free=() running=0 unproved=0 status=0
+
+# visit CRATE: it, and before it what it names, into the order; names and state have every crate by then.
+visit() {
+    local name
+    [ -z "${met[$1]:-}" ] || return 0
+    met[$1]=yes
+    for name in ${names[$1]}; do
+        [ -z "${names[$name]+known}" ] || visit "$name"
+    done
+    order+=("$1")
+}
+
+# The crates below one, each behind those that it names.
+below() {
+    local crate
+    while IFS=: read -r name named; do
+        names[${name// /}]=$named
+    done < <(sed -e 's/#.*//' -e '/:/!d' "$here/crates.txt")
+    visit "$1"
+    unset 'order[-1]'
+    for crate in "${order[@]}"; do
+        state[$crate]=waits
+        [ -e "$here/target/stamp/$crate" ] || unproved=$((unproved + 1))
+    done
+}
+
+# Whether all that a crate names and that is to be proved here is proved.
+can_start() {
+    local name
+    for name in ${names[$1]}; do
+        [ "${state[$name]:-proved}" = proved ] || return 1
+    done
+}
+
+# start CRATE LANE: a call in the background, which ends with a line in the pipe: the crate, the lane, the status.
+start() {
+    {
+        (cd "$rooms/$2" && RT_JOBS=1 TMPDIR=$rooms rt check "$1") > "$rooms/$2/said" 2>&1 3>&-
+        printf '%s %s %s\n' "$1" "$2" "$?" >&3
+    } &
+    state[$1]=begun running=$((running + 1))
+}
+
+# Starts what can be started, as long as a lane is free.
+start_some() {
+    local crate
+    for crate in "${order[@]}"; do
+        [ "${#free[@]}" -gt 0 ] || return 0
+        if [ "${state[$crate]}" = waits ] && can_start "$crate"; then
+            start "$crate" "${free[0]}"
+            free=("${free[@]:1}")
+        fi
+    done
+}
+
+# Waits for one call; sets ended to its status.
+end_one() {
+    local crate lane
+    read -r crate lane ended <&3
+    free+=("$lane") running=$((running - 1))
+    if [ "$ended" -eq 0 ]; then
+        state[$crate]=proved
+        grep "^rt: $crate " "$rooms/$lane/said"
+    else
+        cat "$rooms/$lane/said"
+    fi
+}
+
+# What is under a program, in lanes; what little is left rt does as quickly.
+prove_below() {
+    below "$1"
+    [ "$unproved" -gt 1 ] || return 0
+    lanes=${RT_JOBS:-$(nproc 2> /dev/null || echo 1)}
+    [ "$lanes" -le 4 ] || lanes=4
+    mkdir -p "$here/target"/{rlib,stamp,obj,bin} || return 1
+    for ((lane = 1; lane <= lanes; lane++)); do
+        mkdir -p "$rooms/$lane/target/log" && ln -s "$here"/{crates,crates.txt} "$rooms/$lane/" && ln -s "$here/target"/{rlib,stamp,obj,bin} "$rooms/$lane/target/" || return 1
+        free+=("$lane")
+    done
+    { mkfifo "$rooms/ends" && exec 3<> "$rooms/ends"; } || return 1
+    start_some
+    while [ "$running" -gt 0 ]; do
+        end_one
+        [ "$ended" -eq 0 ] || [ "$status" -ne 0 ] || status=$ended
+        [ "$status" -ne 0 ] || start_some
+    done
+    exec 3>&-
+    return "$status"
+}
+
+case $1 in
+    check) prove_below "$2" || exit ;;
+esac
+cd "$here" || exit
+TMPDIR=$rooms rt "$@" &
+wait "$!"
