@@ -25,7 +25,7 @@ use Rattle.desk_boardings.specs.Boardings.{Tape, Boards, RowRefused, RunPlanned
 use Rattle.answer_desk.specs.declared.Day.{Day}
 use Rattle.answer_desk.specs.declared.Event.{Event}
 use Rattle.answer_desk.specs.declared.Answered.{Answered}
-use Rattle.answer_desk.specs.Days.{Outcome, Refuses, Tells, Answers, filingOutcome, withdrawalOutcome, boardingOutcome, BoardingAnswered, EventAnswered}
+use Rattle.answer_desk.specs.Days.{Outcome, Refuses, Tells, AnswersEvent, filingOutcome, withdrawalOutcome, boardingOutcome, BoardingAnswered, EventAnswered}
 
 -- A boarding.
 module _ (len : ℕ) (tape : Tape) (row : List Ticket) (b : Boarding) (before : Rows) (r s : BoardedRow) (after after′ : Rows) where
@@ -52,7 +52,7 @@ module _ (day : Day) (o : Outcome) (room out : List ℕ) (r s : Answered) (room�
   tells-once : Tells o out r room′ out′ → Tells o out s room″ out″ → (r ≡ s) × ((room′ ≡ room″) × (out′ ≡ out″))
   tells-once p q = (p .says ∙ sym (q .says), (p .left ∙ sym (q .left), p .handed ∙ sym (q .handed)))
 
-  answers-once : Answers day o room out r room′ out′ → Answers day o room out s room″ out″ → (r ≡ s) × ((room′ ≡ room″) × (out′ ≡ out″))
+  answers-once : AnswersEvent day o room out r room′ out′ → AnswersEvent day o room out s room″ out″ → (r ≡ s) × ((room′ ≡ room″) × (out′ ≡ out″))
   answers-once p q =
       ⊎-elim
       (λ (y : isRefusal (o .verdict .refusal) ≡ true). refuses-once (o .verdict) (p .refused y) (q .refused y))
@@ -68,15 +68,15 @@ module _ (len : ℕ) (tape : Tape) (day : Day) (room out : List ℕ) (r s : Answ
       → (r ≡ s) × ((room′ ≡ room″) × (out′ ≡ out″))
   boarding-once b p q =
       let same = boards-once len tape (day .row) b _ (p .done) (q .done) (p .rows) (q .rows) (p .boards) (q .boards) in
-      let moved : Answers day (boardingOutcome (day .row) (q .done) (q .rows)) room out r room′ out′
-      = subst (λ (y : Rows). Answers day (boardingOutcome (day .row) (q .done) y) room out r room′ out′) (same .1)
-      (subst (λ (x : BoardedRow). Answers day (boardingOutcome (day .row) x (p .rows)) room out r room′ out′) (same .0) (p .answers)) in
+      let moved : AnswersEvent day (boardingOutcome (day .row) (q .done) (q .rows)) room out r room′ out′
+      = subst (λ (y : Rows). AnswersEvent day (boardingOutcome (day .row) (q .done) y) room out r room′ out′) (same .1)
+      (subst (λ (x : BoardedRow). AnswersEvent day (boardingOutcome (day .row) x (p .rows)) room out r room′ out′) (same .0) (p .answers)) in
       answers-once day _ room out r s room′ room″ out′ out″ moved (q .answers)
 
   -- One that leaves the room alone.
   beside-once : (o : List ℕ → Outcome)
-      → ((x : List ℕ) → Answers day (o x) x out r x out′) × (room′ ≡ room)
-      → ((x : List ℕ) → Answers day (o x) x out s x out″) × (room″ ≡ room)
+      → ((x : List ℕ) → AnswersEvent day (o x) x out r x out′) × (room′ ≡ room)
+      → ((x : List ℕ) → AnswersEvent day (o x) x out s x out″) × (room″ ≡ room)
       → (r ≡ s) × ((room′ ≡ room″) × (out′ ≡ out″))
   beside-once o p q =
       let same = answers-once day (o room) room out r s room room out′ out″ (p .0 room) (q .0 room) in

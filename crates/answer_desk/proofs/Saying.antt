@@ -23,7 +23,7 @@ use Rattle.answer_desk.specs.declared.Event.{Event}
 use Rattle.answer_desk.specs.declared.Answered.{Answered}
 use Rattle.answer_desk.specs.Events.{eventOf}
 use Rattle.answer_desk.specs.Answers.{mostText}
-use Rattle.answer_desk.specs.Days.{Outcome, refusedAnswer, answeredBy, Refuses, Tells, Answers, filingOutcome, FilingAnswered, withdrawalOutcome, WithdrawalAnswered, BoardingAnswered, EventAnswered}
+use Rattle.answer_desk.specs.Days.{Outcome, refusedAnswer, answeredBy, Refuses, Tells, AnswersEvent, filingOutcome, FilingAnswered, withdrawalOutcome, WithdrawalAnswered, BoardingAnswered, EventAnswered}
 use Rattle.answer_desk.specs.Private.{TextSaid}
 
 -- What handing a text out answers and leaves.
@@ -50,7 +50,7 @@ module _ (day : Day) (o : Outcome) (out : List ℕ) (w : Written) (out′ : List
 
 -- An event that does not work in the room.
 module _ (day : Day) (o : Outcome) (room out : List ℕ) (stays : o .left ≡ room) (r : Answered) (f : Bool) (is : f ≡ refuses (o .verdict)) where
-  pub event-refused : f ≡ true → r ≡ refusedAnswer day (o .verdict) → Answers day o room out r room out
+  pub event-refused : f ≡ true → r ≡ refusedAnswer day (o .verdict) → AnswersEvent day o room out r room out
   event-refused e says =
       let yes : refuses (o .verdict) ≡ true = sym is ∙ e in
       record {
@@ -60,7 +60,7 @@ module _ (day : Day) (o : Outcome) (room out : List ℕ) (stays : o .left ≡ ro
         told = λ n _. absurd (true≢false (sym yes ∙ n));
       }
 
-  pub event-told : (most : ℕ) → most ≤ mostText → f ≡ false → (w : Written) (out′ : List ℕ) → TextSaid most (o .text) out w out′ → r ≡ answeredBy day (o .next) w → Answers day o room out r room out′
+  pub event-told : (most : ℕ) → most ≤ mostText → f ≡ false → (w : Written) (out′ : List ℕ) → TextSaid most (o .text) out w out′ → r ≡ answeredBy day (o .next) w → AnswersEvent day o room out r room out′
   event-told most fits e w out′ said says =
       let no : refuses (o .verdict) ≡ false = sym is ∙ e in
       record {
@@ -74,10 +74,10 @@ module _ (day : Day) (o : Outcome) (room out : List ℕ) (stays : o .left ≡ ro
 module _ (len : ℕ) (day : Day) (out : List ℕ) (r : Answered) (t : Bool) where
   module _ (filing : Filing) (f : FiledRow) (e : f ≡ fileRow len (day .row) filing) (is : t ≡ refuses (f .filed .verdict)) where
     abbrev Filed : List ℕ → Type 0
-    Filed out′ = (room : List ℕ) → Answers day (filingOutcome filing f room) room out r room out′
+    Filed out′ = (room : List ℕ) → AnswersEvent day (filingOutcome filing f room) room out r room out′
 
     filed-so : (out′ : List ℕ) → Filed out′ → FilingAnswered len day filing out r out′
-    filed-so out′ h room = subst (λ (x : FiledRow). Answers day (filingOutcome filing x room) room out r room out′) e (h room)
+    filed-so out′ h room = subst (λ (x : FiledRow). AnswersEvent day (filingOutcome filing x room) room out r room out′) e (h room)
 
     pub filing-refused : t ≡ true → r ≡ refusedAnswer day (f .filed .verdict) → FilingAnswered len day filing out r out
     filing-refused y says = filed-so out (λ room. event-refused day (filingOutcome filing f room) room out refl r t is y says)
@@ -86,8 +86,8 @@ module _ (len : ℕ) (day : Day) (out : List ℕ) (r : Answered) (t : Bool) wher
     filing-said n w out′ said says = filed-so out′ (λ room. event-told day (filingOutcome filing f room) room out refl r t is 52 (omega arith) n w out′ said says)
 
   module _ (withdrawal : Withdrawal) (f : WithdrawnRow) (e : f ≡ withdrawRow len (day .row) withdrawal) (is : t ≡ refuses (f .withdrawn .verdict)) where
-    withdrawn-so : (out′ : List ℕ) → ((room : List ℕ) → Answers day (withdrawalOutcome withdrawal f room) room out r room out′) → WithdrawalAnswered len day withdrawal out r out′
-    withdrawn-so out′ h room = subst (λ (x : WithdrawnRow). Answers day (withdrawalOutcome withdrawal x room) room out r room out′) e (h room)
+    withdrawn-so : (out′ : List ℕ) → ((room : List ℕ) → AnswersEvent day (withdrawalOutcome withdrawal f room) room out r room out′) → WithdrawalAnswered len day withdrawal out r out′
+    withdrawn-so out′ h room = subst (λ (x : WithdrawnRow). AnswersEvent day (withdrawalOutcome withdrawal x room) room out r room out′) e (h room)
 
     pub withdrawal-refused : t ≡ true → r ≡ refusedAnswer day (f .withdrawn .verdict) → WithdrawalAnswered len day withdrawal out r out
     withdrawal-refused y says = withdrawn-so out (λ room. event-refused day (withdrawalOutcome withdrawal f room) room out refl r t is y says)

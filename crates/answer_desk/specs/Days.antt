@@ -66,7 +66,7 @@ pub record Tells (o : Outcome) (out : List ℕ) (r : Answered) (room′ out′ :
   pub handed : out′ ≡ o .text ++ drop (length (o .text)) out
 
 -- The event's own refusal; then 8, where the row is shorter than the text, which never has more than 2,677 bytes; else the text.
-pub record Answers (day : Day) (o : Outcome) (room out : List ℕ) (r : Answered) (room′ out′ : List ℕ) : Type 0 where
+pub record AnswersEvent (day : Day) (o : Outcome) (room out : List ℕ) (r : Answered) (room′ out′ : List ℕ) : Type 0 where
   pub refused : isRefusal (o .verdict .refusal) ≡ true → Refuses (o .verdict) day room out r room′ out′
   pub most : isRefusal (o .verdict .refusal) ≡ false → length (o .text) ≤ mostText
   pub short : isRefusal (o .verdict .refusal) ≡ false → length out < length (o .text) → Refuses (record { refusal = ShortRow; place = 0 }) day room out r room′ out′
@@ -82,7 +82,7 @@ filingOutcome filing f room =
 
 abbrev pub FilingAnswered : ℕ → Day → Filing → List ℕ → Answered → List ℕ → Type 0
 FilingAnswered len day filing out r out′ =
-    (room : List ℕ) → Answers day (filingOutcome filing (fileRow len (day .row) filing) room) room out r room out′
+    (room : List ℕ) → AnswersEvent day (filingOutcome filing (fileRow len (day .row) filing) room) room out r room out′
 
 -- A withdrawal: `withdrawn=OFFICE,NUMBER`.
 abbrev pub withdrawnDay : WithdrawnRow → Day
@@ -94,7 +94,7 @@ withdrawalOutcome withdrawal w room =
 
 abbrev pub WithdrawalAnswered : ℕ → Day → Withdrawal → List ℕ → Answered → List ℕ → Type 0
 WithdrawalAnswered len day withdrawal out r out′ =
-    (room : List ℕ) → Answers day (withdrawalOutcome withdrawal (withdrawRow len (day .row) withdrawal) room) room out r room out′
+    (room : List ℕ) → AnswersEvent day (withdrawalOutcome withdrawal (withdrawRow len (day .row) withdrawal) room) room out r room out′
 
 -- A boarding: what it answers and leaves in rows of eight zeros and in the working room; the text of that, by the plan's list, and each ticket's time and
 -- leg by its file among the wants.
@@ -118,7 +118,7 @@ pub record BoardingAnswered (len : ℕ) (tape : Tape) (day : Day) (b : Boarding)
   pub done : BoardedRow
   pub rows : Rows
   pub boards : Boards len tape (day .row) b (rowsLent room) done rows
-  pub answers : Answers day (boardingOutcome (day .row) done rows) room out r room′ out′
+  pub answers : AnswersEvent day (boardingOutcome (day .row) done rows) room out r room′ out′
 
 -- The answer to an event. Only a boarding works in the room. A line that is none is refused by 11.
 abbrev pub EventAnswered : ℕ → Tape → Day → List ℕ → List ℕ → Event → Answered → List ℕ → List ℕ → Type 0

@@ -35,7 +35,7 @@ use Rattle.answer_desk.specs.declared.Day as desk
 use Rattle.answer_desk.specs.declared.Event.{Event}
 use Rattle.answer_desk.specs.declared.Answered.{Answered}
 use Rattle.answer_desk.specs.Events.{eventOf}
-use Rattle.answer_desk.specs.Days.{Outcome, Answers, rowsLent, filingOutcome, withdrawalOutcome, boardingOutcome, BoardingAnswered, EventAnswered}
+use Rattle.answer_desk.specs.Days.{Outcome, AnswersEvent, rowsLent, filingOutcome, withdrawalOutcome, boardingOutcome, BoardingAnswered, EventAnswered}
 use Rattle.answer_desk.proofs.Rooms.{wants-few, product-few}
 use Rattle.desk_rows.specs.declared.Told.{Told}
 use Rattle.desk_rows.specs.Desk.{tableIn}
@@ -84,7 +84,7 @@ accepts BadSheetCount e = absurd (true≢false e)
 accepts BadRecord e = absurd (true≢false e)
 
 -- An answer, whatever the event.
-module _ (day : desk.Day) (o : Outcome) (room out : List ℕ) (r : Answered) (room′ out′ : List ℕ) (a : Answers day o room out r room′ out′) where
+module _ (day : desk.Day) (o : Outcome) (room out : List ℕ) (r : Answered) (room′ out′ : List ℕ) (a : AnswersEvent day o room out r room′ out′) where
   answer-keeps : (r .verdict .refusal ≡ Accepted → ⊥) → (r .day ≡ day) × (room′ ≡ room) × (out′ ≡ out) × (r .bytes ≡ 0)
   answer-keeps some =
       ⊎-elim
@@ -203,7 +203,7 @@ abbrev OneCall : Tape → Event → desk.Day → Exchange → desk.Day → Type 
 OneCall tape e day x next = (c : Call) × IsCall tape e c × (x .answer ≡ answered c) × Fits (keptAt day) c (keptAt next) × ((cs : List Call) → ForTape tape cs → ForTape tape (c ∷ cs))
 
 module _ (len : ℕ) (tape : Tape) (day next : desk.Day) (x : Exchange) (room room′ out out′ : List ℕ) (r : Answered) (takes : 2677 ≤ length out) (says : x .answer ≡ r .verdict .refusal) (leaves : next ≡ r .day) where
-  called : (e : Event) (o : Outcome) (c : Call) → IsCall tape e c → ((cs : List Call) → ForTape tape cs → ForTape tape (c ∷ cs)) → (space space′ : List ℕ) → Answers day o space out r space′ out′ → o .verdict .refusal ≡ answered c
+  called : (e : Event) (o : Outcome) (c : Call) → IsCall tape e c → ((cs : List Call) → ForTape tape cs → ForTape tape (c ∷ cs)) → (space space′ : List ℕ) → AnswersEvent day o space out r space′ out′ → o .verdict .refusal ≡ answered c
       → Fits (keptAt day) c (keptAt (o .next)) → OneCall tape e day x next
   called e o c is one space space′ a same fits = (
     c,
