@@ -30,7 +30,7 @@ use Rattle.walk.proofs.Joins.{time-same, leg-same, start-by, end-by}
 use Rattle.least.proofs.Rising.{rises-by-steps}
 use Rattle.least.proofs.Walks.{by-file}
 use Rattle.planner.specs.Rows.{readsIn}
-use Rattle.demands.specs.RefusalTable.{IsFile, Together, NamesStop, NothingApplies}
+use Rattle.demands.specs.RefusalTable.{IsFile, Together, NamesStop}
 use Rattle.demands.specs.Demand2.{listIn, IsWalkOf}
 use Rattle.demands.specs.Aggregates.{Reaches, ReadsFrom, behind, counted, passed, IsStopAt, StopsByMembers, AggregatesReach, MembersShare, PriceMembersShare, PlanMembersShare}
 use Rattle.demands.proofs.Conditions.{together-first, first-together, last-with, within-extent, named}

@@ -12,7 +12,6 @@ use borrow.Author.Tests.{le-leb, lt-leb}
 use Rattle.least.specs.Recurrence.{Plan, empty, skip, detour}
 use Rattle.least.proofs.Plan.{Over, lagAfter}
 use Rattle.least.proofs.Times.{Spaced}
-use Rattle.least.proofs.Rising.{rises-by-steps, rises-not-strictly}
 
 -- The detours of a plan; those of more than one stop.
 unfoldable pub many : Plan → ℕ

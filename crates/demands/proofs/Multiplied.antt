@@ -1,19 +1,17 @@
 -- Wants whose reads are c times those of others, file by file: of accepted runs they are wants of the same files, and each count is c times as large.
-use Prim.Native.Nat.{ℕ, zero, suc, _+_, _*_, _≤_, _<_}
+use Prim.Native.Nat.{ℕ, suc, _*_, _≤_, _<_}
 use mathlib.Core.Path.{_≡_, refl, sym, ap, _∙_}
-use mathlib.Core.Bool.{false, cond}
 use mathlib.Core.Logic.{by-cases}
 use mathlib.Core.List.{List, [], _∷_, map}
 use native.Mathlib.Omega.{arith}
 use native.Mathlib.Decide.{decLt}
 use native.Mathlib.Nat.{mul-le-mul}
 use lib.ListN.{length, getD}
-use lib.Dec.{eqb}
 use borrow.Author.Tests.{eq-eqb, ne-eqb}
 use Rattle.runs.specs.Run.{Run}
 use Rattle.runs.proofs.Judged.{GoodRun, accepted-run}
 use Rattle.least.specs.Wants.{readsOfFile}
-use Rattle.demands.specs.Offices.{Multiplies, MultipliedWants}
+use Rattle.demands.specs.Offices.{MultipliedWants}
 use Rattle.demands.proofs.Judged.{nothing-judged}
 
 -- Wants whose numbers rise from above a bound, each at least once.

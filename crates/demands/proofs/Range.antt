@@ -9,8 +9,7 @@ use mathlib.Core.Logic.{by-cases}
 use mathlib.Core.List.{List, [], _∷_}
 use lib.IntN.{ℤ, pos, negsuc}
 use lib.ListN.{length, getD}
-use Rattle.runs.specs.Run.{Run, Stop, lastPlace, highestTurn, total, stopsOf}
-use Rattle.runs.specs.Rows.{stopAt}
+use Rattle.runs.specs.Run.{Run, Stop, lastPlace, highestTurn, stopsOf}
 use Rattle.runs.specs.Lists.{Detour, WellFormed, listOf}
 use Rattle.runs.proofs.Joined.{readsOf}
 use Rattle.runs.proofs.Entries.{length-list}
@@ -21,8 +20,8 @@ use Rattle.figures.specs.Figures.{without, figuresAnswer, figuresRow}
 use Rattle.demands.specs.Buys.{IsLess, over, under, FigureWithin, gained, lost, FiguresInRange, smallestBought}
 use Rattle.demands.proofs.Buys.{without-is, figures-run, figures-tell, bought-worked}
 use Rattle.least.specs.Least.{listSum}
-use Rattle.least.specs.Recurrence.{Plan, W, trip, planDetours, fileAt, leftAt, rightAt, countAt}
-use Rattle.least.proofs.Plan.{Over, lagAfter}
+use Rattle.least.specs.Recurrence.{W, trip, fileAt, leftAt, rightAt, countAt}
+use Rattle.least.proofs.Plan.{lagAfter}
 use Rattle.least.proofs.Times.{Spaced, starts-rise, planTime}
 use Rattle.least.proofs.Sums.{W-suc, W-front}
 use Rattle.least.proofs.Identity.{runSum}

@@ -10,7 +10,6 @@ use lib.ListN.{length, length-append}
 use lib.Dec.{leb}
 use borrow.Author.Tests.{le-leb, lt-leb}
 use Rattle.figures.specs.Figures.{without}
-use Rattle.runs.specs.Lists.{Detour}
 use Rattle.least.specs.Recurrence.{Plan, empty, skip, detour, trip, planDetours}
 use Rattle.least.proofs.Plan.{Over, lagAfter, legTime, timeIn}
 use Rattle.least.proofs.Times.{Spaced, starts-rise, legTime-exact, planTime, lag-grows, time-in-inner, time-in-rest, unread-right, unread-left}
