@@ -21,6 +21,9 @@ refuse-requires c κs = search needs
 abbrev start : tie.After-judge → tie.Start
 start j = j .before .before .before .before .before .before .before .before .before .before .before
 
+abbrev at-plan : tie.After-slice-known10 → tie.After-plan-any
+at-plan c = c .before .before .before .before .before .before .before .before .before .before
+
 abbrev run : tie.Start → Run
 run s = let a = s .args in runOf (a .starts .now) (a .lengths .now) (a .aggregates .now) (a .numbers .now) (a .counts .now) (a .head) (a .turn)
 
@@ -52,7 +55,7 @@ same-length-5 c = search needs
 
 returns-2 : tie.Need-returns-2
 returns-2 c =
-    let p = c .before .before .before .before .before .before .before .before .before .before in
+    let p = at-plan c in
     let e = p .before .before .before .before .before .before in
     let j = e .before .before in
     plan-same (run (start j)) (rows (start j)) (test-says (j .judge .ensures) (e .before .refused .ensures) (e .if1 .left)) _ _ (p .plan-any .ensures)
