@@ -21,6 +21,9 @@ refuse-requires c κs = search needs
 abbrev start : tie.After-judge → tie.Start
 start j = j .before .before .before .before .before .before .before .before .before .before .before
 
+abbrev at-plan : tie.After-slice-known10 → tie.After-plan-any
+at-plan c = c .before .before .before .before .before .before .before .before .before .before
+
 abbrev run : tie.Start → Run
 run s = let a = s .args in runOf (a .starts .now) (a .lengths .now) (a .aggregates .now) (a .numbers .now) (a .counts .now) (a .head) (a .turn)
 
@@ -50,20 +53,12 @@ same-length-4 c = search needs
 same-length-5 : tie.Need-same-length-5
 same-length-5 c = search needs
 
--- The way back from a place in the code to the one that the name says.
-abbrev at-if1 : tie.After-plan-any → tie.Else1
-at-if1 c = c .before .before .before .before .before .before
-
-abbrev at-plan-any : tie.After-slice-known10 → tie.After-plan-any
-at-plan-any c = c .before .before .before .before .before .before .before .before .before .before
-
 returns-2 : tie.Need-returns-2
 returns-2 c =
-    let p = at-plan-any c in
-    let e = at-if1 p in
+    let p = at-plan c in
+    let e = p .before .before .before .before .before .before in
     let j = e .before .before in
-    let s = start j in
-    plan-same (run s) (rows s) (test-says (j .judge .ensures) (e .before .refused .ensures) (e .if1 .left)) _ _ (p .plan-any .ensures)
+    plan-same (run (start j)) (rows (start j)) (test-says (j .judge .ensures) (e .before .refused .ensures) (e .if1 .left)) _ _ (p .plan-any .ensures)
 
 pub plan-spec : {M : Type 1} → statement M
 plan-spec =

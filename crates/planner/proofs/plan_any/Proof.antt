@@ -49,8 +49,11 @@ refuse-requires c κs = search needs
 abbrev lifting : tie.After-join → tie.After-lift-head
 lifting j = j .before .before .before .before .before
 
+abbrev start-of : tie.After-lift-head → tie.Start
+start-of l = l .before .before .before .before .before .before .before .before .before .before .before
+
 abbrev start : tie.After-join → tie.Start
-start j = lifting j .before .before .before .before .before .before .before .before .before .before .before
+start j = start-of (lifting j)
 
 abbrev run : tie.After-join → Run
 run j = let a = start j .args in runOf (a .starts .now) (a .lengths .now) (a .aggregates .now) (a .numbers .now) (a .counts .now) (a .head) (a .turn)
