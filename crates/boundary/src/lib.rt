@@ -297,7 +297,16 @@ pub extern "C" fn violstream_plan_any(
 {
     if sums.len() < 4 {
         let lifted = runs::lift_head(head);
-        return refused_code(starts, lengths, aggregates, numbers, counts, lifted, turn, 8);
+        return refused_code(
+            starts,
+            lengths,
+            aggregates,
+            numbers,
+            counts,
+            lifted,
+            turn,
+            8,
+        );
     }
     let a = planner::plan_any(
         starts,
