@@ -1,16 +1,17 @@
 -- The planner's refusals in the order of the checks, as the code makes them: the run, the rows for times and legs, then what the engine refuses.
-use Prim.Native.Nat.{ℕ, _≤_, _<_}
+use Prim.Native.Nat.{ℕ, _≤_}
 use mathlib.Core.Path.{_≡_, refl, sym, ap, _∙_}
-use mathlib.Core.Bool.{Bool, true, false, true≢false, or-true}
+use mathlib.Core.Bool.{Bool, true, false, true≢false, _||_}
 use mathlib.Core.List.{List, [], _∷_}
 use lib.ListN.{length}
 use lib.Dec.{ltb}
-use borrow.Author.Tests.{lt-ltb, le-ltb}
+use borrow.Author.Tests.{le-ltb, ltb-false}
 use Rattle.refusals.specs.declared.Refusal.the-variants.{ShortRow, ShortRoom}
 use Rattle.refusals.specs.declared.Verdict.{Verdict}
 use Rattle.refusals.specs.Refusals.{isRefusal, refuseIf, firstOf}
 use Rattle.refusals.proofs.Verdicts.{refuses, first-refuses, first-passes, test-says}
 use Rattle.runs.specs.Run.{Run, stopsOf}
+use Rattle.runs.proofs.Search.{or-false-both}
 use Rattle.runs.specs.AnyHead.{judgeAnyOf}
 use Rattle.walk.specs.declared.Answer.{Answer}
 use Rattle.walk.specs.Price.{refusalAnswer, shortReadRows}
@@ -21,6 +22,10 @@ use Rattle.planner.specs.AnyHead.{PlansAny, PlannedAny, planAnyVerdict}
 use Rattle.planner.specs.Rows.{Rows, rowsOf, readsIn}
 use Rattle.planner.specs.Private.{stopsVerdict, ListsNamed, IsNamed}
 use Rattle.planner.proofs.Naming.{told}
+
+-- Rows for times and legs that are not short.
+pub reads-long : (wants times legs : ℕ) (short : Bool) → short ≡ (ltb times wants || ltb legs wants) → short ≡ false → (wants ≤ times) × (wants ≤ legs)
+reads-long wants times legs short is h = let both = or-false-both (ltb times wants) (ltb legs wants) (sym is ∙ h) in (ltb-false times wants (both .0), ltb-false legs wants (both .1))
 
 -- The rows that the engine is lent.
 abbrev pub engineRows : Rows → ListRows
@@ -49,15 +54,10 @@ module _ (r : Run) (rows : Rows) where
     unfolding planAnyVerdict later
     passes-run e = first-passes (judgeAnyOf r) later (test-says v-is f-is e)
 
-    reads-refused : f ≡ false → shortReadRows (length (r .numbers)) (readsIn rows) ≡ true → (a : Answer) → a ≡ refusalAnswer (record { refusal = ShortRow; place = 0 }) → PlansAny r rows a rows
+    pub reads-refused : f ≡ false → (short : Bool) → short ≡ shortReadRows (length (r .numbers)) (readsIn rows) → short ≡ true
+        → (a : Answer) → a ≡ refusalAnswer (record { refusal = ShortRow; place = 0 }) → PlansAny r rows a rows
     unfolding later
-    reads-refused e short a s = refused-so (record { refusal = ShortRow; place = 0 }) (sym (passes-run e ∙ rw short)) refl a s rows refl
-
-    pub times-refused : f ≡ false → length (rows .times) < length (r .numbers) → (a : Answer) → a ≡ refusalAnswer (record { refusal = ShortRow; place = 0 }) → PlansAny r rows a rows
-    times-refused e short a s = reads-refused e (rw (lt-ltb (length (rows .times)) (length (r .numbers)) short)) a s
-
-    pub legs-refused : f ≡ false → length (rows .legs) < length (r .numbers) → (a : Answer) → a ≡ refusalAnswer (record { refusal = ShortRow; place = 0 }) → PlansAny r rows a rows
-    legs-refused e short a s = reads-refused e (rw (lt-ltb (length (rows .legs)) (length (r .numbers)) short, or-true)) a s
+    reads-refused e short is holds a s = refused-so (record { refusal = ShortRow; place = 0 }) (sym (passes-run e ∙ rw (sym is ∙ holds))) refl a s rows refl
 
     module _ (passed : f ≡ false) (long : length (r .numbers) ≤ length (rows .times)) (long-legs : length (r .numbers) ≤ length (rows .legs)) where
       -- What the engine judges is what is left to judge.

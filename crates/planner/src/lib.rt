@@ -2,9 +2,11 @@
 // run's stops, then that list's own price. All is judged before the first write. The head may stand anywhere; 01's plan is the one of a run whose
 // head 01 accepts.
 ghost use mathlib.Core.Path.{_≡_};
+ghost use mathlib.Core.Bool.{_||_};
 ghost use mathlib.Core.List.{map, _++_};
 ghost use Prim.Native.Nat.{ℕ, _≤_, _<_};
 ghost use lib.ListN.{length, getD, take, drop};
+ghost use lib.Dec.{ltb};
 ghost use Rattle.runs.specs.Run.{Run};
 ghost use Rattle.runs.specs.Rows.{runAt};
 ghost use Rattle.engine_table.specs.Listing.{listRowsBefore, listRowsAfter};
@@ -83,6 +85,16 @@ fn list_named(
     list
 }
 
+// Whether a row for times or for legs has no entry for each want.
+fn short_rows(wants: usize, times: usize, legs: usize) -> bool
+    ensures { λ r. ⌜ r ≡ (ltb times wants || ltb legs wants) ⌝ }
+{
+    if times < wants {
+        return true;
+    }
+    legs < wants
+}
+
 // The plan of a run with a head anywhere: its answer, and in the lent rows the list, the times and the legs.
 pub fn plan_any(
     starts: &[u64],
@@ -121,13 +133,7 @@ pub fn plan_any(
     if refused(run) {
         return walk::refuse(run);
     }
-    if times.len() < numbers.len() {
-        return walk::refuse(Verdict {
-            refusal: Refusal::ShortRow,
-            place: 0,
-        });
-    }
-    if legs.len() < numbers.len() {
+    if short_rows(numbers.len(), times.len(), legs.len()) {
         return walk::refuse(Verdict {
             refusal: Refusal::ShortRow,
             place: 0,

@@ -15,7 +15,7 @@ use Rattle.planner.specs.Rows.{Rows, rowsOf}
 use Rattle.planner.specs.Private.{RunInRows, ListsNamed, IsNamed}
 use Rattle.engine_stops.proofs.Held.{freshRows, Front}
 use Rattle.planner.proofs.Joined.{join-verdict, join-front, join-holds}
-use Rattle.planner.proofs.Refusals.{engineRows, run-refused, run-accepted, times-refused, legs-refused, engine-refused, engine-listed, run-planned}
+use Rattle.planner.proofs.Refusals.{engineRows, run-refused, run-accepted, reads-long, reads-refused, engine-refused, engine-listed, run-planned}
 use Rattle.planner.proofs.Priced.{in-froms, in-tos, planned-so}
 use borrow.Author.Needs.{needs}
 use Rattle.planner.proofs.plan_any.Statement.{statement}
@@ -90,32 +90,30 @@ joined e = joining (e .before)
 passed : (e : tie.Else1) → refuses (judgeAnyOf (run (joined e))) ≡ false
 passed e = let j = joined e in run-accepted (run j) (rows j) _ _ (judged j) (e .before .refused .ensures) (e .if1 .left)
 
+short-rows-requires : tie.Need-short-rows-requires
+short-rows-requires c κs = search needs
+
 refuse-requires-2 : tie.Need-refuse-requires-2
 refuse-requires-2 c κs = search needs
 
 returns-2 : tie.Need-returns-2
 returns-2 c =
-    let e = c .before .before in
+    let s = c .before .before in
+    let e = s .before in
     let j = joined e in
-    times-refused (run j) (rows j) _ _ (judged j) (e .before .refused .ensures) (e .if1 .left) (c .before .if2 .taken) _ (c .refuse2 .ensures)
-
-refuse-requires-3 : tie.Need-refuse-requires-3
-refuse-requires-3 c κs = search needs
-
-returns-3 : tie.Need-returns-3
-returns-3 c =
-    let e = c .before .before .before in
-    let j = joined e in
-    legs-refused (run j) (rows j) _ _ (judged j) (e .before .refused .ensures) (e .if1 .left) (c .before .if3 .taken) _ (c .refuse3 .ensures)
+    reads-refused (run j) (rows j) _ _ (judged j) (e .before .refused .ensures) (e .if1 .left) _ (s .short-rows .ensures) (c .before .if2 .taken) _ (c .refuse2 .ensures)
 
 -- Where the rows for times and legs have passed too: the four rows hold the run's stops.
-abbrev first : tie.Else3 → tie.Else1
+abbrev first : tie.Else2 → tie.Else1
 first d = d .before .before
 
-long : (d : tie.Else3) → Front (joined (first d) .join .result .stops) (after (joined (first d))) (stopsOf (run (joined (first d))))
+wide : (d : tie.Else2) → let j = joined (first d) in (length (run j .numbers) ≤ length (rows j .times)) × (length (run j .numbers) ≤ length (rows j .legs))
+wide d = reads-long _ _ _ _ (d .before .short-rows .ensures) (d .if2 .left)
+
+long : (d : tie.Else2) → Front (joined (first d) .join .result .stops) (after (joined (first d))) (stopsOf (run (joined (first d))))
 long d = let j = joined (first d) in join-front (run j) (j .join .result) (after j) (answers j) (fills j) (passed (first d))
 
-holds : (d : tie.Else3) → let j = joined (first d) in let k = j .join .result .stops in RunInRows (run j) (take k (after j .firsts)) (take k (after j .lefts)) (take k (after j .spans)) (take k (after j .reads)) (run j .head) (run j .turn)
+holds : (d : tie.Else2) → let j = joined (first d) in let k = j .join .result .stops in RunInRows (run j) (take k (after j .firsts)) (take k (after j .lefts)) (take k (after j .spans)) (take k (after j .reads)) (run j .head) (run j .turn)
 holds d = let j = joined (first d) in join-holds (run j) (j .join .result) (after j) (answers j) (fills j) (passed (first d))
 
 array-share-prefix-firsts : tie.Need-array-share-prefix-firsts
@@ -148,8 +146,8 @@ list-named-requires c κs = let d = c .before .before .before .before .before .b
 refused-requires-2 : tie.Need-refused-requires-2
 refused-requires-2 c κs = search needs
 
-refuse-requires-4 : tie.Need-refuse-requires-4
-refuse-requires-4 c κs = search needs
+refuse-requires-3 : tie.Need-refuse-requires-3
+refuse-requires-3 c κs = search needs
 
 same-length : tie.Need-same-length
 same-length c = search needs
@@ -161,7 +159,7 @@ same-length-3 : tie.Need-same-length-3
 same-length-3 c = search needs
 
 -- The list of the run.
-abbrev third : tie.After-list-named → tie.Else3
+abbrev third : tie.After-list-named → tie.Else2
 third m = m .before .before .before .before .before .before .before .before
 
 abbrev listing : tie.After-refused2 → tie.After-list-named
@@ -173,33 +171,33 @@ listed m = let l = m .list-named .last .1 .1 .1 .1 .1 .1 in listRows (l .0) (l .
 named : (m : tie.After-list-named) → let j = joined (first (third m)) in ListsNamed (run j) (engineRows (rows j)) (m .list-named .result) (listed m)
 named m = m .list-named .ensures (run (joined (first (third m)))) (holds (third m))
 
-returns-4 : tie.Need-returns-4
-returns-4 c =
+returns-3 : tie.Need-returns-3
+returns-3 c =
     let g = c .before .before in
     let d = third (listing g) in
     let e = first d in
     let j = joined e in
-    engine-refused (run j) (rows j) _ _ (judged j) (e .before .refused .ensures) (e .if1 .left) (d .before .if2 .left) (d .if3 .left)
-    _ _ (named (listing g)) _ (g .refused2 .ensures) (c .before .if4 .taken) _ (c .refuse4 .ensures) _ _ _ refl
+    engine-refused (run j) (rows j) _ _ (judged j) (e .before .refused .ensures) (e .if1 .left) (wide d .0) (wide d .1)
+    _ _ (named (listing g)) _ (g .refused2 .ensures) (c .before .if3 .taken) _ (c .refuse3 .ensures) _ _ _ refl
 
-is-named : (x : tie.Else4) → let m = listing (x .before) in let j = joined (first (third m)) in IsNamed (run j) (engineRows (rows j)) (m .list-named .result) (listed m)
+is-named : (x : tie.Else3) → let m = listing (x .before) in let j = joined (first (third m)) in IsNamed (run j) (engineRows (rows j)) (m .list-named .result) (listed m)
 is-named x =
     let m = listing (x .before) in
     let d = third m in
     let e = first d in
     let j = joined e in
-    engine-listed (run j) (rows j) _ _ (judged j) (e .before .refused .ensures) (e .if1 .left) (d .before .if2 .left) (d .if3 .left)
-    _ _ (named m) _ (x .before .refused2 .ensures) (x .if4 .left)
+    engine-listed (run j) (rows j) _ _ (judged j) (e .before .refused .ensures) (e .if1 .left) (wide d .0) (wide d .1)
+    _ _ (named m) _ (x .before .refused2 .ensures) (x .if3 .left)
 
 -- Both rows hold so many entries.
-in-rows : (x : tie.Else4) → let m = listing (x .before) in let n = m .list-named .result .detours in (n ≤ length (listed m .froms)) × (n ≤ length (listed m .tos))
+in-rows : (x : tie.Else3) → let m = listing (x .before) in let n = m .list-named .result .detours in (n ≤ length (listed m .froms)) × (n ≤ length (listed m .tos))
 in-rows x =
     let m = listing (x .before) in
     let d = third m in
     let j = joined (first d) in
     let l = m .list-named .result in (
-      in-froms (run j) (rows j) (passed (first d)) (d .before .if2 .left) (d .if3 .left) l _ _ _ (is-named x),
-      in-tos (run j) (rows j) (passed (first d)) (d .before .if2 .left) (d .if3 .left) l _ _ _ (is-named x),
+      in-froms (run j) (rows j) (passed (first d)) (wide d .0) (wide d .1) l _ _ _ (is-named x),
+      in-tos (run j) (rows j) (passed (first d)) (wide d .0) (wide d .1) l _ _ _ (is-named x),
     )
 
 slice-reshare-prefix-price-any : tie.Need-slice-reshare-prefix-price-any
@@ -232,16 +230,16 @@ same-length-7 c = search needs
 same-length-8 : tie.Need-same-length-8
 same-length-8 c = search needs
 
-returns-5 : tie.Need-returns-5
-returns-5 c =
+returns-4 : tie.Need-returns-4
+returns-4 c =
     let p = c .before .before .before .before in
     let x = p .before .before .before .before .before in
     let m = listing (x .before) in
     let d = third m in
     let e = first d in
     let j = joined e in
-    run-planned (run j) (rows j) _ _ (judged j) (e .before .refused .ensures) (e .if1 .left) (d .before .if2 .left) (d .if3 .left) _ _ (named m) _ (x .before .refused2 .ensures) (x .if4 .left) _ _
-    (planned-so (run j) (rows j) (passed e) (d .before .if2 .left) (d .if3 .left) (m .list-named .result) _ _ _ (is-named x) _ _ _ (p .price-any .ensures .0) (p .price-any .ensures .1))
+    run-planned (run j) (rows j) _ _ (judged j) (e .before .refused .ensures) (e .if1 .left) (wide d .0) (wide d .1) _ _ (named m) _ (x .before .refused2 .ensures) (x .if3 .left) _ _
+    (planned-so (run j) (rows j) (passed e) (wide d .0) (wide d .1) (m .list-named .result) _ _ _ (is-named x) _ _ _ (p .price-any .ensures .0) (p .price-any .ensures .1))
 
 pub plan-any-spec : {M : Type 1} → statement M
 plan-any-spec =
@@ -256,10 +254,9 @@ plan-any-spec =
     refused-requires
     refuse-requires
     returns
+    short-rows-requires
     refuse-requires-2
     returns-2
-    refuse-requires-3
-    returns-3
     array-share-prefix-firsts
     slice-aggregate-list-named
     array-share-prefix-lefts
@@ -270,11 +267,11 @@ plan-any-spec =
     slice-aggregate-list-named-4
     list-named-requires
     refused-requires-2
-    refuse-requires-4
+    refuse-requires-3
     same-length
     same-length-2
     same-length-3
-    returns-4
+    returns-3
     slice-reshare-prefix-price-any
     slice-aggregate-price-any
     slice-reshare-prefix-price-any-2
@@ -285,4 +282,4 @@ plan-any-spec =
     same-length-6
     same-length-7
     same-length-8
-    returns-5)
+    returns-4)
