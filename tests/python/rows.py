@@ -15,6 +15,7 @@ import programs
 # For each program its rows, by the definitions of specs/Lengths.
 ROWS = {
     "plan": {"out": "planRow"},
+    "plan_any": {"out": "planRow"},
     "field": {"out": "planRow"},
     "buys": {"out": "buysRow"},
     "price": {"out": "priceRow"},
@@ -24,7 +25,7 @@ ROWS = {
     "rewrite": {"out": "sheetRow"},
     "ltfs": {"out": "sheetRow", "notes": "reportRow"},
 }
-ELSEWHERE = {"desk", "plan_any"}
+ELSEWHERE = {"desk"}
 NUMBER = re.compile(r"^(\w+Row) = (\d+)$", re.M)
 ROW = re.compile(r"let mut (\w+) = \[0u8; (\d+)\];")
 PRINTED = re.compile(r"io::write_all\(\s*STD\w+,\s*([^;]*)\);")

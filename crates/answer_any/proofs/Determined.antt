@@ -9,7 +9,6 @@ use Rattle.refusals.specs.declared.Verdict.{Verdict}
 use Rattle.runs.specs.Run.{Run, stopsOf}
 use Rattle.least.proofs.LeastAny.{least-any-unique}
 use Rattle.sheet_reader.specs.Sheet.{sheetRun, sheetName}
-use Rattle.sheet_runs.specs.declared.SheetRun.{SheetRun}
 use Rattle.sheet_writer.specs.declared.Written.{Written}
 use Rattle.sheet_writer.specs.Writing.{Handed, rowVerdict}
 use Rattle.sheet_writer.specs.AnyHead.{planAnyText}

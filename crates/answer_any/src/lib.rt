@@ -2,7 +2,6 @@
 // prints the answer, and for a caller, which gets a record. Both go one way: a sheet's run, its list and a text.
 // It stands on the promises of the reader, of the planner and of the writers; the rows that they are lent, but for the room, are on its own stack.
 ghost use Rattle.runs.specs.Rows.{runAt};
-ghost use Rattle.sheet_reader.specs.Reading.{readName};
 ghost use Rattle.sheet_runs.specs.SheetRuns.{runHeld};
 ghost use Rattle.sheet_writer.specs.AnyHead.{PlanAnyWritten};
 ghost use Rattle.answer_any.specs.AnyRun.{SheetRecalledAny, SheetAnswered};

@@ -36,7 +36,7 @@ use Rattle.demands.proofs.Judged.{run-finds, table-finds, run-small, want-rows-
 use Rattle.demands.proofs.Counted.{has-stops, stops-one}
 use Rattle.demands.proofs.Lines.{tells-sweep}
 use Rattle.demands.proofs.FirstLine.{decides-line}
-use Rattle.promises.specs.Answers.{AnswerApplies, too-long, bad-line, retired-rule, run, engine, RoomApplies, short-room, EightApplies, over-eight, roomOrder, eightOrder, twoLines, PrintedByTheTable, PlanByTheTable, FieldByTheTable, BuysByTheTable}
+use Rattle.promises.specs.Answers.{SheetRunApplies, AnswerApplies, too-long, bad-line, retired-rule, run, engine, RoomApplies, short-room, EightApplies, over-eight, roomOrder, eightOrder, twoLines, PrintedByTheTable, PlanByTheTable, FieldByTheTable, BuysByTheTable}
 use Rattle.promises.proofs.Checks.{put-whole}
 use Rattle.promises.proofs.Lengths.{plan-begins, figures-begin, run-judges, field-judges, run-checks-near, field-checks-near, plan-held, buys-held}
 
@@ -72,30 +72,34 @@ module _ (applies : Refusal → ℕ → Type 0) (order : List Refusal) (all : Al
         iff = (λ h. both .0 (λ e. no-lines e (h .0) (h .1 .0) (h .1 .1)), λ s. (v .refusal, (v .place, two-lines (both .1 s))));
       }
 
+run-few : (r : Run) (k : Refusal) (p : ℕ) → RunApplies r k p → numberOf k ≤ 7
+run-few r k p h = run-small r h
+
 -- The checks of a sheet at the front of a row: 12, 11 and 19, then what the others find. An engine's own numbers are 9 or 24.
-module _ (Engine : Run → Refusal → ℕ → Type 0) (own : (r : Run) (k : Refusal) (p : ℕ) → Engine r k p → (numberOf k ≡ 9) ⊎ (numberOf k ≡ 24)) (sheet : List ℕ) where
+module _ (Judged : Run → Refusal → ℕ → Type 0) (small : (r : Run) (k : Refusal) (p : ℕ) → Judged r k p → numberOf k ≤ 7) (Engine : Run → Refusal → ℕ → Type 0)
+    (own : (r : Run) (k : Refusal) (p : ℕ) → Engine r k p → (numberOf k ≡ 9) ⊎ (numberOf k ≡ 24)) (sheet : List ℕ) where
   abbrev Applies : Refusal → ℕ → Type 0
-  Applies = AnswerApplies Engine sheet
+  Applies = SheetRunApplies Judged Engine sheet
 
   other : (k : Refusal) (p : ℕ) → Engine (sheetRun sheet) k p → (numberOf k ≡ 9 → ⊥) → (numberOf k ≡ 24 → ⊥) → ⊥
   other k p h a b = ⊎-elim a b (own (sheetRun sheet) k p h)
 
   long-back : (p : ℕ) → Applies LongSheet p → (p ≡ 0) × (16384 < length sheet)
   long-back p (too-long h) = (refl, h)
-  long-back p (run h) = absurd (omega (arith, run-small (sheetRun sheet) h))
+  long-back p (run h) = absurd (omega (arith, small (sheetRun sheet) _ _ h))
   long-back p (engine h) = absurd (other LongSheet p h (λ e. omega arith) (λ e. omega arith))
 
   line-back : (p : ℕ) → Applies BadLine p → FirstBad (LineIsBad sheet) (linesDue sheet) p
   line-back p (bad-line h) = h
-  line-back p (run h) = absurd (omega (arith, run-small (sheetRun sheet) h))
+  line-back p (run h) = absurd (omega (arith, small (sheetRun sheet) _ _ h))
   line-back p (engine h) = absurd (other BadLine p h (λ e. omega arith) (λ e. omega arith))
 
   rule-back : (p : ℕ) → Applies RetiredRule p → (p ≡ 4) × Ruled sweepText sheet
   rule-back p (retired-rule h) = (refl, h)
-  rule-back p (run h) = absurd (omega (arith, run-small (sheetRun sheet) h))
+  rule-back p (run h) = absurd (omega (arith, small (sheetRun sheet) _ _ h))
   rule-back p (engine h) = absurd (other RetiredRule p h (λ e. omega arith) (λ e. omega arith))
 
-  pub of-run : (k : Refusal) (p : ℕ) → numberOf k ≤ 7 → Applies k p → RunApplies (sheetRun sheet) k p
+  pub of-run : (k : Refusal) (p : ℕ) → numberOf k ≤ 7 → Applies k p → Judged (sheetRun sheet) k p
   of-run k p l (too-long h) = absurd (omega arith)
   of-run k p l (bad-line h) = absurd (omega arith)
   of-run k p l (retired-rule h) = absurd (omega arith)
@@ -137,8 +141,8 @@ module _ (sheet : List ℕ) where
   pub room-finds : Finds (AnswerApplies RoomApplies sheet) roomOrder (recallVerdict sheet)
   room-finds =
       let room = refuseIf (ltb roomWords (roomFor r)) ShortRoom in
-      sheet-finds RoomApplies room-own sheet runChecks (FileRows ∷ BadFile ∷ WantRows ∷ BadWant ∷ TooManyReads ∷ TurnPrice ∷ HeadPlace ∷ ShortRoom ∷ [])
-      (run-finds r (AnswerApplies RoomApplies sheet) (λ k p. run) (of-run RoomApplies room-own sheet) (ShortRoom ∷ []) (room ∷ [])
+      sheet-finds RunApplies run-few RoomApplies room-own sheet runChecks (FileRows ∷ BadFile ∷ WantRows ∷ BadWant ∷ TooManyReads ∷ TurnPrice ∷ HeadPlace ∷ ShortRoom ∷ [])
+      (run-finds r (AnswerApplies RoomApplies sheet) (λ k p. run) (of-run RunApplies run-few RoomApplies room-own sheet) (ShortRoom ∷ []) (room ∷ [])
       (λ a. finds-first (AnswerApplies RoomApplies sheet) [] refl
       (decides-reworded (λ p h. rw (h .0) (engine (short-room (has-stops r (accepted-run r a)) (h .1)))) (room-back a) (decides-if _ ShortRoom (tells-below roomWords (roomFor r))))
       (λ b. finds-none (AnswerApplies RoomApplies sheet))))
@@ -168,22 +172,22 @@ module _ (sheet : List ℕ) where
       let late = late-behind q false t u in
       drop-front (late .2)
       (drop-front (late .1)
-      (drop-front (late .0) (run-finds q Eight (λ k p. run) (of-run EightApplies eight-own sheet) [] [] (λ a. finds-none Eight))))
+      (drop-front (late .0) (run-finds q Eight (λ k p. run) (of-run RunApplies run-few EightApplies eight-own sheet) [] [] (λ a. finds-none Eight))))
 
   pub eight-finds : Finds Eight eightOrder (verdictBy fieldChecks sheet)
   eight-finds =
       let over = refuseIf (ltb mostPlainWants (length (q .numbers))) OverEightWants in
-      sheet-finds EightApplies eight-own sheet fieldChecks (FileRows ∷ BadFile ∷ WantRows ∷ OverEightWants ∷ BadWant ∷ TooManyReads ∷ TurnPrice ∷ HeadPlace ∷ [])
-      (table-finds q Eight (λ k p. run) (of-run EightApplies eight-own sheet)
+      sheet-finds RunApplies run-few EightApplies eight-own sheet fieldChecks (FileRows ∷ BadFile ∷ WantRows ∷ OverEightWants ∷ BadWant ∷ TooManyReads ∷ TurnPrice ∷ HeadPlace ∷ [])
+      (table-finds q Eight (λ k p l. run) (λ k p l. of-run RunApplies run-few EightApplies eight-own sheet k p (omega arith))
       (WantRows ∷ OverEightWants ∷ BadWant ∷ TooManyReads ∷ TurnPrice ∷ HeadPlace ∷ []) (refuseIf (unevenWants q) WantRows ∷ over ∷ judgeOf q ∷ [])
       (λ t. finds-first Eight (over ∷ judgeOf q ∷ []) refl
-      (decides-reworded (λ p h. rw (h .0) (run (RunApplies.want-rows (h .1)))) (λ p h. want-rows-only q p (of-run EightApplies eight-own sheet WantRows p (omega arith) h)) (decides-if (unevenWants q) WantRows (rows-unfit mostWants (length (q .numbers)) (length (q .counts)))))
+      (decides-reworded (λ p h. rw (h .0) (run (RunApplies.want-rows (h .1)))) (λ p h. want-rows-only q p (of-run RunApplies run-few EightApplies eight-own sheet WantRows p (omega arith) h)) (decides-if (unevenWants q) WantRows (rows-unfit mostWants (length (q .numbers)) (length (q .counts)))))
       (λ u. finds-first Eight (judgeOf q ∷ []) refl
       (decides-reworded (λ p h. rw (h .0) (engine (over-eight (h .1)))) eight-back (decides-if _ OverEightWants (tells-below 8 (length (q .numbers)))))
       (λ v. behind-finds t (accepts-if (unevenWants q) WantRows refl u)))))
 
 -- The orders have refusals alone.
-room-all : AllRefuse roomOrder
+pub room-all : AllRefuse roomOrder
 room-all = (refl, (refl, (refl, (refl, (refl, (refl, (refl, (refl, (refl, (refl, (refl, tt)))))))))))
 
 eight-all : AllRefuse eightOrder
@@ -200,7 +204,7 @@ plan-by-the-table sheet row n row′ c wide =
     let h = plan-held runChecks run-judges run-checks-near sheet (c .text) (c .answers) in
     subst (PrintedByTheTable (AnswerApplies RoomApplies sheet) roomOrder (PlanOf (sheetName sheet) (sheetRun sheet)))
     (sym (put-whole (c .text) row n row′ (c .bytes) (c .left) (omega (arith, h .0))))
-    (by-the-table (AnswerApplies RoomApplies sheet) roomOrder room-all (recallVerdict sheet) (room-finds sheet) (sheet-accepts RoomApplies room-own sheet runChecks)
+    (by-the-table (AnswerApplies RoomApplies sheet) roomOrder room-all (recallVerdict sheet) (room-finds sheet) (sheet-accepts RunApplies run-few RoomApplies room-own sheet runChecks)
     (PlanOf (sheetName sheet) (sheetRun sheet)) (c .text) (plan-begun (sheetName sheet) (sheetRun sheet) (c .text)) (c .answers .refused) (c .answers .planned))
 
 pub field-by-the-table : FieldByTheTable
@@ -208,7 +212,7 @@ field-by-the-table sheet row n row′ c wide =
     let h = plan-held fieldChecks field-judges field-checks-near sheet (c .text) (c .answers) in
     subst (PrintedByTheTable (AnswerApplies EightApplies sheet) eightOrder (PlanOf (sheetName sheet) (sheetRun sheet)))
     (sym (put-whole (c .text) row n row′ (c .bytes) (c .left) (omega (arith, h .0))))
-    (by-the-table (AnswerApplies EightApplies sheet) eightOrder eight-all (verdictBy fieldChecks sheet) (eight-finds sheet) (sheet-accepts EightApplies eight-own sheet fieldChecks)
+    (by-the-table (AnswerApplies EightApplies sheet) eightOrder eight-all (verdictBy fieldChecks sheet) (eight-finds sheet) (sheet-accepts RunApplies run-few EightApplies eight-own sheet fieldChecks)
     (PlanOf (sheetName sheet) (sheetRun sheet)) (c .text) (plan-begun (sheetName sheet) (sheetRun sheet) (c .text)) (c .answers .refused) (c .answers .planned))
 
 pub buys-by-the-table : BuysByTheTable
@@ -216,5 +220,5 @@ buys-by-the-table sheet row n row′ c wide =
     let h = buys-held sheet (c .text) (c .answers) in
     subst (PrintedByTheTable (AnswerApplies RoomApplies sheet) roomOrder (BuysText (sheetName sheet) (sheetRun sheet)))
     (sym (put-whole (c .text) row n row′ (c .bytes) (c .left) (omega (arith, h .0))))
-    (by-the-table (AnswerApplies RoomApplies sheet) roomOrder room-all (recallVerdict sheet) (room-finds sheet) (sheet-accepts RoomApplies room-own sheet runChecks)
+    (by-the-table (AnswerApplies RoomApplies sheet) roomOrder room-all (recallVerdict sheet) (room-finds sheet) (sheet-accepts RunApplies run-few RoomApplies room-own sheet runChecks)
     (BuysText (sheetName sheet) (sheetRun sheet)) (c .text) (figures-begun (sheetName sheet) (sheetRun sheet) (c .text)) (c .answers .refused) (c .answers .figured))

@@ -29,7 +29,7 @@ use Rattle.planner.specs.Plan.{roomFor}
 use Rattle.figures.specs.Figures.{without, figureOf, figuresOf}
 use Rattle.figures.specs.Private.{Priceable}
 use Rattle.figures.proofs.Answers.{sum-small, sum-without-small, figures-length, figure-at}
-use Rattle.figures.proofs.Differences.{word-fits, figure-is}
+use Rattle.figures.proofs.Differences.{word-fits, difference-is, figure-is}
 use Rattle.engine_plain.specs.Plain.{unevenWants, mostPlainWants}
 use Rattle.text_bytes.specs.Text.{comma, isName, isEmpty, decimal}
 use Rattle.text_bytes.proofs.Bytes.{and-true-both}
@@ -355,7 +355,7 @@ module _ (r : Run) (froms tos : List ℕ) (p : Priceable r froms tos) where
       let few = sum-without-small r froms tos p i l in
       let all = sum-small r froms tos p in
       let w = word-fits a b few all in
-      subst (SFits w64) (sym (toZ-ofZ w64 _ w) ∙ figure-is a b few all r (listOf froms tos) i refl refl) w
+      subst (SFits w64) (sym (toZ-ofZ w64 _ w) ∙ difference-is a b few all ∙ figure-is r (listOf froms tos) i a b refl refl) w
 
   figures-fit : (i : ℕ) → i < length (figuresOf r (listOf froms tos)) → SFits w64 (getD (figuresOf r (listOf froms tos)) i (pos 0))
   figures-fit i l =

@@ -44,4 +44,7 @@ pub mod CheckWhole
 pub mod ListLines
 pub mod Answers
 pub mod AnswersCases
+pub mod AnyLengths
+pub mod AnswersAny
+pub mod AnyRecord
 pub mod TwoTexts

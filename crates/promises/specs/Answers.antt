@@ -19,17 +19,23 @@ use Rattle.demands.specs.RefusalTable.{FirstBad, HasStops, RunApplies, FirstTha
 use Rattle.demands.specs.Lines.{LineIsBad, linesDue, Ruled}
 use Rattle.promises.specs.Lengths.{planRow, buysRow}
 
--- What a sheet is refused for: itself, its run, and what the engine asks of a run.
-pub data AnswerApplies (Engine : Run → Refusal → ℕ → Type 0) (sheet : List ℕ) : Refusal → ℕ → Type 0 where
-  too-long : 16384 < length sheet → AnswerApplies Engine sheet LongSheet 0
-  bad-line : {place : ℕ} → FirstBad (LineIsBad sheet) (linesDue sheet) place → AnswerApplies Engine sheet BadLine place
-  retired-rule : Ruled sweepText sheet → AnswerApplies Engine sheet RetiredRule 4
-  run : {kind : Refusal} {place : ℕ} → RunApplies (sheetRun sheet) kind place → AnswerApplies Engine sheet kind place
-  engine : {kind : Refusal} {place : ℕ} → Engine (sheetRun sheet) kind place → AnswerApplies Engine sheet kind place
+-- What a sheet is refused for: itself, its run, as that is judged, and what the engine asks of a run. 01's judging is the table of 1 to 7.
+pub data SheetRunApplies (Judged Engine : Run → Refusal → ℕ → Type 0) (sheet : List ℕ) : Refusal → ℕ → Type 0 where
+  too-long : 16384 < length sheet → SheetRunApplies Judged Engine sheet LongSheet 0
+  bad-line : {place : ℕ} → FirstBad (LineIsBad sheet) (linesDue sheet) place → SheetRunApplies Judged Engine sheet BadLine place
+  retired-rule : Ruled sweepText sheet → SheetRunApplies Judged Engine sheet RetiredRule 4
+  run : {kind : Refusal} {place : ℕ} → Judged (sheetRun sheet) kind place → SheetRunApplies Judged Engine sheet kind place
+  engine : {kind : Refusal} {place : ℕ} → Engine (sheetRun sheet) kind place → SheetRunApplies Judged Engine sheet kind place
 
--- 9: a run that needs more than 5,120 words of working room. 24: one of more than 8 wants.
-pub data RoomApplies (r : Run) : Refusal → ℕ → Type 0 where
-  short-room : {stops : ℕ} → HasStops r stops → 5120 < stops * stops * (total (r .counts) + 1) → RoomApplies r ShortRoom 0
+abbrev pub AnswerApplies : (Run → Refusal → ℕ → Type 0) → List ℕ → Refusal → ℕ → Type 0
+AnswerApplies Engine sheet kind place = SheetRunApplies RunApplies Engine sheet kind place
+
+-- 9: a run that needs more than so many words of working room, 5,120 of the programs that lend them. 24: one of more than 8 wants.
+pub data WordsApply (words : ℕ) (r : Run) : Refusal → ℕ → Type 0 where
+  short-room : {stops : ℕ} → HasStops r stops → words < stops * stops * (total (r .counts) + 1) → WordsApply words r ShortRoom 0
+
+abbrev pub RoomApplies : Run → Refusal → ℕ → Type 0
+RoomApplies r kind place = WordsApply 5120 r kind place
 
 pub data EightApplies (r : Run) : Refusal → ℕ → Type 0 where
   over-eight : 8 < length (r .numbers) → EightApplies r OverEightWants 0

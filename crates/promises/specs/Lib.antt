@@ -15,6 +15,7 @@ pub mod MonthLongest
 pub mod Checks
 pub mod Lengths
 pub mod Answers
+pub mod AnswersAny
 pub mod CheckWhole
 pub mod ListLines
 pub mod TwoTexts

@@ -21,13 +21,13 @@ use Rattle.walk.proofs.Walks.{accepted-list, run-walkable}
 use Rattle.walk.proofs.Laws.{sum-below, finish-below, time-below}
 
 -- The head ends where the last leg does, or where it started.
-end-near : (turn most : ℕ) (gs : List Leg) (h : Head) → h .place ≤ most → ((i : ℕ) → i < length gs → getD gs i (record { left = 0; right = 0 }) .right ≤ most) → walked turn h gs .place ≤ most
+pub end-near : (turn most : ℕ) (gs : List Leg) (h : Head) → h .place ≤ most → ((i : ℕ) → i < length gs → getD gs i (record { left = 0; right = 0 }) .right ≤ most) → walked turn h gs .place ≤ most
 unfolding walked
 end-near turn most [] h near on = near
 end-near turn most (g ∷ gs) h near on = end-near turn most gs (afterLeg turn h g) (on 0 (omega arith)) (λ i l. on (suc i) (omega arith))
 
 -- No leg's number passes that of the last.
-leg-within : (gs : List Leg) (n : ℕ) (s : Stop) → legFrom n gs s ≤ n + length gs
+pub leg-within : (gs : List Leg) (n : ℕ) (s : Stop) → legFrom n gs s ≤ n + length gs
 unfolding legFrom
 leg-within [] n s = omega arith
 leg-within (g ∷ gs) n s =
@@ -37,7 +37,7 @@ leg-within (g ∷ gs) n s =
     (true-or-false (reads g s))
 
 -- Of a number for each stop every one is below what all are below.
-each-below : (f : Stop → ℕ) (most : ℕ) → 0 < most → ((s : Stop) → f s < most) → (ss : List Stop) (i : ℕ) → getD (map f ss) i 0 < most
+pub each-below : (f : Stop → ℕ) (most : ℕ) → 0 < most → ((s : Stop) → f s < most) → (ss : List Stop) (i : ℕ) → getD (map f ss) i 0 < most
 each-below f most some small [] i = some
 each-below f most some small (s ∷ ss) zero = small s
 each-below f most some small (s ∷ ss) (suc i) = each-below f most some small ss i
