@@ -6,17 +6,20 @@ use mathlib.Core.Logic.{⊎-elim, by-cases}
 use mathlib.Core.List.{List, [], _∷_}
 use native.Mathlib.Omega.{arith}
 use native.Mathlib.Decide.{decLt}
-use lib.ListN.{length, getD, drop}
+use lib.ListN.{length, getD, take, drop}
 use lib.Dec.{eqb}
 use borrow.Author.Tests.{eqb-true, eqb-false, eq-eqb, ne-eqb}
 use Rattle.walk.specs.declared.Answer.{Answer}
+use Rattle.walk.specs.declared.Leg.{Leg}
 use Rattle.runs.specs.Run.{Run, Stop, endAt, firstMember, lastMember, stopsOf, wantStopsOf}
 use Rattle.runs.specs.Rows.{stopAt}
 use Rattle.runs.specs.Judging.{judgeOf}
 use Rattle.runs.specs.Private.{InTable}
 use Rattle.runs.specs.Lists.{Detour, wanted, listOf}
-use Rattle.walk.specs.Walk.{headAt}
+use Rattle.runs.specs.AnyHead.{lifted}
+use Rattle.walk.specs.Walk.{headAt, timesOf, legsFor}
 use Rattle.walk.specs.Detours.{legsOf}
+use Rattle.walk.specs.AnyHead.{runLegs}
 use Rattle.walk.specs.Rows.{ReadRows}
 use Rattle.refusals.proofs.Verdicts.{refuses}
 use Rattle.runs.proofs.Search.{true-or-false}
@@ -25,6 +28,7 @@ use Rattle.runs.proofs.Members.{first-below, last-above, member-first, same-las
 use Rattle.runs.proofs.Entries.{wanted-named}
 use Rattle.runs.proofs.Joined.{Places, weighed, weighed-joined}
 use Rattle.runs.proofs.Judged.{GoodRun, accepted-run}
+use Rattle.runs.proofs.AnyHead.{GoodAnyRun, accepted-any}
 use Rattle.runs.proofs.Stops.{extent, extents-apart, wants-agree, wants-length, want-at, name-first, start-of-name, end-of-name, run-sound}
 use Rattle.walk.proofs.Joins.{time-same, leg-same, start-by, end-by}
 use Rattle.least.proofs.Rising.{rises-by-steps}
@@ -32,9 +36,12 @@ use Rattle.least.proofs.Walks.{by-file}
 use Rattle.planner.specs.Rows.{readsIn}
 use Rattle.demands.specs.RefusalTable.{IsFile, Together, NamesStop}
 use Rattle.demands.specs.Demand2.{listIn, IsWalkOf}
-use Rattle.demands.specs.Aggregates.{Reaches, ReadsFrom, behind, counted, passed, IsStopAt, StopsByMembers, AggregatesReach, MembersShare, PriceMembersShare, PlanMembersShare}
+use Rattle.demands.specs.AnyHead.{IsWalkAnyOf}
+use Rattle.demands.specs.Aggregates.{Reaches, ReadsFrom, behind, counted, passed, IsStopAt, StopsByMembers, AggregatesReach, MembersShare, PriceMembersShare, PlanMembersShare, PriceAnyMembersShare, PlanAnyMembersShare}
 use Rattle.demands.proofs.Conditions.{together-first, first-together, last-with, within-extent, named}
-use Rattle.demands.proofs.Judged.{nothing-judged}
+use Rattle.demands.proofs.AnyLifted.{members-down}
+use Rattle.demands.proofs.AnyJudged.{nothing-judged-any}
+use Rattle.demands.proofs.AnyHead.{good-run, price-any-good, demand2-price-any, demand2-walk-any}
 use Rattle.demands.proofs.Counted.{wants-at, wants-end, has-stops}
 use Rattle.demands.proofs.Listed.{test-names}
 use Rattle.demands.proofs.Formed.{stop-wanted}
@@ -230,25 +237,43 @@ module _ (r : Run) (good : GoodRun r) where
       })
 
 pub aggregates-reach : AggregatesReach
-aggregates-reach r nothing = by-members r (accepted-run r (nothing-judged r nothing))
+aggregates-reach r nothing = members-down r (by-members (lifted r) (accepted-any r (nothing-judged-any r nothing) .run))
 
-members-share : (r : Run) (ok : refuses (judgeOf r) ≡ false) (list : List Detour) (rows : ReadRows) (answer : Answer) → IsWalkOf r list rows answer → MembersShare r rows
-members-share r ok list rows answer walk =
+members-share : (r : Run) → GoodRun r → (m : ℕ) (gs : List Leg) (rows : ReadRows) → take (length (r .numbers)) (rows .times) ≡ timesOf (r .turn) (headAt m) gs (wantStopsOf r)
+    → take (length (r .numbers)) (rows .legs) ≡ legsFor gs (wantStopsOf r) → MembersShare r rows
+members-share r good m gs rows times legs =
     record {
       times = λ i j a b t.
-          in-row r ok list rows answer walk i a
-          ∙ time-same (r .turn) (legsOf (stopsOf r) list) (headAt (r .head)) (stopAt (wantStopsOf r) i) (stopAt (wantStopsOf r) j) (share-places r (accepted-run r ok) i j a b t)
-          ∙ sym (in-row r ok list rows answer walk j b);
+          in-row r good m gs rows times i a
+          ∙ time-same (r .turn) gs (headAt m) (stopAt (wantStopsOf r) i) (stopAt (wantStopsOf r) j) (share-places r good i j a b t)
+          ∙ sym (in-row r good m gs rows times j b);
       legs = λ i j a b t.
-          leg-in-row r ok list rows answer walk i a
-          ∙ leg-same 1 (legsOf (stopsOf r) list) (stopAt (wantStopsOf r) i) (stopAt (wantStopsOf r) j) (share-places r (accepted-run r ok) i j a b t)
-          ∙ sym (leg-in-row r ok list rows answer walk j b);
+          leg-in-row r good gs rows legs i a
+          ∙ leg-same 1 gs (stopAt (wantStopsOf r) i) (stopAt (wantStopsOf r) j) (share-places r good i j a b t)
+          ∙ sym (leg-in-row r good gs rows legs j b);
     }
+
+walk-shares : (r : Run) → refuses (judgeOf r) ≡ false → (list : List Detour) (rows : ReadRows) (answer : Answer) → IsWalkOf r list rows answer → MembersShare r rows
+walk-shares r ok list rows answer walk = members-share r (accepted-run r ok) (r .head) (legsOf (stopsOf r) list) rows (walk .times) (walk .legs)
 
 pub price-members-share : PriceMembersShare
 price-members-share r froms tos rows answer out says fills accepts =
-    members-share r (price-run-accepted r froms tos rows answer says accepts) (listOf froms tos) out answer (demand2-price r froms tos rows answer out says fills accepts .walk)
+    walk-shares r (price-run-accepted r froms tos rows answer says accepts) (listOf froms tos) out answer (demand2-price r froms tos rows answer out says fills accepts .walk)
 
 pub plan-members-share : PlanMembersShare
 plan-members-share r before answer after plans accepts =
-    members-share r (run-accepted r before answer after plans accepts) (listIn answer after) (readsIn after) answer (demand2-walk r before answer after plans accepts)
+    walk-shares r (run-accepted r before answer after plans accepts) (listIn answer after) (readsIn after) answer (demand2-walk r before answer after plans accepts)
+
+-- For a head anywhere.
+walk-any-shares : (r : Run) → GoodAnyRun r → (list : List Detour) (rows : ReadRows) (answer : Answer) → IsWalkAnyOf r list rows answer → MembersShare r rows
+walk-any-shares r good list rows answer walk =
+    let shares = members-share (lifted r) (good .run) (r .head) (runLegs r list) rows (walk .times) (walk .legs) in
+    record { times = shares .times; legs = shares .legs }
+
+pub price-any-members-share : PriceAnyMembersShare
+price-any-members-share r froms tos rows answer out says fills accepts =
+    walk-any-shares r (price-any-good r froms tos rows answer says accepts) (listOf froms tos) out answer (demand2-price-any r froms tos rows answer out says fills accepts .1)
+
+pub plan-any-members-share : PlanAnyMembersShare
+plan-any-members-share r before answer after plans accepts =
+    walk-any-shares r (good-run r before answer after plans accepts) (listIn answer after) (readsIn after) answer (demand2-walk-any r before answer after plans accepts)

@@ -50,7 +50,7 @@ use Rattle.planner.proofs.Same.{verdict-same, plan-same}
 use Rattle.demands.specs.RefusalTable.{HasStops}
 use Rattle.demands.specs.Demand1.{ByTheTable, priceOrder, planOrder}
 use Rattle.demands.specs.Demand2.{listIn}
-use Rattle.demands.specs.AnyHead.{RunAppliesAny, ListIsBadAny, PriceAnyApplies, PlanAnyApplies, Demand1PriceAny, Demand1PriceAnyIff, Demand1PlanAny, Demand1PlanAnyIff, IsFormedAny, IsWalkAnyOf, IsLeastAny, Demand2PriceAny, Demand2WalkAny, Demand2LeastAny, Demand2OneAny, Demand3Any, Demand3AnySame, PriceAnySame, PlanAnySame, LeftOfAll}
+use Rattle.demands.specs.AnyHead.{RunAppliesAny, ListIsBadAny, PriceAnyApplies, PlanAnyApplies, Demand1PriceAny, Demand1PriceAnyIff, Demand1PlanAny, Demand1PlanAnyIff, IsFormedAny, IsWalkAnyOf, IsLeastAny, Demand2PriceAny, Demand2WalkAny, Demand2LeastAny, Demand2OneAny, NoLessAnyByFile, Demand3Any, Demand3AnySame, PriceAnySame, PlanAnySame, LeftOfAll}
 use Rattle.demands.proofs.Tests.{tells-below}
 use Rattle.demands.proofs.Checks.{Decides, refused, passed, refused-iff, decides-if, decides-reworded, Finds, finds-none, finds-first}
 use Rattle.demands.proofs.Demand1.{refusal-only-place, tells-reads, IsShort, tells-short}
@@ -61,23 +61,23 @@ use Rattle.demands.proofs.AnyJudged.{any-small, run-any-finds, nothing-
 
 -- Demand 1: the pricer.
 module _ (r : Run) (froms tos : List ℕ) (rows : ReadRows) where
-  price-of-run : (k : Refusal) (p : ℕ) → numberOf k ≤ 7 → PriceAnyApplies r froms tos rows k p → RunAppliesAny r k p
+  pub price-of-run : (k : Refusal) (p : ℕ) → numberOf k ≤ 7 → PriceAnyApplies r froms tos rows k p → RunAppliesAny r k p
   price-of-run k p l (PriceAnyApplies.run h) = h
   price-of-run k p l (PriceAnyApplies.bad-list h) = absurd (omega arith)
   price-of-run k p l (PriceAnyApplies.short-times h) = absurd (omega arith)
   price-of-run k p l (PriceAnyApplies.short-legs h) = absurd (omega arith)
 
-  price-list : (p : ℕ) → PriceAnyApplies r froms tos rows BadEntry p → ListIsBadAny r froms tos p
+  pub price-list : (p : ℕ) → PriceAnyApplies r froms tos rows BadEntry p → ListIsBadAny r froms tos p
   price-list p (PriceAnyApplies.run h) = absurd (omega (arith, any-small r h))
   price-list p (PriceAnyApplies.bad-list h) = h
 
-  abbrev ReadsShort : Type 0
+  abbrev pub ReadsShort : Type 0
   ReadsShort = (length (rows .times) < length (r .numbers)) ⊎ (length (rows .legs) < length (r .numbers))
 
-  short-reads : (p : ℕ) → (p ≡ 0) × ReadsShort → PriceAnyApplies r froms tos rows ShortRow p
+  pub short-reads : (p : ℕ) → (p ≡ 0) × ReadsShort → PriceAnyApplies r froms tos rows ShortRow p
   short-reads p h = rw (h .0) (⊎-elim PriceAnyApplies.short-times PriceAnyApplies.short-legs (h .1))
 
-  reads-short : (p : ℕ) → PriceAnyApplies r froms tos rows ShortRow p → (p ≡ 0) × ReadsShort
+  pub reads-short : (p : ℕ) → PriceAnyApplies r froms tos rows ShortRow p → (p ≡ 0) × ReadsShort
   reads-short p (PriceAnyApplies.run h) = absurd (omega (arith, any-small r h))
   reads-short p (PriceAnyApplies.short-times h) = (refl, inl h)
   reads-short p (PriceAnyApplies.short-legs h) = (refl, inr h)
@@ -117,7 +117,7 @@ list-in-rows r list before answer after says rows =
 
 -- The planner.
 module _ (r : Run) (rows : Rows) where
-  plan-of-run : (k : Refusal) (p : ℕ) → numberOf k ≤ 7 → PlanAnyApplies r rows k p → RunAppliesAny r k p
+  pub plan-of-run : (k : Refusal) (p : ℕ) → numberOf k ≤ 7 → PlanAnyApplies r rows k p → RunAppliesAny r k p
   plan-of-run k p l (PlanAnyApplies.run h) = h
   plan-of-run k p l (PlanAnyApplies.short-times h) = absurd (omega arith)
   plan-of-run k p l (PlanAnyApplies.short-legs h) = absurd (omega arith)
@@ -132,24 +132,24 @@ module _ (r : Run) (rows : Rows) where
     one : {n : ℕ} → HasStops r n → n ≡ length (stopsOf r)
     one s = stops-one (lifted r) (good .run) (stops-up r s)
 
-    short-row : (p : ℕ) → (p ≡ 0) × IsShort r rows → PlanAnyApplies r rows ShortRow p
+    pub short-row : (p : ℕ) → (p ≡ 0) × IsShort r rows → PlanAnyApplies r rows ShortRow p
     short-row p h =
         rw (h .0)
         (⊎-elim (⊎-elim PlanAnyApplies.short-times PlanAnyApplies.short-legs)
         (⊎-elim (PlanAnyApplies.short-starts stops) (PlanAnyApplies.short-ends stops))
         (h .1))
 
-    row-short : (p : ℕ) → PlanAnyApplies r rows ShortRow p → (p ≡ 0) × IsShort r rows
+    pub row-short : (p : ℕ) → PlanAnyApplies r rows ShortRow p → (p ≡ 0) × IsShort r rows
     row-short p (PlanAnyApplies.run h) = absurd (omega (arith, any-small r h))
     row-short p (PlanAnyApplies.short-times h) = (refl, inl (inl h))
     row-short p (PlanAnyApplies.short-legs h) = (refl, inl (inr h))
     row-short p (PlanAnyApplies.short-starts s h) = (refl, inr (inl (rw (one s) at h)))
     row-short p (PlanAnyApplies.short-ends s h) = (refl, inr (inr (rw (one s) at h)))
 
-    short-room : (p : ℕ) → (p ≡ 0) × (length (rows .room) < roomFor r) → PlanAnyApplies r rows ShortRoom p
+    pub short-room : (p : ℕ) → (p ≡ 0) × (length (rows .room) < roomFor r) → PlanAnyApplies r rows ShortRoom p
     short-room p h = rw (h .0) (PlanAnyApplies.short-room stops (h .1))
 
-    room-short : (p : ℕ) → PlanAnyApplies r rows ShortRoom p → (p ≡ 0) × (length (rows .room) < roomFor r)
+    pub room-short : (p : ℕ) → PlanAnyApplies r rows ShortRoom p → (p ≡ 0) × (length (rows .room) < roomFor r)
     room-short p (PlanAnyApplies.run h) = absurd (omega (arith, any-small r h))
     room-short p (PlanAnyApplies.short-room s h) = (refl, rw (one s) at h)
 
@@ -197,7 +197,7 @@ module _ (r : Run) (rows : Rows) where
       planned : PlannedAny r rows answer after
       planned = plans .planned not-refused
 
-      good-run : GoodAnyRun r
+      pub good-run : GoodAnyRun r
       good-run = accepted-any r (run-passed not-refused)
 
       run-nothing : refuses (judgeAnyOf r) ≡ false
@@ -289,14 +289,27 @@ price-accepts r froms tos rows answer says accepts =
     (λ e. e)
     (true-or-false (refuses (priceAnyVerdict r froms tos rows)))
 
-pub demand2-price-any : Demand2PriceAny
-unfolding priceAnyAnswer priceAnyRows priceAnyVerdict
-demand2-price-any r froms tos rows answer out says fills accepts =
-    let e = price-accepts r froms tos rows answer says accepts in
+pub price-any-good : (r : Run) (froms tos : List ℕ) (rows : ReadRows) (answer : Answer) → answer ≡ priceAnyAnswer r froms tos rows → answer .refusal ≡ Accepted → GoodAnyRun r
+unfolding priceAnyVerdict
+price-any-good r froms tos rows answer says accepts =
+    accepted-any r
+    (all-accept (judgeAnyOf r ∷ listVerdictAny (r .head) (stopsOf r) froms tos ∷ refuseIf (shortReadRows (length (r .numbers)) rows) ShortRow ∷ []) (price-accepts r froms tos rows answer says accepts) .0)
+
+-- What the pricer says of a list that it accepts.
+pub price-of-list-any : (r : Run) (froms tos : List ℕ) (rows : ReadRows) → refuses (priceAnyVerdict r froms tos rows) ≡ false → (answer : Answer) (out : ReadRows)
+    → answer ≡ pricedAnyAnswer r (listOf froms tos) → out ≡ readAnyRowsWith r (listOf froms tos) rows → (length froms ≡ length tos) × IsWalkAnyOf r (listOf froms tos) out answer
+unfolding priceAnyVerdict
+price-of-list-any r froms tos rows e answer out says fills =
     let checks = all-accept (judgeAnyOf r ∷ listVerdictAny (r .head) (stopsOf r) froms tos ∷ refuseIf (shortReadRows (length (r .numbers)) rows) ShortRow ∷ []) e in (
       any-even (r .head) (stopsOf r) froms tos (checks .1 .0),
-      priced-walk r (listOf froms tos) out rows answer (accepted-any r (checks .0)) (rw e at says) (rw e at fills) (any-list-formed (r .head) (stopsOf r) froms tos (checks .1 .0)),
+      priced-walk r (listOf froms tos) out rows answer (accepted-any r (checks .0)) says fills (any-list-formed (r .head) (stopsOf r) froms tos (checks .1 .0)),
     )
+
+pub demand2-price-any : Demand2PriceAny
+unfolding priceAnyAnswer priceAnyRows
+demand2-price-any r froms tos rows answer out says fills accepts =
+    let e = price-accepts r froms tos rows answer says accepts in
+    price-of-list-any r froms tos rows e answer out (rw e at says) (rw e at fills)
 
 pub demand2-walk-any : Demand2WalkAny
 demand2-walk-any r before answer after plans accepts =
@@ -333,11 +346,23 @@ demand3-any first second before answer after nothing plans accepts asks gs moves
     let good′ = good-run second before answer after plans accepts in
     let plan = planned second before answer after plans accepts in
     let sound′ = run-sound (lifted second) (good′ .run) in
-    let reads = reads-no-more (lifted first) (lifted second) (good .run) (good′ .run) (asks .starts) (asks .aggregates) (asks .reads) in
     rw (reported second (plan .list) answer (plan .says))
     (unbeaten (first .turn) (second .turn) (first .head) (second .head) _ _ (stopsOf first) (stopsOf second) (asks .head) (run-sound (lifted first) (good .run)) sound′ (asks .turn)
-    (covers-of-reads _ (stopsOf first) (stopsOf second) sound′ reads (one-table first second (asks .starts) (asks .lengths) (asks .aggregates)))
+    (covers-of-reads _ (stopsOf first) (stopsOf second) sound′ (asks .reads) (one-table first second (asks .starts) (asks .lengths) (asks .aggregates)))
     gs moves serves (plan .list) (plan .least))
+
+pub no-less-any-by-file : NoLessAnyByFile
+no-less-any-by-file first second nothing nothing′ asks head =
+    let good = accepted-any first (nothing-judged-any first nothing) in
+    let good′ = accepted-any second (nothing-judged-any second nothing′) in
+    record {
+      starts = asks .starts;
+      lengths = asks .lengths;
+      aggregates = asks .aggregates;
+      reads = reads-no-more (lifted first) (lifted second) (good .run) (good′ .run) (asks .starts) (asks .aggregates) (asks .reads);
+      turn = asks .turn;
+      head = head;
+    }
 
 pub demand3-any-same : Demand3AnySame
 demand3-any-same r before answer after plans accepts gs moves serves =

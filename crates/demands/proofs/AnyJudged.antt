@@ -27,7 +27,7 @@ use Rattle.runs.proofs.Entries.{bad-row, length-list, entry-row, wanted-named}
 use Rattle.runs.proofs.AnyHead.{GoodAnyRun}
 use Rattle.walk.proofs.AnyHead.{past-each}
 use Rattle.demands.specs.RefusalTable.{NamesStop, RunApplies, SomeApplies}
-use Rattle.demands.specs.AnyHead.{RunAppliesAny, NothingAppliesAny, StartsPast, EntryIsBadAny, ListIsBadAny}
+use Rattle.demands.specs.AnyHead.{RunAppliesAny, NothingAppliesAny, TakesWhat01Takes, StartsPast, EntryIsBadAny, ListIsBadAny}
 use Rattle.demands.proofs.Tests.{Tells, tells-below, tells-holds, tells-either, tells-reworded}
 use Rattle.demands.proofs.Checks.{Decides, refused, decides-if, decides-at, decides-alone, decides-reworded, Finds, finds-none, first-of-joined, both-pass, AllRefuse, refused-iff}
 use Rattle.demands.proofs.Judged.{table-finds, wants-find, turn-finds, run-small, runOrder, none-found}
@@ -76,6 +76,10 @@ module _ (r : Run) (applies : Refusal → ℕ → Type 0) (there : (k : Refusal)
       (λ a. wants-find r applies sooner sooner-back (TurnPrice ∷ HeadPlace ∷ rest) (head ∷ vs)
       (λ b. turn-finds r applies sooner sooner-back (refuseIf (ltb lastPlace (r .head)) HeadPlace) rest vs head-decides
       (λ c. others (both-pass table (wants ∷ head ∷ []) a (both-pass wants (head ∷ []) b (both-pass head [] c refl)))))))
+
+pub takes-what-01-takes : TakesWhat01Takes
+takes-what-01-takes r n k p (RunAppliesAny.as-01 other h) = n k p h
+takes-what-01-takes r n k p (RunAppliesAny.head-far h) = n HeadPlace 0 (RunApplies.head-far h)
 
 -- A run that nothing of 1 to 7 applies to is accepted.
 module _ (r : Run) where

@@ -4,7 +4,10 @@ use mathlib.Core.Logic.{_⊎_, inl, inr, ⊎-elim}
 use mathlib.Core.List.{List}
 use Rattle.runs.specs.Run.{Run}
 use Rattle.runs.specs.AnyHead.{lifted}
+use Rattle.walk.specs.declared.Answer.{Answer}
 use Rattle.demands.specs.RefusalTable.{IsFile, WantedWith, NamesStop, BadByItself, EntryIsBad, StopsFrom}
+use Rattle.demands.specs.Ends.{EndsWithARead}
+use Rattle.demands.specs.Aggregates.{Reaches, ReadsFrom, StopsByMembers}
 
 module _ (r : Run) where
   file-down : {f : ℕ} → IsFile (lifted r) f → IsFile r f
@@ -47,3 +50,48 @@ module _ (r : Run) where
   stops-up StopsFrom.behind = StopsFrom.behind
   stops-up (StopsFrom.one-more apart s) = StopsFrom.one-more apart (stops-up s)
   stops-up (StopsFrom.as-many joins s) = StopsFrom.as-many joins (stops-up s)
+
+  reaches-down : {f start end : ℕ} → Reaches (lifted r) f start end → Reaches r f start end
+  reaches-down a =
+      record {
+        first = a .first;
+        first-file = file-down (a .first-file);
+        first-with = a .first-with;
+        starts = a .starts;
+        no-sooner = λ g b t. a .no-sooner g (file-up b) t;
+        last = a .last;
+        last-file = file-down (a .last-file);
+        last-with = a .last-with;
+        ends = a .ends;
+        no-later = λ g b t. a .no-later g (file-up b) t;
+      }
+
+  reads-down : {f i n : ℕ} → ReadsFrom (lifted r) f i n → ReadsFrom r f i n
+  reads-down ReadsFrom.behind = ReadsFrom.behind
+  reads-down (ReadsFrom.counted with-it s) = ReadsFrom.counted with-it (reads-down s)
+  reads-down (ReadsFrom.passed apart s) = ReadsFrom.passed apart (reads-down s)
+
+  pub members-down : StopsByMembers (lifted r) → StopsByMembers r
+  members-down a =
+      record {
+        wants = a .wants;
+        reach = λ i l. reaches-down (a .reach i l);
+        count = a .count;
+        many = stops-down (a .many);
+        rising = a .rising;
+        each = λ j l. let s = a .each j l in record { name = names-down (s .name); reach = reaches-down (s .reach); reads = reads-down (s .reads) };
+      }
+
+  pub ends-down : {times : List ℕ} {answer : Answer} → EndsWithARead (lifted r) times answer → EndsWithARead r times answer
+  ends-down a =
+      record {
+        want = a .want;
+        within = a .within;
+        finish = a .finish;
+        latest = a .latest;
+        last = a .last;
+        file = file-down (a .file);
+        together = a .together;
+        end = a .end;
+        rightmost = λ f b t. a .rightmost f (file-up b) t;
+      }

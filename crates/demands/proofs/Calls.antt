@@ -31,7 +31,7 @@ use Rattle.demands.proofs.Listed.{decides-list}
 use Rattle.demands.proofs.Demand1.{tells-reads, price-of-run, price-list, ReadsShort, short-reads, reads-short, plan-of-run, IsShort, short-row, row-short, short-room, room-short, tells-short}
 
 -- Two checks for 8, one after the other, are one check.
-one-check : (a b : Bool) → firstOf (refuseIf a ShortRow ∷ refuseIf b ShortRow ∷ []) ≡ firstOf (refuseIf (a || b) ShortRow ∷ [])
+pub one-check : (a b : Bool) → firstOf (refuseIf a ShortRow ∷ refuseIf b ShortRow ∷ []) ≡ firstOf (refuseIf (a || b) ShortRow ∷ [])
 one-check true b = refl
 one-check false b = refl
 

@@ -5,7 +5,7 @@ use mathlib.Core.Bool.{true, false, true≢false}
 use mathlib.Core.Logic.{⊎-elim}
 use mathlib.Core.List.{List, [], _∷_}
 use native.Mathlib.Omega.{arith}
-use lib.ListN.{length, getD}
+use lib.ListN.{length, getD, take}
 use lib.Seq.{getD-take}
 use Rattle.walk.specs.declared.Answer.{Answer}
 use Rattle.walk.specs.declared.Head.{Head}
@@ -19,9 +19,8 @@ use Rattle.walk.specs.Detours.{legsOf}
 use Rattle.walk.specs.Rows.{ReadRows}
 use Rattle.refusals.proofs.Verdicts.{refuses}
 use Rattle.runs.proofs.Search.{true-or-false}
-use Rattle.runs.proofs.Judged.{accepted-run}
+use Rattle.runs.proofs.Judged.{GoodRun, accepted-run}
 use Rattle.runs.proofs.Sound.{Sound}
-use Rattle.runs.proofs.Joined.{some-joined}
 use Rattle.runs.proofs.Stops.{accepted-sound}
 use Rattle.walk.proofs.Joins.{served-same, leg-same}
 use Rattle.least.proofs.Sweeps.{each-served, leftmost-last, legs-count, earlier-leg}
@@ -30,7 +29,7 @@ use Rattle.demands.specs.Demand2.{listIn, IsWalkOf}
 use Rattle.demands.specs.Legs.{legNumbered, ReadsIn, LegsTold, PriceTellsLegs, PlanTellsLegs}
 use Rattle.demands.proofs.Planned.{run-accepted}
 use Rattle.demands.proofs.Demand2.{formed-list, demand2-price, demand2-walk, price-run-accepted}
-use Rattle.demands.proofs.Ends.{in-row, size, stop-of-want, entry-at}
+use Rattle.demands.proofs.Ends.{in-row, size, some-stops, stop-of-want, entry-at}
 use Rattle.demands.proofs.Stops.{first-placed}
 
 -- Counted from one more, a leg's number is one more.
@@ -78,55 +77,60 @@ many-legs : (stops : List Stop) (list : List Detour) → 0 < length stops → le
 many-legs [] list some = absurd (omega arith)
 many-legs (s ∷ ss) list some = legs-count s ss list
 
+-- Rows that hold the legs of a movement.
+pub leg-in-row : (r : Run) → GoodRun r → (gs : List Leg) (rows : ReadRows) → take (length (r .numbers)) (rows .legs) ≡ legsFor gs (wantStopsOf r)
+    → (i : ℕ) → i < length (r .numbers) → getD (rows .legs) i 0 ≡ legFor gs (stopAt (wantStopsOf r) i)
+unfolding legsFor
+leg-in-row r good gs rows legs i l =
+    sym (getD-take (length (r .numbers)) (rows .legs) i 0 l)
+    ∙ ap (λ ns. getD ns i 0) legs
+    ∙ entry-at (legFor gs) (wantStopsOf r) i (omega (arith, size r good))
+
 -- An accepted run, and rows that are the walk of a list.
 module _ (r : Run) (ok : refuses (judgeOf r) ≡ false) (list : List Detour) (rows : ReadRows) (answer : Answer) (walk : IsWalkOf r list rows answer) where
-  long : length (wantStopsOf r) ≡ length (r .numbers)
-  long = size r ok
+  good : GoodRun r
+  good = accepted-run r ok
 
-  some-stops : 0 < length (r .numbers) → 0 < length (stopsOf r)
-  some-stops some = some-joined (wantStopsOf r) (omega (arith, long))
+  its-time : (i : ℕ) → i < length (r .numbers) → getD (rows .times) i 0 ≡ timeOf (r .turn) (headAt (r .head)) (legsOf (stopsOf r) list) (stopAt (wantStopsOf r) i)
+  its-time = in-row r good (r .head) (legsOf (stopsOf r) list) rows (walk .times)
 
-  pub leg-in-row : (i : ℕ) → i < length (r .numbers) → getD (rows .legs) i 0 ≡ legFor (legsOf (stopsOf r) list) (stopAt (wantStopsOf r) i)
-  unfolding legsFor
-  leg-in-row i l =
-      sym (getD-take (length (r .numbers)) (rows .legs) i 0 l)
-      ∙ ap (λ ns. getD ns i 0) (walk .legs)
-      ∙ entry-at (legFor (legsOf (stopsOf r) list)) (wantStopsOf r) i (omega (arith, long))
+  its-leg : (i : ℕ) → i < length (r .numbers) → getD (rows .legs) i 0 ≡ legFor (legsOf (stopsOf r) list) (stopAt (wantStopsOf r) i)
+  its-leg = leg-in-row r good (legsOf (stopsOf r) list) rows (walk .legs)
 
   is-served : (i : ℕ) → i < length (r .numbers) → served (legsOf (stopsOf r) list) (stopAt (wantStopsOf r) i) ≡ true
   is-served i l =
-      let p = stop-of-want r ok i l in
+      let p = stop-of-want r good i l in
       served-same (legsOf (stopsOf r) list) (stopAt (wantStopsOf r) i) (stopAt (stopsOf r) (p .index)) (p .places)
       ∙ each-served (stopsOf r) (r .head) (accepted-sound r ok) list (p .index) (p .within)
 
   -- A want's stop has a length, as the joined one has.
   long-enough : (i : ℕ) → i < length (r .numbers) → stopAt (wantStopsOf r) i .start < stopAt (wantStopsOf r) i .end
-  long-enough i l = let p = stop-of-want r ok i l in omega (arith, p .places .start, p .places .end, accepted-sound r ok .extends (p .index) (p .within))
+  long-enough i l = let p = stop-of-want r good i l in omega (arith, p .places .start, p .places .end, accepted-sound r ok .extends (p .index) (p .within))
 
   told-each : (i : ℕ) → i < length (r .numbers)
       → ReadsIn (r .turn) (headAt (r .head)) (legsOf (stopsOf r) list) (stopAt (wantStopsOf r) i) (getD (rows .times) i 0) (getD (rows .legs) i 0)
   told-each i l =
-      rw (in-row r ok list rows answer walk i l, leg-in-row i l) (reads-in (r .turn) (headAt (r .head)) (legsOf (stopsOf r) list) (stopAt (wantStopsOf r) i) (is-served i l))
+      rw (its-time i l, its-leg i l) (reads-in (r .turn) (headAt (r .head)) (legsOf (stopsOf r) list) (stopAt (wantStopsOf r) i) (is-served i l))
 
   only-one : list ≡ [] → (i : ℕ) → i < length (r .numbers) → getD (rows .legs) i 0 ≡ 1
   only-one e i l =
-      let many = many-legs (stopsOf r) list (some-stops (omega arith)) in
+      let many = many-legs (stopsOf r) list (some-stops r good (omega arith)) in
       omega (arith, ap length e, many, told-each i l .counted .0, told-each i l .counted .1)
 
   told : LegsTold r list rows
   told =
       record {
-        many = λ some. many-legs (stopsOf r) list (some-stops (omega arith));
+        many = λ some. many-legs (stopsOf r) list (some-stops r good (omega arith));
         each = told-each;
         leftmost = λ some.
-            leg-in-row 0 some
-            ∙ leg-same 1 (legsOf (stopsOf r) list) (stopAt (wantStopsOf r) 0) (stopAt (stopsOf r) 0) (first-placed (wantStopsOf r) (omega (arith, long)))
-            ∙ leftmost-leg (stopsOf r) (r .head) (accepted-sound r ok) list (formed-list r (accepted-run r ok) list (walk .formed)) (some-stops some);
+            its-leg 0 some
+            ∙ leg-same 1 (legsOf (stopsOf r) list) (stopAt (wantStopsOf r) 0) (stopAt (stopsOf r) 0) (first-placed (wantStopsOf r) (omega (arith, size r good)))
+            ∙ leftmost-leg (stopsOf r) (r .head) (accepted-sound r ok) list (formed-list r good list (walk .formed)) (some-stops r good some);
         one = only-one;
         apart = λ i j a b l.
-            rw (in-row r ok list rows answer walk i a, in-row r ok list rows answer walk j b)
+            rw (its-time i a, its-time j b)
             (earlier-leg (r .turn) (stopAt (wantStopsOf r) i) (stopAt (wantStopsOf r) j) (long-enough j b) (headAt (r .head)) 1 (legsOf (stopsOf r) list)
-            (is-served i a) (is-served j b) (rw (leg-in-row i a, leg-in-row j b) at l));
+            (is-served i a) (is-served j b) (rw (its-leg i a, its-leg j b) at l));
       }
 
 pub price-tells-legs : PriceTellsLegs

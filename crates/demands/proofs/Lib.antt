@@ -16,6 +16,7 @@ pub mod AnyLifted
 pub mod AnyJudged
 pub mod AnyHead
 pub mod AnyChain
+pub mod AnyCalls
 pub mod Offices
 pub mod Plain
 pub mod Stops

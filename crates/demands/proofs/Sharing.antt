@@ -33,6 +33,7 @@ use Rattle.demands.specs.Ends.{NothingWanted}
 use Rattle.demands.specs.Aggregates.{StopsByMembers, MembersShare}
 use Rattle.demands.specs.Offices.{Reports, OneTape, Shares, Multiplies, SamePlan}
 use Rattle.demands.proofs.Judged.{judged-nothing}
+use Rattle.demands.proofs.AnyJudged.{takes-what-01-takes}
 use Rattle.demands.proofs.Demand3.{demand3}
 use Rattle.demands.proofs.Nothing.{price-of-nothing, plan-of-nothing}
 use Rattle.demands.proofs.Aggregates.{aggregates-reach, plan-members-share}
@@ -163,10 +164,10 @@ unbeaten-by-stop =
 
 -- The aggregate of two wanted files, and of one: it reaches from file 2 to file 3 in both. The two wants have one time and one leg.
 pub both-by-members : StopsByMembers bothMembers
-both-by-members = aggregates-reach bothMembers (judged .1)
+both-by-members = aggregates-reach bothMembers (takes-what-01-takes bothMembers (judged .1))
 
 pub one-by-members : StopsByMembers middle
-one-by-members = aggregates-reach middle (judged .0)
+one-by-members = aggregates-reach middle (takes-what-01-takes middle (judged .0))
 
 pub one-reaches : (stopAt (wantStopsOf middle) 0 .start ≡ 10) × (stopAt (wantStopsOf middle) 0 .end ≡ 20)
 unfolding goesOn firstMember lastWithin wantStops

@@ -9,10 +9,13 @@ use Rattle.walk.specs.declared.Answer.{Answer}
 use Rattle.runs.specs.Run.{Run, stopsOf, wantStopsOf}
 use Rattle.runs.specs.Rows.{stopAt}
 use Rattle.walk.specs.Price.{priceAnswer, priceRows}
+use Rattle.walk.specs.AnyHead.{priceAnyAnswer, priceAnyRows}
 use Rattle.walk.specs.Rows.{ReadRows}
 use Rattle.planner.specs.Plan.{Plans}
+use Rattle.planner.specs.AnyHead.{PlansAny}
 use Rattle.planner.specs.Rows.{Rows, readsIn}
-use Rattle.demands.specs.RefusalTable.{IsFile, Together, endOfFile, NamesStop, HasStops, NothingApplies}
+use Rattle.demands.specs.RefusalTable.{IsFile, Together, endOfFile, NamesStop, HasStops}
+use Rattle.demands.specs.AnyHead.{NothingAppliesAny}
 
 -- The start of file f of the table.
 abbrev pub startOfFile : Run → ℕ → ℕ
@@ -53,8 +56,9 @@ pub record StopsByMembers (r : Run) : Type 0 where
   pub rising : (j : ℕ) → suc j < length (stopsOf r) → stopAt (stopsOf r) j .file < stopAt (stopsOf r) (suc j) .file
   pub each : (j : ℕ) → j < length (stopsOf r) → IsStopAt r j
 
+-- Wherever the head stands: so of every run that 01 takes too (`TakesWhat01Takes`).
 abbrev pub AggregatesReach : Type 0
-AggregatesReach = (r : Run) → NothingApplies r → StopsByMembers r
+AggregatesReach = (r : Run) → NothingAppliesAny r → StopsByMembers r
 
 -- Two wants that lie together have one time and one leg.
 pub record MembersShare (r : Run) (rows : ReadRows) : Type 0 where
@@ -75,5 +79,21 @@ abbrev pub PlanMembersShare : Type 0
 PlanMembersShare =
     (r : Run) (before : Rows) (answer : Answer) (after : Rows)
     → Plans r before answer after
+    → answer .refusal ≡ Accepted
+    → MembersShare r (readsIn after)
+
+-- The same for a head anywhere.
+abbrev pub PriceAnyMembersShare : Type 0
+PriceAnyMembersShare =
+    (r : Run) (froms tos : List ℕ) (rows : ReadRows) (answer : Answer) (out : ReadRows)
+    → answer ≡ priceAnyAnswer r froms tos rows
+    → out ≡ priceAnyRows r froms tos rows
+    → answer .refusal ≡ Accepted
+    → MembersShare r out
+
+abbrev pub PlanAnyMembersShare : Type 0
+PlanAnyMembersShare =
+    (r : Run) (before : Rows) (answer : Answer) (after : Rows)
+    → PlansAny r before answer after
     → answer .refusal ≡ Accepted
     → MembersShare r (readsIn after)

@@ -19,13 +19,14 @@ use Rattle.walk.specs.AnyHead.{runLegs, priceAnyAnswer, priceAnyRows}
 use Rattle.walk.specs.Rows.{ReadRows}
 use Rattle.least.specs.Least.{ComesFirst}
 use Rattle.least.specs.AnyHead.{listSumAny}
-use Rattle.least.specs.Wants.{readsOfFile}
+use Rattle.least.specs.Wants.{readsOf}
 use Rattle.planner.specs.Plan.{Plans}
 use Rattle.planner.specs.AnyHead.{PlansAny}
 use Rattle.planner.specs.Rows.{Rows, readsIn}
-use Rattle.demands.specs.RefusalTable.{FirstBad, NamesStop, HasStops, EntryIsBad, RunApplies, SomeApplies}
+use Rattle.demands.specs.RefusalTable.{FirstBad, NamesStop, HasStops, EntryIsBad, RunApplies, NothingApplies, SomeApplies}
 use Rattle.demands.specs.Demand1.{ByTheTable, priceOrder, planOrder}
 use Rattle.demands.specs.Demand2.{listIn}
+use Rattle.demands.specs.Movements.{AsksNoLessByFile}
 
 -- 1 to 7: as in 01's table, but that 7 is only a head past the last place.
 pub data RunAppliesAny (r : Run) : Refusal → ℕ → Type 0 where
@@ -34,6 +35,10 @@ pub data RunAppliesAny (r : Run) : Refusal → ℕ → Type 0 where
 
 abbrev pub NothingAppliesAny : Run → Type 0
 NothingAppliesAny r = (kind : Refusal) (place : ℕ) → RunAppliesAny r kind place → ⊥
+
+-- It asks no more than 01's table: what holds of every run that nothing of this applies to holds of the runs that 01 takes.
+abbrev pub TakesWhat01Takes : Type 0
+TakesWhat01Takes = (r : Run) → NothingApplies r → NothingAppliesAny r
 
 -- 10: as in 01's table, or the entry starts right of the head's own stop: a stop of a smaller name starts at or right of the head.
 pub record StartsPast (r : Run) (from : ℕ) : Type 0 where
@@ -142,14 +147,24 @@ Demand2OneAny =
     → PlansAny r before answer′ after′
     → (answer ≡ answer′) × (after ≡ after′)
 
--- Demand 3: the same tape and the same head place, at least as many reads of every file, a turn price no lower.
+-- Demand 3: the same tape and the same head place, at least as many reads of every stop, by its name, a turn price no lower.
 pub record AsksNoLessAny (first second : Run) : Type 0 where
   pub starts : first .starts ≡ second .starts
   pub lengths : first .lengths ≡ second .lengths
   pub aggregates : first .aggregates ≡ second .aggregates
-  pub reads : (f : ℕ) → readsOfFile (second .numbers) (second .counts) f ≤ readsOfFile (first .numbers) (first .counts) f
+  pub reads : (f : ℕ) → readsOf (stopsOf second) f ≤ readsOf (stopsOf first) f
   pub turn : second .turn ≤ first .turn
   pub head : second .head ≡ first .head
+
+-- It follows where reads are counted by file as handed in.
+abbrev pub NoLessAnyByFile : Type 0
+NoLessAnyByFile =
+    (first second : Run)
+    → NothingAppliesAny first
+    → NothingAppliesAny second
+    → AsksNoLessByFile first second
+    → second .head ≡ first .head
+    → AsksNoLessAny first second
 
 -- Every movement from there that serves all reads of the first run has a sum no smaller than the planner reports for the second.
 abbrev pub Demand3Any : Type 0

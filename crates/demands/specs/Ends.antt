@@ -12,8 +12,10 @@ use Rattle.runs.specs.Lists.{Detour}
 use Rattle.walk.specs.Walk.{headAt, timesOf, sumOf}
 use Rattle.walk.specs.Detours.{legsOf, fullLegsOf}
 use Rattle.walk.specs.Price.{priceAnswer, priceRows}
+use Rattle.walk.specs.AnyHead.{priceAnyAnswer, priceAnyRows}
 use Rattle.walk.specs.Rows.{ReadRows}
 use Rattle.planner.specs.Plan.{Plans}
+use Rattle.planner.specs.AnyHead.{PlansAny}
 use Rattle.planner.specs.Rows.{Rows}
 use Rattle.demands.specs.RefusalTable.{IsFile, Together, endOfFile, NothingApplies}
 use Rattle.demands.specs.Demand2.{IsFormed}
@@ -44,6 +46,24 @@ abbrev pub PlanEndsWithARead : Type 0
 PlanEndsWithARead =
     (r : Run) (before : Rows) (answer : Answer) (after : Rows)
     → Plans r before answer after
+    → answer .refusal ≡ Accepted
+    → 0 < length (r .numbers)
+    → EndsWithARead r (after .times) answer
+
+-- The same for a head anywhere.
+abbrev pub PriceAnyEndsWithARead : Type 0
+PriceAnyEndsWithARead =
+    (r : Run) (froms tos : List ℕ) (rows : ReadRows) (answer : Answer) (out : ReadRows)
+    → answer ≡ priceAnyAnswer r froms tos rows
+    → out ≡ priceAnyRows r froms tos rows
+    → answer .refusal ≡ Accepted
+    → 0 < length (r .numbers)
+    → EndsWithARead r (out .times) answer
+
+abbrev pub PlanAnyEndsWithARead : Type 0
+PlanAnyEndsWithARead =
+    (r : Run) (before : Rows) (answer : Answer) (after : Rows)
+    → PlansAny r before answer after
     → answer .refusal ≡ Accepted
     → 0 < length (r .numbers)
     → EndsWithARead r (after .times) answer

@@ -11,6 +11,7 @@ pub mod Ends
 pub mod Legs
 pub mod Offices
 pub mod Calls
+pub mod AnyCalls
 pub mod Cases
 pub mod Aggregates
 pub mod Alone
