@@ -54,7 +54,7 @@ use Rattle.promises.proofs.DeskRefusals.{filing-answers, withdrawal-ans
 use Rattle.promises.proofs.DeskTape.{refused-for-the-run-from-empty}
 
 -- A kind that refuses nothing is acceptance.
-accepts : (kind : Refusal) → isRefusal kind ≡ false → kind ≡ Accepted
+pub accepts : (kind : Refusal) → isRefusal kind ≡ false → kind ≡ Accepted
 accepts Accepted e = refl
 accepts FileRows e = absurd (true≢false e)
 accepts BadFile e = absurd (true≢false e)

@@ -10,6 +10,7 @@ pub mod DeskRows
 pub mod DeskTape
 pub mod DeskWhole
 pub mod DeskDays
+pub mod DeskTells
 pub mod DeskDayCases
 pub mod DeskCases
 pub mod Gathered

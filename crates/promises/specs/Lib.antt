@@ -8,6 +8,7 @@ pub mod DeskRows
 pub mod DeskWhole
 pub mod DeskCases
 pub mod DeskDays
+pub mod DeskTells
 pub mod Mends
 pub mod Mender
 pub mod Months
