@@ -34,7 +34,7 @@ use Rattle.answer_desk.specs.declared.Answered.{Answered}
 use Rattle.answer_desk.specs.Answers.{closedLines, boardedTop, boardedText}
 use Rattle.answer_desk.specs.Days.{Outcome, Tells, AnswersEvent, rowsLent, readsBoarded, boardingText, EventAnswered}
 use Rattle.promises.specs.DeskLines.{HasItsWant}
-use Rattle.promises.specs.DeskTells.{detourLines, boardedLines, Leave, boardingAt, BoardingTold, TextOf, TextStands, AcceptedEventTells}
+use Rattle.promises.specs.DeskTells.{detourLines, boardedLines, Leave, boardingAt, BoardingTold, EventTold, TextStands, AcceptedEventTells}
 use Rattle.promises.proofs.DeskLines.{tickets-have-wants}
 use Rattle.promises.proofs.DeskDays.{accepts}
 
@@ -71,7 +71,7 @@ module _ (day : desk.Day) (o : Outcome) (room out : List ℕ) (r : Answered) (ro
       ∙ drop-append-seam (o .text) (drop (length (o .text)) out)
       ∙ ap (λ (n : ℕ). drop n out) (sym bytes-are)
 
-  stands : (len : ℕ) (tape : Tape) (e : Event) → 0 < length (o .text) → TextOf len tape day room e (r .day) (take (r .bytes) out′) → TextStands len tape day room out e (r .day) (r .bytes) out′
+  stands : (len : ℕ) (tape : Tape) (e : Event) → 0 < length (o .text) → EventTold len tape day room e (r .day) (take (r .bytes) out′) → TextStands len tape day room out e (r .day) (r .bytes) out′
   stands len tape e some text =
       record {
         some = omega (arith, some, bytes-are);

@@ -81,18 +81,18 @@ pub record BoardingTold (len : ℕ) (tape : Tape) (day : desk.Day) (room : List 
       ++ closing
 
 -- The text by the event. A line that is none is never accepted.
-abbrev pub TextOf : ℕ → Tape → desk.Day → List ℕ → Event → desk.Day → List ℕ → Type 0
-TextOf len tape day room (Event.File office file count) next text = FilingTold day office next text
-TextOf len tape day room (Event.Withdraw office number) next text = text ≡ bytes "withdrawn=" ++ pair office number ++ bytes "\n"
-TextOf len tape day room (Event.Board head turn) next text = BoardingTold len tape day room head turn next text
-TextOf len tape day room Event.Bad next text = ⊥
+abbrev pub EventTold : ℕ → Tape → desk.Day → List ℕ → Event → desk.Day → List ℕ → Type 0
+EventTold len tape day room (Event.File office file count) next text = FilingTold day office next text
+EventTold len tape day room (Event.Withdraw office number) next text = text ≡ bytes "withdrawn=" ++ pair office number ++ bytes "\n"
+EventTold len tape day room (Event.Board head turn) next text = BoardingTold len tape day room head turn next text
+EventTold len tape day room Event.Bad next text = ⊥
 
 -- It stands in the row: at least one byte, and no byte behind it has changed.
 pub record TextStands (len : ℕ) (tape : Tape) (day : desk.Day) (room out : List ℕ) (e : Event) (next : desk.Day) (n : ℕ) (out′ : List ℕ) : Type 0 where
   pub some : 0 < n
   pub within : n ≤ length out
   pub whole : length (take n out′) ≡ n
-  pub text : TextOf len tape day room e next (take n out′)
+  pub text : EventTold len tape day room e next (take n out′)
   pub later : drop n out′ ≡ drop n out
 
 abbrev pub AcceptedEventTells : Type 0
