@@ -303,7 +303,7 @@ boards-at-the-desk tape xs day next x head turn held t is rows-fit =
     (desk-kind (t .len) (t .places) tape (keptAt day) (c .calls) (c .day-so) (c .one-tape) rows-fit (record { head = head; turn = turn; lasts = day .lasts }) refl (t .room) (t .words) (p .done) (p .rows) (p .boards))
 
 -- On a lent row: what a call leaves is the table that the next one finds.
-day-so : (d : desk.Day) (row : List Ticket) (l : Lasts) → row ≡ d .row → l ≡ d .lasts → dayOf row l ≡ d
+pub day-so : (d : desk.Day) (row : List Ticket) (l : Lasts) → row ≡ d .row → l ≡ d .lasts → dayOf row l ≡ d
 day-so d row l p q = rw (p, q)
 
 on-the-row : {tape : Tape} {ts last : List Ticket} {l m : Lasts} {xs : List Exchange} → 32 ≤ length ts → HeldOn tape ts l xs last m

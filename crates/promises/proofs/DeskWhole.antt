@@ -91,7 +91,7 @@ written-back ts = elim (decLe 32 (length ts)) [ yes h ↦ long h | no n ↦ shor
         ∙ ap (λ (t : List Ticket). ts ++ t) (drop-of-length-le ts h)
         ∙ append-nil ts
 
-as-it-was : (ts exit table : List Ticket) → exit ≡ withTable table ts → table ≡ tableIn ts → exit ≡ ts
+pub as-it-was : (ts exit table : List Ticket) → exit ≡ withTable table ts → table ≡ tableIn ts → exit ≡ ts
 as-it-was ts exit table writes same = writes ∙ ap (λ (t : List Ticket). withTable t ts) same ∙ written-back ts
 
 refused-row : {ts exit : List Ticket} {l m : Lasts} {c : Call} → LentFits ts l c exit m → isRefusal (answered c) ≡ true → (exit ≡ ts) × (m ≡ l)

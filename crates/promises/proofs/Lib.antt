@@ -11,6 +11,7 @@ pub mod DeskTape
 pub mod DeskWhole
 pub mod DeskDays
 pub mod DeskTells
+pub mod DeskHeld
 pub mod DeskDayCases
 pub mod DeskCases
 pub mod Gathered

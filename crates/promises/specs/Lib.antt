@@ -9,6 +9,7 @@ pub mod DeskWhole
 pub mod DeskCases
 pub mod DeskDays
 pub mod DeskTells
+pub mod DeskHeld
 pub mod Mends
 pub mod Mender
 pub mod Months
