@@ -10,7 +10,7 @@ use Rattle.refusals.specs.Refusals.{accepted, firstWhere}
 use Rattle.refusals.proofs.Verdicts.{refuses}
 use Rattle.runs.specs.Run.{stopsOf, goesOn, firstMember, lastWithin, wantStops, joinTo, joined}
 use Rattle.runs.specs.Judging.{judgeOf}
-use Rattle.runs.specs.Lists.{Detour, listOf, firstBadEntry}
+use Rattle.runs.specs.Lists.{Detour, listOf, firstBadEntry, listVerdict}
 use Rattle.walk.specs.Walk.{walked, served, timeOf, timesOf, legFrom, legsFor, sumOf}
 use Rattle.walk.specs.Detours.{legsOf, startOf, endOf, unreadEnd, sweepEnd, lastSweep}
 use Rattle.walk.specs.Price.{pricedAnswer, pricedTimes, pricedLegs}
@@ -24,7 +24,7 @@ use Rattle.sheet_reader.specs.Sheet.{sheetHead, sheetTurnWith, saysSweep, sheet
 use Rattle.sheet_reader.specs.Reading.{sheetVerdict, ruleVerdict}
 use Rattle.sheet_writer.specs.RefusalLines.{refusalText}
 use Rattle.sheet_writer.specs.PlanSheet.{planTop, planLines, planText}
-use Rattle.sheet_lists.specs.Form.{linesIn, linesUpTo, firstBadToEnd, detoursTold, detourText, timeText, firstFailing, planBadTop, planBadBelow, planBadLine, isPlan, listBadLine, planFroms, planTos}
+use Rattle.sheet_lists.specs.Form.{linesIn, linesUpTo, firstBadToEnd, detoursTold, detourText, timeText, firstFailing, planBadTop, planBadBelow, planBadLine, isPlan, listBadLine, planFroms, planTos, listDetours, listText, listFroms, listTos}
 use Rattle.sheet_lists.specs.Reading.{planForm, listForm}
 use Rattle.answer_plan.specs.Recall.{runChecks, verdictBy, recallVerdict}
 use Rattle.answer_check.specs.Pricing.{pricingVerdict, priceText}
@@ -37,6 +37,7 @@ use Rattle.promises.specs.CheckWhole.{wrongPlan, PrintsTheDifference}
 use Rattle.promises.proofs.Checks.{put-whole}
 use Rattle.promises.proofs.Lengths.{run-judges, run-checks-near, plan-held}
 use Rattle.promises.specs.TwoTexts.{PrintsTheListsLine}
+use Rattle.promises.specs.ListEntries.{pricedPlan, PricesTheExample}
 use Rattle.promises.proofs.InputLengths.{price-held, check-fits}
 
 -- The case of the example: its run is accepted, and its least list is (2,2).
@@ -166,3 +167,34 @@ unfolding priceText
 prints-the-lists-line row n row′ c wide =
     let h = price-held exampleSheet badList in
     put-whole (priceText (pricingVerdict exampleSheet badList) (sheetName exampleSheet) (sheetRun exampleSheet) badList) row n row′ (c .bytes) (c .left) (omega (arith, h .0)) ∙ rw line-refused line-text
+
+-- A list that is priced.
+abbrev goodList : List ℕ
+goodList = bytes "detour=3,3\ndetour=2,2\n"
+
+good-form : listForm goodList ≡ accepted
+unfolding listForm listBadLine isPlan linesIn linesUpTo firstBadToEnd firstBadOf firstWhere isPairLine isPair isNumber allOf valueFrom startsWith lineOf afterLines has before behind
+good-form = refl
+
+good-list : (listFroms goodList ≡ 3 ∷ 2 ∷ []) × (listTos goodList ≡ 3 ∷ 2 ∷ [])
+unfolding listFroms listTos listDetours listText isPlan linesIn linesUpTo eachOf valueFrom startsWith lineOf afterLines has before behind
+good-list = (refl, refl)
+
+good-entries : listVerdict (stopsOf exampleRun) (3 ∷ 2 ∷ []) (3 ∷ 2 ∷ []) ≡ accepted
+unfolding listVerdict listOf
+good-entries = rw (cases-hold .1 .1 .1 .1 .1 .1 .1 .1 .1 .1 .1 .1 .1 .0 .formed)
+
+good-passes : refuses (pricingVerdict exampleSheet goodList) ≡ false
+unfolding verdictBy
+good-passes = rw (example-good, example-ruled, good-form, example-run, example-judged, good-list .0, good-list .1, good-entries)
+
+good-text : planText (sheetName exampleSheet) exampleRun (3 ∷ 2 ∷ []) (3 ∷ 2 ∷ []) ≡ pricedPlan
+unfolding planText planLines planTop sheetName pairLines tripleLines decimalIn pricedAnswer pricedTimes pricedLegs listOf goesOn firstMember lastWithin wantStops joinTo joined startOf endOf served unreadEnd sweepEnd lastSweep legsOf walked timeOf timesOf legFrom legsFor sumOf lineOf afterLines has before behind
+good-text = refl
+
+pub prices-the-example : PricesTheExample
+unfolding priceText
+prices-the-example row n row′ c wide =
+    let h = price-held exampleSheet goodList in
+    put-whole (priceText (pricingVerdict exampleSheet goodList) (sheetName exampleSheet) (sheetRun exampleSheet) goodList) row n row′ (c .bytes) (c .left) (omega (arith, h .0))
+    ∙ rw (good-passes, good-list .0, good-list .1, example-run) good-text

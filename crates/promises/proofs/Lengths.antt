@@ -96,11 +96,11 @@ first-few most [] h = omega arith
 first-few most (zero ∷ ns) h = first-few most ns (h .1 refl)
 first-few most (suc a ∷ ns) h = h .0
 
-abbrev AllNone : List ℕ → Type 0
+abbrev pub AllNone : List ℕ → Type 0
 AllNone [] = Unit {0}
 AllNone (a ∷ rest) = (a ≡ 0) × AllNone rest
 
-first-none : (ns : List ℕ) → firstSome ns ≡ 0 → AllNone ns
+pub first-none : (ns : List ℕ) → firstSome ns ≡ 0 → AllNone ns
 first-none [] e = tt
 first-none (zero ∷ ns) e = (refl, first-none ns e)
 first-none (suc a ∷ ns) e = absurd (omega (arith, e))
@@ -109,7 +109,7 @@ pub unless-few : (b : Bool) (n most : ℕ) → n ≤ most → unless b n ≤ mos
 unless-few true n most l = omega arith
 unless-few false n most l = l
 
-unless-none : (b : Bool) (n : ℕ) → 0 < n → unless b n ≡ 0 → b ≡ true
+pub unless-none : (b : Bool) (n : ℕ) → 0 < n → unless b n ≡ 0 → b ≡ true
 unless-none true n l e = refl
 unless-none false n l e = absurd (omega (arith, e))
 

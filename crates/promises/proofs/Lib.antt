@@ -44,6 +44,8 @@ pub mod TapeLengths
 pub mod MonthWords
 pub mod CheckWhole
 pub mod ListLines
+pub mod ListEntries
+pub mod InputTexts
 pub mod Answers
 pub mod AnswersCases
 pub mod AnyLengths

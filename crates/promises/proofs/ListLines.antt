@@ -361,11 +361,11 @@ plan-form-by-the-table plan =
     (decides-reworded (λ p. PlanFormApplies.bad-line) (plan-line-back plan) (finds-it (plan-search plan)))
 
 module _ (list : List ℕ) where
-  is-plan : isPlan list ≡ true → IsPlanSheet list
+  pub is-plan : isPlan list ≡ true → IsPlanSheet list
   unfolding isPlan
   is-plan e = (drop (length tapeKey) list, key-split tapeKey list e)
 
-  plan-is : IsPlanSheet list → isPlan list ≡ true
+  pub plan-is : IsPlanSheet list → isPlan list ≡ true
   unfolding isPlan
   plan-is p = rw (p .1) (key-begins tapeKey (p .0))
 

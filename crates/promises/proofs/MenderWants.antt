@@ -31,7 +31,7 @@ use Rattle.promises.proofs.MenderLines.{tail-behind, all-mended, files-
 use Rattle.promises.proofs.Described.{described}
 
 -- One of many values.
-each-value : (value : ℕ → ℕ) (n i : ℕ) → i < n → getD (eachOf value n) i 0 ≡ value i
+pub each-value : (value : ℕ → ℕ) (n i : ℕ) → i < n → getD (eachOf value n) i 0 ≡ value i
 unfolding eachOf
 each-value value zero i l = absurd (omega arith)
 each-value value (suc n) i l = go (each-value value n i) (decLt i n)

@@ -20,4 +20,6 @@ pub mod Answers
 pub mod AnswersAny
 pub mod CheckWhole
 pub mod ListLines
+pub mod ListEntries
+pub mod InputTexts
 pub mod TwoTexts
