@@ -124,6 +124,8 @@ command_installed() {
     path=$(printf '%s' "$PATH" | tr ':' '\n' | while IFS= read -r folder; do [ -x "$folder/rt" ] || printf '%s:' "$folder"; done)
     step "the installed command" env -u RATTLE_HOME PATH="${path%:}" "$prefix/bin/violstream" plan - < "$here/examples/VX0041.run" > "$out/plan.is"
     same "the installed command" "$here/examples/VX0041.plan" "$out/plan.is"
+    step "the installed command's plan for a head anywhere" env -u RATTLE_HOME PATH="${path%:}" "$prefix/bin/violstream" plan --any - < "$here/examples/mounted.run" > "$out/plan.is"
+    same "the installed command's plan for a head anywhere" "$here/examples/mounted.plan" "$out/plan.is"
     step "the installed command's plain engine" env -u RATTLE_HOME PATH="${path%:}" "$prefix/bin/violstream" field - < "$here/examples/VX0041.run" > "$out/field.is"
     same "the installed command's plain engine" "$here/examples/VX0041.plan" "$out/field.is"
     step "the installed command's figures" env -u RATTLE_HOME PATH="${path%:}" "$prefix/bin/violstream" buys "$here/examples/VX0041.run" > "$out/buys.is"

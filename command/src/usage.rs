@@ -30,7 +30,7 @@ const fn known(name: &'static str, synopsis: &'static str, about: &'static str, 
 }
 
 pub const COMMANDS: [Known; 19] = [
-    known("plan", "[--json] [FILE...]", "the plan sheet of each run sheet", &["json"], Words::Files),
+    known("plan", "[--any] [--json] [FILE...]", "the plan sheet of each run sheet", &["any", "json"], Words::Files),
     known("field", "[FILE...]", "the same by the plain engine, for at most eight wants", &[], Words::Files),
     known("buys", "[--json] [FILE...]", "what each detour of a plan buys", &["json"], Words::Files),
     known("price", "RUN LIST", "the plan sheet of a list of your own", &[], Words::Files),
@@ -58,6 +58,7 @@ pub const FOR_CHECKOUTS: [&str; 4] = ["build", "test", "install", "deb"];
 
 fn option(name: &str) -> Arg {
     match name {
+        "any" => Arg::new("any").long("any").action(ArgAction::SetTrue).help("any run: the head anywhere, and more room"),
         "json" => Arg::new("json").long("json").action(ArgAction::SetTrue).help("one object of JSON for each answer"),
         "svg" => {
             Arg::new("svg").long("svg").value_name("FILE").value_parser(value_parser!(OsString)).value_hint(ValueHint::FilePath).help("a picture too")
@@ -162,13 +163,14 @@ impl Usage<'_> {
             return self.misused(format!("{name} is for a checkout of the sources, and this command is installed"));
         }
         let words: Vec<OsString> = matches.get_many::<OsString>("words").unwrap_or_default().cloned().collect();
-        let json = self.known.options.contains(&"json") && matches.get_flag("json");
+        let given = |option: &str| self.known.options.contains(&option) && matches.get_flag(option);
+        let (any, json) = (given("any"), given("json"));
         // A tape's name is judged by the program.
         if words.iter().skip(usize::from(name == "ltfs")).any(|word| word.is_empty()) {
             return self.misused("an empty word is no name");
         }
         match name {
-            "plan" | "field" | "buys" | "rewrite" | "mend" => self.sheets(words, json),
+            "plan" | "field" | "buys" | "rewrite" | "mend" => self.sheets(words, any, json),
             "month" => self.month(words, json),
             "price" | "check" => self.pair(words, json),
             "explain" => self.explain(words, matches.get_one::<OsString>("svg")),
@@ -189,12 +191,12 @@ impl Usage<'_> {
         Ok(())
     }
 
-    fn sheets(&self, mut files: Vec<OsString>, json: bool) -> Result<Asked, Stop> {
+    fn sheets(&self, mut files: Vec<OsString>, any: bool, json: bool) -> Result<Asked, Stop> {
         self.only_once(&files.iter().collect::<Vec<_>>())?;
         if files.is_empty() {
             files.push("-".into());
         }
-        Ok(Asked::Sheets { command: self.known.name, files, json })
+        Ok(Asked::Sheets { command: self.known.name, any, files, json })
     }
 
     fn month(&self, mut files: Vec<OsString>, json: bool) -> Result<Asked, Stop> {

@@ -19,11 +19,11 @@ import tempfile
 import time
 
 import programs
-from plan import answer, cases as sheets_of_plan
+from plan import answer, cases as sheets_of_plan, sheet_of
 
 LIMIT = 120
 BUILT = "target/command/violstream"
-PROGRAMS = ("cmd_plan", "cmd_field", "cmd_buys", "cmd_price", "cmd_check", "cmd_rewrite", "cmd_mend", "cmd_month", "cmd_ltfs", "cmd_desk")
+PROGRAMS = ("cmd_plan", "cmd_plan_any", "cmd_field", "cmd_buys", "cmd_price", "cmd_check", "cmd_rewrite", "cmd_mend", "cmd_month", "cmd_ltfs", "cmd_desk")
 LABEL, INDEX = "examples/ltfs/VX0041.label.xml", "examples/ltfs/VX0041.index.xml"
 
 
@@ -122,6 +122,36 @@ def answers(at):
     at.must("./violstream plan /dev/stdin < examples/VX0041.run", 0, PLAN, silent=True)
     at.must(f"./violstream ltfs VX0041 {LABEL} {INDEX} | ./violstream plan", 0)
     at.must("cd / && \"$OLDPWD/violstream\" plan \"$OLDPWD/examples/VX0041.run\"", 0, PLAN, silent=True)
+
+
+def any_run(at):
+    """plan --any takes the head wherever it stands, and has more room. Files, statuses and words as for plan, whose own words name it where it helps."""
+    mounted = contents("examples/mounted.plan")
+    for line in ("--any examples/mounted.run", "examples/mounted.run --any", "--any < examples/mounted.run", "--any - < examples/mounted.run", "--any --any -- examples/mounted.run"):
+        at.must(f"./violstream plan {line}", 0, mounted, silent=True)
+    at.must("./violstream plan --any examples/mounted-3.run", 0, contents("examples/mounted-3.plan"), silent=True)
+    at.must("./violstream plan --any examples/mounted-2.run", 0, at.shell("./violstream plan examples/mounted-2.run")[0], silent=True)
+    at.must("./violstream plan --any examples/VX0041.run no-such examples/mounted.run", 1, b"sheet=examples/VX0041.run\n" + PLAN + b"sheet=examples/mounted.run\n" + mounted, ["cannot read no-such"])
+    at.must("./violstream plan --any", 3, refusal(11, 3), ['refused (11): line 3: expected turn=NUMBER; found "turn=x"'], data=changed(3, b"turn=x"))
+    at.must("./violstream plan --any < /dev/zero", 3, refusal(12), ["refused (12)"])
+    at.must("./violstream plan --any examples/mounted.run > /dev/full", 1, b"", ["cannot write to standard output"])
+    # The whole sentences, with their ends.
+    head = 'the head (line 2, "head=0") stands left of 50, the end of file 3, the rightmost wanted file (line 8, "file=20,30,0")'
+    named, above = "; plan --any takes the head where it stands\n", 'the head (line 2, "head=1099511627777") stands above 1099511627776 (2^40)\n'
+    at.must("./violstream plan examples/mounted.run", 3, refusal(7), [f"violstream: examples/mounted.run: refused (7): {head}{named}"])
+    for command in ("field", "buys", "explain"):
+        at.must(f"./violstream {command} examples/mounted.run", 3, refusal(7), [f"refused (7): {head}\n"])
+    for line in ("plan", "plan --any"):
+        at.must(f"./violstream {line}", 3, refusal(7), [f"refused (7): {above}"], data=changed(2, b"head=1099511627777"))
+    many = changed(10, b"want=1,564")
+    room = "3 wants with 568 reads in all ask for 3 * 3 * 569 = 5121 words of working room; there are 5120"
+    at.must("./violstream plan", 3, refusal(9), [f"refused (9): {room}, and plan --any has 655360\n"], data=many)
+    at.must("./violstream buys", 3, refusal(9), [f"refused (9): {room}\n"], data=many)
+    at.must("./violstream plan --any", 0, answer(many, True), data=many, silent=True)
+    at.must("./violstream plan --any | sed -n 3p", 0, b"reads=159\n", data=sheet_of(64, 159), silent=True)
+    room = "64 wants with 160 reads in all ask for 64 * 64 * 161 = 659456 words of working room; "
+    at.must("./violstream plan", 3, refusal(9), [f"refused (9): {room}there are 5120, and plan --any has 655360\n"], data=sheet_of(64, 160))
+    at.must("./violstream plan --any", 3, refusal(9), [f"refused (9): {room}plan --any has 655360 (5 MiB), and no command has more\n"], data=sheet_of(64, 160))
 
 
 def figures(at):
@@ -318,7 +348,7 @@ def statuses(at):
     at.must(f"./violstream ltfs vx0041 {LABEL} {INDEX}", 3, refusal(13))
     at.must(f"set -o pipefail; ./violstream ltfs VX0041 {INDEX} {INDEX} | ./violstream plan", 3, refusal(11, 1))
     at.must("./violstream help", 0, silent=True)
-    for line in ("nothing", "plan -x", "plan - -", "field -x", "field - -", "buys -x", "buys - -", "price", "price A", "price A B C", "price -x A", "check A", "check - -", "explain", "explain A B", "explain --svg", "explain -x", "rewrite -x", "rewrite - -", "mend -x", "mend - -", "month -x", "month - -", "month a ''", "plan ''", "plan a ''", "price '' a", "explain --svg= a", "explain --svg a", "desk ''", "install ''", "uninstall ''", "plan --json=1", "field --json", "plan --svg a b", "help no-such", "help plan buys", "completions", "completions csh", "version x", "--no-such", "ltfs", "ltfs A B", "ltfs A B C D", "ltfs A - -", "ltfs -A B C", "install a", "install /a /b",
+    for line in ("nothing", "plan -x", "plan - -", "field -x", "field - -", "buys -x", "buys - -", "price", "price A", "price A B C", "price -x A", "check A", "check - -", "explain", "explain A B", "explain --svg", "explain -x", "rewrite -x", "rewrite - -", "mend -x", "mend - -", "month -x", "month - -", "month a ''", "plan ''", "plan a ''", "price '' a", "explain --svg= a", "explain --svg a", "desk ''", "install ''", "uninstall ''", "plan --json=1", "plan --any=1", "plan --any - -", "plan --any -x", "plan --any ''", "field --any", "buys --any", "field --json", "plan --svg a b", "help no-such", "help plan buys", "completions", "completions csh", "version x", "--no-such", "ltfs", "ltfs A B", "ltfs A B C D", "ltfs A - -", "ltfs -A B C", "install a", "install /a /b",
                  "uninstall a", "install -x", "build x", "test x", "deb x"):
         at.must(f"./violstream {line}", 2, b"", ["violstream: ", "\nusage: ./violstream "])
         said = at.shell(f"./violstream {line}")[1]
@@ -386,7 +416,7 @@ def closed(at):
     """With any of the three descriptors closed: as without, but for what cannot be read, or that nobody can be told."""
     run, plan = "examples/VX0041.run", "examples/VX0041.plan"
     at.write("month", b"%d\n" % len(RUN) + RUN)
-    for words in (f"plan {run}", f"plan --json {run} {plan}", f"field {run}", f"buys {run}", f"price {run} /dev/null", f"check {run} {plan}", f"explain {run} --svg picture", f"rewrite {run}",
+    for words in (f"plan {run}", f"plan --json {run} {plan}", f"plan --any {run} examples/mounted.run", f"field {run}", f"buys {run}", f"price {run} /dev/null", f"check {run} {plan}", f"explain {run} --svg picture", f"rewrite {run}",
                   f"mend {run}", "month month", f"month {run} {plan}", f"ltfs VX0041 {LABEL} {INDEX}", "desk examples/day.run examples/day.events", "version", "help", "help plan", "completions fish"):
         out, said, status = at.shell(f"./violstream {words}")
         at.must(f"./violstream {words} <&-", status, out, said.split("\n"))
@@ -394,7 +424,7 @@ def closed(at):
         at.must(f"./violstream {words} <&- 2>&-", status, out)
         at.must(f"./violstream {words} >&-", 1, b"", ["standard output is closed"])
         at.must(f"./violstream {words} <&- >&- 2>&-", 1, b"")
-    for words in ("plan", "field -", "price - /dev/null", f"check {run} -", "explain -", "mend", "month", "month -", f"ltfs A - {INDEX}", "desk -  examples/day.events", "desk examples/day.run"):
+    for words in ("plan", "plan --any", "field -", "price - /dev/null", f"check {run} -", "explain -", "mend", "month", "month -", f"ltfs A - {INDEX}", "desk -  examples/day.events", "desk examples/day.run"):
         at.must(f"./violstream {words} <&-", 1, b"", ["cannot read standard input: it is closed"])
 
 
@@ -627,7 +657,7 @@ def blocks(name):
 
 def transcripts(at):
     """The examples of README, OPERATOR, REFUSALS and AUDIT, as pasted, print what stands below them."""
-    for page, least in (("docs/OPERATOR.md", 13), ("docs/REFUSALS.md", 21), ("docs/AUDIT.md", 1)):
+    for page, least in (("docs/OPERATOR.md", 15), ("docs/REFUSALS.md", 21), ("docs/AUDIT.md", 1)):
         tried = sum(example(at, page, block) for block in blocks(page))
         if tried < least:
             raise Wrong(f"{page} has only {tried} examples that can be tried, and needs {least}")
@@ -681,7 +711,7 @@ def waits(call):
 
 def interrupted(at):
     """A call that is ended from outside, alone or with its group, ends at once, and so do its programs. It leaves nothing behind."""
-    for words in (["plan"], ["month"], ["desk", "examples/day.run"]):
+    for words in (["plan"], ["plan", "--any"], ["month"], ["desk", "examples/day.run"]):
         for number in (signal.SIGINT, signal.SIGTERM, signal.SIGHUP, signal.SIGKILL):
             for end in (os.kill, os.killpg):
                 call = subprocess.Popen([at.path(BUILT), *words], cwd=at.root, stdin=subprocess.PIPE, stdout=subprocess.PIPE, stderr=subprocess.PIPE,
@@ -724,9 +754,12 @@ def manners(at):
     at.must("cp examples/VX0041.run ./-x && ./violstream plan -- -x", 0, PLAN, silent=True)
     at.must("./violstream plan ./-x", 0, PLAN, silent=True)
     at.must("./violstream plan -- - < ./-x", 0, PLAN, silent=True)
+    at.must("./violstream plan --any -- -x", 0, PLAN, silent=True)
     at.must("./violstream plan -x", 2, b"", ["plan has no option -x (a file of that name is ./-x)"])
+    at.must("./violstream field --any", 2, b"", ["field has no option --any"])
+    at.must("./violstream plan --any=1", 2, b"", ["--any takes no value", "usage: ./violstream plan [--any] [--json] [FILE...]"])
     at.must(f"./violstream plan {run} --no-such", 2, b"", ["plan has no option --no-such"])
-    for line in ("plan $'no\\e[2Jsuch'", "price $'\\e]0;x\\a' /dev/null", "month $'\\xc2\\x9b31m'", "ltfs A $'\\r' /dev/null", "desk $'\\xff'", "$'no\\e[2Jsuch'", "plan $'-\\e[2J'", "install $'\\e[2J'"):
+    for line in ("plan $'no\\e[2Jsuch'", "plan --any $'no\\e[2Jsuch'", "plan --any $'--\\e[2J'", "plan --any=$'\\e[2J'", "price $'\\e]0;x\\a' /dev/null", "month $'\\xc2\\x9b31m'", "ltfs A $'\\r' /dev/null", "desk $'\\xff'", "$'no\\e[2Jsuch'", "plan $'-\\e[2J'", "install $'\\e[2J'"):
         said = at.shell(f"./violstream {line}")[1]
         if not said or not said.replace("\n", "").isprintable() or not said.isascii():
             raise Wrong(f"./violstream {line} says {said!r}, which is not fit for a terminal")
@@ -738,6 +771,8 @@ def manners(at):
         made = at.shell(f"./violstream completions {shell}")[0]
         if b"explain" not in made or b"svg" not in made:
             raise Wrong(f"completions for {shell} do not know explain --svg")
+        if b"-l any" not in made and b"--any" not in made:
+            raise Wrong(f"completions for {shell} do not know plan --any")
         at.must(f"command -v {shell} > /dev/null || exit 0; ./violstream completions {shell} | {shell} -n /dev/stdin", 0)
 
 
@@ -761,6 +796,10 @@ def as_json(at):
     must(f"./violstream plan {run} --json examples/head-too-far-left.run", [dict(plan, sheet=run), {"sheet": "examples/head-too-far-left.run", "refused": 7, "place": 0}], 3)
     if not objects("./violstream plan --json examples/head-too-far-left.run", 3)[0]["why"].startswith("the head (line 2, "):
         raise Wrong("a refusal in JSON does not say why")
+    must(f"./violstream plan --json --any {run} examples/mounted-3.run", [dict(plan, sheet=run), {"sheet": "examples/mounted-3.run", "tape": "VX0041", "sum": 308, "reads": 6, "finish": 103, "end": 10,
+         "detours": [{"from": 3, "to": 3}], "times": [{"file": 1, "time": 103, "leg": 2}, {"file": 3, "time": 41, "leg": 1}]}])
+    if not objects("./violstream plan --json examples/mounted.run", 3)[0]["why"].endswith("; plan --any takes the head where it stands"):
+        raise Wrong("a refusal in JSON does not name plan --any")
     must(f"./violstream buys --json {run}", [{"tape": "VX0041", "sum": 367, "detours": [{"from": 2, "to": 2, "buys": 40}]}])
     must(f"./violstream check --json {run} examples/VX0041.plan", [{"formed": True, "walk": True, "least": True}])
     must(f"./violstream check --json {run} examples/VX0041-damaged.plan",
@@ -785,11 +824,12 @@ def installing(at):
 
     at.must(f"umask 077 && ./violstream install {prefix}", 0, silent=True)
     whole = files()
-    for name in ("bin/violstream", "libexec/violstream/cmd_plan", "share/man/man1/violstream.1", "share/doc/violstream/OPERATOR.md", "share/doc/violstream/examples/VX0041.run",
+    for name in ("bin/violstream", "libexec/violstream/cmd_plan", "libexec/violstream/cmd_plan_any", "share/man/man1/violstream.1", "share/doc/violstream/OPERATOR.md", "share/doc/violstream/examples/VX0041.run",
                  "share/bash-completion/completions/violstream", "lib/libviolstream.a", "lib/libviolstream.so", "lib/pkgconfig/violstream.pc", "include/violstream.h"):
         if name not in whole or not os.stat(os.path.join(prefix, name)).st_mode & 0o004 or not os.stat(os.path.dirname(os.path.join(prefix, name))).st_mode & 0o001:
             raise Wrong(f"{name} was not installed, or not for everybody")
     at.must("cd / && $OLDPWD/prefix/bin/violstream plan -", 0, PLAN, data=RUN, silent=True)
+    at.must("cd / && $OLDPWD/prefix/bin/violstream plan --any -", 0, contents("examples/mounted.plan"), data=contents("examples/mounted.run"), silent=True)
     at.must("prefix/bin/violstream version", 0, at.shell("./violstream version")[0], silent=True)
     at.must("prefix/bin/violstream build", 2, b"", ["build is for a checkout of the sources", "usage: violstream build"])
     text = at.shell("prefix/bin/violstream help")[0]
@@ -844,6 +884,7 @@ def packaged(at):
     number = at.shell("./violstream version")[0].decode().split()[1]
     at.must("umask 077 && ./violstream deb", 0, f"made {at.root}/target/command/deb/violstream_{number}-1_amd64.deb\n".encode(), silent=True)
     at.must("dpkg-deb -x target/command/deb/*.deb unpacked && unpacked/usr/bin/violstream plan examples/VX0041.run", 0, PLAN, silent=True)
+    at.must("unpacked/usr/bin/violstream plan --any examples/mounted.run", 0, contents("examples/mounted.plan"), silent=True)
     for name in ("share/man/man1/violstream.1.gz", "share/doc/violstream/copyright", "lib/x86_64-linux-gnu/libviolstream.a", "lib/x86_64-linux-gnu/pkgconfig/violstream.pc", "include/violstream.h"):
         if not os.path.exists(at.path(f"unpacked/usr/{name}")):
             raise Wrong(f"the package has no {name}")
@@ -864,16 +905,17 @@ def limits(at):
             raise Wrong(f"with {limit} descriptors plan printed {out!r}, said {said!r} and ended with status {status}")
     at.must(f"ulimit -f 0 && {sheet} > out", 1, b"", ["cannot write to standard output: File too large"])
     at.must("ulimit -f 0 && ./violstream explain --svg out examples/VX0041.run", 1, b"", ["cannot write out: File too large"])
-    # The stack that is enough for every program, as docs/OPERATOR.md says, and less.
+    # The stack that is enough for every program, as docs/OPERATOR.md says, and less. plan --any has its room there.
     at.write("large.run", b"tape=A\nhead=1099511627776\nturn=0\nrule=least\nfiles=256\n" + b"".join(b"file=%d,1,0\n" % (n * 4294967296) for n in range(256)) + b"wants=16\n" + b"".join(b"want=%d,1\n" % n for n in range(1, 17)))
     at.write("large.month", (b"%d\n" % len(contents("examples/VX0041.run")) + RUN) * 1000)
     at.write("deep.xml", b"<ltfsindex>" + b"<a>" * 31 + b"</a>" * 31 + b"<directory><contents/></directory>" + b"<a/>" * 120000 + b"</ltfsindex>")
-    for words in ("plan large.run", "buys large.run", "price large.run /dev/null", "explain large.run", "rewrite large.run", "mend large.run", "month large.month", "field examples/VX0041.run",
-                  "check examples/VX0041.run examples/VX0041.plan", "desk examples/day.run examples/day.events", f"ltfs VX0041 {LABEL} deep.xml"):
+    at.write("many.run", sheet_of(64, 159))
+    for enough, words in [(6144, "plan --any large.run"), (6144, "plan --any many.run")] + [(1024, words) for words in ("plan large.run", "buys large.run", "price large.run /dev/null", "explain large.run", "rewrite large.run", "mend large.run", "month large.month", "field examples/VX0041.run",
+                  "check examples/VX0041.run examples/VX0041.plan", "desk examples/day.run examples/day.events", f"ltfs VX0041 {LABEL} deep.xml")]:
         must = at.shell(f"./violstream {words}")
-        if must[2] != 0 or at.shell(f"ulimit -s 1024 && ./violstream {words}") != must:
-            raise Wrong(f"with a stack of 1,024 KiB violstream {words} does not give {must}")
-        for limit in (512, 256, 128, 96, 64, 32):
+        if must[2] != 0 or at.shell(f"ulimit -s {enough} && ./violstream {words}") != must:
+            raise Wrong(f"with a stack of {enough} KiB violstream {words} does not give {must}")
+        for limit in (4096, 1024, 512, 256, 128, 96, 64, 32):
             out, said, status = at.shell(f"ulimit -s {limit} && ./violstream {words}")
             if (out, said, status) != must and (status in (0, 2, 3) or out or not said and status < 128):
                 raise Wrong(f"with a stack of {limit} KiB violstream {words} printed {out!r}, said {said!r} and ended with status {status}")
@@ -900,6 +942,10 @@ def without_compiler(at):
     at.must("./violstream plan < examples/VX0041.run", 0, PLAN, words)
     at.must("./violstream plan examples/head-too-far-left.run", 3, refusal(7), words)
     at.must("./violstream plan no-such", 1, b"", ["cannot read no-such"])
+    for line in ("plan --any examples/mounted.run", "plan --any < examples/mounted.run", "plan --any - < examples/mounted.run"):
+        at.must(f"./violstream {line}", 0, contents("examples/mounted.plan"), words)
+    for line in ("plan --any examples/mounted.run examples/VX0041.run", "plan --any --json examples/mounted.run", "field --any examples/VX0041.run", "plan_any examples/mounted.run"):
+        at.must(f"./violstream {line}", 1, b"", ["the command itself is needed"])
     at.must("./violstream desk examples/day.run", 1, b"", ["the command itself is needed", "apt-get install cargo"])
     at.must("./violstream help", 1, b"", ["the command itself is needed"])
 
@@ -969,12 +1015,12 @@ def building(at):
     below(at, "cmd_plan")
     at.must(f"./violstream ltfs VX0041 {LABEL} {INDEX}", 0, SHEET, ["building cmd_ltfs"])
     at.must("rm target/bin/cmd_plan && ./violstream plan examples/VX0041.run", 0, PLAN, ["building cmd_plan"])
-    at.must("./violstream build", 0, b"", ["building cmd_field", "building cmd_buys", "building cmd_price", "building cmd_check", "building cmd_rewrite", "building cmd_mend", "building cmd_month", "building cmd_desk", "building libboundary.a"])
-    at.must("touch -d '+1 minute' crates/refusals/newer && ./violstream build", 0, b"", ["cmd_plan", "cmd_field", "cmd_buys", "cmd_price", "cmd_check", "cmd_rewrite", "cmd_mend", "cmd_month", "cmd_ltfs", "cmd_desk", "libboundary.a"])
+    at.must("./violstream build", 0, b"", ["building cmd_plan_any", "building cmd_field", "building cmd_buys", "building cmd_price", "building cmd_check", "building cmd_rewrite", "building cmd_mend", "building cmd_month", "building cmd_desk", "building libboundary.a"])
+    at.must("touch -d '+1 minute' crates/refusals/newer && ./violstream build", 0, b"", ["cmd_plan;", "cmd_plan_any", "cmd_field", "cmd_buys", "cmd_price", "cmd_check", "cmd_rewrite", "cmd_mend", "cmd_month", "cmd_ltfs", "cmd_desk", "libboundary.a"])
     at.must("rm crates/refusals/newer && ./violstream build", 0, b"", ["violstream: built"])
     at.must("./violstream build more", 2, b"")
-    every = ["check cmd_plan", "check cmd_field", "check cmd_buys", "check cmd_price", "check cmd_check", "check cmd_rewrite", "check cmd_mend", "check cmd_month", "check cmd_ltfs", "check cmd_desk", "staticlib boundary"]
-    if called(at) != ["check cmd_plan", "check cmd_ltfs", "check cmd_plan", "check cmd_field", "check cmd_buys", "check cmd_price", "check cmd_check", "check cmd_rewrite", "check cmd_mend", "check cmd_month", "check cmd_desk", "staticlib boundary"] + every:
+    every = ["check cmd_plan", "check cmd_plan_any", "check cmd_field", "check cmd_buys", "check cmd_price", "check cmd_check", "check cmd_rewrite", "check cmd_mend", "check cmd_month", "check cmd_ltfs", "check cmd_desk", "staticlib boundary"]
+    if called(at) != ["check cmd_plan", "check cmd_ltfs", "check cmd_plan", "check cmd_plan_any", "check cmd_field", "check cmd_buys", "check cmd_price", "check cmd_check", "check cmd_rewrite", "check cmd_mend", "check cmd_month", "check cmd_desk", "staticlib boundary"] + every:
         raise Wrong(f"rt was called so: {called(at)}")
 
 
@@ -1084,7 +1130,7 @@ def surrounded(at):
             raise Wrong(f"{script} reads what it has not emptied first: {sorted(read - emptied - machine)}")
     at.write("month", b"%d\n" % len(RUN) + RUN)
     run, plan = "examples/VX0041.run", "examples/VX0041.plan"
-    lines = [f"./violstream plan {run}", f"./violstream field {run}", f"./violstream buys {run}", f"./violstream price {run} examples/VX0041.list",
+    lines = [f"./violstream plan {run}", "./violstream plan --any examples/mounted.run", f"./violstream field {run}", f"./violstream buys {run}", f"./violstream price {run} examples/VX0041.list",
              f"./violstream check {run} {plan}", f"./violstream explain --svg picture {run} && cat picture", f"./violstream rewrite {run}",
              f"./violstream mend {run}", "./violstream month month", f"./violstream ltfs VX0041 {LABEL} {INDEX}",
              "./violstream desk examples/day.run examples/day.events", f"./violstream plan {plan}", f"./violstream ltfs VX0041 {LABEL} /dev/null",
@@ -1127,7 +1173,7 @@ def until(true, otherwise):
     raise Wrong(otherwise)
 
 
-TESTS = (answers, fielding, figures, pairs, explained, rewriting, mending, monthly, desk, statuses, help_and_version, nothing_lost, closed, odd_ends, quick, broken_program, several, ltfs_inputs, words_of_sheets, words_of_damaged_sheets,
+TESTS = (answers, any_run, fielding, figures, pairs, explained, rewriting, mending, monthly, desk, statuses, help_and_version, nothing_lost, closed, odd_ends, quick, broken_program, several, ltfs_inputs, words_of_sheets, words_of_damaged_sheets,
          words_of_tapes, keyboard, transcripts, manual, interrupted, manners, as_json, installing, packaged, limits, other_user, without_compiler, building, building_fails, building_twice, building_interrupted, surrounded)
 
 

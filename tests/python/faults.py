@@ -21,7 +21,7 @@ KINDS = {"read": errno.EIO, "write": errno.ENOSPC, "open": errno.EMFILE, "close"
          "waitpid": errno.ECHILD, "dup2": errno.EMFILE, "execvp": errno.EACCES, "fcntl": errno.EBADF, "flock": errno.ENOLCK, "rename": errno.EXDEV, "fsync": errno.EIO,
          "mkdir": errno.EACCES, "unlink": errno.EACCES, "symlink": errno.EPERM, "fchmod": errno.EPERM, "readlink": errno.EACCES}
 RUN, PLAN = "examples/VX0041.run", "examples/VX0041.plan"
-CALLS = (f"plan {RUN}", f"plan {RUN} examples/no-wants.run", f"field {RUN}", f"buys --json {RUN}", f"price {RUN} examples/VX0041.list", f"check {RUN} {PLAN}",
+CALLS = (f"plan {RUN}", "plan --any examples/mounted.run", f"plan {RUN} examples/no-wants.run", f"field {RUN}", f"buys --json {RUN}", f"price {RUN} examples/VX0041.list", f"check {RUN} {PLAN}",
          f"explain {RUN} --svg picture", "rewrite examples/no-wants.run", "mend loose.run", "month may.month", f"month {RUN} examples/retired-rule.run",
          f"ltfs VX0041 {LABEL} {INDEX}", "desk examples/day.run examples/day.events", f"plan {PLAN}", f"price {RUN} {RUN}", "version", "help", "plan --help")
 # Calls that leave something behind, which are put right before each try.

@@ -27,7 +27,7 @@ pub struct Call {
 
 /// What a call asks for, with its words.
 pub enum Asked {
-    Sheets { command: &'static str, files: Vec<OsString>, json: bool },
+    Sheets { command: &'static str, any: bool, files: Vec<OsString>, json: bool },
     Pair { command: &'static str, run: OsString, other: OsString, json: bool },
     Explain { run: OsString, picture: Option<OsString> },
     Month { files: Vec<OsString>, json: bool },
@@ -48,7 +48,7 @@ const SHEET: usize = 16385;
 
 pub fn answer(asked: &Asked, call: &Call) -> Result<Status, Stop> {
     match asked {
-        Asked::Sheets { command, files, json } => sheets::answer(command, files, *json, call),
+        Asked::Sheets { command, any, files, json } => sheets::answer(command, *any, files, *json, call),
         Asked::Pair { command, run, other, json } => pair::answer(command, run, other, *json, call),
         Asked::Explain { run, picture } => explain::answer(run, picture.as_deref(), call),
         Asked::Month { files, json } => month::answer(files, *json, call),

@@ -1,4 +1,4 @@
-//! plan, field, buys, rewrite and mend: each run sheet by a program of its own.
+//! plan, field, buys, rewrite and mend: each run sheet by a program of its own; plan --any by another than plan.
 
 use super::{say_refused, told, Call, SHEET};
 use crate::answers::{refusal, Refusal};
@@ -7,19 +7,22 @@ use crate::output::put;
 use crate::programs::Program;
 use crate::say::{quoted, reason, shown};
 use crate::status::{Status, Stop};
+use crate::words::sheet::By;
 use crate::{json, say, words};
 use std::ffi::{OsStr, OsString};
 
 struct Sheets<'a> {
     command: &'a str,
+    /// plan --any.
+    any: bool,
     several: bool,
     json: bool,
     program: Option<Program>,
     call: &'a Call,
 }
 
-pub fn answer(command: &str, files: &[OsString], json: bool, call: &Call) -> Result<Status, Stop> {
-    let mut sheets = Sheets { command, several: files.len() > 1, json, program: None, call };
+pub fn answer(command: &str, any: bool, files: &[OsString], json: bool, call: &Call) -> Result<Status, Stop> {
+    let mut sheets = Sheets { command, any, several: files.len() > 1, json, program: None, call };
     let mut worst = Status::Answered;
     for file in files {
         worst = worst.and(sheets.answer(file)?);
@@ -27,12 +30,13 @@ pub fn answer(command: &str, files: &[OsString], json: bool, call: &Call) -> Res
     Ok(worst)
 }
 
-fn program_of(command: &str) -> &'static str {
+fn program_of(command: &str, any: bool) -> &'static str {
     match command {
         "field" => "cmd_field",
         "buys" => "cmd_buys",
         "rewrite" => "cmd_rewrite",
         "mend" => "cmd_mend",
+        _ if any => "cmd_plan_any",
         _ => "cmd_plan",
     }
 }
@@ -46,7 +50,7 @@ impl Sheets<'_> {
         // Nothing is built for a call that cannot be answered.
         let program = match self.program.take() {
             Some(program) => program,
-            None => Program::ready(program_of(self.command), self.call)?,
+            None => Program::ready(program_of(self.command, self.any), self.call)?,
         };
         let printed = program.ask(&sheet);
         self.program = Some(program);
@@ -99,6 +103,7 @@ impl Sheets<'_> {
     fn words(&self, refused: &Refusal, sheet: &[u8]) -> String {
         match self.command {
             "mend" => words::loose::words(refused, sheet),
+            "plan" => words::of_plan(refused, sheet, if self.any { By::PlanAny } else { By::Plan }),
             _ => words::of_sheet(refused, sheet),
         }
     }

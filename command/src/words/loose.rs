@@ -9,7 +9,7 @@ pub fn words(refusal: &Refusal, text: &[u8]) -> String {
     match refusal.number {
         11 => bad_line(&lines, usize::try_from(refusal.place).unwrap_or(usize::MAX)),
         12 if text.len() <= 16384 => "put in order, the sheet has over 16384 bytes, which no run sheet has".to_string(),
-        12 => sheet::words(refusal, text).unwrap_or_else(|| table::words(12)),
+        12 => sheet::words(refusal, text, sheet::By::Another).unwrap_or_else(|| table::words(12)),
         5 => {
             let reads = lines.iter().filter(|line| line.key() == "want=").try_fold(0u64, |sum, line| sum.checked_add(line.part(1).parse().ok()?));
             let reads = reads.map_or("over 1024".to_string(), |reads| reads.to_string());

@@ -12,7 +12,12 @@ use crate::answers::Refusal;
 
 /// Of a run sheet; where the reason is not found, the words of the table serve.
 pub fn of_sheet(refusal: &Refusal, sheet: &[u8]) -> String {
-    sheet::words(refusal, sheet).unwrap_or_else(|| table::words(refusal.number))
+    of_plan(refusal, sheet, sheet::By::Another)
+}
+
+/// Of a run sheet that plan has refused, with or without --any.
+pub fn of_plan(refusal: &Refusal, sheet: &[u8], by: sheet::By) -> String {
+    sheet::words(refusal, sheet, by).unwrap_or_else(|| table::words(refusal.number))
 }
 
 /// At most 60 characters of a text, in quotes.

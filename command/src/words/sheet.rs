@@ -8,13 +8,25 @@ pub const FORMS: [&str; 5] = ["tape=NAME", "head=NUMBER", "turn=NUMBER", "rule=l
 pub const FILE_FORM: &str = "file=START,LENGTH,AGGREGATE";
 pub const WANT_FORM: &str = "want=FILE,READS";
 
+/// Words of working room that plan and the others have, and those of plan --any: 5 MiB.
+const ROOM: u64 = 5120;
+const ROOM_ANY: u64 = 655360;
+
+/// What has refused: plan names plan --any, which takes more, and plan --any has room of its own.
+#[derive(Clone, Copy, PartialEq, Eq)]
+pub enum By {
+    Plan,
+    PlanAny,
+    Another,
+}
+
 /// The sentence without its beginning; none where the reason is not found.
-pub fn words(refusal: &Refusal, sheet: &[u8]) -> Option<String> {
+pub fn words(refusal: &Refusal, sheet: &[u8], by: By) -> Option<String> {
     if refusal.number == 12 {
         return Some("the sheet has over 16384 bytes, which no run sheet has".to_string());
     }
     let place = usize::try_from(refusal.place).ok()?;
-    Sheet::read(sheet, refusal.number, place).words(refusal.number, place)
+    Sheet::read(sheet, refusal.number, place).words(refusal.number, place, by)
 }
 
 /// A sheet as it stands, line by line, each shown as in a message. Lines and files count from 1.
@@ -129,7 +141,7 @@ impl Sheet {
         format!("line {line}, {}", in_quotes(&self.line(line).text))
     }
 
-    fn words(&self, number: u64, place: usize) -> Option<String> {
+    fn words(&self, number: u64, place: usize, by: By) -> Option<String> {
         Some(match number {
             2 => self.bad_file(place),
             4 => self.bad_want(place),
@@ -138,8 +150,8 @@ impl Sheet {
                 format!("the wants have {reads} reads in all; at most 1024 can be planned")
             }
             6 => format!("the turn price ({}) is above 4294967296 (2^32)", self.stands(3)),
-            7 => self.bad_head(),
-            9 => self.no_room(),
+            7 => self.bad_head(by),
+            9 => self.no_room(by),
             11 => self.bad_line(place),
             19 => format!("the rule ({}) is retired; write rule=least", self.stands(place)),
             24 => format!("the sheet has {} wants; this engine plans at most 8", self.wants),
@@ -294,7 +306,7 @@ impl Sheet {
         lasts.len() as u64
     }
 
-    fn bad_head(&self) -> String {
+    fn bad_head(&self, by: By) -> String {
         let words = format!("the head ({})", self.stands(2));
         if above(self.line(2).value(), LIMIT) {
             return format!("{words} stands above {LIMIT} (2^40)");
@@ -306,15 +318,21 @@ impl Sheet {
         } else {
             format!("the last of the aggregate of file {wanted}, which is the rightmost wanted")
         };
-        format!("{words} stands left of {}, the end of file {rightmost}, {whose} ({})", self.end_of(rightmost), self.stands(rightmost + 5))
+        let advice = if by == By::Plan { "; plan --any takes the head where it stands" } else { "" };
+        format!("{words} stands left of {}, the end of file {rightmost}, {whose} ({}){advice}", self.end_of(rightmost), self.stands(rightmost + 5))
     }
 
-    fn no_room(&self) -> String {
+    fn no_room(&self, by: By) -> String {
         let stops = self.stops();
         let reads = self.reads().unwrap_or(0);
         let at_stops = if stops == self.wants as u64 { String::new() } else { format!(" at {stops} stops") };
+        let room = match by {
+            By::Plan => format!("there are {ROOM}, and plan --any has {ROOM_ANY}"),
+            By::PlanAny => format!("plan --any has {ROOM_ANY} (5 MiB), and no command has more"),
+            By::Another => format!("there are {ROOM}"),
+        };
         format!(
-            "{} wants{at_stops} with {reads} reads in all ask for {stops} * {stops} * {} = {} words of working room; there are 5120",
+            "{} wants{at_stops} with {reads} reads in all ask for {stops} * {stops} * {} = {} words of working room; {room}",
             self.wants,
             reads + 1,
             stops * stops * (reads + 1)
