@@ -171,7 +171,7 @@ module _ (r : Run) (rows : Rows) where
   unfolding planAnyVerdict
   plan-accepted e = none-refuses planChecks e
 
-  run-passed : refuses (planAnyVerdict r rows) ≡ false → refuses (judgeAnyOf r) ≡ false
+  pub run-passed : refuses (planAnyVerdict r rows) ≡ false → refuses (judgeAnyOf r) ≡ false
   unfolding planAnyVerdict
   run-passed e = all-accept planChecks e .0
 

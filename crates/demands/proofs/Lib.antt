@@ -40,3 +40,4 @@ pub mod Laps
 pub mod Range
 pub mod Instances
 pub mod Sharing
+pub mod AnyInstances
