@@ -37,10 +37,10 @@ use Rattle.promises.specs.DeskCases.{ticket, lasts, alone}
 use Rattle.promises.specs.DeskDays.{Exchange, Turned, Held, TurnedOn, HeldOn, sheetTape, sheetBoarding, sheetBoarded, sheetAfter, AcceptedBoardingCase}
 
 -- The tickets that wait, and the rows and the room that are lent.
-abbrev three : List Ticket
+abbrev pub three : List Ticket
 three = rowOf (ticket 1 1 1 1 ∷ ticket 1 2 3 2 ∷ []) (ticket 2 3 1 1 ∷ [])
 
-abbrev lent : Rows
+abbrev pub lent : Rows
 lent = rowsOf (zeros 8) (zeros 8) (zeros 8) (zeros 8) (replicate 54 7)
 
 answer-is : planAnswer exampleRun lent ≡ sheetBoarded .boarded .answer
@@ -55,7 +55,7 @@ run-is : boardRun sheetTape three sheetBoarding ≡ exampleRun
 unfolding ticketsIn addWant withWants wantsOf
 run-is = refl
 
-planned : Plans (boardRun sheetTape three sheetBoarding) lent (sheetBoarded .boarded .answer) sheetAfter
+pub planned : Plans (boardRun sheetTape three sheetBoarding) lent (sheetBoarded .boarded .answer) sheetAfter
 planned =
     subst (λ r. Plans r lent (sheetBoarded .boarded .answer) sheetAfter) (sym run-is)
     (subst (λ a. Plans exampleRun lent a sheetAfter) answer-is (subst (λ rows. Plans exampleRun lent (planAnswer exampleRun lent) rows) rows-are (plans-for-every-input exampleRun lent)))

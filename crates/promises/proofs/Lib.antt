@@ -12,6 +12,7 @@ pub mod DeskWhole
 pub mod DeskDays
 pub mod DeskTells
 pub mod DeskHeld
+pub mod DeskWorked
 pub mod DeskDayCases
 pub mod DeskCases
 pub mod Gathered

@@ -10,6 +10,7 @@ pub mod DeskCases
 pub mod DeskDays
 pub mod DeskTells
 pub mod DeskHeld
+pub mod DeskWorked
 pub mod Mends
 pub mod Mender
 pub mod Months
