@@ -20,4 +20,5 @@ pub mod CheckWhole
 pub mod ListLines
 pub mod ListEntries
 pub mod InputTexts
+pub mod TapeInput
 pub mod TwoTexts
