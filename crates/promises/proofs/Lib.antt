@@ -47,6 +47,7 @@ pub mod CheckWhole
 pub mod ListLines
 pub mod ListEntries
 pub mod InputTexts
+pub mod TapeInput
 pub mod Answers
 pub mod AnswersCases
 pub mod AnyLengths

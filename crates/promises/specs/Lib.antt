@@ -23,4 +23,5 @@ pub mod CheckWhole
 pub mod ListLines
 pub mod ListEntries
 pub mod InputTexts
+pub mod TapeInput
 pub mod TwoTexts

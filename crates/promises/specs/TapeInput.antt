@@ -1,0 +1,52 @@
+-- The input of `ltfs`. Put together as described, and of at most 524,288 bytes, it is answered by the tape's own table: the run sheet, or the two lines of the
+-- first refusal that applies. Any other is refused by 13, where its first line is no tape line, else by 20.
+use Prim.Native.Nat.{ℕ, _≤_, _<_}
+use mathlib.Core.Path.{_≡_}
+use mathlib.Core.Bool.{true}
+use mathlib.Core.List.{List}
+use lib.ListN.{length, take}
+use Rattle.refusals.specs.declared.Refusal.{Refusal}
+use Rattle.refusals.specs.declared.Refusal.the-variants.{Accepted}
+use Rattle.text_bytes.specs.Text.{bytes, isName}
+use Rattle.sheet_reader.specs.Lines.{tapeKey}
+use Rattle.answer_ltfs.specs.declared.Told.{Told}
+use Rattle.answer_ltfs.specs.TapeTable.{ltfsSheet}
+use Rattle.answer_ltfs.specs.Input.{InputAnswered}
+use Rattle.answer_ltfs.specs.Framed.{inputText}
+use Rattle.demands.specs.RefusalTable.{FirstThatApplies}
+use Rattle.demands.specs.Lines.{Stands, Name}
+use Rattle.demands.specs.Tapes.{TapeApplies, tapeOrder}
+use Rattle.promises.specs.Lengths.{sheetRow, reportRow}
+use Rattle.promises.specs.Answers.{twoLines}
+
+pub record TapePrinted (name label index row printed : List ℕ) : Type 0 where
+  pub kind : Refusal
+  pub place : ℕ
+  pub first : FirstThatApplies (TapeApplies name label index row) tapeOrder kind place
+  pub refused : (kind ≡ Accepted → ⊥) → printed ≡ twoLines kind place
+  pub asked : kind ≡ Accepted → printed ≡ ltfsSheet name label index
+
+-- The first bytes of a row as long as the program's are printed.
+abbrev pub TapeByItsTable : Type 0
+TapeByItsTable =
+    (name label index out notes : List ℕ) (r : Told) (out′ notes′ : List ℕ)
+    → isName name ≡ true
+    → length (inputText name label index) ≤ 524288
+    → InputAnswered (inputText name label index) out notes r out′ notes′
+    → sheetRow ≤ length out
+    → reportRow ≤ length notes
+    → TapePrinted name label index out (take (r .bytes) out′)
+
+-- No tape line first; a longer input; one that is put together from no name, label and index.
+pub record OthersRefused (input printed : List ℕ) : Type 0 where
+  pub unnamed : (Stands tapeKey Name input 0 → ⊥) → printed ≡ bytes "refused=13\nplace=0\n"
+  pub long : Stands tapeKey Name input 0 → 524288 < length input → printed ≡ bytes "refused=20\nplace=0\n"
+  pub unframed : Stands tapeKey Name input 0 → ((name label index : List ℕ) → input ≡ inputText name label index → ⊥) → printed ≡ bytes "refused=20\nplace=0\n"
+
+abbrev pub OtherTapesRefused : Type 0
+OtherTapesRefused =
+    (input out notes : List ℕ) (r : Told) (out′ notes′ : List ℕ)
+    → InputAnswered input out notes r out′ notes′
+    → sheetRow ≤ length out
+    → reportRow ≤ length notes
+    → OthersRefused input (take (r .bytes) out′)
