@@ -170,22 +170,22 @@ module _ (run : Run) (ok : refuses (judgeOf run) ≡ false) (list : List Detour)
 
   first-served : served (legsOf (stopsOf run) list) first ≡ true
   first-served =
-      let p = stop-of-want run ok 0 some in
+      let p = stop-of-want run (accepted-run run ok) 0 some in
       served-same (legsOf (stopsOf run) list) first (stopAt (stopsOf run) (p .index)) (p .places)
       ∙ each-served (stopsOf run) (run .head) (accepted-sound run ok) list (p .index) (p .within)
 
   first-long : first .start < first .end
   first-long =
-      let p = stop-of-want run ok 0 some in
+      let p = stop-of-want run (accepted-run run ok) 0 some in
       omega (arith, p .places .start, p .places .end, accepted-sound run ok .extends (p .index) (p .within))
 
   first-time : getD (pricedTimes run list) 0 0 ≡ timeOf (run .turn) (headAt (run .head)) (legsOf (stopsOf run) list) first
   unfolding pricedTimes timesOf
-  first-time = entry-at (timeOf (run .turn) (headAt (run .head)) (legsOf (stopsOf run) list)) (wantStopsOf run) 0 (omega (arith, size run ok))
+  first-time = entry-at (timeOf (run .turn) (headAt (run .head)) (legsOf (stopsOf run) list)) (wantStopsOf run) 0 (omega (arith, size run (accepted-run run ok)))
 
   times-many : length (pricedTimes run list) ≡ length (run .numbers)
   unfolding pricedTimes timesOf
-  times-many = length-map (wantStopsOf run) (timeOf (run .turn) (headAt (run .head)) (legsOf (stopsOf run) list)) ∙ size run ok
+  times-many = length-map (wantStopsOf run) (timeOf (run .turn) (headAt (run .head)) (legsOf (stopsOf run) list)) ∙ size run (accepted-run run ok)
 
   longest-above : 0 < longestOf (run .numbers) (pricedTimes run list) .time
   longest-above =
