@@ -96,6 +96,9 @@ def model(text, met):
     desk, said = Desk(table), []
     while events:
         line, found, events = events.partition(b"\n")
+        if line.startswith(b"#"):
+            desk.met["remark"] = desk.met.get("remark", 0) + 1
+            continue
         answer = desk.answer(line) if found else None
         if answer is None:
             said.append(b"refused=11\nplace=%d\n" % (len(said) + 1))
@@ -148,8 +151,10 @@ def drawn_day(draw, events):
     if draw.random() < 0.1:
         table[draw.randrange(len(table))] = (0, 0, 0)
     lines = [drawn_event(draw, len(table), end, 1 + i // 2) for i in range(events)]
+    for _ in range(draw.choice((0, 0, 1, 5))):
+        lines.insert(draw.randrange(len(lines) + 1), draw.choice(("#", "# 2026-11-16T08:00:00Z office1 uid=1001 pid=4711", "#file=1,1,1", "#" + "x" * draw.choice((65, 66, 67, 68, 134, 135, 136, 900)), "##")))
     if draw.random() < 0.3:
-        lines.insert(draw.randrange(len(lines)), draw.choice(("", "file=1,1", "file=01,1,1", "board=1,2,3", " file=1,1,1", "withdraw=1,18446744073709551616",
+        lines.insert(draw.randrange(len(lines)), draw.choice(("", " #", "file=1,1", "file=01,1,1", "board=1,2,3", " file=1,1,1", "withdraw=1,18446744073709551616",
                                                               "file=1,1,1\r", "Board=1,2", "file=1,1,1" + "1" * 90)))
     return framed(sheet_of(table), lines)
 
@@ -173,6 +178,10 @@ def other_days():
     yield framed(good[:-2], ["file=1,1,1"])
     yield framed(sheet_of([]), ["file=1,1,1", "board=0,0", "board=5,1"])
     yield framed(sheet_of([(0, 10, 0), (5, 10, 0)]), ["file=1,1,1", "file=2,2,1", "board=60,1", "withdraw=1,1", "withdraw=2,1", "board=60,1"])
+    # A journal, and remarks of every length, the last without its LF.
+    yield framed(good, ["# begun", "file=1,1,1", "#", "# " + "." * 5000, "board=14,1", "#" + "." * 67, "#" + "." * 135, "nothing", "file=1,1,1"])
+    yield framed(good, ["file=1,1,1", "# cut off"])[:-1]
+    yield framed(good, ["#" + "." * 66, "#" + "." * 67])[:-1]
     # Sixteen of an office, all they ask for: the most room.
     eight = [(10 * i, 10, 0) for i in range(8)]
     yield framed(sheet_of(eight), [f"file={1 + i // 16},{1 + i % 8},128" for i in range(32)] + ["file=1,1,1", "file=2,1,1"] + ["board=80,1"] * 6)
@@ -207,7 +216,7 @@ def main():
     if model(b"%d\n" % len(sheet) + sheet + events, {}) != answers:
         sys.exit("day.py: examples/day.answers is not what the model answers")
     hold(b"%d\n" % len(sheet) + sheet + events)
-    few = [kind for kind in ["file", "withdraw", "board"] + [f"file refused={n}" for n in (15, 16, 18)] + ["withdraw refused=17"] + [f"board refused={n}" for n in (2, 6, 7)]
+    few = [kind for kind in ["file", "withdraw", "board", "remark"] + [f"file refused={n}" for n in (15, 16, 18)] + ["withdraw refused=17"] + [f"board refused={n}" for n in (2, 6, 7)]
            if met.get(kind, 0) < 2]
     if few:
         sys.exit(f"day.py: too few of {few}: {met}")

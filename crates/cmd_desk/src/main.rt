@@ -1,5 +1,6 @@
 // cmd_desk: a day at the desk of two offices. Standard input: a line with the byte count of a run sheet, the sheet, whose wants are not looked at, and
-// then one event a line; each event's answer goes to standard output before the next event is read.
+// then one event a line; each event's answer goes to standard output before the next event is read. Lines that begin with # are remarks: they are passed
+// over and not counted, so that a journal is such an input.
 // The answers are proved in `answer_desk`, and on a lent row of records in `desk_rows`; what is read and written here, and the order of it, is tested and not proved.
 ghost use Prim.Native.Nat.{_≤_};
 ghost use lib.ListN.{length};
@@ -16,9 +17,10 @@ use text_lines::NumberLine;
 // The number of the refusal of a line that is no event.
 const NO_EVENT: u64 = 11;
 
-// A day, and whether it goes on.
+// A day, how many events it has had, and whether it goes on.
 struct Step {
     day: Day,
+    place: u64,
     goes_on: bool,
 }
 
@@ -53,7 +55,7 @@ fn answer_line(
 {
     let row = day.row;
     let lasts = day.lasts;
-    desk_rows::answer_held(
+    desk_rows::take_line(
         row,
         lasts,
         text_inputs::front(line, n as u64),
@@ -77,9 +79,44 @@ fn placed(verdict: Verdict, place: u64) -> Verdict {
     verdict
 }
 
-// One event, by its number: its answer, and the day afterwards. No line that is as described is longer than 68 bytes: `file=`, three numbers of 20
+// Whether a line was cut off at the end of its row.
+fn is_cut(line: &[u8; 68], n: usize) -> bool {
+    if n == 68 {
+        return line[67] != b'\n';
+    }
+    false
+}
+
+// Passes over what is left of a line of which this was read.
+fn pass_rest(line: &[u8; 68], n: usize) {
+    let mut cut = is_cut(line, n);
+    let mut parts: u64 = 0;
+    while parts < 18446744073709551615 {
+        if !cut {
+            break;
+        }
+        parts += 1;
+        let mut rest = [0u8; 68];
+        let m = text_inputs::read_line(&mut rest);
+        cut = is_cut(&rest, m);
+    }
+}
+
+// The number of the event in a line that was just read, behind so many. A remark has none, and the whole of it is passed over.
+fn place_of(before: u64, line: &[u8; 68], n: usize) -> u64 {
+    if desk_rows::is_remark(text_inputs::front(line, n as u64)) {
+        pass_rest(line, n);
+        return before;
+    }
+    if before == 18446744073709551615 {
+        return before;
+    }
+    before + 1
+}
+
+// One line behind so many events: its answer, and the day afterwards. No event that is as described is longer than 68 bytes: `file=`, three numbers of 20
 // digits, two commas and the LF.
-fn take_event(day: Day, place: u64, starts: &[u64], lengths: &[u64], aggregates: &[u64]) -> Step {
+fn take_event(day: Day, before: u64, starts: &[u64], lengths: &[u64], aggregates: &[u64]) -> Step {
     let mut line = [0u8; 68];
     let mut room = [0u64; 65600];
     let mut out = [0u8; 2677];
@@ -88,9 +125,11 @@ fn take_event(day: Day, place: u64, starts: &[u64], lengths: &[u64], aggregates:
         print_waiting(day);
         return Step {
             day,
+            place: before,
             goes_on: false,
         };
     }
+    let place = place_of(before, &line, n);
     let answered = answer_line(
         day,
         &line,
@@ -112,6 +151,7 @@ fn take_event(day: Day, place: u64, starts: &[u64], lengths: &[u64], aggregates:
     let kind = verdict.refusal;
     Step {
         day: Day { row, lasts },
+        place,
         goes_on: refusals::number(kind) != NO_EVENT,
     }
 }
@@ -120,16 +160,17 @@ fn take_event(day: Day, place: u64, starts: &[u64], lengths: &[u64], aggregates:
 fn hold_day(starts: &[u64], lengths: &[u64], aggregates: &[u64]) {
     let mut turn = Step {
         day: answer_desk::morning(),
+        place: 0,
         goes_on: true,
     };
-    let mut place: u64 = 0;
-    while place < 18446744073709551615 {
+    let mut lines: u64 = 0;
+    while lines < 18446744073709551615 {
         if !turn.goes_on {
             break;
         }
-        place += 1;
+        lines += 1;
         let day = turn.day;
-        turn = take_event(day, place, starts, lengths, aggregates);
+        turn = take_event(day, turn.place, starts, lengths, aggregates);
     }
 }
 

@@ -5,4 +5,5 @@ pub mod Thin
 pub mod Determined
 pub mod Kept
 pub mod Events
+pub mod Remarks
 pub mod Walks

@@ -23,6 +23,11 @@ use desk_tickets::Withdrawal;
 use desk_tickets::Withdrawn;
 use refusals::Verdict;
 
+mod journal;
+
+pub use journal::is_remark;
+pub use journal::take_line;
+
 // What is answered to an event beside the row: the last numbers given, the verdict, and how many bytes the text has.
 pub struct Told {
     pub lasts: Lasts,

@@ -13,6 +13,7 @@ pub mod DeskDays
 pub mod DeskTells
 pub mod DeskHeld
 pub mod DeskWorked
+pub mod DeskReplay
 pub mod DeskDayCases
 pub mod DeskCases
 pub mod Gathered

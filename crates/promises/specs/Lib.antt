@@ -11,6 +11,7 @@ pub mod DeskDays
 pub mod DeskTells
 pub mod DeskHeld
 pub mod DeskWorked
+pub mod DeskReplay
 pub mod Mends
 pub mod Mender
 pub mod Months

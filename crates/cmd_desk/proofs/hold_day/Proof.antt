@@ -1,4 +1,4 @@
--- `cmd_desk::hold_day` ends: the events are counted.
+-- `cmd_desk::hold_day` ends: the lines are counted.
 -- Assumes nothing.
 use Prim.Native.Nat.{_-_, _≤_}
 use borrow.Author.Needs.{needs}
@@ -6,10 +6,10 @@ use Rattle.cmd_desk.proofs.hold_day.Statement.{statement}
 use Rattle.cmd_desk.proofs.hold_day.Tie as tie
 
 abbrev Inv-loop : tie.InvT-loop
-Inv-loop starts lengths aggregates turn₀ place₀ turn place = place ≤ 18446744073709551615
+Inv-loop starts lengths aggregates turn₀ lines₀ turn lines = lines ≤ 18446744073709551615
 
 abbrev μ-loop : tie.MeasureT-loop
-μ-loop starts lengths aggregates turn₀ place₀ turn place = 18446744073709551615 - place
+μ-loop starts lengths aggregates turn₀ lines₀ turn lines = 18446744073709551615 - lines
 
 morning-requires : tie.Need-morning-requires Inv-loop μ-loop
 morning-requires c κs = search needs
@@ -17,8 +17,8 @@ morning-requires c κs = search needs
 loop-holds : tie.Need-loop-holds Inv-loop μ-loop
 loop-holds c = search needs
 
-add-place : tie.Need-add-place Inv-loop μ-loop
-add-place c = search needs
+add-lines : tie.Need-add-lines Inv-loop μ-loop
+add-lines c = search needs
 
 take-event-requires : tie.Need-take-event-requires Inv-loop μ-loop
 take-event-requires c κs = search needs
@@ -43,7 +43,7 @@ hold-day-spec =
     μ-loop
     morning-requires
     loop-holds
-    add-place
+    add-lines
     take-event-requires
     loop-less
     loop-again
