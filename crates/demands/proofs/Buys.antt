@@ -118,6 +118,13 @@ without-is [] (suc i) = refl
 without-is (d ∷ list) zero = refl
 without-is (d ∷ list) (suc i) = ap (λ l. d ∷ l) (without-is list i)
 
+-- What an entry of a well-formed list buys.
+pub bought-at : (r : Run) (list : List Detour) (i : ℕ) → i < length list → WellFormed (stopsOf r) list → IsBought r list i (figureOf r list i)
+unfolding figureOf pricedAnswer
+bought-at r list i l formed =
+    let e = without-is list i in
+    record { formed = rw (← e) (without-formed (stopsOf r) list i l formed); less = rw (← e) (is-less _ _) }
+
 -- An accepted list in two rows, and a row for its figures.
 module _ (r : Run) (froms tos : List ℕ) (p : Priceable r froms tos) where
   even : length froms ≡ length tos
@@ -134,13 +141,7 @@ module _ (r : Run) (froms tos : List ℕ) (p : Priceable r froms tos) where
       List·getD-append (figuresOf r (listOf froms tos)) rest (pos 0) i (omega (arith, size)) ∙ sym (figure-at r (listOf froms tos) i (omega (arith, count)))
 
   bought : (i : ℕ) → i < length froms → IsBought r (listOf froms tos) i (figureOf r (listOf froms tos) i)
-  unfolding figureOf pricedAnswer
-  bought i l =
-      let e = without-is (listOf froms tos) i in
-      record {
-        formed = rw (← e) (without-formed (stopsOf r) (listOf froms tos) i (omega (arith, count)) (list-formed (stopsOf r) froms tos (p .list)));
-        less = rw (← e) (is-less _ _);
-      }
+  bought i l = bought-at r (listOf froms tos) i (omega (arith, count)) (list-formed (stopsOf r) froms tos (p .list))
 
   told : (row : List ℤ) → length froms ≤ length row → (answer : Answer) → answer ≡ pricedAnswer r (listOf froms tos)
       → (out : List ℤ) → out ≡ figuresOf r (listOf froms tos) ++ drop (length froms) row → FiguresTold r froms tos row answer out

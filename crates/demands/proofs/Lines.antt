@@ -102,7 +102,7 @@ tells-triple : (text : List ℕ) → Tells (isTriple text) (Triple text)
 unfolding isTriple isPair isNumber before
 tells-triple = tells-number-and Pair isPair tells-pair pair-flat refl
 
-triple-flat : (text : List ℕ) → Triple text → has lineFeed text ≡ false
+pub triple-flat : (text : List ℕ) → Triple text → has lineFeed text ≡ false
 unfolding isPair isNumber before
 triple-flat = number-and-flat Pair isPair tells-pair pair-flat refl
 

@@ -26,7 +26,6 @@ use Rattle.text_bytes.specs.Text.{lineFeed, decimal}
 use Rattle.sheet_writer.specs.RefusalLines.{refusedKey, placeKey, refusalText}
 use Rattle.answer_plan.specs.Recall.{runChecks, roomWords, verdictBy, recallVerdict, PlanOf}
 use Rattle.answer_field.specs.Field.{fieldChecks}
-use Rattle.answer_buys.specs.Buys.{BuysText}
 use Rattle.demands.specs.RefusalTable.{FirstBad, RunApplies, FirstThatApplies, here, later}
 use Rattle.demands.specs.Lines.{LineIsBad, linesDue, Ruled}
 use Rattle.demands.proofs.Tests.{tells-below}
@@ -37,8 +36,10 @@ use Rattle.demands.proofs.Counted.{has-stops, stops-one}
 use Rattle.demands.proofs.Lines.{tells-sweep}
 use Rattle.demands.proofs.FirstLine.{decides-line}
 use Rattle.promises.specs.Answers.{SheetRunApplies, AnswerApplies, too-long, bad-line, retired-rule, run, engine, RoomApplies, short-room, EightApplies, over-eight, roomOrder, eightOrder, twoLines, PrintedByTheTable, PlanByTheTable, FieldByTheTable, BuysByTheTable}
+use Rattle.promises.specs.BuysLines.{FiguresOf}
+use Rattle.promises.proofs.BuysLines.{figures-of}
 use Rattle.promises.proofs.Checks.{put-whole}
-use Rattle.promises.proofs.Lengths.{plan-begins, figures-begin, run-judges, field-judges, run-checks-near, field-checks-near, plan-held, buys-held}
+use Rattle.promises.proofs.Lengths.{plan-begins, run-judges, field-judges, run-checks-near, field-checks-near, plan-held, buys-held}
 
 -- The lines of a refusal.
 regrouped : (a n f b p : List ℕ) → (a ++ n ++ f) ++ (b ++ p ++ f) ≡ a ++ n ++ (f ++ b) ++ p ++ f
@@ -196,8 +197,8 @@ eight-all = (refl, (refl, (refl, (refl, (refl, (refl, (refl, (refl, (refl, (refl
 plan-begun : (name : List ℕ) (r : Run) (text : List ℕ) → PlanOf name r text → getD text 0 0 ≡ 116
 plan-begun name r text p = ap (λ t. getD t 0 0) (p .says) ∙ plan-begins name r _ _
 
-figures-begun : (name : List ℕ) (r : Run) (text : List ℕ) → BuysText name r text → getD text 0 0 ≡ 116
-figures-begun name r text p = ap (λ t. getD t 0 0) (p .says) ∙ figures-begin name r _ _
+figures-begun : (name : List ℕ) (r : Run) (text : List ℕ) → FiguresOf name r text → getD text 0 0 ≡ 116
+figures-begun name r text p = ap (λ t. getD t 0 0) (p .whole)
 
 pub plan-by-the-table : PlanByTheTable
 plan-by-the-table sheet row n row′ c wide =
@@ -218,7 +219,8 @@ field-by-the-table sheet row n row′ c wide =
 pub buys-by-the-table : BuysByTheTable
 buys-by-the-table sheet row n row′ c wide =
     let h = buys-held sheet (c .text) (c .answers) in
-    subst (PrintedByTheTable (AnswerApplies RoomApplies sheet) roomOrder (BuysText (sheetName sheet) (sheetRun sheet)))
+    subst (PrintedByTheTable (AnswerApplies RoomApplies sheet) roomOrder (FiguresOf (sheetName sheet) (sheetRun sheet)))
     (sym (put-whole (c .text) row n row′ (c .bytes) (c .left) (omega (arith, h .0))))
     (by-the-table (AnswerApplies RoomApplies sheet) roomOrder room-all (recallVerdict sheet) (room-finds sheet) (sheet-accepts RunApplies run-few RoomApplies room-own sheet runChecks)
-    (BuysText (sheetName sheet) (sheetRun sheet)) (c .text) (figures-begun (sheetName sheet) (sheetRun sheet) (c .text)) (c .answers .refused) (c .answers .figured))
+    (FiguresOf (sheetName sheet) (sheetRun sheet)) (c .text) (figures-begun (sheetName sheet) (sheetRun sheet) (c .text)) (c .answers .refused)
+    (λ e. figures-of (sheetName sheet) (sheetRun sheet) (c .text) (c .answers .figured e)))

@@ -10,6 +10,7 @@ pub mod DeskRows
 pub mod DeskTape
 pub mod DeskWhole
 pub mod DeskDays
+pub mod DeskAsked
 pub mod DeskTells
 pub mod DeskHeld
 pub mod DeskWorked
@@ -49,7 +50,9 @@ pub mod ListLines
 pub mod ListEntries
 pub mod InputTexts
 pub mod TapeInput
+pub mod BuysLines
 pub mod Answers
+pub mod MonthPage
 pub mod AnswersCases
 pub mod AnyLengths
 pub mod AnswersAny

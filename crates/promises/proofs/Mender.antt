@@ -10,13 +10,14 @@ use lib.ListN.{length}
 use lib.Dec.{ltb}
 use borrow.Author.Tests.{ltb-false}
 use Rattle.refusals.specs.declared.Refusal.{Refusal}
-use Rattle.refusals.specs.declared.Refusal.the-variants.{WantRows, TooManyReads, ShortRow, BadLine, LongSheet}
+use Rattle.refusals.specs.declared.Refusal.the-variants.{Accepted, WantRows, TooManyReads, ShortRow, BadLine, LongSheet}
 use Rattle.refusals.specs.declared.Verdict.{Verdict}
 use Rattle.refusals.specs.Refusals.{isRefusal, accepted, refuseIf, refuseAt, firstOf}
 use Rattle.refusals.proofs.Verdicts.{refuses, all-accept, none-refuses, first-alone, accepts-if, accepts-at}
 use Rattle.runs.specs.Run.{mostWants, mostReads}
 use Rattle.runs.proofs.Search.{true-or-false}
 use Rattle.sheet_reader.specs.Sheet.{longestSheet}
+use Rattle.sheet_reader.specs.Reading.{readRow}
 use Rattle.sheet_loose.specs.Loose.{firstBadLoose, wantedCounts}
 use Rattle.sheet_loose.specs.Reading.{looseVerdict}
 use Rattle.answer_mend.specs.declared.Mended.{Mended}
@@ -138,6 +139,20 @@ module _ (sheet out notes : List ℕ) where
             let none : mendVerdict sheet out notes ≡ accepted = verdict-is ∙ none-refuses (ofSheet ∷ ofTexts ∷ []) (ap refuses (sym verdict-is) ∙ e) in
             (ap (λ a. a .refusal) (h .answer) ∙ rw (e, none), ap (λ a. a .place) (h .answer) ∙ rw (e, none))
 
+    -- A refusal tells nothing and leaves the rows.
+    kept-so : (r .refusal ≡ Accepted → ⊥) → (r .bytes ≡ 0) × (r .noted ≡ 0) × (out′ ≡ out) × (notes′ ≡ notes)
+    unfolding readRow
+    kept-so n =
+        ⊎-elim
+        (λ (e : refuses (mendVerdict sheet out notes) ≡ true). (
+          ap (λ (a : Mended). a .bytes) (h .answer) ∙ rw e,
+          ap (λ (a : Mended). a .noted) (h .answer) ∙ rw e,
+          h .sheet ∙ rw e,
+          h .listed ∙ rw e,
+        ))
+        (λ (e : refuses (mendVerdict sheet out notes) ≡ false). absurd (n (ap (λ (a : Mended). a .refusal) (h .answer) ∙ rw e)))
+        (true-or-false (refuses (mendVerdict sheet out notes)))
+
     found : (applies : Refusal → ℕ → Type 0) (order : List Refusal) (v : Verdict) → mendVerdict sheet out notes ≡ v → Finds applies order v → FirstThatApplies applies order (r .refusal) (r .place)
     found applies order v e f = rw (says .0, says .1, e) f
 
@@ -155,6 +170,7 @@ mender-refuses sheet out notes r out′ notes′ h =
       of-sheet = λ s. first;
       of-texts = λ n. absurd (n some);
       iff = (λ n. inl some, λ s. refused-iff OfSheet first (refl, (refl, (refl, (refl, tt)))) .1 some);
+      kept = kept-so sheet out notes r out′ notes′ h;
     })
     (λ (e : refuses (ofSheet sheet out notes) ≡ false).
     let none : SomeApplies OfSheet sheetOrder → ⊥ = λ s. true≢false (sym (not-accepted (ofSheet sheet out notes .refusal) (iff .1 s)) ∙ e) in
@@ -164,6 +180,7 @@ mender-refuses sheet out notes r out′ notes′ h =
       of-sheet = λ s. absurd (none s);
       of-texts = λ n. first;
       iff = (λ n. inr (both .0 n), λ s. ⊎-elim (λ t. absurd (none t)) (both .1) s);
+      kept = kept-so sheet out notes r out′ notes′ h;
     })
     (true-or-false (refuses (ofSheet sheet out notes)))
 

@@ -1,8 +1,8 @@
 -- The promises of the request on mending.
 use Prim.Native.Nat.{ℕ, zero, suc, _+_, _≤_, _<_}
-use mathlib.Core.Path.{_≡_, refl, ap, sym, _∙_}
+use mathlib.Core.Path.{_≡_, refl, ap, sym, _∙_, subst}
 use mathlib.Core.Bool.{Bool, true, false, true≢false, not, cond}
-use mathlib.Core.List.{List, [], _∷_, _++_, append-assoc}
+use mathlib.Core.List.{List, [], _∷_, _++_}
 use native.Mathlib.Omega.{arith}
 use lib.ListN.{length, drop, getD}
 use lib.Seq.{take-append-seam, drop-append-seam}
@@ -20,9 +20,10 @@ use Rattle.sheet_reader.specs.Reading.{readRow}
 use Rattle.text_bytes.specs.Text.{bytes, isEmpty, startsWith, isText}
 use Rattle.text_bytes.proofs.Bytes.{and-true-both}
 use Rattle.text_bytes.proofs.Split.{key-split, whole-key}
-use Rattle.sheet_reader.specs.Lines.{turnKey, ruleKey, sweepText, namesSweep}
+use Rattle.sheet_reader.specs.Lines.{turnKey, ruleKey, sweepText, wantKey, namesSweep}
 use Rattle.sheet_reader.specs.Sheet.{longestSheet, sheetTurn, saysSweep, sheetFiles, fileText, sheetRun}
-use Rattle.sheet_loose.specs.Loose.{looseFiles, looseWants, wantsSaid, priceLeftOut, firstBadLoose, wantedFiles, wantedCounts}
+use Rattle.sheet_reader.proofs.Rows.{length-each}
+use Rattle.sheet_loose.specs.Loose.{looseFiles, looseWantText, looseWants, wantsSaid, priceLeftOut, firstBadLoose, wantedFiles, wantedCounts}
 use Rattle.sheet_loose.specs.Reading.{looseVerdict}
 use Rattle.answer_mend.specs.declared.Mended.{Mended}
 use Rattle.answer_mend.specs.declared.wants.Fate.{Fate}
@@ -31,10 +32,10 @@ use Rattle.answer_mend.specs.Wants.{readsInAll, askedOf, readsOfWant, sameAbove
 use Rattle.answer_mend.specs.Mending.{firstLines, sheetRemaining, sheetReads, mendedText, changeIf, changesText, fateLine, fateLines, wantsVerdicts, textsVerdicts, mendVerdict, SheetMended}
 use Rattle.answer_mend.proofs.Answers.{mend-determined}
 use Rattle.demands.proofs.Judged.{nothing-judged}
-use Rattle.promises.specs.Mends.{InRows, MendedRows, MendingDetermined, WasMended, SameReads, ReadsKept, SheetInOrder, MendedInOrder, MendedIsRead, SameFile, HigherFile, FateBy, FatesByConditions, SaidOf, EveryFateListed, ListedWhen, TopChangesListed, OnceIsEnough, AcceptedComesBack, AcceptedAsWritten, AcceptedTaken}
+use Rattle.promises.specs.Mends.{InRows, MendedRows, MendingDetermined, WasMended, SameReads, ReadsKept, SheetInOrder, MendedInOrder, MendedIsRead, SameFile, HigherFile, FateBy, FatesByConditions, FateSaid, FatesSaid, ListedWhen, EveryChangeListed, OnceIsEnough, AcceptedComesBack, AcceptedAsWritten, AcceptedTaken}
 use Rattle.promises.proofs.Gathered.{rising-at, Clean, remaining-clean, clean-remaining, clean-each, clean-stays, reads-kept, total-kept}
 use Rattle.runs.specs.Judging.{judgeOf}
-use Rattle.text_lines.specs.Lines.{afterLines, lineAfter, valueText}
+use Rattle.text_lines.specs.Lines.{afterLines, lineAfter, valueText, firstIn}
 use Rattle.sheet_reader.specs.Reading.{sheetVerdict, ruleVerdict}
 use Rattle.promises.proofs.Same.{empty-is, fair-wants, old-sheet, new-sheet, same-sheet, one-change}
 use Rattle.promises.proofs.Written.{written-so, mended-short}
@@ -298,56 +299,17 @@ module _ (files counts : List ℕ) (line : ℕ) where
 pub fates-by-conditions : FatesByConditions
 fates-by-conditions files counts line = fate-by files counts line
 
--- Each line's fate among the others'.
-fate-among : (above : ℕ) (files counts : List ℕ) (n line : ℕ) → line < n → (front : List ℕ) × ((back : List ℕ) × (fateLines above files counts n ≡ front ++ fateLine (above + (line + 1)) (fateOf files counts line) ++ back))
+-- What is said of the want lines.
+fate-said : (n : ℕ) (fate : Fate) → FateSaid n fate (fateLine n fate)
+fate-said n Stays = FateSaid.nothing
+fate-said n Moved = FateSaid.moved
+fate-said n Added = FateSaid.added
+fate-said n Dropped = FateSaid.dropped
+
+fates-said : (files counts : List ℕ) (above n : ℕ) → FatesSaid files counts above n (fateLines above files counts n)
 unfolding fateLines
-fate-among above files counts zero line l = absurd (omega arith)
-fate-among above files counts (suc n) line l = go (fate-among above files counts n line) (ltb line n) refl
-  where
-    go : (line < n → (front : List ℕ) × ((back : List ℕ) × (fateLines above files counts n ≡ front ++ fateLine (above + (line + 1)) (fateOf files counts line) ++ back)))
-        → (t : Bool) → ltb line n ≡ t
-        → (front : List ℕ) × ((back : List ℕ) × (fateLines above files counts n ++ fateLine (above + (n + 1)) (fateOf files counts n) ≡ front ++ fateLine (above + (line + 1)) (fateOf files counts line) ++ back))
-    go rest true t =
-        let found = rest (ltb-true line n t) in
-        (found .0, (found .1 .0 ++ fateLine (above + (n + 1)) (fateOf files counts n), ap (λ x. x ++ fateLine (above + (n + 1)) (fateOf files counts n)) (found .1 .1) ∙ append-assoc (found .0 ++ fateLine (above + (line + 1)) (fateOf files counts line)) (found .1 .0) (fateLine (above + (n + 1)) (fateOf files counts n))))
-    go rest false t =
-        let e : line ≡ n = omega (arith, ltb-false line n t) in
-        (fateLines above files counts n, ([], rw e (sym (mathlib.Core.List.append-nil (fateLines above files counts n ++ fateLine (above + (n + 1)) (fateOf files counts n))))))
-
-says-nothing : (n : ℕ) (fate : Fate) → fate ≡ Stays → fateLine n fate ≡ []
-says-nothing n fate e = rw e
-
-says-something : (n : ℕ) (fate : Fate) → (fate ≡ Stays → ⊥) → fateLine n fate ≡ [] → ⊥
-says-something n Stays some e = some refl
-says-something n Moved some e = let z : _≡_ {A = ℕ} 0 1 = cc in omega arith
-says-something n Added some e = let z : _≡_ {A = ℕ} 0 1 = cc in omega arith
-says-something n Dropped some e = let z : _≡_ {A = ℕ} 0 1 = cc in omega arith
-
--- The changes above the want lines.
-abbrev topChanges : List ℕ → List ℕ
-topChanges sheet =
-    changeIf (priceLeftOut sheet) 3 (bytes "turn")
-    ++ changeIf (saysSweep sheet) 4 (bytes "rule")
-    ++ changeIf (not (eqb (sheetFiles sheet) (looseFiles sheet))) 5 (bytes "files")
-    ++ changeIf (not (eqb (wantsSaid sheet) (length (sheetRemaining sheet)))) (looseFiles sheet + 6) (bytes "wants")
-
-regroup : (a b c d : List ℕ) → a ++ (b ++ c ++ d) ≡ a ++ b ++ c ++ d
-regroup a b c d = simp append-assoc
-
-said-of : (sheet listed : List ℕ) (above line : ℕ) (files counts top : List ℕ) → listed ≡ top ++ fateLines above files counts (length files) → line < length files → SaidOf listed files counts above line
-said-of sheet listed above line files counts top e l =
-    let found = fate-among above files counts (length files) line l in
-    record {
-      front = top ++ found .0;
-      back = found .1 .0;
-      whole = e ∙ ap (λ x. top ++ x) (found .1 .1) ∙ regroup top (found .0) (fateLine (above + (line + 1)) (fateOf files counts line)) (found .1 .0);
-      nothing = says-nothing (above + (line + 1)) (fateOf files counts line);
-      something = says-something (above + (line + 1)) (fateOf files counts line);
-    }
-
-pub every-fate-listed : EveryFateListed
-unfolding changesText
-every-fate-listed sheet line l = said-of sheet (changesText sheet) (looseFiles sheet + 6) line (wantedFiles sheet) (wantedCounts sheet) (topChanges sheet) refl l
+fates-said files counts above zero = FatesSaid.of-none
+fates-said files counts above (suc n) = FatesSaid.of-one-more (fates-said files counts above n) (fate-by files counts n) (fate-said (above + (n + 1)) (fateOf files counts n))
 
 -- A part of the changes, from its test.
 listed-when : (Changes : Type 0) (test : Bool) (n : ℕ) (word : List ℕ) → (test ≡ true → Changes) → (test ≡ false → Changes → ⊥) → ListedWhen Changes (changeIf test n word) n word
@@ -376,19 +338,36 @@ sweep-named : namesSweep (ruleKey ++ sweepText) ≡ true
 unfolding namesSweep startsWith
 sweep-named = refl
 
-pub top-changes-listed : TopChangesListed
-unfolding changesText priceLeftOut saysSweep
-top-changes-listed sheet =
+turn-listed : (sheet : List ℕ) → ListedWhen (valueText turnKey (lineAfter 2 sheet) ≡ []) (changeIf (priceLeftOut sheet) 3 (bytes "turn")) 3 (bytes "turn")
+unfolding priceLeftOut
+turn-listed sheet =
+    let value = valueText turnKey (lineAfter 2 sheet) in
+    listed-when (value ≡ []) (isEmpty value) 3 (bytes "turn") (empty-is value) (price-given value)
+
+lines-many : (sheet : List ℕ) → length (wantedFiles sheet) ≡ looseWants sheet
+unfolding wantedFiles
+lines-many sheet = length-each (λ i. firstIn wantKey (lineAfter i (looseWantText sheet))) (looseWants sheet)
+
+pub every-change-listed : EveryChangeListed
+unfolding changesText saysSweep
+every-change-listed sheet text m =
+    let k = known sheet text m in
+    let e = text-mended sheet text m in
+    let files-are : looseFiles text ≡ looseFiles sheet = ap looseFiles e ∙ files-again sheet (k .good) (k .few) (k .reads) in
+    let wants-are : looseWants text ≡ length (sheetRemaining sheet) = ap looseWants e ∙ wants-again sheet (k .good) (k .few) (k .reads) in
+    let fates = fateLines (looseFiles sheet + 6) (wantedFiles sheet) (wantedCounts sheet) (length (wantedFiles sheet)) in
     record {
       turn = changeIf (priceLeftOut sheet) 3 (bytes "turn");
       rule = changeIf (saysSweep sheet) 4 (bytes "rule");
       files = changeIf (not (eqb (sheetFiles sheet) (looseFiles sheet))) 5 (bytes "files");
       wants = changeIf (not (eqb (wantsSaid sheet) (length (sheetRemaining sheet)))) (looseFiles sheet + 6) (bytes "wants");
-      whole = refl;
-      turn-line = listed-when (valueText turnKey (lineAfter 2 sheet) ≡ []) (priceLeftOut sheet) 3 (bytes "turn") (empty-is (valueText turnKey (lineAfter 2 sheet))) (price-given (valueText turnKey (lineAfter 2 sheet)));
+      fates = fates;
+      whole = mended-rows sheet (m .out) (m .notes) (m .answer) (m .out′) (m .notes′) (m .contract) (m .accepted) .changes;
+      turn-line = turn-listed sheet;
       rule-line = listed-when (lineAfter 3 sheet ≡ ruleKey ++ sweepText) (saysSweep sheet) 4 (bytes "rule") (sweep-line (lineAfter 3 sheet)) (λ least is. true≢false (sym sweep-named ∙ ap namesSweep (sym is) ∙ least));
-      files-line = count-listed (sheetFiles sheet) (looseFiles sheet) 5 (bytes "files");
-      wants-line = count-listed (wantsSaid sheet) (length (sheetRemaining sheet)) (looseFiles sheet + 6) (bytes "wants");
+      files-line = rw files-are (count-listed (sheetFiles sheet) (looseFiles sheet) 5 (bytes "files"));
+      wants-line = rw wants-are (count-listed (wantsSaid sheet) (length (sheetRemaining sheet)) (looseFiles sheet + 6) (bytes "wants"));
+      want-lines = subst (λ (n : ℕ). FatesSaid (wantedFiles sheet) (wantedCounts sheet) (looseFiles sheet + 6) n fates) (lines-many sheet) (fates-said (wantedFiles sheet) (wantedCounts sheet) (looseFiles sheet + 6) (length (wantedFiles sheet)));
     }
 
 pub accepted-comes-back : AcceptedComesBack
@@ -401,7 +380,7 @@ accepted-comes-back sheet read least nothing =
       old = old-sheet sheet good (fair-wants sheet run) least;
       new = new-sheet sheet good (fair-wants sheet run) least;
       given = same-sheet sheet good (fair-wants sheet run) least;
-      listed = one-change sheet good (fair-wants sheet run) least;
+      listed = subst (λ (part : List ℕ). ListedWhen (valueText turnKey (lineAfter 2 sheet) ≡ []) part 3 (bytes "turn")) (sym (one-change sheet good (fair-wants sheet run) least)) (turn-listed sheet);
     }
 
 pub accepted-as-written : AcceptedAsWritten

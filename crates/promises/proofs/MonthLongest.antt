@@ -5,12 +5,11 @@ use mathlib.Core.Bool.{Bool, true, false, cond, true≢false}
 use mathlib.Core.Logic.{_⊎_, inl, inr, ⊎-elim}
 use mathlib.Core.List.{List, [], _∷_, _++_}
 use native.Mathlib.Omega.{arith}
-use lib.ListN.{length, getD, take, drop, length-append}
+use lib.ListN.{length, getD, take, length-append}
 use lib.Seq.{take-at}
 use lib.Dec.{ltb}
-use borrow.Author.Tests.{ltb-true, ltb-false, le-ltb}
+use borrow.Author.Tests.{ltb-true, ltb-false}
 use Rattle.refusals.specs.declared.Refusal.the-variants.{Accepted}
-use Rattle.refusals.specs.declared.Verdict.{Verdict}
 use Rattle.refusals.specs.Refusals.{isRefusal}
 use Rattle.refusals.proofs.Verdicts.{refuses}
 use Rattle.runs.specs.Run.{Run, stopsOf}
@@ -20,18 +19,16 @@ use Rattle.runs.proofs.Search.{true-or-false}
 use Rattle.walk.specs.Price.{pricedTimes}
 use Rattle.least.specs.Least.{LeastForRun}
 use Rattle.least.proofs.LeastList.{least-unique}
-use Rattle.text_bytes.specs.Text.{bytes, comma, lineFeed, decimal}
 use Rattle.sheet_reader.specs.Sheet.{sheetRun, sheetName}
-use Rattle.answer_plan.specs.Recall.{recallVerdict, bytesPut, rowPut}
+use Rattle.answer_plan.specs.Recall.{recallVerdict}
 use Rattle.answer_outcome.specs.declared.Outcome.{Outcome}
 use Rattle.answer_outcome.specs.declared.Longest.{Longest}
 use Rattle.answer_outcome.specs.Outcomes.{nameIn, longer, longestFrom, longestOf, refusedOutcome, plannedOutcome, PlannedAs, OutcomeOf}
 use Rattle.answer_outcome.proofs.Plans.{times-long}
 use Rattle.answer_month.specs.declared.Month.{Month}
 use Rattle.answer_month.specs.Month.{emptyMonth, addedAll}
-use Rattle.answer_month.specs.Page.{longestText, monthTop, sumsText, monthEnd, pageText, monthTape}
 use Rattle.promises.specs.Months.{Every, OneByOne, Outcomes, longestTime, NoneRead, FirstLongest}
-use Rattle.promises.specs.MonthLongest.{FirstOfLongest, LongestInside, NoneLonger, NoWantIsLonger, OrderWithoutReads, PageTellsLongest}
+use Rattle.promises.specs.MonthLongest.{FirstOfLongest, LongestInside, NoneLonger, NoWantIsLonger, OrderWithoutReads}
 use Rattle.promises.proofs.MonthTotals.{month-counts}
 use Rattle.promises.proofs.MonthNames.{judged, no-reads-no-name}
 use Rattle.promises.proofs.MonthOrder.{sheets-length, order-is-tie}
@@ -193,24 +190,3 @@ order-without-reads sheets sheets′ runs runs′ few p o o′ none =
     let a = no-reads-no-name sheets runs few o none in
     let b = no-reads-no-name sheets′ runs′ (omega (arith, few, sheets-length p)) o′ (sym (same .reads) ∙ none) in
     record { file = a .file ∙ sym (b .file); letters = a .letters ∙ sym (b .letters); tape = λ some. absurd (omega (arith, some, a .time)) }
-
--- The page.
-page-put : (text row : List ℕ) → length text ≤ length row → take (bytesPut text row) (rowPut text row) ≡ text
-unfolding bytesPut rowPut
-page-put text row h = rw (le-ltb (length row) (length text) h) (take-at text (drop (length text) row) (length text) refl)
-
--- Its parts, with the line between what stands above it and below it.
-abbrev lineOf : Month → List ℕ
-lineOf m = bytes "longest=" ++ decimal (m .time) ++ (comma ∷ []) ++ monthTape m ++ ((comma ∷ []) ++ decimal (m .file) ++ (lineFeed ∷ []))
-
-page-parts : (m : Month) (v : Verdict) → pageText m v ≡ (monthTop (m .accepted) (m .refused) ++ sumsText (m .reads) (m .sum)) ++ lineOf m ++ monthEnd (m .saved) v
-unfolding pageText longestText
-page-parts m v = refl
-
-pub page-tells-longest : PageTellsLongest
-page-tells-longest m v row n row′ put fits =
-    record {
-      above = monthTop (m .accepted) (m .refused) ++ sumsText (m .reads) (m .sum);
-      below = monthEnd (m .saved) v;
-      whole = rw (put .bytes, put .left) (page-put (pageText m v) row fits) ∙ page-parts m v;
-    }

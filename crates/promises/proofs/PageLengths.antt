@@ -43,7 +43,7 @@ use Rattle.answer_month.specs.declared.Month.{Month}
 use Rattle.answer_month.specs.Page.{oneIf, kindsIn, refusalLine, refusalLines, monthTop, meanOf, sumsText, longestText, monthTape, monthEnd, pageText}
 use Rattle.demands.specs.RefusalTable.{FirstThatApplies, none, here, later, SomeApplies}
 use Rattle.demands.proofs.Sheets.{told}
-use Rattle.promises.specs.Lengths.{InWords, monthRow, MonthIsWhole, sheetRow, changesRow, MendIsWhole, RewriteIsWhole, RefusalIsWhole}
+use Rattle.promises.specs.Lengths.{InWords, monthRow, MonthIsWhole, sheetRow, changesRow, MendIsWhole, RewriteIsWhole, refusalRow, RefusalIsWhole, WaitingIsWhole}
 use Rattle.promises.specs.Mender.{SheetApplies, sheetOrder, TextsApply, long-text, short-row, textsOrder}
 use Rattle.promises.proofs.Mends.{mended-rows}
 use Rattle.promises.proofs.Mender.{mender-refuses, nothing-applies, says}
@@ -176,7 +176,7 @@ month-is-whole m v w =
 -- A refusal's two lines.
 pub refusal-is-whole : RefusalIsWhole
 refusal-is-whole v l =
-    takes-all sheetRow
+    takes-all refusalRow
     (λ row n row′ a. record {
       text = refusalText v;
       bytes = a .1 .1 ∙ handed-bytes (refusalText v) row (a .0) row′ (a .1 .0);
@@ -185,6 +185,10 @@ refusal-is-whole v l =
       some = some-begun (refusalText v) 113 (refusal-begins v);
     })
     (λ row n row′ other k other′ a b. refl)
+
+-- The line of those who wait.
+pub waiting-is-whole : WaitingIsWhole
+waiting-is-whole ones twos row n row′ put wide = put .room (omega (arith, wide)) .bytes
 
 -- The changes of a mended sheet.
 change-length : (n : ℕ) (word : List ℕ) → n < 2 ^ 64 → length word ≤ 7 → length (changeLine n word) ≤ 36

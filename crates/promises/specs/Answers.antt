@@ -14,10 +14,11 @@ use Rattle.sheet_reader.specs.Lines.{sweepText}
 use Rattle.sheet_reader.specs.Sheet.{sheetRun, sheetName}
 use Rattle.answer_plan.specs.Recall.{PlanOf, SheetRecalled}
 use Rattle.answer_field.specs.Field.{SheetFielded}
-use Rattle.answer_buys.specs.Buys.{BuysText, SheetBought}
+use Rattle.answer_buys.specs.Buys.{SheetBought}
 use Rattle.demands.specs.RefusalTable.{FirstBad, HasStops, RunApplies, FirstThatApplies, SomeApplies}
 use Rattle.demands.specs.Lines.{LineIsBad, linesDue, Ruled}
 use Rattle.promises.specs.Lengths.{planRow, buysRow}
+use Rattle.promises.specs.BuysLines.{FiguresOf}
 
 -- What a sheet is refused for: itself, its run, as that is judged, and what the engine asks of a run. 01's judging is the table of 1 to 7.
 pub data SheetRunApplies (Judged Engine : Run → Refusal → ℕ → Type 0) (sheet : List ℕ) : Refusal → ℕ → Type 0 where
@@ -80,7 +81,7 @@ BuysByTheTable =
     (sheet row : List ℕ) (n : ℕ) (row′ : List ℕ)
     → SheetBought sheet row n row′
     → buysRow ≤ length row
-    → PrintedByTheTable (AnswerApplies RoomApplies sheet) roomOrder (BuysText (sheetName sheet) (sheetRun sheet)) (take n row′)
+    → PrintedByTheTable (AnswerApplies RoomApplies sheet) roomOrder (FiguresOf (sheetName sheet) (sheetRun sheet)) (take n row′)
 
 -- The sheet of document 01, with the aggregates that L10 adds, is answered with its plan, with the legs that L9 adds; and with the retired rule by 19.
 abbrev pub exampleSheet : List ℕ

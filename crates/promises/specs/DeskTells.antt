@@ -20,13 +20,7 @@ use Rattle.answer_desk.specs.declared.Day as desk
 use Rattle.answer_desk.specs.declared.Event.{Event}
 use Rattle.answer_desk.specs.declared.Answered.{Answered}
 use Rattle.answer_desk.specs.Days.{EventAnswered}
-
--- Numbers with commas between them.
-abbrev pub pair : ℕ → ℕ → List ℕ
-pair a b = decimal a ++ bytes "," ++ decimal b
-
-abbrev pub triple : ℕ → ℕ → ℕ → List ℕ
-triple a b c = pair a b ++ bytes "," ++ decimal c
+use Rattle.promises.specs.Texts.{pair, triple}
 
 -- A filing: the number told is one more than its office's last before, and the last afterwards.
 pub record FilingTold (day : desk.Day) (office : ℕ) (next : desk.Day) (text : List ℕ) : Type 0 where

@@ -3,10 +3,12 @@
 use Prim.Native.Nat.{ℕ, _^_, _≤_, _<_}
 use mathlib.Core.Path.{_≡_}
 use mathlib.Core.Bool.{Bool}
-use mathlib.Core.List.{List}
+use mathlib.Core.List.{List, _++_}
 use lib.ListN.{length, take, getD}
 use Rattle.refusals.specs.declared.Refusal.the-variants.{Accepted, ShortRow}
 use Rattle.refusals.specs.declared.Verdict.{Verdict}
+use Rattle.text_bytes.specs.Text.{bytes}
+use Rattle.text_pages.specs.Printing.{pairLine, Put}
 use Rattle.sheet_writer.specs.declared.Written.{Written}
 use Rattle.sheet_writer.specs.RefusalLines.{RefusalWritten}
 use Rattle.answer_rewrite.specs.Rewriting.{rewritten, SheetRewritten}
@@ -23,6 +25,7 @@ use Rattle.answer_field.specs.Field.{SheetFielded}
 use Rattle.answer_buys.specs.Buys.{SheetBought}
 use Rattle.answer_check.specs.Inputs.{InputPriced, InputChecked}
 use Rattle.promises.specs.Months.{ReadsOn}
+use Rattle.promises.specs.Texts.{pair}
 
 -- A row of so many bytes takes every answer whole: something is printed, no more than these, and another such row prints the same, however long it is.
 abbrev pub TakesAll : ℕ → (List ℕ → ℕ → List ℕ → Type 0) → Type 0
@@ -84,7 +87,7 @@ MonthIsWhole = (m : Month) (v : Verdict) → InWords m v → TakesAll monthRow (
 abbrev pub MonthsAreInWords : Type 0
 MonthsAreInWords = (input : List ℕ) (m : Month) (good : Bool) → ReadsOn emptyMonth input m good → InWords m (inputVerdict m good)
 
--- `mend` and `rewrite`: 8 is never answered; the texts stand in front; and a refusal's two lines fit the same row.
+-- `mend` and `rewrite`: 8 is never answered, and the texts stand in front.
 abbrev pub sheetRow : ℕ
 sheetRow = 16384
 
@@ -113,8 +116,23 @@ pub record RewritePrints (sheet : List ℕ) (r : Written) (row′ : List ℕ) : 
 abbrev pub RewriteIsWhole : Type 0
 RewriteIsWhole = (sheet row : List ℕ) (r : Written) (row′ : List ℕ) → SheetRewritten sheet row r row′ → sheetRow ≤ length row → RewritePrints sheet r row′
 
+-- The two lines of a refusal, whatever it is: in the row that `desk` lends for them, and so in those of `mend` and `rewrite`, which are longer.
+abbrev pub refusalRow : ℕ
+refusalRow = 56
+
 abbrev pub RefusalIsWhole : Type 0
-RefusalIsWhole = (v : Verdict) → v .place < 2 ^ 64 → TakesAll sheetRow (λ row n row′. (w : Written) × (RefusalWritten v row w row′ × (n ≡ w .bytes)))
+RefusalIsWhole = (v : Verdict) → v .place < 2 ^ 64 → TakesAll refusalRow (λ row n row′. (w : Written) × (RefusalWritten v row w row′ × (n ≡ w .bytes)))
+
+-- The last line of `desk`: how many of each office wait, whatever two words these are.
+abbrev pub waitingRow : ℕ
+waitingRow = 50
+
+abbrev pub WaitingIsWhole : Type 0
+WaitingIsWhole =
+    (ones twos : ℕ) (row : List ℕ) (n : ℕ) (row′ : List ℕ)
+    → Put row 0 (pairLine (bytes "waiting=") ones twos) 50 row′ n
+    → waitingRow ≤ length row
+    → take n row′ ≡ bytes "waiting=" ++ pair ones twos ++ bytes "\n"
 
 -- `ltfs`: the sheet or the refusal, and the report.
 abbrev pub reportRow : ℕ

@@ -1,5 +1,6 @@
 -- What requests L6, L7, L11 and L13 promise, what `price` and `check` tell, and what every program prints: a whole answer (Lengths), by the table (Answers).
 -- Each statement is a type; proofs/ has its proof.
+pub mod Texts
 pub mod Desk
 pub mod DeskRefusals
 pub mod DeskWants
@@ -8,6 +9,7 @@ pub mod DeskRows
 pub mod DeskWhole
 pub mod DeskCases
 pub mod DeskDays
+pub mod DeskAsked
 pub mod DeskTells
 pub mod DeskHeld
 pub mod DeskWorked
@@ -18,7 +20,9 @@ pub mod Months
 pub mod MonthLongest
 pub mod Checks
 pub mod Lengths
+pub mod BuysLines
 pub mod Answers
+pub mod MonthPage
 pub mod AnswersAny
 pub mod CheckWhole
 pub mod ListLines

@@ -90,17 +90,19 @@ pub data TextsApply (text changes out notes : List ℕ) : Refusal → ℕ → Ty
 abbrev pub textsOrder : List Refusal
 textsOrder = LongSheet ∷ ShortRow ∷ []
 
--- The mender's answer: the sheet's refusal where one applies, and else the texts'. It is a refusal if and only if some condition applies.
-pub record MenderAnswers (OfSheet OfTexts : Refusal → ℕ → Type 0) (r : Mended) : Type 0 where
+-- The mender's answer: the sheet's refusal where one applies, and else the texts'. It is a refusal if and only if some condition applies; then nothing is told,
+-- and both rows are as they were.
+pub record MenderAnswers (OfSheet OfTexts : Refusal → ℕ → Type 0) (out notes : List ℕ) (r : Mended) (out′ notes′ : List ℕ) : Type 0 where
   pub of-sheet : SomeApplies OfSheet sheetOrder → FirstThatApplies OfSheet sheetOrder (r .refusal) (r .place)
   pub of-texts : (SomeApplies OfSheet sheetOrder → ⊥) → FirstThatApplies OfTexts textsOrder (r .refusal) (r .place)
   pub iff : (r .refusal ≡ Accepted → ⊥) ↔ (SomeApplies OfSheet sheetOrder ⊎ SomeApplies OfTexts textsOrder)
+  pub kept : (r .refusal ≡ Accepted → ⊥) → (r .bytes ≡ 0) × (r .noted ≡ 0) × (out′ ≡ out) × (notes′ ≡ notes)
 
 abbrev pub MenderRefuses : Type 0
 MenderRefuses =
     (sheet out notes : List ℕ) (r : Mended) (out′ notes′ : List ℕ)
     → SheetMended sheet out notes r out′ notes′
-    → MenderAnswers (SheetApplies sheet) (TextsApply (mendedText sheet) (changesText sheet) out notes) r
+    → MenderAnswers (SheetApplies sheet) (TextsApply (mendedText sheet) (changesText sheet) out notes) out notes r out′ notes′
 
 -- So a 257th file line is refused by 11 at its own line, which is line 262.
 pub record TopStands (sheet : List ℕ) : Type 0 where

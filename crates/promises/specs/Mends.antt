@@ -1,7 +1,7 @@
 -- The request on mending (L11): what stands in the two rows; the reads of every file are kept; the wants written ascend, none repeats, none is 0, and the
 -- reader of run sheets takes what is written; each want line's fate, by conditions of its own; every change is listed and nothing else; what is written
 -- needs no second mending; the sheet of an accepted run is accepted and comes back.
-use Prim.Native.Nat.{ℕ, _+_, _≤_, _<_}
+use Prim.Native.Nat.{ℕ, suc, _+_, _≤_, _<_}
 use mathlib.Core.Path.{_≡_}
 use mathlib.Core.Bool.{true, false}
 use mathlib.Core.List.{List, [], _++_}
@@ -9,9 +9,9 @@ use lib.ListN.{length, take, drop, getD}
 use Rattle.refusals.specs.declared.Refusal.the-variants.{Accepted}
 use Rattle.refusals.specs.Refusals.{accepted}
 use Rattle.runs.specs.Run.{mostWants}
-use Rattle.text_bytes.specs.Text.{bytes}
+use Rattle.text_bytes.specs.Text.{bytes, decimal}
 use Rattle.text_lines.specs.Lines.{lineAfter, valueText}
-use Rattle.sheet_reader.specs.Lines.{turnKey, ruleKey, sweepText}
+use Rattle.sheet_reader.specs.Lines.{turnKey}
 use Rattle.sheet_reader.specs.Sheet.{sheetTurn, saysSweep, sheetFiles, sheetName, sheetRun}
 use Rattle.sheet_reader.specs.Reading.{sheetVerdict, ruleVerdict}
 use Rattle.text_pages.specs.Printing.{line, numberLine}
@@ -21,7 +21,7 @@ use Rattle.answer_mend.specs.declared.Mended.{Mended}
 use Rattle.answer_mend.specs.declared.wants.Fate.{Fate}
 use Rattle.answer_mend.specs.declared.wants.Fate.the-variants.{Stays, Moved, Added, Dropped}
 use Rattle.answer_mend.specs.Wants.{readsInAll, readsOfWant, fateOf}
-use Rattle.answer_mend.specs.Mending.{sheetRemaining, mendedText, changeLine, changeIf, changesText, fateLine, fateLines, SheetMended}
+use Rattle.answer_mend.specs.Mending.{mendedText, changesText, SheetMended}
 use Rattle.demands.specs.RefusalTable.{NothingApplies}
 
 -- An accepted mending: the mended sheet and the changes stand in the first bytes of the rows, and the later bytes are as they were.
@@ -113,40 +113,49 @@ pub record FateBy (files counts : List ℕ) (line : ℕ) (fate : Fate) : Type 0 
 abbrev pub FatesByConditions : Type 0
 FatesByConditions = (files counts : List ℕ) (line : ℕ) → FateBy files counts line (fateOf files counts line)
 
--- What the changes say of a want line, between what they say of the lines above it and below it: nothing if it stays, else its number and its fate.
-pub record SaidOf (listed files counts : List ℕ) (above line : ℕ) : Type 0 where
-  pub front : List ℕ
-  pub back : List ℕ
-  pub whole : listed ≡ front ++ fateLine (above + (line + 1)) (fateOf files counts line) ++ back
-  pub nothing : fateOf files counts line ≡ Stays → fateLine (above + (line + 1)) (fateOf files counts line) ≡ []
-  pub something : (fateOf files counts line ≡ Stays → ⊥) → fateLine (above + (line + 1)) (fateOf files counts line) ≡ [] → ⊥
+-- A change as it is listed: the number of the old line, and what happened to it. Of a want line by its fate, of one that stays nothing.
+abbrev pub listedAs : ℕ → List ℕ → List ℕ
+listedAs n word = bytes "change=" ++ decimal n ++ (bytes "," ++ word ++ bytes "\n")
 
-abbrev pub EveryFateListed : Type 0
-EveryFateListed =
-    (sheet : List ℕ) (line : ℕ)
-    → line < length (wantedFiles sheet)
-    → SaidOf (changesText sheet) (wantedFiles sheet) (wantedCounts sheet) (looseFiles sheet + 6) line
+pub data FateSaid (n : ℕ) : Fate → List ℕ → Type 0 where
+  nothing : FateSaid n Stays []
+  moved : FateSaid n Moved (listedAs n (bytes "moved"))
+  added : FateSaid n Added (listedAs n (bytes "added"))
+  dropped : FateSaid n Dropped (listedAs n (bytes "dropped"))
 
--- What the changes say above the want lines' fates, in the order of the old lines: one part for each of the four lines that can change there. A part
--- names its line exactly when that changes, and is empty else.
+-- What is listed of so many want lines, the first of which stands behind the line `above`: of none nothing; of one more what is listed of those before it, and
+-- then of it, by its fate.
+pub data FatesSaid (files counts : List ℕ) (above : ℕ) : ℕ → List ℕ → Type 0 where
+  of-none : FatesSaid files counts above 0 []
+  of-one-more : {line : ℕ} {fate : Fate} {before said : List ℕ}
+      → FatesSaid files counts above line before
+      → FateBy files counts line fate
+      → FateSaid (above + (line + 1)) fate said
+      → FatesSaid files counts above (suc line) (before ++ said)
+
+-- A part of the changes names its line exactly when that changes, and is empty else.
 pub record ListedWhen (Changes : Type 0) (part : List ℕ) (n : ℕ) (word : List ℕ) : Type 0 where
-  pub something : Changes → part ≡ changeLine n word
+  pub something : Changes → part ≡ listedAs n word
   pub nothing : (Changes → ⊥) → part ≡ []
 
--- The price changes when `turn=` is empty, the rule when its line is `rule=sweep`, a count when it is not the number of lines written below it.
-pub record SaidAbove (sheet : List ℕ) : Type 0 where
+-- All that is listed, in the order of the old lines: the price when `turn=` is empty, the rule when its line is `rule=sweep`, a count when it is not the number of
+-- lines that the mended sheet has below it; then the want lines.
+pub record ChangesSaid (sheet text listed : List ℕ) : Type 0 where
   pub turn : List ℕ
   pub rule : List ℕ
   pub files : List ℕ
   pub wants : List ℕ
-  pub whole : changesText sheet ≡ turn ++ rule ++ files ++ wants ++ fateLines (looseFiles sheet + 6) (wantedFiles sheet) (wantedCounts sheet) (length (wantedFiles sheet))
+  pub fates : List ℕ
+  pub whole : listed ≡ turn ++ rule ++ files ++ wants ++ fates
   pub turn-line : ListedWhen (valueText turnKey (lineAfter 2 sheet) ≡ []) turn 3 (bytes "turn")
-  pub rule-line : ListedWhen (lineAfter 3 sheet ≡ ruleKey ++ sweepText) rule 4 (bytes "rule")
-  pub files-line : ListedWhen (sheetFiles sheet ≡ looseFiles sheet → ⊥) files 5 (bytes "files")
-  pub wants-line : ListedWhen (wantsSaid sheet ≡ length (sheetRemaining sheet) → ⊥) wants (looseFiles sheet + 6) (bytes "wants")
+  pub rule-line : ListedWhen (lineAfter 3 sheet ≡ bytes "rule=sweep") rule 4 (bytes "rule")
+  pub files-line : ListedWhen (sheetFiles sheet ≡ looseFiles text → ⊥) files 5 (bytes "files")
+  pub wants-line : ListedWhen (wantsSaid sheet ≡ looseWants text → ⊥) wants (looseFiles sheet + 6) (bytes "wants")
+  pub want-lines : FatesSaid (wantedFiles sheet) (wantedCounts sheet) (looseFiles sheet + 6) (looseWants sheet) fates
 
-abbrev pub TopChangesListed : Type 0
-TopChangesListed = (sheet : List ℕ) → SaidAbove sheet
+-- Of a sheet that was mended it stands in the row for the changes.
+abbrev pub EveryChangeListed : Type 0
+EveryChangeListed = (sheet text : List ℕ) (m : WasMended sheet text) → ChangesSaid sheet text (take (m .answer .noted) (m .notes′))
 
 -- A mended sheet needs no second mending: given a row that takes it, it is accepted, comes out as it is, and no change is listed.
 abbrev pub OnceIsEnough : Type 0
@@ -166,7 +175,7 @@ pub record SheetComesBack (sheet : List ℕ) : Type 0 where
   pub old : sheet ≡ above ++ (line turnKey (valueText turnKey (lineAfter 2 sheet)) ++ back)
   pub new : mendedText sheet ≡ above ++ (numberLine turnKey (sheetTurn sheet) ++ back)
   pub given : priceLeftOut sheet ≡ false → mendedText sheet ≡ sheet
-  pub listed : changesText sheet ≡ changeIf (priceLeftOut sheet) 3 (bytes "turn")
+  pub listed : ListedWhen (valueText turnKey (lineAfter 2 sheet) ≡ []) (changesText sheet) 3 (bytes "turn")
 
 abbrev pub AcceptedComesBack : Type 0
 AcceptedComesBack =

@@ -1,22 +1,17 @@
--- The longest time of a month (L13), down to the want and to the page: no want of any accepted run has a longer time, it is the first met of those that
--- have it, and the page's line tells time, tape and file.
+-- The longest time of a month (L13), down to the want: no want of any accepted run has a longer time, and it is the first met of those that have it.
 use Prim.Native.Nat.{ℕ, _≤_, _<_}
 use mathlib.Core.Path.{_≡_}
-use mathlib.Core.List.{List, [], _∷_, _++_}
+use mathlib.Core.List.{List}
 use lib.ListN.{length, getD, take}
 use Rattle.refusals.specs.declared.Refusal.the-variants.{Accepted}
-use Rattle.refusals.specs.declared.Verdict.{Verdict}
 use Rattle.runs.specs.Run.{Run}
 use Rattle.runs.specs.Lists.{Detour}
 use Rattle.walk.specs.Price.{pricedTimes}
 use Rattle.least.specs.Least.{LeastForRun}
-use Rattle.text_bytes.specs.Text.{bytes, comma, lineFeed, decimal}
 use Rattle.sheet_reader.specs.Sheet.{sheetRun, sheetName}
 use Rattle.answer_outcome.specs.declared.Outcome.{Outcome}
 use Rattle.answer_outcome.specs.Outcomes.{OutcomeOf}
-use Rattle.answer_month.specs.declared.Month.{Month}
 use Rattle.answer_month.specs.Month.{emptyMonth, addedAll}
-use Rattle.answer_month.specs.Page.{pageText, PagePut, monthTape}
 use Rattle.promises.specs.Months.{OneByOne, Outcomes, Reordered, SameNames}
 
 -- Of wants with these files and times one has the longest: no other is longer, and those before it are shorter.
@@ -69,16 +64,3 @@ OrderWithoutReads =
     → Outcomes sheets′ runs′
     → addedAll emptyMonth runs .reads ≡ 0
     → SameNames (addedAll emptyMonth runs) (addedAll emptyMonth runs′)
-
--- The page, in a row that takes it, has one line of the longest time: the time, the tape's letters and the file, with commas between.
-pub record TellsLongest (m : Month) (page : List ℕ) : Type 0 where
-  pub above : List ℕ
-  pub below : List ℕ
-  pub whole : page ≡ above ++ (bytes "longest=" ++ decimal (m .time) ++ (comma ∷ []) ++ monthTape m ++ ((comma ∷ []) ++ decimal (m .file) ++ (lineFeed ∷ []))) ++ below
-
-abbrev pub PageTellsLongest : Type 0
-PageTellsLongest =
-    (m : Month) (v : Verdict) (row : List ℕ) (n : ℕ) (row′ : List ℕ)
-    → PagePut m v row n row′
-    → length (pageText m v) ≤ length row
-    → TellsLongest m (take n row′)
