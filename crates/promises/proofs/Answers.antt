@@ -25,6 +25,7 @@ use Rattle.sheet_reader.specs.Reading.{sheetVerdict, ruleVerdict}
 use Rattle.text_bytes.specs.Text.{lineFeed, decimal}
 use Rattle.sheet_writer.specs.RefusalLines.{refusedKey, placeKey, refusalText}
 use Rattle.answer_plan.specs.Recall.{runChecks, roomWords, verdictBy, recallVerdict, PlanOf}
+use Rattle.answer_plan.proofs.Planned.{handed-bytes, handed-row}
 use Rattle.answer_field.specs.Field.{fieldChecks}
 use Rattle.demands.specs.RefusalTable.{FirstBad, RunApplies, FirstThatApplies, here, later}
 use Rattle.demands.specs.Lines.{LineIsBad, linesDue, Ruled}
@@ -35,11 +36,11 @@ use Rattle.demands.proofs.Judged.{run-finds, table-finds, run-small, want-rows-
 use Rattle.demands.proofs.Counted.{has-stops, stops-one}
 use Rattle.demands.proofs.Lines.{tells-sweep}
 use Rattle.demands.proofs.FirstLine.{decides-line}
-use Rattle.promises.specs.Answers.{SheetRunApplies, AnswerApplies, too-long, bad-line, retired-rule, run, engine, RoomApplies, short-room, EightApplies, over-eight, roomOrder, eightOrder, twoLines, PrintedByTheTable, PlanByTheTable, FieldByTheTable, BuysByTheTable}
+use Rattle.promises.specs.Answers.{SheetRunApplies, AnswerApplies, too-long, bad-line, retired-rule, run, engine, RoomApplies, short-room, EightApplies, over-eight, roomOrder, eightOrder, twoLines, RefusalByItsLines, PrintedByTheTable, PlanByTheTable, FieldByTheTable, BuysByTheTable}
 use Rattle.promises.specs.BuysLines.{FiguresOf}
 use Rattle.promises.proofs.BuysLines.{figures-of}
 use Rattle.promises.proofs.Checks.{put-whole}
-use Rattle.promises.proofs.Lengths.{plan-begins, run-judges, field-judges, run-checks-near, field-checks-near, plan-held, buys-held}
+use Rattle.promises.proofs.Lengths.{refusal-short, plan-begins, run-judges, field-judges, run-checks-near, field-checks-near, plan-held, buys-held}
 
 -- The lines of a refusal.
 regrouped : (a n f b p : List ℕ) → (a ++ n ++ f) ++ (b ++ p ++ f) ≡ a ++ n ++ (f ++ b) ++ p ++ f
@@ -48,6 +49,10 @@ regrouped a n f b p = simp append-assoc
 pub lines-are : (v : Verdict) → refusalText v ≡ twoLines (v .refusal) (v .place)
 unfolding refusalText
 lines-are v = regrouped refusedKey (decimal (numberOf (v .refusal))) (lineFeed ∷ []) placeKey (decimal (v .place))
+
+pub refusal-by-its-lines : RefusalByItsLines
+refusal-by-its-lines v row w row′ h near wide =
+    put-whole (refusalText v) row (w .bytes) row′ (handed-bytes (refusalText v) row w row′ h) (handed-row (refusalText v) row w row′ h) (omega (arith, refusal-short v near)) ∙ lines-are v
 
 -- From a verdict that finds the first of an order, and a text that is the refusal's lines or begins as no such lines do, to what is printed.
 module _ (applies : Refusal → ℕ → Type 0) (order : List Refusal) (all : AllRefuse order) (v : Verdict) (finds : Finds applies order v) (passes : refuses v ≡ false → v ≡ accepted)

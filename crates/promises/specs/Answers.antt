@@ -1,15 +1,18 @@
 -- The programs that take one run sheet (`plan`, `field`, `buys`), by the table: 12, 11 with its line, 19 with the fourth line, then 1 to 7 of the run, then 9;
 -- by the plain engine 24 behind 3, and no 9. What is printed is the two lines of the first that applies, or the sheet that was asked for.
-use Prim.Native.Nat.{ℕ, _+_, _*_, _≤_, _<_}
+use Prim.Native.Nat.{ℕ, _+_, _*_, _^_, _≤_, _<_}
 use mathlib.Core.Path.{_≡_}
 use mathlib.Core.Logic.{_↔_}
 use mathlib.Core.List.{List, [], _∷_, _++_}
 use lib.ListN.{length, take}
 use Rattle.refusals.specs.declared.Refusal.{Refusal}
 use Rattle.refusals.specs.declared.Refusal.the-variants.{Accepted, FileRows, BadFile, WantRows, BadWant, TooManyReads, TurnPrice, HeadPlace, ShortRoom, BadLine, LongSheet, RetiredRule, OverEightWants}
+use Rattle.refusals.specs.declared.Verdict.{Verdict}
 use Rattle.refusals.specs.Refusals.{numberOf}
 use Rattle.runs.specs.Run.{Run, total}
 use Rattle.text_bytes.specs.Text.{bytes, decimal}
+use Rattle.sheet_writer.specs.declared.Written.{Written}
+use Rattle.sheet_writer.specs.RefusalLines.{RefusalWritten}
 use Rattle.sheet_reader.specs.Lines.{sweepText}
 use Rattle.sheet_reader.specs.Sheet.{sheetRun, sheetName}
 use Rattle.answer_plan.specs.Recall.{PlanOf, SheetRecalled}
@@ -17,7 +20,7 @@ use Rattle.answer_field.specs.Field.{SheetFielded}
 use Rattle.answer_buys.specs.Buys.{SheetBought}
 use Rattle.demands.specs.RefusalTable.{FirstBad, HasStops, RunApplies, FirstThatApplies, SomeApplies}
 use Rattle.demands.specs.Lines.{LineIsBad, linesDue, Ruled}
-use Rattle.promises.specs.Lengths.{planRow, buysRow}
+use Rattle.promises.specs.Lengths.{planRow, buysRow, refusalRow}
 use Rattle.promises.specs.BuysLines.{FiguresOf}
 
 -- What a sheet is refused for: itself, its run, as that is judged, and what the engine asks of a run. 01's judging is the table of 1 to 7.
@@ -50,6 +53,15 @@ eightOrder = LongSheet ∷ BadLine ∷ RetiredRule ∷ FileRows ∷ BadFile ∷ 
 -- The two lines of a refusal, and nothing else.
 abbrev pub twoLines : Refusal → ℕ → List ℕ
 twoLines kind place = bytes "refused=" ++ decimal (numberOf kind) ++ bytes "\nplace=" ++ decimal place ++ bytes "\n"
+
+-- So every refusal is written, whatever its number: those of `desk`, `mend` and `rewrite` too, in a row of 56 bytes or more.
+abbrev pub RefusalByItsLines : Type 0
+RefusalByItsLines =
+    (v : Verdict) (row : List ℕ) (w : Written) (row′ : List ℕ)
+    → RefusalWritten v row w row′
+    → v .place < 2 ^ 64
+    → refusalRow ≤ length row
+    → take (w .bytes) row′ ≡ twoLines (v .refusal) (v .place)
 
 -- What is printed goes by the table: the two lines of the first refusal that applies, where one does; else what was asked for. It is two such lines if and only
 -- if some refusal applies.
