@@ -7,7 +7,7 @@ usage: tests/python/check.py [--native] [PRICE CHECK]           (default target/
 The programs are for x86-64; on another processor they are started as tools/machine.sh says.
 
 The readers of lists and plan sheets stand here; the reader of run sheets (sheets.py), the judging, the walk and the search over all well-formed lists
-(runs.py) share nothing with the programs.
+(runs.py) share nothing with the programs. The head stands anywhere; over 16 wants it stands so far left that few lists are well formed.
 """
 import argparse
 import functools
@@ -20,7 +20,7 @@ import sys
 
 import plan
 import programs
-from runs import Refused, judge, lists, order, stops, walk
+from runs import Refused, judge, lists, order, own_stop, stops, walk
 from sheets import read
 
 NUMBER = rb"(0|[1-9][0-9]*)"
@@ -77,10 +77,17 @@ def read_list(text):
     return read_plan(text) if len(text) <= 16384 and text.startswith(b"tape=") else to_end(lines_of(text), 0, b"detour=N,N", 63)
 
 
-def first_bad(files, detours):
-    """The first entry that breaks a rule by itself or against an earlier one; 0 where none does."""
+def named(run):
+    """The first file of each thing wanted, and that of the head's own stop."""
+    files = [first for first, _ in stops(run[3], run[4])]
+    return files, own_stop(run[1], run[3], files)
+
+
+def first_bad(run, detours):
+    """The first entry that breaks a rule by itself, starts right of the head's own stop among these, or against an earlier one; 0 where none does."""
+    files, own = named(run)
     for i, (a, b) in enumerate(detours):
-        if a not in files or b not in files or a > b or a == files[0]:
+        if a not in files or b not in files or a > b or a == files[0] or a > own:
             return i + 1
         if not all(a < c and (b < c or d < b) for c, d in detours[:i]):
             return i + 1
@@ -101,20 +108,16 @@ def text_of(run, detours):
 def least(sheet):
     """The least list of a run sheet, by a search over all."""
     run = read(sheet)
-    files = [first for first, _ in stops(run[3], run[4])]
-    return min(lists(files), key=lambda d: (text_of(run, d)[1], order(files, d)))
-
-
-def run_of(sheet):
-    return read(sheet)
+    files, own = named(run)
+    return min(lists(files, own), key=lambda d: (text_of(run, d)[1], order(files, d)))
 
 
 def price_answer(sheet, text):
     try:
         run = read(sheet)
         detours = read_list(text)
-        judge(*run[1:])
-        bad = first_bad([first for first, _ in stops(run[3], run[4])], detours)
+        judge(*run[1:], anywhere=True)
+        bad = first_bad(run, detours)
         if bad:
             raise Refused(10, bad)
     except Refused as refusal:
@@ -126,13 +129,12 @@ def check_answer(sheet, text):
     try:
         run = read(sheet)
         detours = read_plan(text)
-        judge(*run[1:])
-        files = [first for first, _ in stops(run[3], run[4])]
-        if len(files) ** 2 * (sum(count for _, count in run[4]) + 1) > 5120:
+        judge(*run[1:], anywhere=True)
+        if len(named(run)[0]) ** 2 * (sum(count for _, count in run[4]) + 1) > 655360:
             raise Refused(9)
     except Refused as refusal:
         return refusal.args[0]
-    bad = first_bad(files, detours)
+    bad = first_bad(run, detours)
     if bad:
         return b"formed=no,%d\n" % bad
     must, total = text_of(run, detours)
@@ -179,30 +181,51 @@ def listed(detours):
     return b"".join(b"detour=%d,%d\n" % d for d in detours)
 
 
+def moved(sheet, head):
+    """A sheet with its head at another place."""
+    before, behind = sheet.split(b"\nhead=", 1)
+    return before + b"\nhead=%d\n" % head + behind.split(b"\n", 1)[1]
+
+
 def runs():
-    """Run sheets with few enough wants for the search."""
+    """Run sheets with few enough wants for the search, the head right of everything wanted, at the start, and between."""
     example = plan.contents(os.path.join(programs.ROOT, "examples/VX0041.run"))
-    yield example
-    yield plan.aggregate_example(b"7")
-    # Two lists of one sum: the empty list is the least rule's answer.
-    yield b"tape=TIE\nhead=20\nturn=0\nrule=least\nfiles=2\nfile=0,10,0\nfile=10,10,0\nwants=2\nwant=1,1\nwant=2,1\n"
-    yield b"tape=NONE\nhead=60\nturn=1\nrule=least\nfiles=1\nfile=0,1,0\nwants=0\n"
     draw = random.Random(7)
-    for wants in (1, 2, 3, 4, 5, 6):
-        yield plan.drawn(draw, wants, draw.randrange(wants, 30))
+    sheets = [example, plan.aggregate_example(b"7"),
+              # Two lists of one sum: the empty list is the least rule's answer.
+              b"tape=TIE\nhead=20\nturn=0\nrule=least\nfiles=2\nfile=0,10,0\nfile=10,10,0\nwants=2\nwant=1,1\nwant=2,1\n",
+              b"tape=NONE\nhead=60\nturn=1\nrule=least\nfiles=1\nfile=0,1,0\nwants=0\n"]
+    sheets += [plan.drawn(draw, wants, draw.randrange(wants, 30)) for wants in (1, 2, 3, 4, 5, 6)]
+    yield from sheets
+    for sheet in sheets:
+        ends = [start + length for start, length, _ in read(sheet)[3]]
+        for head in {0, draw.choice(ends), draw.randrange(max(ends) + 1)}:
+            yield moved(sheet, head)
+
+
+def large_runs():
+    """Over 16 wants, the head left of all that is wanted or right of the first few: at most two stops are left for a detour's start."""
+    draw = random.Random(9)
+    for sheet in (plan.sheet_of(20, 30), plan.sheet_of(22, 1024), plan.drawn(draw, 24, 40)):
+        run = read(sheet)
+        starts = [run[3][first - 1][0] for first in named(run)[0]]
+        for head in (0, starts[1], starts[2] - 1, starts[2]):
+            yield moved(sheet, head)
+    yield moved(plan.sheet_of(64, 159), 0)
 
 
 def cases_to_price():
     draw = random.Random(3)
-    for sheet in runs():
+    for sheet in itertools.chain(runs(), large_runs()):
         run = read(sheet)
-        files = [first for first, _ in stops(run[3], run[4])]
-        formed = list(lists(files))
-        for detours in draw.sample(formed, min(len(formed), 60)):
+        files, own = named(run)
+        formed = list(lists(files, own))
+        for detours in draw.sample(formed, min(len(formed), 25)):
             yield sheet, listed(detours)
             yield sheet, text_of(run, detours)[0]
-        for _ in range(40):
+        for _ in range(20):
             yield sheet, listed([(draw.randrange(8), draw.randrange(8)) for _ in range(draw.randrange(4))])
+        yield sheet, listed([(file, file) for file in reversed(files[1:])])
     example = next(runs())
     for text in damaged(text_of(read(example), [(3, 3), (2, 2)])[0]):
         yield example, text
@@ -210,29 +233,36 @@ def cases_to_price():
         yield example, text
     for n in (62, 63, 64, 65, 1489, 1490):
         yield example, listed([(2, 2)] * n)
-    for sheet in (example[:50], example.replace(b"least", b"sweep"), example.replace(b"head=60", b"head=49"), example + b" " * 16384):
+    for sheet in (example[:50], example.replace(b"least", b"sweep"), moved(example, 49), moved(example, 2**40), moved(example, 2**40 + 1), example + b" " * 16384):
         for text in (b"", b"x", listed([(2, 2)]), listed([(9, 9)]), b"x" * 16385):
             yield sheet, text
     yield plan.sheet_of(10, 51), b""
+    yield plan.sheet_of(64, 1024), b""
 
 
 def check_cases():
     draw = random.Random(5)
     for sheet in runs():
         run = read(sheet)
-        files = [first for first, _ in stops(run[3], run[4])]
-        formed = list(lists(files))
+        formed = list(lists(*named(run)))
         yield sheet, text_of(run, least(sheet))[0]
-        for detours in draw.sample(formed, min(len(formed), 60)):
+        for detours in draw.sample(formed, min(len(formed), 25)):
             yield sheet, text_of(run, detours)[0]
             yield sheet, draw.choice(list(damaged(text_of(run, detours)[0])))
-        for text in damaged(text_of(run, draw.choice(formed))[0]):
+        texts = list(damaged(text_of(run, draw.choice(formed))[0]))
+        for text in draw.sample(texts, min(len(texts), 150)):
             yield sheet, text
+    for sheet in large_runs():
+        run = read(sheet)
+        formed = list(lists(*named(run)))
+        for detours in [least(sheet)] + draw.sample(formed, min(len(formed), 6)):
+            yield sheet, text_of(run, detours)[0]
+            yield sheet, draw.choice(list(damaged(text_of(run, detours)[0])))
     example = next(runs())
     for text in damaged(text_of(read(example), least(example))[0]):
         yield example, text
     whole = text_of(read(example), least(example))[0]
-    for sheet in (example[:50], example.replace(b"least", b"sweep"), example.replace(b"head=60", b"head=49"), example + b" " * 16384, plan.sheet_of(10, 51)):
+    for sheet in (example[:50], example.replace(b"least", b"sweep"), moved(example, 49), moved(example, 2**40), moved(example, 2**40 + 1), example + b" " * 16384, plan.sheet_of(64, 160)):
         for text in (b"", whole, whole + b"x", whole + b"x" * 16384):
             yield sheet, text
     for number in (0, 1, 62, 63, 64):

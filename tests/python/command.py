@@ -186,7 +186,21 @@ def pairs(at):
     at.must(f"./violstream price {run} examples/VX0041.list | ./violstream check {run} -", 3, b"formed=yes\nwalk=yes\nleast=no,198\n", silent=True)
     at.must(f"sed 's/^detour=2,2/detour=1,2/' {plan} | ./violstream check {run} -", 3, b"formed=no,1\n", silent=True)
     at.must(f"./violstream check {run} {run}", 3, refusal(11, 2), [f'refused (11): line 2 of {run} is not as described: "head=60"'])
-    at.must(f"./violstream check examples/head-too-far-left.run {plan}", 3, refusal(7), ["refused (7)"])
+    # Any run: the head anywhere, over 16 wants. 7 is a head above the limit alone, and neither 7 nor 9 names another command.
+    for name in ("mounted", "mounted-2", "mounted-3"):
+        at.must(f"./violstream check examples/{name}.run examples/{name}.plan", 0, yes, silent=True)
+        at.must(f"./violstream price examples/{name}.run examples/{name}.plan", 0, contents(f"examples/{name}.plan"), silent=True)
+    at.must(f"./violstream check examples/head-too-far-left.run {plan}", 3, b"formed=no,1\n", silent=True)
+    at.must("printf 'detour=2,2\\n' | ./violstream price examples/mounted.run -", 3, refusal(10, 1), ['refused (10): detour 1 of standard input, "detour=2,2",'])
+    at.must("printf '' | ./violstream check examples/mounted-3.run -", 3, refusal(11, 1), ["refused (11): line 1 of standard input"])
+    at.must("sed 's/^detours=1/detours=0/; /^detour=/d' examples/mounted-3.plan | ./violstream price examples/mounted-3.run - | ./violstream check examples/mounted-3.run -", 3, b"formed=yes\nwalk=yes\nleast=no,18\n", silent=True)
+    at.write("large.run", sheet_of(64, 159))
+    at.must("./violstream plan --any large.run > large.plan && ./violstream check large.run large.plan && ./violstream price large.run large.plan | cmp - large.plan", 0, yes, silent=True)
+    at.write("too-large.run", sheet_of(64, 160))
+    at.must("./violstream check too-large.run large.plan", 3, refusal(9), ["ask for 64 * 64 * 161 = 659456 words of working room; check has 655360 (5 MiB), and no command has more\n"])
+    at.must("./violstream price too-large.run large.plan | sed -n 3p", 0, b"reads=160\n", silent=True)
+    for words in ("check", "price"):
+        at.must(f"sed 's/^head=.*/head=1099511627777/' {run} | ./violstream {words} - {plan}", 3, refusal(7), ['refused (7): the head (line 2, "head=1099511627777") stands above 1099511627776 (2^40)\n'])
     at.must(f"./violstream check {run} {plan} > /dev/full", 1, b"", ["cannot write to standard output"])
 
 
@@ -910,8 +924,9 @@ def limits(at):
     at.write("large.month", (b"%d\n" % len(contents("examples/VX0041.run")) + RUN) * 1000)
     at.write("deep.xml", b"<ltfsindex>" + b"<a>" * 31 + b"</a>" * 31 + b"<directory><contents/></directory>" + b"<a/>" * 120000 + b"</ltfsindex>")
     at.write("many.run", sheet_of(64, 159))
-    for enough, words in [(6144, "plan --any large.run"), (6144, "plan --any many.run")] + [(1024, words) for words in ("plan large.run", "buys large.run", "price large.run /dev/null", "explain large.run", "rewrite large.run", "mend large.run", "month large.month", "field examples/VX0041.run",
-                  "check examples/VX0041.run examples/VX0041.plan", "desk examples/day.run examples/day.events", f"ltfs VX0041 {LABEL} deep.xml")]:
+    at.write("many.plan", at.shell("./violstream plan --any many.run")[0])
+    for enough, words in [(6144, words) for words in ("plan --any large.run", "plan --any many.run", "check examples/VX0041.run examples/VX0041.plan", "check many.run many.plan")] + [(1024, words) for words in ("plan large.run", "buys large.run", "price large.run /dev/null", "explain large.run", "rewrite large.run", "mend large.run", "month large.month", "field examples/VX0041.run",
+                  "desk examples/day.run examples/day.events", f"ltfs VX0041 {LABEL} deep.xml")]:
         must = at.shell(f"./violstream {words}")
         if must[2] != 0 or at.shell(f"ulimit -s {enough} && ./violstream {words}") != must:
             raise Wrong(f"with a stack of {enough} KiB violstream {words} does not give {must}")

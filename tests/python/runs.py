@@ -76,11 +76,16 @@ def walk(head, turn, table, asked, detours):
     return times, read_by, clock, place
 
 
-def lists(files):
-    """Every well-formed list over these files, the first of each thing wanted."""
+def own_stop(head, table, files):
+    """The head's own stop, the first that starts at or right of the head; the last file where none does."""
+    return min((file for file in files if head <= extent(table, file)[0]), default=len(table))
+
+
+def lists(files, own=None):
+    """Every well-formed list over these files, the first of each thing wanted; with the head's own stop, those that start nowhere right of it."""
     def grow(done):
         yield done
-        for a in files[1:]:
+        for a in [a for a in files[1:] if own is None or a <= own]:
             for b in files:
                 if b >= a and all(a < c and (b < c or d < b) for c, d in done):
                     yield from grow(done + [(a, b)])
@@ -101,5 +106,4 @@ def total(head, turn, table, asked, detours):
 def least(head, turn, table, asked):
     """The least rule's list, by a search over all."""
     files = [first for first, _ in stops(table, asked)]
-    own = min((file for file in files if head <= extent(table, file)[0]), default=len(table))
-    return min((d for d in lists(files) if all(a <= own for a, _ in d)), key=lambda d: (total(head, turn, table, asked, d), order(files, d)))
+    return min(lists(files, own_stop(head, table, files)), key=lambda d: (total(head, turn, table, asked, d), order(files, d)))

@@ -9,6 +9,7 @@ use crate::programs::Program;
 use crate::say::shown;
 use crate::status::{Status, Stop};
 use crate::words;
+use crate::words::sheet::By;
 use std::ffi::OsStr;
 
 pub fn answer(command: &str, run: &OsStr, other: &OsStr, as_json: bool, call: &Call) -> Result<Status, Stop> {
@@ -54,5 +55,5 @@ fn words_of(refused: &Refusal, sheet: &[u8], list: &[u8], name: &str, call: &Cal
         }
         _ => false,
     };
-    Ok(if of_list { words::list::words(refused, list, name) } else { words::of_sheet(refused, sheet) })
+    Ok(if of_list { words::list::words(refused, list, name) } else { words::of_plan(refused, sheet, By::Check) })
 }

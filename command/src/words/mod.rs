@@ -15,7 +15,7 @@ pub fn of_sheet(refusal: &Refusal, sheet: &[u8]) -> String {
     of_plan(refusal, sheet, sheet::By::Another)
 }
 
-/// Of a run sheet that plan has refused, with or without --any.
+/// Of a run sheet that plan, with or without --any, or check has refused.
 pub fn of_plan(refusal: &Refusal, sheet: &[u8], by: sheet::By) -> String {
     sheet::words(refusal, sheet, by).unwrap_or_else(|| table::words(refusal.number))
 }

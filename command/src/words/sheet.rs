@@ -8,15 +8,16 @@ pub const FORMS: [&str; 5] = ["tape=NAME", "head=NUMBER", "turn=NUMBER", "rule=l
 pub const FILE_FORM: &str = "file=START,LENGTH,AGGREGATE";
 pub const WANT_FORM: &str = "want=FILE,READS";
 
-/// Words of working room that plan and the others have, and those of plan --any: 5 MiB.
+/// Words of working room that plan and the others have, and those of plan --any and check: 5 MiB.
 const ROOM: u64 = 5120;
 const ROOM_ANY: u64 = 655360;
 
-/// What has refused: plan names plan --any, which takes more, and plan --any has room of its own.
+/// What has refused: plan names plan --any, which takes more; plan --any and check have more room.
 #[derive(Clone, Copy, PartialEq, Eq)]
 pub enum By {
     Plan,
     PlanAny,
+    Check,
     Another,
 }
 
@@ -329,6 +330,7 @@ impl Sheet {
         let room = match by {
             By::Plan => format!("there are {ROOM}, and plan --any has {ROOM_ANY}"),
             By::PlanAny => format!("plan --any has {ROOM_ANY} (5 MiB), and no command has more"),
+            By::Check => format!("check has {ROOM_ANY} (5 MiB), and no command has more"),
             By::Another => format!("there are {ROOM}"),
         };
         format!(

@@ -6,3 +6,4 @@ pub mod Prices
 pub mod Framing
 pub mod Checked
 pub mod Determined
+pub mod Same

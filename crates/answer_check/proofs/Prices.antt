@@ -8,12 +8,13 @@ use lib.ListN.{length, take, length-take}
 use borrow.Author.Tests.{le-ltb}
 use Rattle.refusals.specs.declared.Verdict.{Verdict}
 use Rattle.refusals.specs.Refusals.{isRefusal, firstOf, accepted}
-use Rattle.refusals.proofs.Verdicts.{refuses, first-refuses, first-passes, all-accept, none-refuses}
+use Rattle.refusals.proofs.Verdicts.{refuses, test-says, first-refuses, first-passes, all-accept, none-refuses}
 use Rattle.runs.specs.Run.{Run, stopsOf}
-use Rattle.runs.specs.Judging.{judgeOf}
-use Rattle.runs.specs.Lists.{listOf, listVerdict}
+use Rattle.runs.specs.Lists.{listOf}
+use Rattle.runs.specs.AnyHead.{judgeAnyOf, listVerdictAny}
 use Rattle.walk.specs.declared.Answer.{Answer}
-use Rattle.walk.specs.Price.{refusalAnswer, pricedAnswer, priceVerdict, priceAnswer}
+use Rattle.walk.specs.Price.{refusalAnswer}
+use Rattle.walk.specs.AnyHead.{pricedAnyAnswer, priceAnyVerdict, priceAnyAnswer}
 use Rattle.walk.specs.Rows.{ReadRows}
 use Rattle.text_bytes.specs.Text.{isName}
 use Rattle.sheet_reader.specs.Sheet.{sheetRun, sheetName}
@@ -23,28 +24,30 @@ use Rattle.sheet_runs.specs.SheetRuns.{runByValue, runHeld}
 use Rattle.sheet_runs.proofs.Runs.{SheetHolds, refused-first, sheet-holds}
 use Rattle.sheet_writer.specs.declared.Written.{Written}
 use Rattle.sheet_writer.specs.Writing.{rowVerdict, Handed}
-use Rattle.sheet_writer.specs.PlanSheet.{planText, planSheetVerdict, PlanWritten}
+use Rattle.sheet_writer.specs.AnyHead.{planAnyText, planAnySheetVerdict, PlanAnyWritten}
 use Rattle.sheet_writer.specs.RefusalLines.{refusalText}
 use Rattle.sheet_writer.proofs.Sheets.{last-verdict}
 use Rattle.answer_plan.specs.declared.PlannedList.{PlannedList}
 use Rattle.answer_plan.specs.Recall.{verdictBy}
-use Rattle.answer_plan.specs.PlannedLists.{ListWritten}
 use Rattle.answer_plan.proofs.Planned.{handed-bytes, handed-row}
+use Rattle.answer_plan.proofs.Answered.{moved}
+use Rattle.answer_any.specs.AnyLists.{TextOfList}
 use Rattle.sheet_lists.specs.Form.{listFroms, listTos}
 use Rattle.sheet_lists.specs.Reading.{listForm}
 use Rattle.answer_check.specs.declared.Priced.{Priced}
+use Rattle.answer_check.specs.RunRules.{headAnywhere}
 use Rattle.answer_check.specs.Pricing.{priceChecks, pricingVerdict, priceText, RowHolds, SheetPriced}
 use Rattle.answer_check.specs.Private.{HandedIn, listChecks, PricedList, firstRefusal, judgedList}
 
 -- The pricer's rows hold 64 entries, so that 8 never applies.
 module _ (run : Run) (froms tos : List ℕ) (rows : ReadRows) (few : length (run .numbers) ≤ 64) (times : length (rows .times) ≡ 64) (legs : length (rows .legs) ≡ 64) where
-  price-verdict : priceVerdict run froms tos rows ≡ firstOf (listChecks run froms tos)
-  unfolding priceVerdict
+  price-verdict : priceAnyVerdict run froms tos rows ≡ firstOf (listChecks run froms tos)
+  unfolding priceAnyVerdict
   price-verdict =
       rw (le-ltb (length (rows .times)) (length (run .numbers)) (omega (arith, few, times)), le-ltb (length (rows .legs)) (length (run .numbers)) (omega (arith, few, legs))) refl
 
-  pub list-priced : (a : Answer) → a ≡ priceAnswer run froms tos rows → PricedList run froms tos (record { verdict = record { refusal = a .refusal; place = a .place }; sum = a .sum })
-  unfolding priceAnswer pricedAnswer
+  pub list-priced : (a : Answer) → a ≡ priceAnyAnswer run froms tos rows → PricedList run froms tos (record { verdict = record { refusal = a .refusal; place = a .place }; sum = a .sum })
+  unfolding priceAnyAnswer pricedAnyAnswer
   list-priced a is = go (refuses (firstOf (listChecks run froms tos))) refl
     where
       go : (b : Bool) → refuses (firstOf (listChecks run froms tos)) ≡ b → PricedList run froms tos (record { verdict = record { refusal = a .refusal; place = a .place }; sum = a .sum })
@@ -52,7 +55,7 @@ module _ (run : Run) (froms tos : List ℕ) (rows : ReadRows) (few : length (run
           let said : a ≡ refusalAnswer (firstOf (listChecks run froms tos)) = rw (price-verdict, e) at is in
           record { verdict = ap (λ x. record { refusal = x .refusal; place = x .place }) said; sum = λ q. absurd (true≢false (sym e ∙ q)) }
       go false e =
-          let said : a ≡ pricedAnswer run (listOf froms tos) = rw (price-verdict, e) at is in
+          let said : a ≡ pricedAnyAnswer run (listOf froms tos) = rw (price-verdict, e) at is in
           record {
             verdict = ap (λ x. record { refusal = x .refusal; place = x .place }) said ∙ sym (none-refuses (listChecks run froms tos) e);
             sum = λ q. ap (λ x. x .sum) said;
@@ -60,7 +63,7 @@ module _ (run : Run) (froms tos : List ℕ) (rows : ReadRows) (few : length (run
 
 -- The run and the list by value.
 pub priced-held : (r : SheetRun) (l : PlannedList) (run : Run) → run ≡ runHeld r → (froms tos : List ℕ) → froms ≡ take (l .detours) (l .froms) → tos ≡ take (l .detours) (l .tos) → length (r .numbers) ≡ 64
-    → (rows : ReadRows) → length (rows .times) ≡ 64 → length (rows .legs) ≡ 64 → (a : Answer) → a ≡ priceAnswer run froms tos rows
+    → (rows : ReadRows) → length (rows .times) ≡ 64 → length (rows .legs) ≡ 64 → (a : Answer) → a ≡ priceAnyAnswer run froms tos rows
     → PricedList (runHeld r) (take (l .detours) (l .froms)) (take (l .detours) (l .tos)) (record { verdict = record { refusal = a .refusal; place = a .place }; sum = a .sum })
 priced-held r l run e froms tos f t long rows times legs a is =
     let few : length (take (r .wants) (r .numbers)) ≤ 64 = rw length-take (omega (arith, long)) in
@@ -71,10 +74,10 @@ pub handed-holds : (text row : List ℕ) (w : Written) (row′ : List ℕ) → H
 handed-holds text row w row′ h = record { bytes = handed-bytes text row w row′ h; left = handed-row text row w row′ h }
 
 -- The writer's checks on a run and a list that pass: only that of the row is left.
-pub row-decides : (name : List ℕ) (run : Run) (froms tos row : List ℕ) → isName name ≡ true → refuses (judgeOf run) ≡ false → refuses (listVerdict (stopsOf run) froms tos) ≡ false
-    → planSheetVerdict name run froms tos row ≡ rowVerdict (planText name run froms tos) row
-unfolding planSheetVerdict
-row-decides name run froms tos row named passes listed = rw (passes, named, listed) (last-verdict (planText name run froms tos) row)
+pub row-decides : (name : List ℕ) (run : Run) (froms tos row : List ℕ) → isName name ≡ true → refuses (judgeAnyOf run) ≡ false → refuses (listVerdictAny (run .head) (stopsOf run) froms tos) ≡ false
+    → planAnySheetVerdict name run froms tos row ≡ rowVerdict (planAnyText name run froms tos) row
+unfolding planAnySheetVerdict
+row-decides name run froms tos row named passes listed = rw (passes, named, listed) (last-verdict (planAnyText name run froms tos) row)
 
 pub stays : (v w : Verdict) → refuses v ≡ true → v ≡ firstRefusal v w
 stays v w e = rw e
@@ -99,7 +102,7 @@ pub both-first : (v w a b c : Verdict) → v ≡ firstRefusal a w → w ≡ firs
 both-first v w a b c e f = e ∙ ap (firstRefusal a) f
 
 pub judged-by : (r : SheetRun) (l : PlannedList) (p : Priced) → PricedList (runHeld r) (take (l .detours) (l .froms)) (take (l .detours) (l .tos)) p → (w : Verdict) → w ≡ firstRefusal (l .verdict) (p .verdict)
-    → (v : Verdict) → v ≡ firstRefusal (r .verdict) w → record { verdict = v; detours = l .detours; froms = l .froms; tos = l .tos } ≡ judgedList r l
+    → (v : Verdict) → v ≡ firstRefusal (r .verdict) w → v ≡ judgedList r l
 judged-by r l p priced w e v f = rw (f, e, priced .verdict)
 
 -- The verdict on a run sheet and another text, from those on the sheet's run, on the text's form and on both together.
@@ -119,7 +122,7 @@ module _ (sheet : List ℕ) (r : SheetRun) (is : r ≡ runByValue sheet) where
   -- The price of a list for a run sheet.
   module _ (list row : List ℕ) (l : PlannedList) (handed : HandedIn (listForm list) (listFroms list) (listTos list) l) where
     abbrev verdict : Verdict
-    verdict = judgedList r l .verdict
+    verdict = judgedList r l
 
     same-rules : refuses (r .verdict) ≡ false → refuses (listForm list) ≡ false
         → firstOf (listChecks (runHeld r) (take (l .detours) (l .froms)) (take (l .detours) (l .tos))) ≡ firstOf (listChecks (sheetRun sheet) (listFroms list) (listTos list))
@@ -128,33 +131,31 @@ module _ (sheet : List ℕ) (r : SheetRun) (is : r ≡ runByValue sheet) where
         ∙ ap (λ x. firstOf (listChecks (sheetRun sheet) x (take (l .detours) (l .tos)))) (handed .starts f)
         ∙ ap (λ x. firstOf (listChecks (sheetRun sheet) (listFroms list) x)) (handed .ends f)
 
-    verdict-is : verdict ≡ pricingVerdict sheet list
+    verdict-is : verdict ≡ pricingVerdict headAnywhere sheet list
     unfolding verdictBy
     verdict-is =
         ap (λ f. firstRefusal (r .verdict) (firstRefusal f (firstOf (listChecks (runHeld r) (take (l .detours) (l .froms)) (take (l .detours) (l .tos)))))) (handed .verdict)
         ∙ in-order (listForm list) (firstOf (listChecks (runHeld r) (take (l .detours) (l .froms)) (take (l .detours) (l .tos)))) (listChecks (sheetRun sheet) (listFroms list) (listTos list)) same-rules
 
-    pub sheet-priced : (j : PlannedList) → j ≡ judgedList r l → (n : ℕ) (row′ : List ℕ) → ListWritten sheet r j row n row′ → SheetPriced sheet list row n row′
-    unfolding priceText
-    sheet-priced j j-is n row′ w = go (refuses verdict) refl
-      where
-        written : ListWritten sheet r (judgedList r l) row n row′
-        written = rw j-is at w
+    module _ (v : Verdict) (v-is : v ≡ judgedList r l) (f : Bool) (f-is : f ≡ isRefusal (v .refusal)) where
+      pub price-refused : f ≡ true → (w : Written) (row′ : List ℕ) → Handed (rowVerdict (refusalText v) row) (refusalText v) row w row′ → SheetPriced sheet list row (w .bytes) row′
+      unfolding priceText
+      price-refused e w row′ h =
+          let t : refuses (pricingVerdict headAnywhere sheet list) ≡ true = test-says (v-is ∙ verdict-is) f-is e in
+          rw (t, ← verdict-is, ← v-is) (handed-holds (refusalText v) row w row′ h)
 
-        go : (b : Bool) → refuses verdict ≡ b → SheetPriced sheet list row n row′
-        go true e =
-            rw (← verdict-is, e, written .bytes) (handed-holds (refusalText verdict) row (written .text) row′ (written .refused e))
-        go false e =
-            let both = first-says (r .verdict) _ e in
-            let rest = first-says (l .verdict) _ (both .1) in
-            let h = sheet-ok (both .0) in
-            let form : refuses (listForm list) ≡ false = ap refuses (sym (handed .verdict)) ∙ rest .0 in
-            let rules : refuses (firstOf (listChecks (sheetRun sheet) (listFroms list) (listTos list))) ≡ false = ap refuses (sym (same-rules (both .0) form)) ∙ rest .1 in
-            let all = all-accept (listChecks (sheetRun sheet) (listFroms list) (listTos list)) rules in
-            let named : isName (sheetName sheet) ≡ true = subst (λ x. isName x ≡ true) (h .name) (h .named) in
-            let by-run = subst (λ x. PlanWritten (readName sheet) x (take (l .detours) (l .froms)) (take (l .detours) (l .tos)) row (written .text) row′) (h .run) (written .planned e) in
-            let by-name = subst (λ x. PlanWritten x (sheetRun sheet) (take (l .detours) (l .froms)) (take (l .detours) (l .tos)) row (written .text) row′) (h .name) by-run in
-            let by-starts = subst (λ x. PlanWritten (sheetName sheet) (sheetRun sheet) x (take (l .detours) (l .tos)) row (written .text) row′) (handed .starts form) by-name in
-            let by-ends = subst (λ x. PlanWritten (sheetName sheet) (sheetRun sheet) (listFroms list) x row (written .text) row′) (handed .ends form) by-starts in
-            let text = subst (λ v. Handed v (planText (sheetName sheet) (sheetRun sheet) (listFroms list) (listTos list)) row (written .text) row′) (row-decides (sheetName sheet) (sheetRun sheet) (listFroms list) (listTos list) row named (all .0) (all .1 .0)) by-ends in
-            rw (← verdict-is, e, written .bytes) (handed-holds (planText (sheetName sheet) (sheetRun sheet) (listFroms list) (listTos list)) row (written .text) row′ text)
+      pub price-written : f ≡ false → (w : Written) (row′ : List ℕ) → TextOfList sheet r l row w row′ → SheetPriced sheet list row (w .bytes) row′
+      unfolding priceText
+      price-written e w row′ written =
+          let t : refuses (pricingVerdict headAnywhere sheet list) ≡ false = test-says (v-is ∙ verdict-is) f-is e in
+          let both = first-says (r .verdict) _ (test-says v-is f-is e) in
+          let rest = first-says (l .verdict) _ (both .1) in
+          let h = sheet-ok (both .0) in
+          let form : refuses (listForm list) ≡ false = ap refuses (sym (handed .verdict)) ∙ rest .0 in
+          let rules : refuses (firstOf (listChecks (sheetRun sheet) (listFroms list) (listTos list))) ≡ false = ap refuses (sym (same-rules (both .0) form)) ∙ rest .1 in
+          let all = all-accept (listChecks (sheetRun sheet) (listFroms list) (listTos list)) rules in
+          let named : isName (sheetName sheet) ≡ true = subst (λ x. isName x ≡ true) (h .name) (h .named) in
+          let text =
+          subst (λ x. Handed x (planAnyText (sheetName sheet) (sheetRun sheet) (listFroms list) (listTos list)) row w row′) (row-decides (sheetName sheet) (sheetRun sheet) (listFroms list) (listTos list) row named (all .0) (all .1 .0))
+          (moved PlanAnyWritten (h .name) (h .run) (handed .starts form) (handed .ends form) written) in
+          rw t (handed-holds (planAnyText (sheetName sheet) (sheetRun sheet) (listFroms list) (listTos list)) row w row′ text)

@@ -3,7 +3,7 @@ ghost use mathlib.Core.Path.{_≡_};
 ghost use Rattle.sheet_writer.specs.RefusalLines.{refusalText};
 ghost use Rattle.answer_check.specs.Pricing.{RowHolds};
 ghost use Rattle.answer_check.specs.Inputs.{badInput, framedInput, InputPriced, InputChecked};
-use crate::check;
+use crate::check_text;
 use crate::price;
 use refusals::Refusal;
 use refusals::Verdict;
@@ -43,13 +43,13 @@ pub fn price_input(input: &[u8], out: &mut [u8]) -> u64
     price(part(input, from, to), part(input, to, end), out)
 }
 
-// The verdict on an input of a run sheet and a plan sheet, as by `check`.
-pub fn check_input(input: &[u8], out: &mut [u8]) -> u64
-    ensures { λ r. ⌜ InputChecked (now (input .entry)) (now (out .entry)) r (now (out .exit)) ⌝ }
+// The verdict on an input of a run sheet and a plan sheet, as by `check_text`.
+pub fn check_input(input: &[u8], out: &mut [u8], room: &mut [u64]) -> u64
+    ensures { λ r. ⌜ InputChecked (now (input .entry)) (now (out .entry)) (now (room .entry)) r (now (out .exit)) (now (room .exit)) ⌝ }
 {
     let Framed::Sheet { from, to } = frame_input(input) else {
         return refuse_input(out);
     };
     let end = input.len();
-    check(part(input, from, to), part(input, to, end), out)
+    check_text(part(input, from, to), part(input, to, end), out, room)
 }

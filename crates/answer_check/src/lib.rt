@@ -1,12 +1,14 @@
 // answer_check: from a run sheet and a detour list to that list's plan sheet, and from a run sheet and a plan sheet to a verdict on the latter; the
-// same from an input that holds both texts. For the programs, which read, call this and write. It stands on the promises of the readers, the pricer,
-// the planner and the writers; the rows that they are lent are on its own stack.
+// same from an input that holds both texts. The head may stand anywhere. For the programs, which print the answer, and for a caller, which gets a
+// record. It stands on the promises of the readers, the pricer, the planner and the writers; the rows that they are lent, but for the planner's room,
+// are on its own stack.
 mod checking;
 mod inputs;
 mod pricing;
 mod verdict;
 
 pub use checking::check;
+pub use checking::check_text;
 pub use inputs::check_input;
 pub use inputs::price_input;
 pub use pricing::price;
@@ -25,12 +27,19 @@ struct Priced {
 
 // The plan sheet of a list, in the first bytes of a page that is never too short for it.
 struct PlanPage {
-    bytes: u64,
+    written: sheet_writer::Written,
     text: [u8; 7644],
 }
 
 // A verdict's text, in the first bytes of a page. None is longer than 24,115 bytes.
 struct VerdictPage {
+    bytes: u64,
+    text: [u8; 24115],
+}
+
+// The first refusal of two sheets, or the verdict's text, in the first bytes of a page.
+struct CheckedPage {
+    verdict: refusals::Verdict,
     bytes: u64,
     text: [u8; 24115],
 }

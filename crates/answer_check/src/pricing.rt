@@ -42,7 +42,7 @@ pub(crate) fn priced(run: SheetRun, list: PlannedList) -> Priced
     let tos = list.tos;
     let mut times = [0u64; 64];
     let mut legs = [0u64; 64];
-    let answer = walk::price(
+    let answer = walk::price_any(
         entries(&starts, run.files),
         entries(&lengths, run.files),
         entries(&aggregates, run.files),
@@ -76,23 +76,15 @@ pub(crate) fn first_refusal(first: Verdict, second: Verdict) -> Verdict
     second
 }
 
-// A list handed in, under the first refusal of the run sheet, of its own form and of the pricer.
-fn judged_list(run: SheetRun, list: PlannedList) -> PlannedList
+// The first refusal of the run sheet, of the list's own form and of the pricer.
+fn judged(run: SheetRun, list: PlannedList) -> Verdict
     ensures { λ r. ⌜ r ≡ judgedList run list ⌝ }
 {
     let walked = priced(run, list);
     let early = run.verdict;
     let form = list.verdict;
     let rules = walked.verdict;
-    let verdict = first_refusal(early, first_refusal(form, rules));
-    let froms = list.froms;
-    let tos = list.tos;
-    PlannedList {
-        verdict,
-        detours: list.detours,
-        froms,
-        tos,
-    }
+    first_refusal(early, first_refusal(form, rules))
 }
 
 // The plan sheet of a run sheet and a list, in the first bytes of a row: how many they are. A row shorter than the answer takes none of it, and the
@@ -102,6 +94,11 @@ pub fn price(sheet: &[u8], list: &[u8], out: &mut [u8]) -> u64
 {
     let run = sheet_runs::read_run(sheet);
     let handed = read_list(list);
-    let judged = judged_list(run, handed);
-    answer_plan::write_list(sheet, run, judged, out)
+    let verdict = judged(run, handed);
+    if refused(verdict) {
+        let lines = sheet_writer::write_refusal(verdict, out);
+        return lines.bytes;
+    }
+    let text = answer_any::write_any(sheet, run, handed, out);
+    text.bytes
 }

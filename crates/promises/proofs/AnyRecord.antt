@@ -34,12 +34,17 @@ use Rattle.promises.proofs.AnyLengths.{any-passes}
 use Rattle.promises.proofs.AnswersAny.{any-few, words-own, one, any-finds}
 
 -- Orders in which 8 is not.
-abbrev NoEight : List Refusal → Type 0
+abbrev pub NoEight : List Refusal → Type 0
 NoEight [] = Unit {0}
 NoEight (k ∷ ks) = (numberOf k ≡ 8 → ⊥) × NoEight ks
 
 no-eight : NoEight roomOrder
 no-eight = (λ e. omega arith, (λ e. omega arith, (λ e. omega arith, (λ e. omega arith, (λ e. omega arith, (λ e. omega arith, (λ e. omega arith, (λ e. omega arith, (λ e. omega arith, (λ e. omega arith, (λ e. omega arith, tt)))))))))))
+
+pub not-eight : (applies : Refusal → ℕ → Type 0) {kind : Refusal} {place : ℕ} (order : List Refusal) → NoEight order → FirstThatApplies applies order kind place → numberOf kind ≡ 8 → ⊥
+not-eight applies [] o none e = omega arith
+not-eight applies (k ∷ ks) o (here h) e = o .0 e
+not-eight applies (k ∷ ks) o (later s f) e = not-eight applies ks (o .1) f e
 
 module _ (words : ℕ) (sheet row : List ℕ) where
   abbrev Sheets : Refusal → ℕ → Type 0
@@ -55,11 +60,6 @@ module _ (words : ℕ) (sheet row : List ℕ) where
   no-short-row : (p : ℕ) → Sheets ShortRow p → ⊥
   no-short-row p (run h) = omega (arith, any-small (sheetRun sheet) h)
   no-short-row p (engine h) = ⊎-elim (λ e. omega arith) (λ e. omega arith) (words-own words (sheetRun sheet) ShortRow p h)
-
-  not-eight : {kind : Refusal} {place : ℕ} (order : List Refusal) → NoEight order → FirstThatApplies Sheets order kind place → numberOf kind ≡ 8 → ⊥
-  not-eight [] o none e = omega arith
-  not-eight (k ∷ ks) o (here h) e = o .0 e
-  not-eight (k ∷ ks) o (later s f) e = not-eight ks (o .1) f e
 
   -- What is first of the sheet's refusals is first of all; and where there is none, what comes behind them is.
   found : {kind : Refusal} {place : ℕ} (order more : List Refusal) → NoEight order → (kind ≡ Accepted → ⊥) → FirstThatApplies Sheets order kind place → FirstThatApplies Records (order ++ more) kind place
@@ -83,7 +83,7 @@ module _ (sheet row room : List ℕ) (w : Written) (row′ room′ : List ℕ) (
       let p = c .refused e in
       let kind : w .refusal ≡ v .refusal = ap (λ x. x .refusal) (p .says) in
       let no : w .refusal ≡ Accepted → ⊥ = λ is. true≢false (sym e ∙ ap isRefusal (sym kind ∙ is)) in
-      let other : w .refusal ≡ ShortRow → ⊥ = λ is. not-eight (length room) sheet row roomOrder no-eight (any-finds (length room) sheet) (ap numberOf (sym kind ∙ is)) in
+      let other : w .refusal ≡ ShortRow → ⊥ = λ is. not-eight (AnyApplies (length room) sheet) roomOrder no-eight (any-finds (length room) sheet) (ap numberOf (sym kind ∙ is)) in
       record {
         first = rw (p .says) (found (length room) sheet row roomOrder (ShortRow ∷ []) no-eight (λ is. no (kind ∙ is)) (any-finds (length room) sheet));
         unwritten = λ n. (ap (λ x. x .bytes) (p .says), p .kept);

@@ -11,34 +11,35 @@ use borrow.Author.Tests.{eq-eqb, eqb-true}
 use Rattle.refusals.specs.declared.Refusal.the-variants.{BadEntry}
 use Rattle.refusals.proofs.Verdicts.{refuses, all-accept}
 use Rattle.runs.specs.Run.{Run, stopsOf}
-use Rattle.runs.specs.Judging.{judgeOf}
-use Rattle.runs.specs.Lists.{Detour, WellFormed, listOf, listVerdict, firstBadEntry}
+use Rattle.runs.specs.Lists.{Detour, listOf}
+use Rattle.runs.specs.AnyHead.{judgeAnyOf, firstBadEntryAny, listVerdictAny}
 use Rattle.runs.proofs.Search.{true-or-false, or-false-both}
-use Rattle.runs.proofs.Judged.{accepted-run}
-use Rattle.walk.specs.Price.{pricedAnswer}
-use Rattle.least.specs.Least.{LeastForRun}
-use Rattle.least.proofs.LeastList.{least-unique}
-use Rattle.figures.proofs.Answers.{list-formed}
+use Rattle.runs.proofs.AnyHead.{accepted-any}
+use Rattle.walk.specs.AnyHead.{pricedAnyAnswer}
+use Rattle.least.specs.AnyHead.{LeastAny}
+use Rattle.least.proofs.LeastAny.{least-any-unique}
 use Rattle.text_bytes.specs.Text.{bytes, lineFeed, has, behind, isText, decimal}
 use Rattle.text_lines.specs.Lines.{lineOf, afterLines, lineAfter}
 use Rattle.text_pages.specs.Printing.{line}
 use Rattle.sheet_reader.specs.Sheet.{sheetRun, sheetName}
-use Rattle.sheet_writer.specs.PlanSheet.{planText}
+use Rattle.sheet_writer.specs.AnyHead.{planAnyText}
 use Rattle.sheet_writer.proofs.Reread.{after-front}
 use Rattle.sheet_lists.specs.Form.{planFroms, planTos}
+use Rattle.sheet_lists.proofs.AnyTrip.{any-none}
 use Rattle.answer_check.specs.declared.Difference.{Difference}
-use Rattle.answer_check.specs.Checking.{formedYes, walkNo, leastNo, foundKey, expectedKey, differFrom, firstDifference, walkLine, differenceLines, sameList, leastLine, verdictLines, checkText, checkChecks}
+use Rattle.answer_check.specs.RunRules.{headAnywhere}
+use Rattle.answer_check.specs.Checking.{formedYes, walkNo, leastNo, foundKey, expectedKey, differFrom, firstDifference, walkLine, differenceLines, sameList, leastLine, verdictLines, checkText}
 use Rattle.answer_check.proofs.Checked.{entry-bad}
-use Rattle.demands.specs.RefusalTable.{FirstBad, EntryIsBad, ListIsBad}
+use Rattle.demands.specs.RefusalTable.{FirstBad}
+use Rattle.demands.specs.AnyHead.{EntryIsBadAny, ListIsBadAny}
 use Rattle.demands.proofs.Checks.{Decides, refused, passed}
-use Rattle.demands.proofs.Listed.{decides-list}
-use Rattle.demands.proofs.Formed.{formed-by-the-rules}
-use Rattle.promises.specs.Checks.{Larger, FirstDiffers}
+use Rattle.demands.proofs.AnyJudged.{decides-list-any}
+use Rattle.demands.proofs.AnyHead.{is-formed-any}
+use Rattle.promises.specs.Checks.{Larger, FirstDiffers, FormedFor}
 use Rattle.promises.specs.CheckWhole.{LeastLine, least, larger, VerdictText, unformed, the-walk, another, CheckPrintsAll}
 use Rattle.promises.proofs.Differs.{first-differs}
 use Rattle.promises.proofs.Checks.{put-whole, even-plan, text-same, same-text, list-same, same-list}
-use Rattle.promises.proofs.Lengths.{sheet-passes}
-use Rattle.promises.proofs.InputLengths.{check-checks-near, check-fits}
+use Rattle.promises.proofs.InputLengths.{check-passes, check-fits}
 
 -- Where the line that is named starts: so many lines and so many bytes behind where the search began, in both texts.
 record Reached (l start : ℕ) (a b : List ℕ) (d : Difference) : Type 0 where
@@ -122,50 +123,50 @@ module _ (plan expected : List ℕ) (n : ℕ) (is : firstDifference plan expecte
   expected-line = ap (λ k. lineOf (drop k expected)) start ∙ ap lineOf (both .right) ∙ ap (λ m. lineAfter m expected) number
 
 -- The first entry that breaks a rule, of rows of one length.
-first-entry : (run : Run) → refuses (judgeOf run) ≡ false → (froms tos : List ℕ) → length froms ≡ length tos → refuses (listVerdict (stopsOf run) froms tos) ≡ true
-    → FirstBad (EntryIsBad run froms tos) (length froms) (firstBadEntry (stopsOf run) (listOf froms tos))
-first-entry run passes froms tos even e = go (decides-list run (accepted-run run passes) froms tos (sym (accepted-run run passes .wants .equal)))
+first-entry : (run : Run) → refuses (judgeAnyOf run) ≡ false → (froms tos : List ℕ) → length froms ≡ length tos → refuses (listVerdictAny (run .head) (stopsOf run) froms tos) ≡ true
+    → FirstBad (EntryIsBadAny run froms tos) (length froms) (firstBadEntryAny (run .head) (stopsOf run) (listOf froms tos))
+first-entry run passes froms tos even e = go (decides-list-any run (accepted-any run passes) froms tos)
   where
-    go : Decides BadEntry (ListIsBad run froms tos) (listVerdict (stopsOf run) froms tos) → FirstBad (EntryIsBad run froms tos) (length froms) (firstBadEntry (stopsOf run) (listOf froms tos))
+    go : Decides BadEntry (ListIsBadAny run froms tos) (listVerdictAny (run .head) (stopsOf run) froms tos) → FirstBad (EntryIsBadAny run froms tos) (length froms) (firstBadEntryAny (run .head) (stopsOf run) (listOf froms tos))
     go (refused p is h) =
-        let place : p ≡ firstBadEntry (stopsOf run) (listOf froms tos) = sym (ap (λ v. v .place) is) ∙ entry-bad run froms tos even e .0 in
-        ⊎-elim (λ z. absurd (z .1 even)) (λ b. subst (FirstBad (EntryIsBad run froms tos) (length froms)) place (b .1)) h
+        let place : p ≡ firstBadEntryAny (run .head) (stopsOf run) (listOf froms tos) = sym (ap (λ v. v .place) is) ∙ entry-bad run froms tos even e .0 in
+        ⊎-elim (λ z. absurd (z .1 even)) (λ b. subst (FirstBad (EntryIsBadAny run froms tos) (length froms)) place (b .1)) h
     go (passed is n) = absurd (true≢false (sym e ∙ ap refuses is))
 
-module _ (name : List ℕ) (run : Run) (passes : refuses (judgeOf run) ≡ false) (plan froms tos : List ℕ) (even : length froms ≡ length tos) (list : List Detour) (best : LeastForRun run list) where
+module _ (name : List ℕ) (run : Run) (passes : refuses (judgeAnyOf run) ≡ false) (plan froms tos : List ℕ) (even : length froms ≡ length tos) (list : List Detour) (best : LeastAny run list) where
   abbrev expected : List ℕ
-  expected = planText name run froms tos
+  expected = planAnyText name run froms tos
 
   abbrev own : List Detour
   own = listOf froms tos
 
-  least-line : WellFormed (stopsOf run) own → LeastLine run own (leastLine run froms tos list)
-  unfolding leastLine pricedAnswer
+  least-line : FormedFor run froms tos → LeastLine run own (leastLine headAnywhere run froms tos list)
+  unfolding leastLine pricedAnyAnswer
   least-line w =
       ⊎-elim
-      (λ (e : sameList froms tos list ≡ true). rw e (least (subst (LeastForRun run) (sym (list-same froms tos even list e)) best)))
+      (λ (e : sameList froms tos list ≡ true). rw e (least (subst (LeastAny run) (sym (list-same froms tos even list e)) best)))
       (λ (e : sameList froms tos list ≡ false).
-      let other : LeastForRun run own → ⊥ = λ l. true≢false (sym (same-list froms tos even list (least-unique (run .turn) (run .head) (stopsOf run) own list l best)) ∙ e) in
-      let more : Larger run own (pricedAnswer run own .sum - pricedAnswer run list .sum) = record { least = list; is = best; sum = omega (arith, best .smallest own w) } in
-      rw e (subst (LeastLine run own) (sym (append-assoc leastNo (decimal (pricedAnswer run own .sum - pricedAnswer run list .sum)) (lineFeed ∷ [])) ∙ append-assoc leastNo (decimal (pricedAnswer run own .sum - pricedAnswer run list .sum)) (lineFeed ∷ [])) (larger other more)))
+      let other : LeastAny run own → ⊥ = λ l. true≢false (sym (same-list froms tos even list (least-any-unique (run .turn) (run .head) (stopsOf run) own list l best)) ∙ e) in
+      let more : Larger run own (pricedAnyAnswer run own .sum - pricedAnyAnswer run list .sum) = record { least = list; is = best; sum = omega (arith, best .smallest own w) } in
+      rw e (subst (LeastLine run own) (sym (append-assoc leastNo (decimal (pricedAnyAnswer run own .sum - pricedAnyAnswer run list .sum)) (lineFeed ∷ [])) ∙ append-assoc leastNo (decimal (pricedAnyAnswer run own .sum - pricedAnyAnswer run list .sum)) (lineFeed ∷ [])) (larger other more)))
       (true-or-false (sameList froms tos list))
 
-  same-lines : isText expected plan ≡ true → verdictLines plan expected run froms tos list ≡ bytes "formed=yes\nwalk=yes\n" ++ leastLine run froms tos list
+  same-lines : isText expected plan ≡ true → verdictLines headAnywhere plan expected run froms tos list ≡ bytes "formed=yes\nwalk=yes\n" ++ leastLine headAnywhere run froms tos list
   unfolding verdictLines walkLine differenceLines
   same-lines e = rw e (append-nil _)
 
   other-lines : (n : ℕ) → firstDifference plan expected .line ≡ suc n → isText expected plan ≡ false
-      → verdictLines plan expected run froms tos list
-      ≡ bytes "formed=yes\nwalk=no," ++ decimal (suc n) ++ bytes "\n" ++ leastLine run froms tos list
+      → verdictLines headAnywhere plan expected run froms tos list
+      ≡ bytes "formed=yes\nwalk=no," ++ decimal (suc n) ++ bytes "\n" ++ leastLine headAnywhere run froms tos list
       ++ bytes "found=" ++ lineAfter n plan ++ bytes "\nexpected=" ++ lineAfter n expected ++ bytes "\n"
   unfolding verdictLines walkLine differenceLines
   other-lines n is e =
       rw (e, found-line plan expected n is, expected-line plan expected n is, is)
-      (regrouped formedYes walkNo (decimal (suc n)) (lineFeed ∷ []) (leastLine run froms tos list) foundKey (lineAfter n plan) expectedKey (lineAfter n expected))
+      (regrouped formedYes walkNo (decimal (suc n)) (lineFeed ∷ []) (leastLine headAnywhere run froms tos list) foundKey (lineAfter n plan) expectedKey (lineAfter n expected))
 
-  formed-text : WellFormed (stopsOf run) own → VerdictText name run plan froms tos (verdictLines plan expected run froms tos list)
+  formed-text : FormedFor run froms tos → VerdictText name run plan froms tos (verdictLines headAnywhere plan expected run froms tos list)
   formed-text w =
-      let obeys = formed-by-the-rules (stopsOf run) own .0 w in
+      let obeys = is-formed-any run (accepted-any run passes) own w in
       ⊎-elim
       (λ (e : isText expected plan ≡ true). subst (VerdictText name run plan froms tos) (sym (same-lines e)) (the-walk obeys (text-same expected plan e) (least-line w)))
       (λ (e : isText expected plan ≡ false).
@@ -174,15 +175,15 @@ module _ (name : List ℕ) (run : Run) (passes : refuses (judgeOf run) ≡ false
       (true-or-false (isText expected plan))
 
   abbrev bad : ℕ
-  bad = firstBadEntry (stopsOf run) own
+  bad = firstBadEntryAny (run .head) (stopsOf run) own
 
-  not-formed : eqb bad 0 ≡ false → refuses (listVerdict (stopsOf run) froms tos) ≡ true
+  not-formed : eqb bad 0 ≡ false → refuses (listVerdictAny (run .head) (stopsOf run) froms tos) ≡ true
   not-formed e =
       ⊎-elim (λ t. t)
-      (λ (f : refuses (listVerdict (stopsOf run) froms tos) ≡ false). absurd (true≢false (sym (eq-eqb bad 0 (list-formed (stopsOf run) froms tos f)) ∙ e)))
-      (true-or-false (refuses (listVerdict (stopsOf run) froms tos)))
+      (λ (f : refuses (listVerdictAny (run .head) (stopsOf run) froms tos) ≡ false). absurd (true≢false (sym (eq-eqb bad 0 (any-none run froms tos passes f)) ∙ e)))
+      (true-or-false (refuses (listVerdictAny (run .head) (stopsOf run) froms tos)))
 
-  pub whole-text : VerdictText name run plan froms tos (checkText name run plan froms tos list)
+  pub whole-text : VerdictText name run plan froms tos (checkText headAnywhere name run plan froms tos list)
   unfolding checkText
   whole-text =
       ⊎-elim
@@ -191,10 +192,11 @@ module _ (name : List ℕ) (run : Run) (passes : refuses (judgeOf run) ≡ false
       (true-or-false (eqb bad 0))
 
 pub check-prints-all : CheckPrintsAll
-check-prints-all sheet plan row n row′ c wide e =
-    let v = c .answers .checked e in
-    let few = check-fits sheet plan (c .text) (c .answers) in
-    let good = sheet-passes (checkChecks plan) (λ run f. all-accept (checkChecks plan run) f .1 .0) (check-checks-near plan) sheet e in
+check-prints-all sheet plan row room n row′ room′ c wide e =
+    let g = c .given in
+    let v = g .answers .checked e in
+    let few = check-fits (length room) sheet plan (g .text) (g .answers) in
+    let good = check-passes (length room) sheet plan e in
     let whole = whole-text (sheetName sheet) (sheetRun sheet) (good .1) plan (planFroms plan) (planTos plan) (even-plan plan) (v .list) (v .least) in
     subst (VerdictText (sheetName sheet) (sheetRun sheet) plan (planFroms plan) (planTos plan))
-    (sym (put-whole (c .text) row n row′ (c .holds .bytes) (c .holds .left) (omega (arith, few .0)) ∙ v .says)) whole
+    (sym (put-whole (g .text) row n row′ (g .holds .bytes) (g .holds .left) (omega (arith, few .0)) ∙ v .says)) whole

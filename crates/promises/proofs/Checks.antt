@@ -9,18 +9,26 @@ use lib.ListN.{length, take, drop, getD}
 use lib.Seq.{take-append-seam}
 use lib.Dec.{ltb, eqb}
 use borrow.Author.Tests.{eq-eqb, ne-eqb, eqb-true, le-ltb, ltb-false}
+use Rattle.refusals.specs.declared.Refusal.{Refusal}
+use Rattle.refusals.specs.declared.Refusal.the-variants.{HeadPlace, ShortRoom}
 use Rattle.refusals.specs.declared.Verdict.{Verdict}
-use Rattle.refusals.specs.Refusals.{firstOf, accepted}
-use Rattle.refusals.proofs.Verdicts.{refuses, all-accept}
+use Rattle.refusals.specs.Refusals.{isRefusal, firstOf, accepted}
+use Rattle.refusals.proofs.Verdicts.{refuses, AllAccept, all-accept, accepts-if}
 use Rattle.runs.specs.Run.{Run, stopsOf}
 use Rattle.runs.specs.Judging.{judgeOf}
-use Rattle.runs.specs.Lists.{Detour, WellFormed, listOf, listVerdict, firstBadEntry}
+use Rattle.runs.specs.Lists.{Detour, listOf, listVerdict}
+use Rattle.runs.specs.AnyHead.{firstBadEntryAny, listVerdictAny}
 use Rattle.runs.proofs.Search.{true-or-false}
-use Rattle.walk.specs.Price.{pricedAnswer}
-use Rattle.least.specs.Least.{LeastForRun, listSum}
-use Rattle.least.proofs.LeastList.{least-unique}
-use Rattle.figures.proofs.Answers.{list-formed}
+use Rattle.runs.proofs.AnyHead.{sound-right, pulled-same}
+use Rattle.runs.proofs.Stops.{accepted-sound}
+use Rattle.walk.specs.AnyHead.{pricedAnyAnswer}
+use Rattle.least.specs.Least.{LeastForRun}
+use Rattle.least.specs.AnyHead.{LeastAny, LeastAnyFor}
+use Rattle.least.specs.Recurrence.{leastList}
+use Rattle.least.proofs.LeastList.{least-list, least-unique}
+use Rattle.least.proofs.LeastAny.{least-any, least-any-unique}
 use Rattle.engine_stops.proofs.Halves.{list-accepted, list-of-halves, halves-even}
+use Rattle.planner.specs.Plan.{roomFor}
 use Rattle.text_bytes.specs.Text.{bytes, lineFeed, has, behind, isText, startsWith, isName, valueOf, decimal}
 use Rattle.text_bytes.proofs.Bytes.{and-true-both}
 use Rattle.text_bytes.proofs.Decimals.{decimal-without, decimal-value}
@@ -32,15 +40,21 @@ use Rattle.sheet_reader.specs.Reading.{sheetVerdict, ruleVerdict}
 use Rattle.sheet_reader.proofs.Good.{good-name}
 use Rattle.sheet_reader.proofs.Rows.{length-each}
 use Rattle.sheet_writer.specs.PlanSheet.{planText, detourKey}
+use Rattle.sheet_writer.specs.AnyHead.{planAnyText}
 use Rattle.sheet_writer.proofs.Reread.{line-first, line-behind, key-begins}
+use Rattle.sheet_writer.proofs.Plans.{text-same as plan-text-same}
 use Rattle.answer_plan.specs.Recall.{runChecks, verdictBy, recallVerdict, SheetRecalled, bytesPut, rowPut}
+use Rattle.answer_any.specs.AnyRun.{anyChecks, anyVerdict, SheetRecalledAny}
+use Rattle.answer_any.proofs.Same.{verdict-same}
 use Rattle.sheet_lists.specs.Form.{detoursTold, detourText, planFroms, planTos, listFroms, listTos}
 use Rattle.sheet_lists.specs.Reading.{planForm, listForm}
-use Rattle.sheet_lists.proofs.RoundTrip.{plan-formed, froms-back, tos-back}
+use Rattle.sheet_lists.proofs.AnyTrip.{any-none, any-reads-back, any-froms-back, any-tos-back}
+use Rattle.answer_check.specs.RunRules.{headAnywhere}
 use Rattle.answer_check.specs.Pricing.{priceChecks, pricingVerdict, priceText, SheetPriced}
-use Rattle.answer_check.specs.Checking.{formedYes, formedNo, walkYes, walkNo, leastYes, leastNo, firstDifference, walkLine, differenceLines, sameList, leastLine, verdictLines, checkText, checkChecks, checkVerdict, SheetChecked}
+use Rattle.answer_check.specs.Checking.{formedYes, formedNo, walkYes, walkNo, leastYes, leastNo, firstDifference, walkLine, differenceLines, sameList, leastLine, verdictLines, checkText, verdictOn, SheetChecked}
+use Rattle.answer_check.proofs.Same.{priced-as-01, checked-as-01}
 use Rattle.promises.proofs.Differs.{first-differs}
-use Rattle.promises.specs.Checks.{Larger, FirstDiffers, Told, CheckTells, CheckPrinted, PlanChecks, PriceTells}
+use Rattle.promises.specs.Checks.{Larger, FirstDiffers, FormedFor, Told, CheckTells, CheckPrinted, ChecksAsAll, PlanChecks, PlanAnyChecks, PriceTells, PriceStays, CheckStays}
 
 -- Two texts are the same exactly where the test says so.
 pub text-same : (a b : List ℕ) → isText a b ≡ true → b ≡ a
@@ -93,19 +107,19 @@ module _ (key text rest : List ℕ) (plain : has lineFeed key ≡ false) (flat :
 -- The lines of a verdict on a well-formed list.
 module _ (plan expected : List ℕ) (run : Run) (froms tos : List ℕ) (list : List Detour) where
   abbrev text : List ℕ
-  text = verdictLines plan expected run froms tos list
+  text = verdictLines headAnywhere plan expected run froms tos list
 
-  text-is : text ≡ line (bytes "formed=") (bytes "yes") ++ (walkLine plan expected ++ (leastLine run froms tos list ++ differenceLines plan expected))
+  text-is : text ≡ line (bytes "formed=") (bytes "yes") ++ (walkLine plan expected ++ (leastLine headAnywhere run froms tos list ++ differenceLines plan expected))
   unfolding verdictLines
   text-is = simp append-assoc
 
   line₀ : lineAfter 0 text ≡ bytes "formed=yes"
   unfolding afterLines has
-  line₀ = ap lineOf text-is ∙ front-line (bytes "formed=") (bytes "yes") (walkLine plan expected ++ (leastLine run froms tos list ++ differenceLines plan expected)) refl refl
+  line₀ = ap lineOf text-is ∙ front-line (bytes "formed=") (bytes "yes") (walkLine plan expected ++ (leastLine headAnywhere run froms tos list ++ differenceLines plan expected)) refl refl
 
-  rest₁ : afterLines 1 text ≡ walkLine plan expected ++ (leastLine run froms tos list ++ differenceLines plan expected)
+  rest₁ : afterLines 1 text ≡ walkLine plan expected ++ (leastLine headAnywhere run froms tos list ++ differenceLines plan expected)
   unfolding afterLines has
-  rest₁ = ap (behind lineFeed) text-is ∙ front-rest (bytes "formed=") (bytes "yes") (walkLine plan expected ++ (leastLine run froms tos list ++ differenceLines plan expected)) refl refl
+  rest₁ = ap (behind lineFeed) text-is ∙ front-rest (bytes "formed=") (bytes "yes") (walkLine plan expected ++ (leastLine headAnywhere run froms tos list ++ differenceLines plan expected)) refl refl
 
   flat : (n : ℕ) → has lineFeed (decimal n) ≡ false
   flat n = decimal-without lineFeed n refl
@@ -113,18 +127,18 @@ module _ (plan expected : List ℕ) (run : Run) (froms tos : List ℕ) (list : L
   -- The walk's line, by cases.
   walk-so : isText expected plan ≡ true → lineAfter 1 text ≡ bytes "walk=yes"
   unfolding walkLine has
-  walk-so e = ap lineOf (rest₁ ∙ rw e refl) ∙ front-line (bytes "walk=") (bytes "yes") (leastLine run froms tos list ++ differenceLines plan expected) refl refl
+  walk-so e = ap lineOf (rest₁ ∙ rw e refl) ∙ front-line (bytes "walk=") (bytes "yes") (leastLine headAnywhere run froms tos list ++ differenceLines plan expected) refl refl
 
   walk-not : isText expected plan ≡ false → lineAfter 1 text ≡ walkNo ++ decimal (firstDifference plan expected .line)
   unfolding walkLine has
-  walk-not e = ap lineOf (rest₁ ∙ rw e refl) ∙ front-line walkNo (decimal (firstDifference plan expected .line)) (leastLine run froms tos list ++ differenceLines plan expected) refl (flat (firstDifference plan expected .line))
+  walk-not e = ap lineOf (rest₁ ∙ rw e refl) ∙ front-line walkNo (decimal (firstDifference plan expected .line)) (leastLine headAnywhere run froms tos list ++ differenceLines plan expected) refl (flat (firstDifference plan expected .line))
 
-  rest₂ : afterLines 2 text ≡ leastLine run froms tos list ++ differenceLines plan expected
+  rest₂ : afterLines 2 text ≡ leastLine headAnywhere run froms tos list ++ differenceLines plan expected
   unfolding afterLines walkLine has
   rest₂ =
       ⊎-elim
-      (λ (e : isText expected plan ≡ true). ap (behind lineFeed) (rest₁ ∙ rw e refl) ∙ front-rest (bytes "walk=") (bytes "yes") (leastLine run froms tos list ++ differenceLines plan expected) refl refl)
-      (λ (e : isText expected plan ≡ false). ap (behind lineFeed) (rest₁ ∙ rw e refl) ∙ front-rest walkNo (decimal (firstDifference plan expected .line)) (leastLine run froms tos list ++ differenceLines plan expected) refl (flat (firstDifference plan expected .line)))
+      (λ (e : isText expected plan ≡ true). ap (behind lineFeed) (rest₁ ∙ rw e refl) ∙ front-rest (bytes "walk=") (bytes "yes") (leastLine headAnywhere run froms tos list ++ differenceLines plan expected) refl refl)
+      (λ (e : isText expected plan ≡ false). ap (behind lineFeed) (rest₁ ∙ rw e refl) ∙ front-rest walkNo (decimal (firstDifference plan expected .line)) (leastLine headAnywhere run froms tos list ++ differenceLines plan expected) refl (flat (firstDifference plan expected .line)))
       (true-or-false (isText expected plan))
 
   least-so : sameList froms tos list ≡ true → lineAfter 2 text ≡ bytes "least=yes"
@@ -132,7 +146,7 @@ module _ (plan expected : List ℕ) (run : Run) (froms tos : List ℕ) (list : L
   least-so e = ap lineOf (rest₂ ∙ rw e refl) ∙ front-line (bytes "least=") (bytes "yes") (differenceLines plan expected) refl refl
 
   abbrev more : ℕ
-  more = pricedAnswer run (listOf froms tos) .sum - pricedAnswer run list .sum
+  more = pricedAnyAnswer run (listOf froms tos) .sum - pricedAnyAnswer run list .sum
 
   least-not : sameList froms tos list ≡ false → lineAfter 2 text ≡ leastNo ++ decimal more
   unfolding leastLine has
@@ -149,35 +163,35 @@ not-formed-yes : (rest : List ℕ) → formedNo ++ rest ≡ bytes "formed=yes" �
 not-formed-yes rest e = let z : _≡_ {A = ℕ} 110 121 = ap (λ l. getD l 7 0) e in omega arith
 
 -- What a verdict says, by the least list.
-module _ (name : List ℕ) (run : Run) (plan froms tos : List ℕ) (even : length froms ≡ length tos) (list : List Detour) (least : LeastForRun run list) where
+module _ (name : List ℕ) (run : Run) (plan froms tos : List ℕ) (even : length froms ≡ length tos) (list : List Detour) (least : LeastAny run list) where
   abbrev expected : List ℕ
-  expected = planText name run froms tos
+  expected = planAnyText name run froms tos
 
   abbrev said : List ℕ
-  said = checkText name run plan froms tos list
+  said = checkText headAnywhere name run plan froms tos list
 
-  formed-so : WellFormed (stopsOf run) (listOf froms tos) → said ≡ verdictLines plan expected run froms tos list
+  formed-so : FormedFor run froms tos → said ≡ verdictLines headAnywhere plan expected run froms tos list
   unfolding checkText
-  formed-so w = rw (eq-eqb (firstBadEntry (stopsOf run) (listOf froms tos)) 0 w)
+  formed-so w = rw (eq-eqb (firstBadEntryAny (run .head) (stopsOf run) (listOf froms tos)) 0 w)
 
-  formed-not : eqb (firstBadEntry (stopsOf run) (listOf froms tos)) 0 ≡ false → lineAfter 0 (said ++ []) ≡ formedNo ++ decimal (firstBadEntry (stopsOf run) (listOf froms tos))
+  formed-not : eqb (firstBadEntryAny (run .head) (stopsOf run) (listOf froms tos)) 0 ≡ false → lineAfter 0 (said ++ []) ≡ formedNo ++ decimal (firstBadEntryAny (run .head) (stopsOf run) (listOf froms tos))
   unfolding checkText afterLines has
   formed-not e =
-      let is : said ≡ numberLine formedNo (firstBadEntry (stopsOf run) (listOf froms tos)) = rw e in
+      let is : said ≡ numberLine formedNo (firstBadEntryAny (run .head) (stopsOf run) (listOf froms tos)) = rw e in
       ap (λ t. lineOf (t ++ [])) is
-      ∙ front-line formedNo (decimal (firstBadEntry (stopsOf run) (listOf froms tos))) [] refl (decimal-without lineFeed (firstBadEntry (stopsOf run) (listOf froms tos)) refl)
+      ∙ front-line formedNo (decimal (firstBadEntryAny (run .head) (stopsOf run) (listOf froms tos))) [] refl (decimal-without lineFeed (firstBadEntryAny (run .head) (stopsOf run) (listOf froms tos)) refl)
 
-  tells-formed : (lineAfter 0 said ≡ bytes "formed=yes") ↔ WellFormed (stopsOf run) (listOf froms tos)
+  tells-formed : (lineAfter 0 said ≡ bytes "formed=yes") ↔ FormedFor run froms tos
   tells-formed = (
     λ h. ⊎-elim
-        (λ (e : eqb (firstBadEntry (stopsOf run) (listOf froms tos)) 0 ≡ true). eqb-true (firstBadEntry (stopsOf run) (listOf froms tos)) 0 e)
-        (λ (e : eqb (firstBadEntry (stopsOf run) (listOf froms tos)) 0 ≡ false). absurd (not-formed-yes (decimal (firstBadEntry (stopsOf run) (listOf froms tos))) (sym (formed-not e) ∙ ap (lineAfter 0) (append-nil said) ∙ h)))
-        (true-or-false (eqb (firstBadEntry (stopsOf run) (listOf froms tos)) 0)),
+        (λ (e : eqb (firstBadEntryAny (run .head) (stopsOf run) (listOf froms tos)) 0 ≡ true). eqb-true (firstBadEntryAny (run .head) (stopsOf run) (listOf froms tos)) 0 e)
+        (λ (e : eqb (firstBadEntryAny (run .head) (stopsOf run) (listOf froms tos)) 0 ≡ false). absurd (not-formed-yes (decimal (firstBadEntryAny (run .head) (stopsOf run) (listOf froms tos))) (sym (formed-not e) ∙ ap (lineAfter 0) (append-nil said) ∙ h)))
+        (true-or-false (eqb (firstBadEntryAny (run .head) (stopsOf run) (listOf froms tos)) 0)),
     λ w. ap (lineAfter 0) (formed-so w) ∙ line₀ plan expected run froms tos list,
   )
 
-  module _ (w : WellFormed (stopsOf run) (listOf froms tos)) where
-    tells-walk : (lineAfter 1 said ≡ bytes "walk=yes") ↔ (plan ≡ planText name run froms tos)
+  module _ (w : FormedFor run froms tos) where
+    tells-walk : (lineAfter 1 said ≡ bytes "walk=yes") ↔ (plan ≡ planAnyText name run froms tos)
     tells-walk = (
       λ h. ⊎-elim (λ (e : isText expected plan ≡ true). text-same expected plan e) (λ (e : isText expected plan ≡ false). absurd (not-walk-yes _ (sym (walk-not plan expected run froms tos list e) ∙ sym (ap (lineAfter 1) (formed-so w)) ∙ h))) (true-or-false (isText expected plan)),
       λ e. ap (lineAfter 1) (formed-so w) ∙ walk-so plan expected run froms tos list (same-text expected plan e),
@@ -193,14 +207,14 @@ module _ (name : List ℕ) (run : Run) (plan froms tos : List ℕ) (even : lengt
         subst (λ m. FirstDiffers plan expected m) (sym is) (first-differs plan expected (λ q. true≢false (sym (same-text expected plan q) ∙ e))))
         (true-or-false (isText expected plan))
 
-    tells-least : (lineAfter 2 said ≡ bytes "least=yes") ↔ LeastForRun run (listOf froms tos)
+    tells-least : (lineAfter 2 said ≡ bytes "least=yes") ↔ LeastAny run (listOf froms tos)
     tells-least = (
-      λ h. ⊎-elim (λ (e : sameList froms tos list ≡ true). subst (λ l. LeastForRun run l) (sym (list-same froms tos even list e)) least) (λ (e : sameList froms tos list ≡ false). absurd (not-least-yes _ (sym (least-not plan expected run froms tos list e) ∙ sym (ap (lineAfter 2) (formed-so w)) ∙ h))) (true-or-false (sameList froms tos list)),
-      λ e. ap (lineAfter 2) (formed-so w) ∙ least-so plan expected run froms tos list (same-list froms tos even list (least-unique (run .turn) (run .head) (stopsOf run) (listOf froms tos) list e least)),
+      λ h. ⊎-elim (λ (e : sameList froms tos list ≡ true). subst (λ l. LeastAny run l) (sym (list-same froms tos even list e)) least) (λ (e : sameList froms tos list ≡ false). absurd (not-least-yes _ (sym (least-not plan expected run froms tos list e) ∙ sym (ap (lineAfter 2) (formed-so w)) ∙ h))) (true-or-false (sameList froms tos list)),
+      λ e. ap (lineAfter 2) (formed-so w) ∙ least-so plan expected run froms tos list (same-list froms tos even list (least-any-unique (run .turn) (run .head) (stopsOf run) (listOf froms tos) list e least)),
     )
 
     tells-by : (n : ℕ) → lineAfter 2 said ≡ bytes "least=no," ++ decimal n → Larger run (listOf froms tos) n
-    unfolding pricedAnswer
+    unfolding pricedAnyAnswer
     tells-by n h =
         ⊎-elim
         (λ (e : sameList froms tos list ≡ true). absurd (not-least-yes (decimal n) (sym h ∙ ap (lineAfter 2) (formed-so w) ∙ least-so plan expected run froms tos list e)))
@@ -211,8 +225,8 @@ module _ (name : List ℕ) (run : Run) (plan froms tos : List ℕ) (even : lengt
         (true-or-false (sameList froms tos list))
 
 pub check-tells : CheckTells
-check-tells sheet plan row n row′ c e =
-    let v = c .answers .checked e in
+check-tells sheet plan row room n row′ room′ c e =
+    let v = c .given .answers .checked e in
     subst (λ t. Told (sheetName sheet) (sheetRun sheet) plan (planFroms plan) (planTos plan) t) (sym (v .says))
     (record {
       formed = tells-formed (sheetName sheet) (sheetRun sheet) plan (planFroms plan) (planTos plan) (even-plan plan) (v .list) (v .least);
@@ -235,84 +249,132 @@ put-some text row n e l =
     (λ (t : ltb (length row) (length text) ≡ false). ltb-false (length row) (length text) t)
     (true-or-false (ltb (length row) (length text)))
 
--- The verdict on the plan sheet of the least list.
-module _ (name : List ℕ) (run : Run) (list : List Detour) (least : LeastForRun run list) where
+-- 01's least list, in two rows, meets 01's rules.
+pub rows-accepted : (name : List ℕ) (run : Run) (list : List Detour) → LeastForRun run list → refuses (listVerdict (stopsOf run) (map (λ d. d .from) list) (map (λ d. d .to) list)) ≡ false
+rows-accepted name run list least =
+    list-accepted (stopsOf run) (map (λ d. d .from) list) (map (λ d. d .to) list) (halves-even (λ d. d .from) (λ d. d .to) list) (rw (list-of-halves list) (least .formed))
+
+-- Rows of one length that hold a well-formed list are accepted.
+pub any-rows-formed : (run : Run) (froms tos : List ℕ) → length froms ≡ length tos → FormedFor run froms tos → refuses (listVerdictAny (run .head) (stopsOf run) froms tos) ≡ false
+unfolding listVerdictAny
+any-rows-formed run froms tos even w = rw (eq-eqb (length froms) (length tos) even, w)
+
+-- The verdict on the plan sheet of the least list, with the head anywhere.
+module _ (name : List ℕ) (run : Run) (list : List Detour) (least : LeastAny run list) where
   abbrev froms : List ℕ
   froms = map (λ d. d .from) list
 
   abbrev tos : List ℕ
   tos = map (λ d. d .to) list
 
-  well-formed : WellFormed (stopsOf run) (listOf froms tos)
+  well-formed : FormedFor run froms tos
   well-formed = rw (list-of-halves list) (least .formed)
 
-  pub rows-accepted : refuses (listVerdict (stopsOf run) froms tos) ≡ false
-  rows-accepted = list-accepted (stopsOf run) froms tos (halves-even (λ d. d .from) (λ d. d .to) list) well-formed
+  pub any-rows-accepted : refuses (listVerdictAny (run .head) (stopsOf run) froms tos) ≡ false
+  any-rows-accepted = any-rows-formed run froms tos (halves-even (λ d. d .from) (λ d. d .to) list) well-formed
 
-  pub all-yes : checkText name run (planText name run froms tos) froms tos list ≡ bytes "formed=yes\nwalk=yes\nleast=yes\n"
+  pub all-yes : checkText headAnywhere name run (planAnyText name run froms tos) froms tos list ≡ bytes "formed=yes\nwalk=yes\nleast=yes\n"
   unfolding checkText verdictLines walkLine leastLine differenceLines
   all-yes =
       rw (
-        eq-eqb (firstBadEntry (stopsOf run) (listOf froms tos)) 0 well-formed,
-        same-text (planText name run froms tos) (planText name run froms tos) refl,
+        eq-eqb (firstBadEntryAny (run .head) (stopsOf run) (listOf froms tos)) 0 well-formed,
+        same-text (planAnyText name run froms tos) (planAnyText name run froms tos) refl,
         same-list froms tos (halves-even (λ d. d .from) (λ d. d .to) list) list (list-of-halves list),
       )
 
--- What is accepted of a sheet that can be planned.
-module _ (sheet : List ℕ) (e : refuses (recallVerdict sheet) ≡ false) where
-  sheet-good : refuses (sheetVerdict sheet) ≡ false
-  unfolding verdictBy
-  sheet-good = all-accept (sheetVerdict sheet ∷ ruleVerdict sheet ∷ runChecks (sheetRun sheet)) e .0
+-- What is accepted of a sheet that can be planned in some room.
+module _ (sheet : List ℕ) (words : ℕ) (e : refuses (anyVerdict words sheet) ≡ false) where
+  abbrev run : Run
+  run = sheetRun sheet
 
-  run-good : refuses (judgeOf (sheetRun sheet)) ≡ false
+  all-pass : AllAccept (sheetVerdict sheet ∷ ruleVerdict sheet ∷ anyChecks words run)
   unfolding verdictBy
-  run-good = all-accept (sheetVerdict sheet ∷ ruleVerdict sheet ∷ runChecks (sheetRun sheet)) e .1 .1 .0
+  all-pass = all-accept (sheetVerdict sheet ∷ ruleVerdict sheet ∷ anyChecks words run) e
 
-  check-accepts : (plan : List ℕ) → planForm plan ≡ accepted → refuses (checkVerdict sheet plan) ≡ false
+  enough : (more : ℕ) → words ≤ more → ltb more (roomFor run) ≡ false
+  enough more l = le-ltb more (roomFor run) (omega (arith, l, ltb-false words (roomFor run) (accepts-if _ ShortRoom refl (all-pass .1 .1 .1 .0))))
+
+  check-accepts : (more : ℕ) → words ≤ more → (plan : List ℕ) → planForm plan ≡ accepted → refuses (verdictOn more sheet plan) ≡ false
   unfolding verdictBy
-  check-accepts plan f =
-      let all = all-accept (sheetVerdict sheet ∷ ruleVerdict sheet ∷ runChecks (sheetRun sheet)) e in
-      rw (all .0, all .1 .0, f, all .1 .1 .0, all .1 .1 .1 .0)
+  check-accepts more l plan f = rw (all-pass .0, all-pass .1 .0, f, all-pass .1 .1 .0, enough more l)
 
-  module _ (list : List Detour) (least : LeastForRun (sheetRun sheet) list) (plan : List ℕ) (is : plan ≡ planText (sheetName sheet) (sheetRun sheet) (map (λ d. d .from) list) (map (λ d. d .to) list)) where
+  module _ (list : List Detour) (plan : List ℕ) (is : plan ≡ planAnyText (sheetName sheet) run (map (λ d. d .from) list) (map (λ d. d .to) list)) (least : LeastAny run list) where
+    abbrev starts : List ℕ
+    starts = map (λ d. d .from) list
+
+    abbrev ends : List ℕ
+    ends = map (λ d. d .to) list
+
     named : isName (sheetName sheet) ≡ true
-    named = good-name sheet sheet-good
+    named = good-name sheet (all-pass .0)
 
-    starts-back : planFroms plan ≡ map (λ d. d .from) list
-    starts-back = ap planFroms is ∙ froms-back (sheetRun sheet) (map (λ d. d .from) list) (map (λ d. d .to) list) run-good (rows-accepted (sheetName sheet) (sheetRun sheet) list least) (sheetName sheet) named
+    listed : refuses (listVerdictAny (run .head) (stopsOf run) starts ends) ≡ false
+    listed = any-rows-accepted (sheetName sheet) run list least
 
-    ends-back : planTos plan ≡ map (λ d. d .to) list
-    ends-back = ap planTos is ∙ tos-back (sheetRun sheet) (map (λ d. d .from) list) (map (λ d. d .to) list) run-good (rows-accepted (sheetName sheet) (sheetRun sheet) list least) (sheetName sheet) named
+    starts-back : planFroms plan ≡ starts
+    starts-back = ap planFroms is ∙ any-froms-back run starts ends (all-pass .1 .1 .0) listed (sheetName sheet) named
+
+    ends-back : planTos plan ≡ ends
+    ends-back = ap planTos is ∙ any-tos-back run starts ends (all-pass .1 .1 .0) listed (sheetName sheet) named
 
     form-back : planForm plan ≡ accepted
-    form-back = ap planForm is ∙ plan-formed (sheetRun sheet) (map (λ d. d .from) list) (map (λ d. d .to) list) run-good (rows-accepted (sheetName sheet) (sheetRun sheet) list least) (sheetName sheet) named
+    form-back = ap planForm is ∙ any-reads-back run starts ends (all-pass .1 .1 .0) listed (sheetName sheet) named
 
-    pub said-all : (out : List ℕ) (m : ℕ) (out′ : List ℕ) (c : SheetChecked sheet plan out m out′) → c .text ≡ bytes "formed=yes\nwalk=yes\nleast=yes\n"
-    said-all out m out′ c =
-        let v = c .answers .checked (check-accepts plan form-back) in
-        let one = least-unique (sheetRun sheet .turn) (sheetRun sheet .head) (stopsOf (sheetRun sheet)) (v .list) list (v .least) least in
+    pub said-all : ChecksAsAll sheet plan words
+    said-all out room m out′ room′ c enough-room =
+        let v = c .given .answers .checked (check-accepts (length room) enough-room plan form-back) in
+        let one = least-any-unique (run .turn) (run .head) (stopsOf run) (v .list) list (v .least) least in
         v .says
-        ∙ ap (λ l. checkText (sheetName sheet) (sheetRun sheet) plan (planFroms plan) (planTos plan) l) one
-        ∙ ap (λ x. checkText (sheetName sheet) (sheetRun sheet) plan x (planTos plan) list) starts-back
-        ∙ ap (λ x. checkText (sheetName sheet) (sheetRun sheet) plan (map (λ d. d .from) list) x list) ends-back
-        ∙ ap (λ x. checkText (sheetName sheet) (sheetRun sheet) x (map (λ d. d .from) list) (map (λ d. d .to) list) list) is
-        ∙ all-yes (sheetName sheet) (sheetRun sheet) list least
+        ∙ ap (λ l. checkText headAnywhere (sheetName sheet) run plan (planFroms plan) (planTos plan) l) one
+        ∙ ap (λ x. checkText headAnywhere (sheetName sheet) run plan x (planTos plan) list) starts-back
+        ∙ ap (λ x. checkText headAnywhere (sheetName sheet) run plan starts x list) ends-back
+        ∙ ap (λ x. checkText headAnywhere (sheetName sheet) run x starts ends list) is
+        ∙ all-yes (sheetName sheet) run list least
+
+pub plan-any-checks : PlanAnyChecks
+plan-any-checks sheet row lent n row′ lent′ r e some =
+    let g = r .given in
+    let p = g .answers .planned e in
+    let fits = put-some (g .text) row n (g .bytes) some in
+    said-all sheet (length lent) e (p .list) (take n row′) (put-whole (g .text) row n row′ (g .bytes) (g .left) fits ∙ p .says) (p .least)
+
+-- What `plan` prints is what is asked for of any head too.
+least-any-back : (run : Run) → refuses (judgeOf run) ≡ false → (list : List Detour) → LeastForRun run list → LeastAny run list
+least-any-back run judged list least =
+    let ok = accepted-sound run judged in
+    let is = least-unique (run .turn) (run .head) (stopsOf run) list (leastList (run .turn) (stopsOf run)) least (least-list (run .turn) (run .head) (stopsOf run) ok) in
+    let other = subst (λ ss. LeastAnyFor (run .turn) (run .head) (stopsOf run) (leastList (run .turn) ss)) (pulled-same (run .head) (stopsOf run) (sound-right (stopsOf run) (run .head) ok)) (least-any (run .turn) (run .head) (run .head) (stopsOf run) ok) in
+    subst (LeastAny run) (sym is) other
 
 pub plan-checks : PlanChecks
-plan-checks sheet row n row′ r e some out m out′ c =
+unfolding verdictBy
+plan-checks sheet row n row′ r e some =
     let p = r .answers .planned e in
     let fits = put-some (r .text) row n (r .bytes) some in
-    said-all sheet e (p .list) (p .least) (take n row′) (put-whole (r .text) row n row′ (r .bytes) (r .left) fits ∙ p .says) out m out′ c
+    let all = all-accept (sheetVerdict sheet ∷ ruleVerdict sheet ∷ runChecks (sheetRun sheet)) e in
+    let other : (kind : Refusal) → isRefusal kind ≡ true → recallVerdict sheet .refusal ≡ kind → ⊥ = λ kind so is. true≢false (sym so ∙ ap isRefusal (sym is) ∙ e) in
+    let same = verdict-same sheet 5120 (omega arith) (other HeadPlace refl) (other ShortRoom refl) in
+    let judged : refuses (judgeOf (sheetRun sheet)) ≡ false = all .1 .1 .0 in
+    said-all sheet 5120 (ap refuses same ∙ e) (p .list) (take n row′)
+    (put-whole (r .text) row n row′ (r .bytes) (r .left) fits ∙ p .says ∙ sym (plan-text-same (sheetName sheet) (sheetRun sheet) judged _ _))
+    (least-any-back (sheetRun sheet) judged (p .list) (p .least))
 
 pub check-printed : CheckPrinted
-check-printed sheet plan row n row′ c l = put-whole (c .text) row n row′ (c .holds .bytes) (c .holds .left) l
+check-printed sheet plan row room n row′ room′ c l = put-whole (c .given .text) row n row′ (c .given .holds .bytes) (c .given .holds .left) l
 
 pub price-tells : PriceTells
 unfolding priceText verdictBy
 price-tells sheet list row n row′ p e =
-    let all = all-accept (sheetVerdict sheet ∷ ruleVerdict sheet ∷ priceChecks list (sheetRun sheet)) e in
-    let is : priceText (pricingVerdict sheet list) (sheetName sheet) (sheetRun sheet) list ≡ planText (sheetName sheet) (sheetRun sheet) (listFroms list) (listTos list) = rw e in (
-      list-formed (stopsOf (sheetRun sheet)) (listFroms list) (listTos list) (all .1 .1 .1 .1 .0),
-      λ l. put-whole (planText (sheetName sheet) (sheetRun sheet) (listFroms list) (listTos list)) row n row′
+    let all = all-accept (sheetVerdict sheet ∷ ruleVerdict sheet ∷ priceChecks headAnywhere list (sheetRun sheet)) e in
+    let is : priceText headAnywhere (pricingVerdict headAnywhere sheet list) (sheetName sheet) (sheetRun sheet) list ≡ planAnyText (sheetName sheet) (sheetRun sheet) (listFroms list) (listTos list) = rw e in (
+      any-none (sheetRun sheet) (listFroms list) (listTos list) (all .1 .1 .1 .0) (all .1 .1 .1 .1 .0),
+      λ l. put-whole (planAnyText (sheetName sheet) (sheetRun sheet) (listFroms list) (listTos list)) row n row′
           (p .bytes ∙ ap (λ t. bytesPut t row) is) (p .left ∙ ap (λ t. rowPut t row) is) l,
     )
+
+-- As by 01's rules.
+pub price-stays : PriceStays
+price-stays sheet list row n m row′ row″ p other q = priced-as-01 sheet list other row n m row′ row″ p q
+
+pub check-stays : CheckStays
+check-stays sheet plan row room n m row′ row″ room′ p place short q enough = checked-as-01 sheet plan (length room) enough place short row n m row′ row″ p (q .given)

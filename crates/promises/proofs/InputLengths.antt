@@ -7,19 +7,19 @@ use native.Mathlib.Omega.{arith}
 use lib.ListN.{length, drop, getD, length-append, length-drop}
 use lib.Dec.{ltb, eqb}
 use borrow.Author.Tests.{eqb-true}
-use Rattle.refusals.specs.declared.Refusal.the-variants.{BadEntry, BadLine, LongSheet, ShortRow}
+use Rattle.refusals.specs.declared.Refusal.the-variants.{ShortRoom, BadEntry, BadLine, LongSheet}
 use Rattle.refusals.specs.declared.Verdict.{Verdict}
-use Rattle.refusals.specs.Refusals.{accepted, refuseIf, refuseAt, firstOf}
-use Rattle.refusals.proofs.Verdicts.{refuses, first-refuses, first-passes, none-refuses, all-accept}
+use Rattle.refusals.specs.Refusals.{refuseIf, refuseAt, firstOf}
+use Rattle.refusals.proofs.Verdicts.{refuses, all-accept}
 use Rattle.runs.specs.Run.{Run, stopsOf, mostWants}
-use Rattle.runs.specs.Judging.{judgeOf}
-use Rattle.runs.specs.Lists.{Detour, WellFormed, listOf, listVerdict, firstBadEntry, badEntry}
+use Rattle.runs.specs.Lists.{Detour, listOf}
+use Rattle.runs.specs.AnyHead.{judgeAnyOf, lifted, badEntryAny, firstBadEntryAny, listVerdictAny}
 use Rattle.runs.proofs.Search.{first-within}
 use Rattle.runs.proofs.Entries.{length-list}
-use Rattle.walk.specs.Price.{pricedAnswer, shortReadRows, priceVerdict}
-use Rattle.walk.specs.Rows.{ReadRows}
-use Rattle.walk.proofs.Places.{placeMost, AllNear, first-near, if-near, judge-near, price-near}
-use Rattle.engine_stops.proofs.Halves.{list-accepted}
+use Rattle.runs.proofs.AnyHead.{judge-any}
+use Rattle.walk.specs.AnyHead.{pricedAnyAnswer}
+use Rattle.walk.proofs.Places.{placeMost, AllNear, first-near, if-near, judge-near}
+use Rattle.planner.specs.Plan.{roomFor}
 use Rattle.text_bytes.specs.Text.{lineFeed, isEmpty, isText, has, before, behind, isName}
 use Rattle.text_inputs.specs.declared.Framed.{Framed}
 use Rattle.text_inputs.specs.Inputs.{partIn}
@@ -29,22 +29,27 @@ use Rattle.sheet_reader.specs.Lines.{isTapeLine, isCountLine}
 use Rattle.sheet_reader.specs.Sheet.{longestSheet, unless, shifted, sheetRun, sheetName}
 use Rattle.sheet_reader.specs.Reading.{sheetVerdict, ruleVerdict}
 use Rattle.sheet_writer.specs.RefusalLines.{refusalText}
-use Rattle.sheet_writer.specs.PlanSheet.{sumKey, readsKey, finishKey, endKey, detoursKey, detourKey, timeKey, planText}
+use Rattle.sheet_writer.specs.PlanSheet.{sumKey, readsKey, finishKey, endKey, detoursKey, detourKey, timeKey}
+use Rattle.sheet_writer.specs.AnyHead.{planAnyText}
 use Rattle.sheet_writer.proofs.Reread.{after-front}
-use Rattle.sheet_lists.specs.Form.{mostDetours, linesUpTo, firstBadToEnd, detoursTold, detourText, timeText, firstFailing, planBadTop, planBadBelow, planBadLine, isPlan, listBadLine, planFroms, planTos, listFroms, listTos}
+use Rattle.sheet_lists.specs.Form.{mostDetours, linesUpTo, firstBadToEnd, detoursTold, detourText, timeText, firstFailing, planBadTop, planBadBelow, planBadLine, isPlan, listBadLine, planFroms, planTos, listDetours, listText, listFroms, listTos}
 use Rattle.sheet_lists.specs.Reading.{formChecks, planForm, listForm}
 use Rattle.sheet_lists.proofs.Counting.{up-to-few}
-use Rattle.sheet_lists.proofs.RoundTrip.{plan-small, plan-short}
+use Rattle.sheet_lists.proofs.AnyTrip.{any-small, any-short}
+use Rattle.sheet_reader.proofs.Good.{good-name}
 use Rattle.sheet_reader.proofs.Rows.{length-each}
 use Rattle.answer_plan.specs.Recall.{verdictBy}
+use Rattle.answer_check.specs.RunRules.{headAnywhere}
 use Rattle.answer_check.specs.Pricing.{priceChecks, pricingVerdict, priceText, SheetPriced}
-use Rattle.answer_check.specs.Checking.{formedYes, formedNo, foundKey, expectedKey, leastNo, walkNo, differFrom, firstDifference, walkLine, differenceLines, sameList, leastLine, verdictLines, checkText, checkChecks, checkVerdict, AnswersCheck, SheetChecked}
+use Rattle.answer_check.specs.Checking.{formedYes, formedNo, foundKey, expectedKey, leastNo, walkNo, differFrom, firstDifference, walkLine, differenceLines, sameList, leastLine, verdictLines, checkText, checkChecks, AnswersCheck, CheckGiven, verdictOn}
 use Rattle.answer_check.specs.Inputs.{badInput, framedInput, AnsweredIn}
-use Rattle.answer_check.proofs.Formed.{plan-few, plan-long}
-use Rattle.answer_check.proofs.Determined.{answer-once}
+use Rattle.answer_check.proofs.Formed.{plan-few, plan-long, list-few}
+use Rattle.answer_check.proofs.Determined.{one-least, answer-once}
 use Rattle.promises.specs.Lengths.{priceRow, checkRow, PriceIsWhole, CheckIsWhole}
-use Rattle.promises.proofs.Checks.{even-plan}
-use Rattle.promises.proofs.Lengths.{some-begun, Held, takes-all, first-few, unless-few, shifted-few, bad-few, count-few, at-near, verdict-near, run-checks-near, sheet-passes, line-length, number-length, refusal-short, refusal-begins, plan-begins}
+use Rattle.promises.specs.Checks.{FormedFor}
+use Rattle.promises.proofs.Checks.{even-plan, any-rows-formed}
+use Rattle.promises.proofs.Lengths.{some-begun, Held, takes-all, first-few, unless-few, shifted-few, bad-few, count-few, at-near, verdict-near, line-length, number-length, refusal-short, refusal-begins}
+use Rattle.promises.proofs.AnyLengths.{any-begins}
 
 -- The first of some lines that fails its test.
 failing-few : (passed : ℕ) (tests : List (List ℕ → Bool)) (text : List ℕ) → firstFailing passed tests text ≤ passed + length tests
@@ -116,35 +121,40 @@ list-line-few list = go (isPlan list) refl
 form-near : (bad : ℕ) (text : List ℕ) → bad ≤ 134 → firstOf (formChecks bad text) .place ≤ placeMost
 form-near bad text l = first-near (formChecks bad text) (if-near (ltb longestSheet (length text)) LongSheet, λ e. (at-near bad BadLine (omega arith), λ d. tt))
 
--- 10 of a run that passes: it is what the pricer finds.
-entry-near : (run : Run) (froms tos : List ℕ) → refuses (judgeOf run) ≡ false → listVerdict (stopsOf run) froms tos .place ≤ placeMost
-unfolding priceVerdict listVerdict
-entry-near run froms tos passes = go (refuses list) refl
-  where
-    list : Verdict
-    list = listVerdict (stopsOf run) froms tos
+-- 10 of a list whose form is good: it has at most 63 entries.
+list-even : (list : List ℕ) → length (listFroms list) ≡ length (listTos list)
+unfolding listFroms listTos
+list-even list = length-each _ (listDetours list) ∙ sym (length-each _ (listDetours list))
 
-    none : ReadRows
-    none = record { times = []; legs = [] }
+list-many : (list : List ℕ) → refuses (listForm list) ≡ false → length (listFroms list) ≤ 63
+unfolding listFroms
+list-many list e = omega (arith, length-each (λ i. firstIn detourKey (lineAfter i (listText list))) (listDetours list), list-few list e)
 
-    short : List Verdict
-    short = refuseIf (shortReadRows (length (run .numbers)) none) ShortRow ∷ []
+entry-near : (run : Run) (froms tos : List ℕ) → length froms ≡ length tos → length froms ≤ 63 → listVerdictAny (run .head) (stopsOf run) froms tos .place ≤ placeMost
+unfolding listVerdictAny firstBadEntryAny
+entry-near run froms tos even few =
+    first-near (refuseIf (not (eqb (length froms) (length tos))) BadEntry ∷ refuseAt (firstBadEntryAny (run .head) (stopsOf run) (listOf froms tos)) BadEntry ∷ []) (
+      if-near (not (eqb (length froms) (length tos))) BadEntry,
+      λ e. (
+        at-near (firstBadEntryAny (run .head) (stopsOf run) (listOf froms tos)) BadEntry
+            (omega (arith, few, first-within (badEntryAny (run .head) (stopsOf run) (listOf froms tos)) (length (listOf froms tos)), length-list froms tos even)),
+        λ d. tt,
+      ),
+    )
 
-    go : (b : Bool) → refuses list ≡ b → list .place ≤ placeMost
-    go true e =
-        let same : list ≡ priceVerdict run froms tos none = first-refuses list short e ∙ sym (first-passes (judgeOf run) (list ∷ short) passes) in
-        omega (arith, ap (λ v. v .place) same, price-near run froms tos none)
-    go false e =
-        let same : list ≡ accepted = none-refuses (refuseIf (not (eqb (length froms) (length tos))) BadEntry ∷ refuseAt (firstBadEntry (stopsOf run) (listOf froms tos)) BadEntry ∷ []) e in
-        omega (arith, ap (λ v. v .place) same)
+pub judge-any-near : (run : Run) → judgeAnyOf run .place ≤ placeMost
+judge-any-near run = rw (judge-any run) (judge-near (lifted run))
 
-price-checks-near : (list : List ℕ) (run : Run) → AllNear (priceChecks list run)
+listed-near : (list : List ℕ) → listForm list .place ≤ placeMost
 unfolding listForm
-price-checks-near list run = (form-near (listBadLine list) list (list-line-few list), λ a. (judge-near run, λ b. (entry-near run (listFroms list) (listTos list) b, λ c. tt)))
+listed-near list = form-near (listBadLine list) list (list-line-few list)
 
-pub check-checks-near : (plan : List ℕ) (run : Run) → AllNear (checkChecks plan run)
+price-checks-near : (list : List ℕ) (run : Run) → AllNear (priceChecks headAnywhere list run)
+price-checks-near list run = (listed-near list, λ a. (judge-any-near run, λ b. (entry-near run (listFroms list) (listTos list) (list-even list) (list-many list a), λ c. tt)))
+
+check-checks-near : (words : ℕ) (plan : List ℕ) (run : Run) → AllNear (checkChecks headAnywhere words plan run)
 unfolding planForm
-check-checks-near plan run = (form-near (planBadLine plan) plan (plan-line-few plan), λ a. run-checks-near run)
+check-checks-near words plan run = (form-near (planBadLine plan) plan (plan-line-few plan), λ a. (judge-any-near run, λ b. (if-near (ltb words (roomFor run)) ShortRoom, λ c. tt)))
 
 -- The texts that hold a refusal.
 refused-held : (sheet : List ℕ) (checks : Run → List Verdict) → AllNear (checks (sheetRun sheet)) → (text : List ℕ) → text ≡ refusalText (verdictBy checks sheet) → (length text ≤ 38) × (0 < length text)
@@ -152,27 +162,26 @@ refused-held sheet checks near text is =
     let small = refusal-short (verdictBy checks sheet) (omega (arith, verdict-near sheet checks near)) in
     (omega (arith, ap length is, small), some-begun text 113 (ap (λ t. getD t 0 0) is ∙ refusal-begins (verdictBy checks sheet)))
 
-pub price-held : (sheet list : List ℕ) → (length (priceText (pricingVerdict sheet list) (sheetName sheet) (sheetRun sheet) list) ≤ priceRow) × (0 < length (priceText (pricingVerdict sheet list) (sheetName sheet) (sheetRun sheet) list))
+pub price-held : (sheet list : List ℕ) → (length (priceText headAnywhere (pricingVerdict headAnywhere sheet list) (sheetName sheet) (sheetRun sheet) list) ≤ priceRow) × (0 < length (priceText headAnywhere (pricingVerdict headAnywhere sheet list) (sheetName sheet) (sheetRun sheet) list))
 unfolding priceText verdictBy
-price-held sheet list = go (refuses (pricingVerdict sheet list)) refl
+price-held sheet list = go (refuses (pricingVerdict headAnywhere sheet list)) refl
   where
     text : List ℕ
-    text = priceText (pricingVerdict sheet list) (sheetName sheet) (sheetRun sheet) list
+    text = priceText headAnywhere (pricingVerdict headAnywhere sheet list) (sheetName sheet) (sheetRun sheet) list
 
-    go : (b : Bool) → refuses (pricingVerdict sheet list) ≡ b → (length text ≤ priceRow) × (0 < length text)
-    go true e = let h = refused-held sheet (priceChecks list) (price-checks-near list (sheetRun sheet)) text (rw e) in (omega (arith, h .0), h .1)
+    go : (b : Bool) → refuses (pricingVerdict headAnywhere sheet list) ≡ b → (length text ≤ priceRow) × (0 < length text)
+    go true e = let h = refused-held sheet (priceChecks headAnywhere list) (price-checks-near list (sheetRun sheet)) text (rw e) in (omega (arith, h .0), h .1)
     go false e =
-        let is : text ≡ planText (sheetName sheet) (sheetRun sheet) (listFroms list) (listTos list) = rw e in
-        let good = sheet-passes (priceChecks list) (λ run f. all-accept (priceChecks list run) f .1 .0) (price-checks-near list) sheet e in
-        let all = all-accept (sheetVerdict sheet ∷ ruleVerdict sheet ∷ priceChecks list (sheetRun sheet)) e in
-        let small = plan-short (sheetRun sheet) (listFroms list) (listTos list) (good .1) (all .1 .1 .1 .1 .0) (sheetName sheet) (good .0) in
-        (omega (arith, ap length is, small), some-begun text 115 (ap (λ t. getD t 0 0) is ∙ plan-begins (sheetName sheet) (sheetRun sheet) (listFroms list) (listTos list)))
+        let is : text ≡ planAnyText (sheetName sheet) (sheetRun sheet) (listFroms list) (listTos list) = rw e in
+        let all = all-accept (sheetVerdict sheet ∷ ruleVerdict sheet ∷ priceChecks headAnywhere list (sheetRun sheet)) e in
+        let small = any-short (sheetRun sheet) (listFroms list) (listTos list) (all .1 .1 .1 .0) (all .1 .1 .1 .1 .0) (sheetName sheet) (good-name sheet (all .0)) in
+        (omega (arith, ap length is, small), some-begun text 115 (ap (λ t. getD t 0 0) is ∙ any-begins (sheetName sheet) (sheetRun sheet) (listFroms list) (listTos list)))
 
 bad-held : (length (refusalText badInput) ≤ 38) × (0 < length (refusalText badInput))
 bad-held = (refusal-short badInput (omega arith), some-begun (refusalText badInput) 113 (refusal-begins badInput))
 
 price-in : (input : List ℕ) (f : Framed) (row : List ℕ) (n : ℕ) (row′ : List ℕ) → AnsweredIn SheetPriced input f row n row′ → Held priceRow row n row′
-price-in input (Framed.Sheet from to) row n row′ a = let h = price-held (partIn input from to) (partIn input to (length input)) in record { text = priceText (pricingVerdict (partIn input from to) (partIn input to (length input))) (sheetName (partIn input from to)) (sheetRun (partIn input from to)) (partIn input to (length input)); bytes = a .bytes; left = a .left; short = h .0; some = h .1 }
+price-in input (Framed.Sheet from to) row n row′ a = let h = price-held (partIn input from to) (partIn input to (length input)) in record { text = priceText headAnywhere (pricingVerdict headAnywhere (partIn input from to) (partIn input to (length input))) (sheetName (partIn input from to)) (sheetRun (partIn input from to)) (partIn input to (length input)); bytes = a .bytes; left = a .left; short = h .0; some = h .1 }
 price-in input Framed.Bad row n row′ a = record { text = refusalText badInput; bytes = a .bytes; left = a .left; short = omega (arith, bad-held .0); some = bad-held .1 }
 
 price-same : (input : List ℕ) (f : Framed) (row : List ℕ) (n : ℕ) (row′ other : List ℕ) (m : ℕ) (other′ : List ℕ) (a : AnsweredIn SheetPriced input f row n row′) (b : AnsweredIn SheetPriced input f other m other′)
@@ -222,13 +231,13 @@ walk-few plan expected l = go (isText expected plan) refl
     go true e = rw e (omega arith)
     go false e = rw e (omega (arith, number-length walkNo (firstDifference plan expected .line) (omega (arith, differ-few 1 0 0 plan expected))))
 
-least-few : (run : Run) (froms tos : List ℕ) (list : List Detour) → pricedAnswer run (listOf froms tos) .sum < 2 ^ 64 → length (leastLine run froms tos list) ≤ 30
+least-few : (run : Run) (froms tos : List ℕ) (list : List Detour) → pricedAnyAnswer run (listOf froms tos) .sum < 2 ^ 64 → length (leastLine headAnywhere run froms tos list) ≤ 30
 unfolding leastLine
 least-few run froms tos list l = go (sameList froms tos list) refl
   where
-    go : (t : Bool) → sameList froms tos list ≡ t → length (leastLine run froms tos list) ≤ 30
+    go : (t : Bool) → sameList froms tos list ≡ t → length (leastLine headAnywhere run froms tos list) ≤ 30
     go true e = rw e (omega arith)
-    go false e = rw e (omega (arith, number-length leastNo (pricedAnswer run (listOf froms tos) .sum - pricedAnswer run list .sum) (omega arith)))
+    go false e = rw e (omega (arith, number-length leastNo (pricedAnyAnswer run (listOf froms tos) .sum - pricedAnyAnswer run list .sum) (omega arith)))
 
 difference-few : (plan expected : List ℕ) → length (differenceLines plan expected) ≤ length plan + length expected + 17
 unfolding differenceLines
@@ -250,7 +259,7 @@ difference-few plan expected = go (isText expected plan) refl
           line-few start expected,
         ))
 
-module _ (name : List ℕ) (named : isName name ≡ true) (run : Run) (passes : refuses (judgeOf run) ≡ false) (plan : List ℕ) (form : refuses (planForm plan) ≡ false) (list : List Detour) where
+module _ (name : List ℕ) (named : isName name ≡ true) (run : Run) (passes : refuses (judgeAnyOf run) ≡ false) (plan : List ℕ) (form : refuses (planForm plan) ≡ false) (list : List Detour) where
   abbrev froms : List ℕ
   froms = planFroms plan
 
@@ -258,37 +267,37 @@ module _ (name : List ℕ) (named : isName name ≡ true) (run : Run) (passes : 
   tos = planTos plan
 
   abbrev text : List ℕ
-  text = checkText name run plan froms tos list
+  text = checkText headAnywhere name run plan froms tos list
 
   abbrev bad : ℕ
-  bad = firstBadEntry (stopsOf run) (listOf froms tos)
+  bad = firstBadEntryAny (run .head) (stopsOf run) (listOf froms tos)
 
   bad-entry-few : bad < 2 ^ 64
-  unfolding firstBadEntry planFroms
+  unfolding firstBadEntryAny planFroms
   bad-entry-few =
       omega (
         arith,
-        first-within (badEntry (stopsOf run) (listOf froms tos)) (length (listOf froms tos)),
+        first-within (badEntryAny (run .head) (stopsOf run) (listOf froms tos)) (length (listOf froms tos)),
         length-list froms tos (even-plan plan),
         length-each (λ i. firstIn detourKey (lineAfter i (detourText plan))) (detoursTold plan),
         plan-few plan form,
       )
 
-  formed-short : WellFormed (stopsOf run) (listOf froms tos) → length (verdictLines plan (planText name run froms tos) run froms tos list) ≤ checkRow
+  formed-short : FormedFor run froms tos → length (verdictLines headAnywhere plan (planAnyText name run froms tos) run froms tos list) ≤ checkRow
   unfolding verdictLines
   formed-short w =
-      let expected = planText name run froms tos in
-      let listed = list-accepted (stopsOf run) froms tos (even-plan plan) w in
+      let expected = planAnyText name run froms tos in
+      let listed = any-rows-formed run froms tos (even-plan plan) w in
       let long = plan-long plan form in
       omega (
         arith,
-        length-append (formedYes ++ walkLine plan expected ++ leastLine run froms tos list) (differenceLines plan expected),
-        length-append (formedYes ++ walkLine plan expected) (leastLine run froms tos list),
+        length-append (formedYes ++ walkLine plan expected ++ leastLine headAnywhere run froms tos list) (differenceLines plan expected),
+        length-append (formedYes ++ walkLine plan expected) (leastLine headAnywhere run froms tos list),
         length-append formedYes (walkLine plan expected),
         walk-few plan expected long,
-        least-few run froms tos list (plan-small run froms tos passes listed .sum),
+        least-few run froms tos list (any-small run froms tos passes listed .sum),
         difference-few plan expected,
-        plan-short run froms tos passes listed name named,
+        any-short run froms tos passes listed name named,
       )
 
   pub check-held : (length text ≤ checkRow) × (0 < length text)
@@ -296,31 +305,41 @@ module _ (name : List ℕ) (named : isName name ≡ true) (run : Run) (passes : 
   check-held = go (eqb bad 0) refl
     where
       go : (b : Bool) → eqb bad 0 ≡ b → (length text ≤ checkRow) × (0 < length text)
-      go true e = rw e (formed-short (eqb-true bad 0 e), some-begun (verdictLines plan (planText name run froms tos) run froms tos list) 101 refl)
+      go true e = rw e (formed-short (eqb-true bad 0 e), some-begun (verdictLines headAnywhere plan (planAnyText name run froms tos) run froms tos list) 101 refl)
       go false e = rw e (omega (arith, number-length formedNo bad bad-entry-few), some-begun (numberLine formedNo bad) 101 refl)
 
-pub check-fits : (sheet plan text : List ℕ) → AnswersCheck (checkVerdict sheet plan) (sheetName sheet) (sheetRun sheet) plan (planFroms plan) (planTos plan) text → (length text ≤ checkRow) × (0 < length text)
+pub check-passes : (words : ℕ) (sheet plan : List ℕ) → refuses (verdictOn words sheet plan) ≡ false → (isName (sheetName sheet) ≡ true) × (refuses (judgeAnyOf (sheetRun sheet)) ≡ false)
 unfolding verdictBy
-check-fits sheet plan text a = go (refuses (checkVerdict sheet plan)) refl
+check-passes words sheet plan e = let all = all-accept (sheetVerdict sheet ∷ ruleVerdict sheet ∷ checkChecks headAnywhere words plan (sheetRun sheet)) e in (good-name sheet (all .0), all .1 .1 .1 .0)
+
+pub check-fits : (words : ℕ) (sheet plan text : List ℕ) → AnswersCheck headAnywhere (verdictOn words sheet plan) (sheetName sheet) (sheetRun sheet) plan (planFroms plan) (planTos plan) text → (length text ≤ checkRow) × (0 < length text)
+unfolding verdictBy
+check-fits words sheet plan text a = go (refuses (verdictOn words sheet plan)) refl
   where
-    go : (b : Bool) → refuses (checkVerdict sheet plan) ≡ b → (length text ≤ checkRow) × (0 < length text)
-    go true e = let h = refused-held sheet (checkChecks plan) (check-checks-near plan (sheetRun sheet)) text (a .refused e) in (omega (arith, h .0), h .1)
+    go : (b : Bool) → refuses (verdictOn words sheet plan) ≡ b → (length text ≤ checkRow) × (0 < length text)
+    go true e = let h = refused-held sheet (checkChecks headAnywhere words plan) (check-checks-near words plan (sheetRun sheet)) text (a .refused e) in (omega (arith, h .0), h .1)
     go false e =
         let v = a .checked e in
-        let good = sheet-passes (checkChecks plan) (λ run f. all-accept (checkChecks plan run) f .1 .0) (check-checks-near plan) sheet e in
-        let all = all-accept (sheetVerdict sheet ∷ ruleVerdict sheet ∷ checkChecks plan (sheetRun sheet)) e in
+        let good = check-passes words sheet plan e in
+        let all = all-accept (sheetVerdict sheet ∷ ruleVerdict sheet ∷ checkChecks headAnywhere words plan (sheetRun sheet)) e in
         let h = check-held (sheetName sheet) (good .0) (sheetRun sheet) (good .1) plan (all .1 .1 .0) (v .list) in
         rw (v .says) h
 
-check-in : (input : List ℕ) (f : Framed) (row : List ℕ) (n : ℕ) (row′ : List ℕ) → AnsweredIn SheetChecked input f row n row′ → Held checkRow row n row′
-check-in input (Framed.Sheet from to) row n row′ a = let h = check-fits (partIn input from to) (partIn input to (length input)) (a .text) (a .answers) in record { text = a .text; bytes = a .holds .bytes; left = a .holds .left; short = h .0; some = h .1 }
-check-in input Framed.Bad row n row′ a = record { text = refusalText badInput; bytes = a .bytes; left = a .left; short = omega (arith, bad-held .0); some = bad-held .1 }
+module _ (room : List ℕ) where
+  abbrev Gives : List ℕ → List ℕ → List ℕ → ℕ → List ℕ → Type 0
+  Gives = CheckGiven headAnywhere (length room)
 
-check-same : (input : List ℕ) (f : Framed) (row : List ℕ) (n : ℕ) (row′ other : List ℕ) (m : ℕ) (other′ : List ℕ) (a : AnsweredIn SheetChecked input f row n row′) (b : AnsweredIn SheetChecked input f other m other′)
-    → check-in input f row n row′ a .text ≡ check-in input f other m other′ b .text
-unfolding check-in
-check-same input (Framed.Sheet from to) row n row′ other m other′ a b = answer-once _ _ _ _ _ _ (a .text) (b .text) (a .answers) (b .answers)
-check-same input Framed.Bad row n row′ other m other′ a b = refl
+  check-in : (input : List ℕ) (f : Framed) (row : List ℕ) (n : ℕ) (row′ : List ℕ) → AnsweredIn Gives input f row n row′ → Held checkRow row n row′
+  check-in input (Framed.Sheet from to) row n row′ a = let h = check-fits (length room) (partIn input from to) (partIn input to (length input)) (a .text) (a .answers) in record { text = a .text; bytes = a .holds .bytes; left = a .holds .left; short = h .0; some = h .1 }
+  check-in input Framed.Bad row n row′ a = record { text = refusalText badInput; bytes = a .bytes; left = a .left; short = omega (arith, bad-held .0); some = bad-held .1 }
+
+  check-same : (input : List ℕ) (f : Framed) (row : List ℕ) (n : ℕ) (row′ other : List ℕ) (m : ℕ) (other′ : List ℕ) (a : AnsweredIn Gives input f row n row′) (b : AnsweredIn Gives input f other m other′)
+      → check-in input f row n row′ a .text ≡ check-in input f other m other′ b .text
+  unfolding check-in
+  check-same input (Framed.Sheet from to) row n row′ other m other′ a b = answer-once headAnywhere one-least _ _ _ _ _ _ (a .text) (b .text) (a .answers) (b .answers)
+  check-same input Framed.Bad row n row′ other m other′ a b = refl
 
 pub check-is-whole : CheckIsWhole
-check-is-whole input = takes-all checkRow (check-in input (framedInput input)) (check-same input (framedInput input))
+check-is-whole input room =
+    takes-all checkRow (λ row n row′ c. check-in room input (framedInput input) row n row′ (c .1 .given))
+    (λ row n row′ other m other′ c d. check-same room input (framedInput input) row n row′ other m other′ (c .1 .given) (d .1 .given))

@@ -27,9 +27,10 @@ use Rattle.sheet_reader.specs.Sheet.{longestSheet, sheetRun, sheetName}
 use Rattle.sheet_reader.specs.Reading.{sheetVerdict}
 use Rattle.sheet_writer.specs.RefusalLines.{refusalText}
 use Rattle.answer_plan.specs.Recall.{verdictBy}
+use Rattle.answer_check.specs.RunRules.{headAnywhere}
 use Rattle.answer_check.specs.Pricing.{RowHolds, pricingVerdict, priceText, SheetPriced}
-use Rattle.answer_check.specs.Checking.{checkVerdict, SheetChecked}
-use Rattle.answer_check.specs.Inputs.{mostInput, framedInput, badInput, AnsweredIn}
+use Rattle.answer_check.specs.Checking.{CheckGiven, roomChecked, SheetChecked}
+use Rattle.answer_check.specs.Inputs.{mostInput, framedInput, badInput, AnsweredIn, roomIn, InputChecked}
 use Rattle.demands.proofs.Lines.{nothing-no-number}
 use Rattle.promises.specs.InputTexts.{Counts, InputIsItsTexts, NoTwoTexts, Prints, OtherInputsRefused, CutInputsRefused}
 use Rattle.promises.proofs.Canonical.{number-text}
@@ -114,8 +115,19 @@ module _ (input sheet text : List ℕ) (c : Counts input (length sheet) (sheet +
         (subst (λ x. Answers (partIn input start end) x row n row′) (sym text-part) (subst (λ x. Answers x text row n row′) (sym sheet-part) h)),
   )
 
+  -- The room that is left by the one is left by the other.
+  room-there : (room : List ℕ) → roomIn input (framedInput input) room ≡ roomChecked sheet text room
+  room-there room =
+      ap (λ f. roomIn input f room) framed-so ∙ ap (λ x. roomChecked x (partIn input end (length input)) room) sheet-part ∙ ap (λ x. roomChecked sheet x room) text-part
+
+  checked : (row room : List ℕ) (n : ℕ) (row′ room′ : List ℕ) → InputChecked input row room n row′ room′ ↔ SheetChecked sheet text row room n row′ room′
+  checked row room n row′ room′ = (
+    λ h. record { given = answered (CheckGiven headAnywhere (length room)) row n row′ .0 (h .given); cleared = h .cleared ∙ room-there room },
+    λ h. record { given = answered (CheckGiven headAnywhere (length room)) row n row′ .1 (h .given); cleared = h .cleared ∙ sym (room-there room) },
+  )
+
 pub input-is-its-texts : InputIsItsTexts
-input-is-its-texts input sheet text row n row′ c = (answered input sheet text c SheetPriced row n row′, answered input sheet text c SheetChecked row n row′)
+input-is-its-texts input sheet text row room n row′ room′ c = (answered input sheet text c SheetPriced row n row′, checked input sheet text c row room n row′ room′)
 
 -- A first line that is a number makes the input begin with one.
 below-word : (text : List ℕ) → isNumber text ≡ true → valueOf text < 2 ^ 64
@@ -153,7 +165,8 @@ bad-printed Answers input none row n row′ h wide =
     held-printed (refusalText badInput) (bytes "refused=25\nplace=1\n") row n row′ held lines-of-25 wide
 
 pub other-inputs-refused : OtherInputsRefused
-other-inputs-refused input none = (bad-printed SheetPriced input none, bad-printed SheetChecked input none)
+other-inputs-refused input room none =
+    (bad-printed SheetPriced input none, λ row n row′ h wide. bad-printed (CheckGiven headAnywhere (length room)) input none row n row′ (h .1 .given) wide)
 
 -- A run sheet that is too long.
 abbrev tooLong : Verdict
@@ -170,10 +183,10 @@ lines-of-12 = refl
 priced-long : (sheet list : List ℕ) → 16384 < length sheet → Prints (SheetPriced sheet list) (bytes "refused=12\nplace=0\n")
 unfolding priceText
 priced-long sheet list l row n row′ h wide =
-    held-printed (priceText (pricingVerdict sheet list) (sheetName sheet) (sheetRun sheet) list) (bytes "refused=12\nplace=0\n") row n row′ h (rw (long-refused _ sheet l) lines-of-12) wide
+    held-printed (priceText headAnywhere (pricingVerdict headAnywhere sheet list) (sheetName sheet) (sheetRun sheet) list) (bytes "refused=12\nplace=0\n") row n row′ h (rw (long-refused _ sheet l) lines-of-12) wide
 
-checked-long : (sheet plan : List ℕ) → 16384 < length sheet → Prints (SheetChecked sheet plan) (bytes "refused=12\nplace=0\n")
-checked-long sheet plan l row n row′ h wide =
+checked-long : (words : ℕ) (sheet plan : List ℕ) → 16384 < length sheet → Prints (CheckGiven headAnywhere words sheet plan) (bytes "refused=12\nplace=0\n")
+checked-long words sheet plan l row n row′ h wide =
     let v = long-refused _ sheet l in
     held-printed (h .text) (bytes "refused=12\nplace=0\n") row n row′ (h .holds) (h .answers .refused (ap refuses v) ∙ ap refusalText v ∙ lines-of-12) wide
 
@@ -190,6 +203,8 @@ module _ (input : List ℕ) (count : ℕ) (rest : List ℕ) (c : Counts input co
       says other row n row′ (subst (λ x. Answers x other row n row′) (all-behind input count rest c) (subst (λ f. AnsweredIn Answers input f row n row′) cut-so h)) wide
 
 pub cut-inputs-refused : CutInputsRefused
-cut-inputs-refused input count rest c few all =
-    let l = long input count rest c few all in
-    (cut-printed input count rest c few all SheetPriced (λ other. priced-long rest other l), cut-printed input count rest c few all SheetChecked (λ other. checked-long rest other l))
+cut-inputs-refused input room count rest c few all =
+    let l = long input count rest c few all in (
+      cut-printed input count rest c few all SheetPriced (λ other. priced-long rest other l),
+      λ row n row′ h wide. cut-printed input count rest c few all (CheckGiven headAnywhere (length room)) (λ other. checked-long (length room) rest other l) row n row′ (h .1 .given) wide,
+    )

@@ -41,6 +41,7 @@ pub mod MonthLongest
 mod Differs
 pub mod Checks
 pub mod Lengths
+pub mod AnyLengths
 pub mod InputLengths
 pub mod PageLengths
 pub mod TapeLengths
@@ -54,7 +55,6 @@ pub mod BuysLines
 pub mod Answers
 pub mod MonthPage
 pub mod AnswersCases
-pub mod AnyLengths
 pub mod AnswersAny
 pub mod AnyRecord
 pub mod TwoTexts

@@ -1,47 +1,59 @@
 -- `price` and `check` by the table, stage by stage.
 use Prim.Native.Nat.{ℕ, _≤_, _<_}
 use mathlib.Core.Path.{_≡_, refl, ap, sym, _∙_, subst}
-use mathlib.Core.Bool.{true, false, cond, true≢false}
+use mathlib.Core.Bool.{Bool, true, false, cond, true≢false}
 use mathlib.Core.Logic.{⊎-elim}
-use mathlib.Core.List.{List, [], _∷_}
+use mathlib.Core.List.{List, [], _∷_, _++_}
 use native.Mathlib.Omega.{arith}
-use lib.ListN.{length, take}
+use lib.ListN.{length, take, drop}
+use lib.Seq.{take-append-seam, drop-append-seam}
 use lib.Dec.{ltb}
+use borrow.Author.Tests.{ltb-true}
 use Rattle.refusals.specs.declared.Refusal.{Refusal}
-use Rattle.refusals.specs.declared.Refusal.the-variants.{ShortRoom, BadEntry, BadLine, LongSheet, RetiredRule}
+use Rattle.refusals.specs.declared.Refusal.the-variants.{Accepted, ShortRow, ShortRoom, BadEntry, BadLine, LongSheet, RetiredRule}
 use Rattle.refusals.specs.declared.Verdict.{Verdict}
 use Rattle.refusals.specs.Refusals.{numberOf, isRefusal, refuseIf, refuseAt, firstOf}
 use Rattle.refusals.proofs.Verdicts.{refuses, first-refuses, first-passes}
 use Rattle.runs.specs.Run.{Run, stopsOf}
-use Rattle.runs.specs.Judging.{judgeOf}
-use Rattle.runs.specs.Lists.{listVerdict}
+use Rattle.runs.specs.AnyHead.{judgeAnyOf, lifted, listVerdictAny}
 use Rattle.runs.proofs.Search.{true-or-false}
-use Rattle.runs.proofs.Judged.{accepted-run}
+use Rattle.runs.proofs.AnyHead.{accepted-any}
 use Rattle.planner.specs.Plan.{roomFor}
 use Rattle.sheet_reader.specs.Lines.{sweepText}
 use Rattle.sheet_reader.specs.Sheet.{longestSheet, saysSweep, firstBadLine, sheetRun, sheetName}
 use Rattle.sheet_reader.specs.Reading.{sheetVerdict, ruleVerdict}
+use Rattle.sheet_writer.specs.declared.Written.{Written}
+use Rattle.sheet_writer.specs.Writing.{rowVerdict, writtenAnswer, writtenRow}
 use Rattle.sheet_writer.specs.RefusalLines.{refusalText}
-use Rattle.sheet_lists.specs.Form.{listFroms, listTos}
+use Rattle.sheet_lists.specs.Form.{planFroms, planTos, listFroms, listTos}
 use Rattle.sheet_lists.specs.Reading.{planForm, listForm}
-use Rattle.answer_plan.specs.Recall.{runChecks, roomWords, verdictBy}
+use Rattle.answer_plan.specs.Recall.{verdictBy}
+use Rattle.answer_plan.specs.PlannedLists.{TextHanded}
+use Rattle.answer_any.specs.AnyRun.{anyChecks}
+use Rattle.answer_check.specs.RunRules.{headAnywhere}
 use Rattle.answer_check.specs.Pricing.{pricingVerdict, priceText}
-use Rattle.demands.specs.RefusalTable.{FirstBad, RunApplies, ListIsBad, SomeApplies}
+use Rattle.answer_check.specs.Checking.{verdictOn, VerdictOf, SheetChecked, CheckAnswered}
+use Rattle.answer_check.proofs.Determined.{one-least, answer-once}
+use Rattle.demands.specs.RefusalTable.{FirstBad, SomeApplies}
+use Rattle.demands.specs.AnyHead.{RunAppliesAny, ListIsBadAny}
 use Rattle.demands.specs.Lines.{LineIsBad, linesDue, Ruled}
 use Rattle.demands.proofs.Tests.{tells-below}
 use Rattle.demands.proofs.Checks.{decides-if, decides-there, decides-reworded, Finds, finds-none, finds-first, first-of-joined, AllRefuse, refused-iff}
-use Rattle.demands.proofs.Judged.{run-finds, run-small}
 use Rattle.demands.proofs.Counted.{has-stops, stops-one}
+use Rattle.demands.proofs.AnyLifted.{stops-down, stops-up}
+use Rattle.demands.proofs.AnyJudged.{any-small, run-any-finds, decides-list-any}
 use Rattle.demands.proofs.Lines.{tells-sweep}
 use Rattle.demands.proofs.FirstLine.{decides-line}
-use Rattle.demands.proofs.Listed.{decides-list}
-use Rattle.promises.specs.Answers.{RoomApplies, short-room}
+use Rattle.promises.specs.Answers.{WordsApply, short-room, twoLines}
+use Rattle.promises.specs.Lengths.{checkRow}
+use Rattle.promises.specs.CheckWhole.{VerdictText}
 use Rattle.promises.specs.ListLines.{PlanFormApplies, ListFormApplies, formOrder}
-use Rattle.promises.specs.TwoTexts.{EarlyApplies, earlyOrder, PricedApplies, pricedOrder, PlannedApplies, plannedOrder, InThreeStages, PriceByTheTable, CheckByTheTable}
+use Rattle.promises.specs.TwoTexts.{EarlyApplies, earlyOrder, PricedApplies, pricedOrder, PlannedApplies, plannedOrder, InThreeStages, PriceByTheTable, CheckByTheTable, AsPrinted, CallerIsTold}
 use Rattle.promises.proofs.Checks.{put-whole}
 use Rattle.promises.proofs.DeskSteps.{not-accepted}
 use Rattle.promises.proofs.Answers.{lines-are}
 use Rattle.promises.proofs.InputLengths.{price-held, check-fits}
+use Rattle.promises.proofs.AnyRecord.{NoEight, not-eight}
 use Rattle.promises.proofs.CheckWhole.{check-prints-all}
 use Rattle.promises.proofs.ListLines.{plan-form-by-the-table, list-form-by-the-table}
 
@@ -73,41 +85,41 @@ module _ (sheet : List ℕ) where
 
 -- The run with a list.
 module _ (r : Run) (froms tos : List ℕ) where
-  priced-of-run : (k : Refusal) (p : ℕ) → numberOf k ≤ 7 → PricedApplies r froms tos k p → RunApplies r k p
+  priced-of-run : (k : Refusal) (p : ℕ) → numberOf k ≤ 7 → PricedApplies r froms tos k p → RunAppliesAny r k p
   priced-of-run k p l (PricedApplies.run h) = h
   priced-of-run k p l (PricedApplies.bad-list h) = absurd (omega arith)
 
-  list-back : (p : ℕ) → PricedApplies r froms tos BadEntry p → ListIsBad r froms tos p
-  list-back p (PricedApplies.run h) = absurd (omega (arith, run-small r h))
+  list-back : (p : ℕ) → PricedApplies r froms tos BadEntry p → ListIsBadAny r froms tos p
+  list-back p (PricedApplies.run h) = absurd (omega (arith, any-small r h))
   list-back p (PricedApplies.bad-list h) = h
 
-  priced-finds : Finds (PricedApplies r froms tos) pricedOrder (firstOf (judgeOf r ∷ listVerdict (stopsOf r) froms tos ∷ []))
+  priced-finds : Finds (PricedApplies r froms tos) pricedOrder (firstOf (judgeAnyOf r ∷ listVerdictAny (r .head) (stopsOf r) froms tos ∷ []))
   priced-finds =
-      run-finds r (PricedApplies r froms tos) (λ k p. PricedApplies.run) priced-of-run (BadEntry ∷ []) (listVerdict (stopsOf r) froms tos ∷ [])
+      run-any-finds r (PricedApplies r froms tos) (λ k p. PricedApplies.run) priced-of-run (BadEntry ∷ []) (listVerdictAny (r .head) (stopsOf r) froms tos ∷ [])
       (λ a. finds-first (PricedApplies r froms tos) [] refl
-      (decides-reworded (λ p. PricedApplies.bad-list) list-back (decides-list r (accepted-run r a) froms tos (sym (accepted-run r a .wants .equal))))
+      (decides-reworded (λ p. PricedApplies.bad-list) list-back (decides-list-any r (accepted-any r a) froms tos))
       (λ b. finds-none (PricedApplies r froms tos)))
 
 -- The run with the room.
-module _ (r : Run) where
-  room-number : (k : Refusal) (p : ℕ) → RoomApplies r k p → numberOf k ≡ 9
+module _ (words : ℕ) (r : Run) where
+  room-number : (k : Refusal) (p : ℕ) → WordsApply words r k p → numberOf k ≡ 9
   room-number k p (short-room s h) = refl
 
-  planned-of-run : (k : Refusal) (p : ℕ) → numberOf k ≤ 7 → PlannedApplies r k p → RunApplies r k p
+  planned-of-run : (k : Refusal) (p : ℕ) → numberOf k ≤ 7 → PlannedApplies words r k p → RunAppliesAny r k p
   planned-of-run k p l (PlannedApplies.run h) = h
   planned-of-run k p l (PlannedApplies.room h) = absurd (omega (arith, room-number k p h))
 
-  room-back : refuses (judgeOf r) ≡ false → (p : ℕ) → PlannedApplies r ShortRoom p → (p ≡ 0) × (5120 < roomFor r)
-  room-back a p (PlannedApplies.run h) = absurd (omega (arith, run-small r h))
-  room-back a p (PlannedApplies.room (short-room s h)) = (refl, rw (stops-one r (accepted-run r a) s) at h)
+  room-back : refuses (judgeAnyOf r) ≡ false → (p : ℕ) → PlannedApplies words r ShortRoom p → (p ≡ 0) × (words < roomFor r)
+  room-back a p (PlannedApplies.run h) = absurd (omega (arith, any-small r h))
+  room-back a p (PlannedApplies.room (short-room s h)) = (refl, rw (stops-one (lifted r) (accepted-any r a .run) (stops-up r s)) at h)
 
-  planned-finds : Finds (PlannedApplies r) plannedOrder (firstOf (runChecks r))
+  planned-finds : Finds (PlannedApplies words r) plannedOrder (firstOf (anyChecks words r))
   planned-finds =
-      let short = refuseIf (ltb roomWords (roomFor r)) ShortRoom in
-      run-finds r (PlannedApplies r) (λ k p. PlannedApplies.run) planned-of-run (ShortRoom ∷ []) (short ∷ [])
-      (λ a. finds-first (PlannedApplies r) [] refl
-      (decides-reworded (λ p h. rw (h .0) (PlannedApplies.room (short-room (has-stops r (accepted-run r a)) (h .1)))) (room-back a) (decides-if _ ShortRoom (tells-below roomWords (roomFor r))))
-      (λ b. finds-none (PlannedApplies r)))
+      let short = refuseIf (ltb words (roomFor r)) ShortRoom in
+      run-any-finds r (PlannedApplies words r) (λ k p. PlannedApplies.run) planned-of-run (ShortRoom ∷ []) (short ∷ [])
+      (λ a. finds-first (PlannedApplies words r) [] refl
+      (decides-reworded (λ p h. rw (h .0) (PlannedApplies.room (short-room (stops-down r (has-stops (lifted r) (accepted-any r a .run))) (h .1)))) (room-back a) (decides-if _ ShortRoom (tells-below words (roomFor r))))
+      (λ b. finds-none (PlannedApplies words r)))
 
 -- Three verdicts in a row, and what each finds.
 module _ (OfSheet OfText OfRun : Refusal → ℕ → Type 0) (order : List Refusal) (sheet : List ℕ) (form : Verdict) (others : List Verdict)
@@ -152,6 +164,18 @@ module _ (OfSheet OfText OfRun : Refusal → ℕ → Type 0) (order : List Refus
   moved : (applies : Refusal → ℕ → Type 0) (o : List Refusal) (w : Verdict) → w ≡ v → Finds applies o w → Finds applies o v
   moved applies o w e f = subst (Finds applies o) e f
 
+  -- None of them is 8, where none of their orders has it.
+  pub never-eight : NoEight order → numberOf (v .refusal) ≡ 8 → ⊥
+  never-eight none is =
+      ⊎-elim
+      (λ (e : refuses e₀ ≡ true). not-eight OfSheet earlyOrder (λ k. omega arith, (λ k. omega arith, (λ k. omega arith, tt))) (moved OfSheet earlyOrder e₀ (v-early e) early) is)
+      (λ (e : refuses e₀ ≡ false).
+      ⊎-elim
+      (λ (f : refuses form ≡ true). not-eight OfText formOrder (λ k. omega arith, (λ k. omega arith, tt)) (moved OfText formOrder form (v-form e f) text) is)
+      (λ (f : refuses form ≡ false). not-eight OfRun order none (moved OfRun order (firstOf others) (v-run e f) run) is)
+      (true-or-false (refuses form)))
+      (true-or-false (refuses e₀))
+
   module _ (lines : refuses v ≡ true → printed ≡ refusalText v) (asked : refuses v ≡ false → Asked printed) where
     pub in-stages : InThreeStages OfSheet OfText OfRun order Asked printed
     in-stages =
@@ -175,17 +199,104 @@ pub price-by-the-table : PriceByTheTable
 unfolding verdictBy priceText
 price-by-the-table sheet list row n row′ c wide =
     let h = price-held sheet list in
-    let whole = put-whole (priceText (pricingVerdict sheet list) (sheetName sheet) (sheetRun sheet) list) row n row′ (c .bytes) (c .left) (omega (arith, h .0)) in
+    let whole = put-whole (priceText headAnywhere (pricingVerdict headAnywhere sheet list) (sheetName sheet) (sheetRun sheet) list) row n row′ (c .bytes) (c .left) (omega (arith, h .0)) in
     in-stages (EarlyApplies sheet) (ListFormApplies list) (PricedApplies (sheetRun sheet) (listFroms list) (listTos list)) pricedOrder sheet (listForm list)
-    (judgeOf (sheetRun sheet) ∷ listVerdict (stopsOf (sheetRun sheet)) (listFroms list) (listTos list) ∷ []) (early-finds sheet) (list-form-by-the-table list)
+    (judgeAnyOf (sheetRun sheet) ∷ listVerdictAny (sheetRun sheet .head) (stopsOf (sheetRun sheet)) (listFroms list) (listTos list) ∷ []) (early-finds sheet) (list-form-by-the-table list)
     (priced-finds (sheetRun sheet) (listFroms list) (listTos list)) _ (take n row′)
     (λ e. whole ∙ rw e) (λ e. whole ∙ rw e)
 
 pub check-by-the-table : CheckByTheTable
 unfolding verdictBy
-check-by-the-table sheet plan row n row′ c wide =
-    let h = check-fits sheet plan (c .text) (c .answers) in
-    let whole = put-whole (c .text) row n row′ (c .holds .bytes) (c .holds .left) (omega (arith, h .0)) in
-    in-stages (EarlyApplies sheet) (PlanFormApplies plan) (PlannedApplies (sheetRun sheet)) plannedOrder sheet (planForm plan) (runChecks (sheetRun sheet)) (early-finds sheet)
-    (plan-form-by-the-table plan) (planned-finds (sheetRun sheet)) _ (take n row′)
-    (λ e. whole ∙ c .answers .refused e) (λ e. check-prints-all sheet plan row n row′ c wide e)
+check-by-the-table sheet plan row room n row′ room′ c wide =
+    let g = c .given in
+    let h = check-fits (length room) sheet plan (g .text) (g .answers) in
+    let whole = put-whole (g .text) row n row′ (g .holds .bytes) (g .holds .left) (omega (arith, h .0)) in
+    in-stages (EarlyApplies sheet) (PlanFormApplies plan) (PlannedApplies (length room) (sheetRun sheet)) plannedOrder sheet (planForm plan) (anyChecks (length room) (sheetRun sheet)) (early-finds sheet)
+    (plan-form-by-the-table plan) (planned-finds (length room) (sheetRun sheet)) _ (take n row′)
+    (λ e. whole ∙ g .answers .refused e) (λ e. check-prints-all sheet plan row room n row′ room′ c wide e)
+
+-- For a caller.
+planned-none : NoEight plannedOrder
+planned-none = (λ e. omega arith, (λ e. omega arith, (λ e. omega arith, (λ e. omega arith, (λ e. omega arith, (λ e. omega arith, (λ e. omega arith, (λ e. omega arith, tt))))))))
+
+apart : ShortRow ≡ Accepted → ⊥
+apart is = let z : _≡_ {A = ℕ} 8 0 = ap numberOf is in omega arith
+
+module _ (sheet plan row room out : List ℕ) (w : Written) (row′ room′ : List ℕ) (n : ℕ) (out′ room″ : List ℕ) (c : CheckAnswered sheet plan row room w row′ room′)
+    (d : SheetChecked sheet plan out room n out′ room″) (wide : checkRow ≤ length out) where
+  abbrev said : Verdict
+  said = verdictOn (length room) sheet plan
+
+  abbrev Asks : List ℕ → Type 0
+  Asks = VerdictText (sheetName sheet) (sheetRun sheet) plan (planFroms plan) (planTos plan)
+
+  whole : take n out′ ≡ d .given .text
+  whole = let g = d .given in let h = check-fits (length room) sheet plan (g .text) (g .answers) in put-whole (g .text) out n out′ (g .holds .bytes) (g .holds .left) (omega (arith, h .0))
+
+  not-short : said .refusal ≡ ShortRow → ⊥
+  unfolding verdictBy
+  not-short is =
+      never-eight (EarlyApplies sheet) (PlanFormApplies plan) (PlannedApplies (length room) (sheetRun sheet)) plannedOrder sheet (planForm plan) (anyChecks (length room) (sheetRun sheet)) (early-finds sheet)
+      (plan-form-by-the-table plan) (planned-finds (length room) (sheetRun sheet)) Asks [] planned-none (ap numberOf is)
+
+  told-refusal : refuses said ≡ true → AsPrinted Asks row w row′ (take n out′)
+  told-refusal e =
+      let p = c .refused e in
+      let kind : w .refusal ≡ said .refusal = ap (λ x. x .refusal) (p .says) in
+      record {
+        text = λ is. absurd (true≢false (sym e ∙ ap isRefusal (sym kind ∙ is)));
+        short = λ is. absurd (not-short (sym kind ∙ is));
+        lines = λ a b. whole ∙ d .given .answers .refused e ∙ lines-are said ∙ ap (λ x. twoLines (x .refusal) (x .place)) (sym (p .says));
+        unwritten = λ a. (ap (λ x. x .bytes) (p .says), p .kept);
+        behind = ap (drop (w .bytes)) (p .kept);
+      }
+
+  module _ (e : refuses said ≡ false) where
+    abbrev asked : TextHanded (VerdictOf headAnywhere (sheetName sheet) (sheetRun sheet) plan (planFroms plan) (planTos plan)) row w row′
+    asked = c .checked e
+
+    one-text : asked .text ≡ take n out′
+    one-text =
+        answer-once headAnywhere one-least said (sheetName sheet) (sheetRun sheet) plan (planFroms plan) (planTos plan) (asked .text) (d .given .text)
+        (record { refused = λ q. absurd (true≢false (sym q ∙ e)); checked = λ q. asked .asked }) (d .given .answers)
+        ∙ sym whole
+
+    told-short : ltb (length row) (length (asked .text)) ≡ true → AsPrinted Asks row w row′ (take n out′)
+    unfolding rowVerdict writtenAnswer writtenRow
+    told-short t =
+        let says : w ≡ record { refusal = ShortRow; place = 0; bytes = 0 } = asked .handed .answer ∙ rw t in
+        let stays : row′ ≡ row = asked .handed .left ∙ rw t in
+        record {
+          text = λ is. absurd (apart (sym (ap (λ x. x .refusal) says) ∙ is));
+          short = λ is. (ap (λ x. x .place) says, subst (λ x. length row < length x) one-text (ltb-true (length row) (length (asked .text)) t));
+          lines = λ a b. absurd (b (ap (λ x. x .refusal) says));
+          unwritten = λ a. (ap (λ x. x .bytes) says, stays);
+          behind = ap (drop (w .bytes)) stays;
+        }
+
+    told-text : ltb (length row) (length (asked .text)) ≡ false → AsPrinted Asks row w row′ (take n out′)
+    unfolding rowVerdict writtenAnswer writtenRow
+    told-text t =
+        let says : w ≡ record { refusal = Accepted; place = 0; bytes = length (asked .text) } = asked .handed .answer ∙ rw t in
+        let holds : row′ ≡ asked .text ++ drop (length (asked .text)) row = asked .handed .left ∙ rw t in
+        let front : take (w .bytes) row′ ≡ asked .text = ap (λ x. take (x .bytes) row′) says ∙ ap (take (length (asked .text))) holds ∙ take-append-seam (asked .text) (drop (length (asked .text)) row) in
+        record {
+          text = λ is. (front ∙ one-text, check-prints-all sheet plan out room n out′ room″ d wide e);
+          short = λ is. absurd (apart (sym is ∙ ap (λ x. x .refusal) says));
+          lines = λ a b. absurd (a (ap (λ x. x .refusal) says));
+          unwritten = λ a. absurd (a (ap (λ x. x .refusal) says));
+          behind =
+              ap (λ x. drop (x .bytes) row′) says ∙ ap (drop (length (asked .text))) holds ∙ drop-append-seam (asked .text) (drop (length (asked .text)) row)
+              ∙ sym (ap (λ x. drop (x .bytes) row) says);
+        }
+
+pub caller-is-told : CallerIsTold
+caller-is-told sheet plan row room out w row′ room′ n out′ room″ c d wide = (go (refuses (verdictOn (length room) sheet plan)) refl, c .cleared ∙ sym (d .cleared))
+  where
+    go : (b : Bool) → refuses (verdictOn (length room) sheet plan) ≡ b → AsPrinted (VerdictText (sheetName sheet) (sheetRun sheet) plan (planFroms plan) (planTos plan)) row w row′ (take n out′)
+    go true e = told-refusal sheet plan row room out w row′ room′ n out′ room″ c d wide e
+    go false e =
+        ⊎-elim
+        (λ (t : ltb (length row) (length (c .checked e .text)) ≡ true). told-short sheet plan row room out w row′ room′ n out′ room″ c d wide e t)
+        (λ (t : ltb (length row) (length (c .checked e .text)) ≡ false). told-text sheet plan row room out w row′ room′ n out′ room″ c d wide e t)
+        (true-or-false (ltb (length row) (length (c .checked e .text))))

@@ -1,6 +1,7 @@
--- Pricing a list and checking a plan sheet. `check` says `walk=yes` exactly when the sheet handed in is the plan sheet of its list, and else names the
--- first line that differs; and `least=yes` exactly when that list is the least one, and else by how much its sum is larger; what `plan` prints for a run
--- checks as both. `price` answers with the plan sheet of the list handed in.
+-- Pricing a list and checking a plan sheet, with the head anywhere. `check` says `walk=yes` exactly when the sheet handed in is the plan sheet of its list,
+-- and else names the first line that differs; and `least=yes` exactly when that list is the least one, and else by how much its sum is larger; what `plan`
+-- and `plan --any` print for a run checks as both. `price` answers with the plan sheet of the list handed in. Where 01 refuses by neither 7 nor 9, both answer
+-- as by its rules.
 use Prim.Native.Nat.{ℕ, suc, _+_, _-_, _≤_, _<_}
 use mathlib.Core.Path.{_≡_}
 use mathlib.Core.Logic.{_↔_}
@@ -8,24 +9,28 @@ use mathlib.Core.Bool.{false, cond}
 use mathlib.Core.List.{List, [], _∷_, _++_}
 use lib.ListN.{length, take}
 use lib.Dec.{eqb}
+use Rattle.refusals.specs.declared.Refusal.the-variants.{HeadPlace, ShortRoom}
 use Rattle.refusals.specs.Refusals.{isRefusal}
 use Rattle.runs.specs.Run.{Run, stopsOf}
-use Rattle.runs.specs.Lists.{Detour, WellFormed, listOf}
-use Rattle.least.specs.Least.{LeastForRun, listSum}
+use Rattle.runs.specs.Lists.{Detour, listOf}
+use Rattle.runs.specs.AnyHead.{WellFormedAny}
+use Rattle.least.specs.AnyHead.{LeastAny, listSumAny}
 use Rattle.text_bytes.specs.Text.{bytes, decimal, lineFeed}
 use Rattle.text_lines.specs.Lines.{lineAfter}
 use Rattle.sheet_reader.specs.Sheet.{sheetRun, sheetName}
-use Rattle.sheet_writer.specs.PlanSheet.{planText}
+use Rattle.sheet_writer.specs.AnyHead.{planAnyText}
 use Rattle.answer_plan.specs.Recall.{recallVerdict, SheetRecalled}
+use Rattle.answer_any.specs.AnyRun.{anyVerdict, SheetRecalledAny}
 use Rattle.sheet_lists.specs.Form.{planFroms, planTos, listFroms, listTos}
-use Rattle.answer_check.specs.Pricing.{pricingVerdict, SheetPriced}
-use Rattle.answer_check.specs.Checking.{checkVerdict, SheetChecked}
+use Rattle.answer_check.specs.RunRules.{headAnywhere, headAtTheRight}
+use Rattle.answer_check.specs.Pricing.{pricingVerdict, PriceGiven, SheetPriced}
+use Rattle.answer_check.specs.Checking.{checkVerdict, CheckGiven, verdictOn, SheetChecked}
 
 -- By how much the sum of a list is larger than the least sum of a run.
 pub record Larger (run : Run) (list : List Detour) (by : ℕ) : Type 0 where
   pub least : List Detour
-  pub is : LeastForRun run least
-  pub sum : listSum (run .turn) (run .head) (stopsOf run) list ≡ listSum (run .turn) (run .head) (stopsOf run) least + by
+  pub is : LeastAny run least
+  pub sum : listSumAny (run .turn) (run .head) (stopsOf run) list ≡ listSumAny (run .turn) (run .head) (stopsOf run) least + by
 
 -- The first so many lines of a text, each with its LF; the whole of it where it has no more.
 unfoldable pub leadingLines : List ℕ → ℕ → List ℕ
@@ -39,44 +44,81 @@ pub record FirstDiffers (found expected : List ℕ) (line : ℕ) : Type 0 where
   pub same : leadingLines found before ≡ leadingLines expected before
   pub differ : leadingLines found line ≡ leadingLines expected line → ⊥
 
+-- A list in two rows is well formed for a run, its head where it stands.
+abbrev pub FormedFor : Run → List ℕ → List ℕ → Type 0
+FormedFor run froms tos = WellFormedAny (run .head) (stopsOf run) (listOf froms tos)
+
 -- What the lines of a verdict say of a plan sheet, for a tape name and a run.
 pub record Told (name : List ℕ) (run : Run) (plan froms tos text : List ℕ) : Type 0 where
-  pub formed : (lineAfter 0 text ≡ bytes "formed=yes") ↔ WellFormed (stopsOf run) (listOf froms tos)
-  pub walk : WellFormed (stopsOf run) (listOf froms tos) → ((lineAfter 1 text ≡ bytes "walk=yes") ↔ (plan ≡ planText name run froms tos))
-  pub differs : WellFormed (stopsOf run) (listOf froms tos) → (n : ℕ) → lineAfter 1 text ≡ bytes "walk=no," ++ decimal n → FirstDiffers plan (planText name run froms tos) n
-  pub least : WellFormed (stopsOf run) (listOf froms tos) → ((lineAfter 2 text ≡ bytes "least=yes") ↔ LeastForRun run (listOf froms tos))
-  pub by : WellFormed (stopsOf run) (listOf froms tos) → (n : ℕ) → lineAfter 2 text ≡ bytes "least=no," ++ decimal n → Larger run (listOf froms tos) n
+  pub formed : (lineAfter 0 text ≡ bytes "formed=yes") ↔ FormedFor run froms tos
+  pub walk : FormedFor run froms tos → ((lineAfter 1 text ≡ bytes "walk=yes") ↔ (plan ≡ planAnyText name run froms tos))
+  pub differs : FormedFor run froms tos → (n : ℕ) → lineAfter 1 text ≡ bytes "walk=no," ++ decimal n → FirstDiffers plan (planAnyText name run froms tos) n
+  pub least : FormedFor run froms tos → ((lineAfter 2 text ≡ bytes "least=yes") ↔ LeastAny run (listOf froms tos))
+  pub by : FormedFor run froms tos → (n : ℕ) → lineAfter 2 text ≡ bytes "least=no," ++ decimal n → Larger run (listOf froms tos) n
 
 -- Whatever is handed in and not refused, and whatever answer fits the contract.
 abbrev pub CheckTells : Type 0
 CheckTells =
-    (sheet plan row : List ℕ) (n : ℕ) (row′ : List ℕ) (c : SheetChecked sheet plan row n row′)
-    → isRefusal (checkVerdict sheet plan .refusal) ≡ false
-    → Told (sheetName sheet) (sheetRun sheet) plan (planFroms plan) (planTos plan) (c .text)
+    (sheet plan row room : List ℕ) (n : ℕ) (row′ room′ : List ℕ) (c : SheetChecked sheet plan row room n row′ room′)
+    → isRefusal (verdictOn (length room) sheet plan .refusal) ≡ false
+    → Told (sheetName sheet) (sheetRun sheet) plan (planFroms plan) (planTos plan) (c .given .text)
 
 -- That text is what a row with room for it begins with.
 abbrev pub CheckPrinted : Type 0
 CheckPrinted =
-    (sheet plan row : List ℕ) (n : ℕ) (row′ : List ℕ) (c : SheetChecked sheet plan row n row′)
-    → length (c .text) ≤ length row
-    → take n row′ ≡ c .text
+    (sheet plan row room : List ℕ) (n : ℕ) (row′ room′ : List ℕ) (c : SheetChecked sheet plan row room n row′ room′)
+    → length (c .given .text) ≤ length row
+    → take n row′ ≡ c .given .text
 
--- The sheet that `plan` prints for a run sheet, in a row with room for it, checks as well formed, the walk's and the least.
+-- The sheet that `plan` prints for a run sheet, in a row with room for it, checks as well formed, the walk's and the least; and so does what `plan --any`
+-- prints, in no less working room.
+abbrev pub ChecksAsAll : List ℕ → List ℕ → ℕ → Type 0
+ChecksAsAll sheet plan words =
+    (out room : List ℕ) (m : ℕ) (out′ room′ : List ℕ) (c : SheetChecked sheet plan out room m out′ room′)
+    → words ≤ length room
+    → c .given .text ≡ bytes "formed=yes\nwalk=yes\nleast=yes\n"
+
 abbrev pub PlanChecks : Type 0
 PlanChecks =
     (sheet row : List ℕ) (n : ℕ) (row′ : List ℕ)
     → SheetRecalled sheet row n row′
     → isRefusal (recallVerdict sheet .refusal) ≡ false
     → 0 < n
-    → (out : List ℕ) (m : ℕ) (out′ : List ℕ) (c : SheetChecked sheet (take n row′) out m out′)
-    → c .text ≡ bytes "formed=yes\nwalk=yes\nleast=yes\n"
+    → ChecksAsAll sheet (take n row′) 5120
+
+abbrev pub PlanAnyChecks : Type 0
+PlanAnyChecks =
+    (sheet row lent : List ℕ) (n : ℕ) (row′ lent′ : List ℕ)
+    → SheetRecalledAny sheet row lent n row′ lent′
+    → isRefusal (anyVerdict (length lent) sheet .refusal) ≡ false
+    → 0 < n
+    → ChecksAsAll sheet (take n row′) (length lent)
 
 -- The price of a list that is not refused: it is well formed, and a row with room for it begins with its plan sheet.
 abbrev pub PriceTells : Type 0
 PriceTells =
     (sheet list row : List ℕ) (n : ℕ) (row′ : List ℕ)
     → SheetPriced sheet list row n row′
-    → isRefusal (pricingVerdict sheet list .refusal) ≡ false
-    → WellFormed (stopsOf (sheetRun sheet)) (listOf (listFroms list) (listTos list))
-    × (length (planText (sheetName sheet) (sheetRun sheet) (listFroms list) (listTos list)) ≤ length row
-    → take n row′ ≡ planText (sheetName sheet) (sheetRun sheet) (listFroms list) (listTos list))
+    → isRefusal (pricingVerdict headAnywhere sheet list .refusal) ≡ false
+    → FormedFor (sheetRun sheet) (listFroms list) (listTos list)
+    × (length (planAnyText (sheetName sheet) (sheetRun sheet) (listFroms list) (listTos list)) ≤ length row
+    → take n row′ ≡ planAnyText (sheetName sheet) (sheetRun sheet) (listFroms list) (listTos list))
+
+-- Whatever they answer by 01's rules, in 5,120 words, other than 7 and 9: the same bytes, in no less room.
+abbrev pub PriceStays : Type 0
+PriceStays =
+    (sheet list row : List ℕ) (n m : ℕ) (row′ row″ : List ℕ)
+    → PriceGiven headAtTheRight sheet list row n row′
+    → (pricingVerdict headAtTheRight sheet list .refusal ≡ HeadPlace → ⊥)
+    → SheetPriced sheet list row m row″
+    → (n ≡ m) × (row′ ≡ row″)
+
+abbrev pub CheckStays : Type 0
+CheckStays =
+    (sheet plan row room : List ℕ) (n m : ℕ) (row′ row″ room′ : List ℕ)
+    → CheckGiven headAtTheRight 5120 sheet plan row n row′
+    → (checkVerdict headAtTheRight 5120 sheet plan .refusal ≡ HeadPlace → ⊥)
+    → (checkVerdict headAtTheRight 5120 sheet plan .refusal ≡ ShortRoom → ⊥)
+    → SheetChecked sheet plan row room m row″ room′
+    → 5120 ≤ length room
+    → (n ≡ m) × (row′ ≡ row″)

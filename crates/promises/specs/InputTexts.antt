@@ -17,14 +17,18 @@ pub record Counts (input : List ℕ) (count : ℕ) (rest : List ℕ) : Type 0 wh
 
 abbrev pub InputIsItsTexts : Type 0
 InputIsItsTexts =
-    (input sheet text row : List ℕ) (n : ℕ) (row′ : List ℕ)
+    (input sheet text row room : List ℕ) (n : ℕ) (row′ room′ : List ℕ)
     → Counts input (length sheet) (sheet ++ text)
-    → (InputPriced input row n row′ ↔ SheetPriced sheet text row n row′) × (InputChecked input row n row′ ↔ SheetChecked sheet text row n row′)
+    → (InputPriced input row n row′ ↔ SheetPriced sheet text row n row′) × (InputChecked input row room n row′ room′ ↔ SheetChecked sheet text row room n row′ room′)
 
 -- It begins with no such number, or fewer bytes follow it and no more were there.
 pub data NoTwoTexts (input : List ℕ) : Type 0 where
   no-count : ((count : ℕ) (rest : List ℕ) → Counts input count rest → ⊥) → NoTwoTexts input
   too-few : {count : ℕ} {rest : List ℕ} → Counts input count rest → length rest < count → length input < 32791 → NoTwoTexts input
+
+-- What `check` answers to an input in some working room, whatever is left of that.
+abbrev pub ChecksIn : List ℕ → List ℕ → List ℕ → ℕ → List ℕ → Type 0
+ChecksIn input room row n row′ = (room′ : List ℕ) × InputChecked input row room n row′ room′
 
 -- A row with room for a text begins with it, whatever answer fits.
 abbrev pub Prints : (List ℕ → ℕ → List ℕ → Type 0) → List ℕ → Type 0
@@ -32,14 +36,14 @@ Prints Answers text = (row : List ℕ) (n : ℕ) (row′ : List ℕ) → Answers
 
 abbrev pub OtherInputsRefused : Type 0
 OtherInputsRefused =
-    (input : List ℕ)
+    (input room : List ℕ)
     → NoTwoTexts input
-    → Prints (InputPriced input) (bytes "refused=25\nplace=1\n") × Prints (InputChecked input) (bytes "refused=25\nplace=1\n")
+    → Prints (InputPriced input) (bytes "refused=25\nplace=1\n") × Prints (ChecksIn input room) (bytes "refused=25\nplace=1\n")
 
 abbrev pub CutInputsRefused : Type 0
 CutInputsRefused =
-    (input : List ℕ) (count : ℕ) (rest : List ℕ)
+    (input room : List ℕ) (count : ℕ) (rest : List ℕ)
     → Counts input count rest
     → length rest < count
     → 32791 ≤ length input
-    → Prints (InputPriced input) (bytes "refused=12\nplace=0\n") × Prints (InputChecked input) (bytes "refused=12\nplace=0\n")
+    → Prints (InputPriced input) (bytes "refused=12\nplace=0\n") × Prints (ChecksIn input room) (bytes "refused=12\nplace=0\n")

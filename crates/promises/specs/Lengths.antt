@@ -62,7 +62,7 @@ abbrev pub PriceIsWhole : Type 0
 PriceIsWhole = (input : List ℕ) → TakesAll priceRow (InputPriced input)
 
 abbrev pub CheckIsWhole : Type 0
-CheckIsWhole = (input : List ℕ) → TakesAll checkRow (InputChecked input)
+CheckIsWhole = (input room : List ℕ) → TakesAll checkRow (λ row n row′. (room′ : List ℕ) × InputChecked input row room n row′ room′)
 
 -- `month`, for a month and a verdict as the program holds them: words, 32 numbers of refusals, a name of at most 16 letters.
 pub record InWords (m : Month) (v : Verdict) : Type 0 where

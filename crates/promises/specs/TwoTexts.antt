@@ -1,22 +1,25 @@
--- `price` and `check`, by the table: the run sheet's 12, 11 and 19; then 12 and 11 of the list or the plan sheet; then 1 to 7 of the run, and 10 or 9.
+-- `price` and `check`, by the table: the run sheet's 12, 11 and 19; then 12 and 11 of the list or the plan sheet; then 1 to 7 of a run whose head may stand
+-- anywhere, and 10 or 9. Then `check` for a caller, as a record, with 8 of the row last.
 use Prim.Native.Nat.{ℕ, _≤_, _<_}
 use mathlib.Core.Path.{_≡_}
 use mathlib.Core.List.{List, [], _∷_}
-use lib.ListN.{length, take}
+use lib.ListN.{length, take, drop}
 use Rattle.refusals.specs.declared.Refusal.{Refusal}
-use Rattle.refusals.specs.declared.Refusal.the-variants.{Accepted, FileRows, BadFile, WantRows, BadWant, TooManyReads, TurnPrice, HeadPlace, ShortRoom, BadEntry, BadLine, LongSheet, RetiredRule}
+use Rattle.refusals.specs.declared.Refusal.the-variants.{Accepted, FileRows, BadFile, WantRows, BadWant, TooManyReads, TurnPrice, HeadPlace, ShortRow, ShortRoom, BadEntry, BadLine, LongSheet, RetiredRule}
 use Rattle.runs.specs.Run.{Run}
 use Rattle.text_bytes.specs.Text.{bytes}
 use Rattle.sheet_reader.specs.Lines.{sweepText}
 use Rattle.sheet_reader.specs.Sheet.{sheetRun, sheetName}
-use Rattle.sheet_writer.specs.PlanSheet.{planText}
+use Rattle.sheet_writer.specs.declared.Written.{Written}
+use Rattle.sheet_writer.specs.AnyHead.{planAnyText}
 use Rattle.sheet_lists.specs.Form.{planFroms, planTos, listFroms, listTos}
 use Rattle.answer_check.specs.Pricing.{SheetPriced}
-use Rattle.answer_check.specs.Checking.{SheetChecked}
-use Rattle.demands.specs.RefusalTable.{FirstBad, RunApplies, ListIsBad, FirstThatApplies, SomeApplies}
+use Rattle.answer_check.specs.Checking.{SheetChecked, CheckAnswered}
+use Rattle.demands.specs.RefusalTable.{FirstBad, FirstThatApplies, SomeApplies}
+use Rattle.demands.specs.AnyHead.{RunAppliesAny, ListIsBadAny}
 use Rattle.demands.specs.Lines.{LineIsBad, linesDue, Ruled}
 use Rattle.promises.specs.Lengths.{priceRow, checkRow}
-use Rattle.promises.specs.Answers.{RoomApplies, twoLines, exampleSheet}
+use Rattle.promises.specs.Answers.{WordsApply, twoLines, exampleSheet}
 use Rattle.promises.specs.CheckWhole.{VerdictText}
 use Rattle.promises.specs.ListLines.{PlanFormApplies, ListFormApplies, formOrder}
 
@@ -31,15 +34,15 @@ earlyOrder = LongSheet ∷ BadLine ∷ RetiredRule ∷ []
 
 -- The run with a list, and the run with the room.
 pub data PricedApplies (r : Run) (froms tos : List ℕ) : Refusal → ℕ → Type 0 where
-  run : {kind : Refusal} {place : ℕ} → RunApplies r kind place → PricedApplies r froms tos kind place
-  bad-list : {place : ℕ} → ListIsBad r froms tos place → PricedApplies r froms tos BadEntry place
+  run : {kind : Refusal} {place : ℕ} → RunAppliesAny r kind place → PricedApplies r froms tos kind place
+  bad-list : {place : ℕ} → ListIsBadAny r froms tos place → PricedApplies r froms tos BadEntry place
 
 abbrev pub pricedOrder : List Refusal
 pricedOrder = FileRows ∷ BadFile ∷ WantRows ∷ BadWant ∷ TooManyReads ∷ TurnPrice ∷ HeadPlace ∷ BadEntry ∷ []
 
-pub data PlannedApplies (r : Run) : Refusal → ℕ → Type 0 where
-  run : {kind : Refusal} {place : ℕ} → RunApplies r kind place → PlannedApplies r kind place
-  room : {kind : Refusal} {place : ℕ} → RoomApplies r kind place → PlannedApplies r kind place
+pub data PlannedApplies (words : ℕ) (r : Run) : Refusal → ℕ → Type 0 where
+  run : {kind : Refusal} {place : ℕ} → RunAppliesAny r kind place → PlannedApplies words r kind place
+  room : {kind : Refusal} {place : ℕ} → WordsApply words r kind place → PlannedApplies words r kind place
 
 abbrev pub plannedOrder : List Refusal
 plannedOrder = FileRows ∷ BadFile ∷ WantRows ∷ BadWant ∷ TooManyReads ∷ TurnPrice ∷ HeadPlace ∷ ShortRoom ∷ []
@@ -62,15 +65,33 @@ PriceByTheTable =
     → SheetPriced sheet list row n row′
     → priceRow ≤ length row
     → InThreeStages (EarlyApplies sheet) (ListFormApplies list) (PricedApplies (sheetRun sheet) (listFroms list) (listTos list)) pricedOrder
-    (λ printed. printed ≡ planText (sheetName sheet) (sheetRun sheet) (listFroms list) (listTos list)) (take n row′)
+    (λ printed. printed ≡ planAnyText (sheetName sheet) (sheetRun sheet) (listFroms list) (listTos list)) (take n row′)
 
 abbrev pub CheckByTheTable : Type 0
 CheckByTheTable =
-    (sheet plan row : List ℕ) (n : ℕ) (row′ : List ℕ)
-    → SheetChecked sheet plan row n row′
+    (sheet plan row room : List ℕ) (n : ℕ) (row′ room′ : List ℕ)
+    → SheetChecked sheet plan row room n row′ room′
     → checkRow ≤ length row
-    → InThreeStages (EarlyApplies sheet) (PlanFormApplies plan) (PlannedApplies (sheetRun sheet)) plannedOrder
+    → InThreeStages (EarlyApplies sheet) (PlanFormApplies plan) (PlannedApplies (length room) (sheetRun sheet)) plannedOrder
     (VerdictText (sheetName sheet) (sheetRun sheet) plan (planFroms plan) (planTos plan)) (take n row′)
+
+-- `check` for a caller, beside what is printed of the same sheets: the verdict in the first bytes of its row, the later ones as they were; 8 where the row is
+-- shorter than that; or the refusal whose two lines are printed. By any refusal the row is as it was. A `no` is no refusal.
+pub record AsPrinted (Asked : List ℕ → Type 0) (row : List ℕ) (w : Written) (row′ printed : List ℕ) : Type 0 where
+  pub text : w .refusal ≡ Accepted → (take (w .bytes) row′ ≡ printed) × Asked printed
+  pub short : w .refusal ≡ ShortRow → (w .place ≡ 0) × (length row < length printed)
+  pub lines : (w .refusal ≡ Accepted → ⊥) → (w .refusal ≡ ShortRow → ⊥) → printed ≡ twoLines (w .refusal) (w .place)
+  pub unwritten : (w .refusal ≡ Accepted → ⊥) → (w .bytes ≡ 0) × (row′ ≡ row)
+  pub behind : drop (w .bytes) row′ ≡ drop (w .bytes) row
+
+-- In the same room, which is left alike.
+abbrev pub CallerIsTold : Type 0
+CallerIsTold =
+    (sheet plan row room out : List ℕ) (w : Written) (row′ room′ : List ℕ) (n : ℕ) (out′ room″ : List ℕ)
+    → CheckAnswered sheet plan row room w row′ room′
+    → SheetChecked sheet plan out room n out′ room″
+    → checkRow ≤ length out
+    → AsPrinted (VerdictText (sheetName sheet) (sheetRun sheet) plan (planFroms plan) (planTos plan)) row w row′ (take n out′) × (room′ ≡ room″)
 
 -- The sheet of document 01 with a list whose second line has one number.
 abbrev pub PrintsTheListsLine : Type 0

@@ -5,3 +5,4 @@ pub mod Answers
 pub mod Determined
 pub mod Bounds
 pub mod RoundTrip
+pub mod AnyTrip

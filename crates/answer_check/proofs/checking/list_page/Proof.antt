@@ -38,9 +38,12 @@ plan-page-requires c κs = search needs
 abbrev tested : tie.After-plan-page → tie.After-refused
 tested m = m .before .before .before
 
+abbrev written : tie.After-same-list → tie.After-plan-page
+written e = e .before .before .before .before
+
 array-share-prefix-text : tie.Need-array-share-prefix-text
 array-share-prefix-text c =
-    let m = c .before in
+    let m = c .before .before in
     let p = priced (tested m) in
     expected-inside _ _ _ _ _ (start p .pre) (p .priced .result) (p .priced .ensures) _ (tested m .refused .ensures) (m .before .before .if1 .left) (m .before .priced2 .result) (m .before .priced2 .ensures)
     _ (start p .args .run) refl refl (m .plan-page .result) (m .plan-page .ensures)
@@ -53,13 +56,13 @@ same-list-requires c κs = search needs
 
 sub-verdict-page : tie.Need-sub-verdict-page
 sub-verdict-page c =
-    let m = c .before .before .before .before .before in
+    let m = written (c .before .before) in
     let p = priced (tested m) in
     least-below _ _ _ _ _ (start p .pre) (p .priced .result) (p .priced .ensures) _ (tested m .refused .ensures) (m .before .before .if1 .left) (m .before .priced2 .result) (m .before .priced2 .ensures)
 
 verdict-page-requires : tie.Need-verdict-page-requires
 verdict-page-requires c κs =
-    let m = c .before .before .before .before .before in
+    let m = written (c .before .before) in
     let p = priced (tested m) in (
       start p .pre .short,
       expected-short _ _ _ _ _ (start p .pre) (p .priced .result) (p .priced .ensures) _ (tested m .refused .ensures) (m .before .before .if1 .left) (m .before .priced2 .result) (m .before .priced2 .ensures)
@@ -68,7 +71,7 @@ verdict-page-requires c κs =
 
 returns-2 : tie.Need-returns-2
 returns-2 c =
-    let m = c .before .before .before .before .before .before in
+    let m = written (c .before .before .before) in
     let p = priced (tested m) in
     list-formed _ _ _ _ _ (start p .pre) (p .priced .result) (p .priced .ensures) _ (tested m .refused .ensures) (m .before .before .if1 .left) (m .before .priced2 .result) (m .before .priced2 .ensures)
     _ (start p .args .run) refl refl (m .plan-page .result) (m .plan-page .ensures) _ (c .before .before .before .same-list .ensures) _ (c .verdict-page .ensures)

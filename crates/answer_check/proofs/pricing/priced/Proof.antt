@@ -72,14 +72,14 @@ slice-aggregate-entries-7 c = sym (tos-long (start (first (c .before .before .be
 entries-requires-7 : tie.Need-entries-requires-7
 entries-requires-7 c κs = search needs
 
-slice-aggregate-price : tie.Need-slice-aggregate-price
-slice-aggregate-price c = search needs
+slice-aggregate-price-any : tie.Need-slice-aggregate-price-any
+slice-aggregate-price-any c = search needs
 
-slice-aggregate-price-2 : tie.Need-slice-aggregate-price-2
-slice-aggregate-price-2 c = search needs
+slice-aggregate-price-any-2 : tie.Need-slice-aggregate-price-any-2
+slice-aggregate-price-any-2 c = search needs
 
-price-requires : tie.Need-price-requires
-price-requires c κs = search needs
+price-any-requires : tie.Need-price-any-requires
+price-any-requires c κs = search needs
 
 returns : tie.Need-returns
 returns c =
@@ -89,7 +89,7 @@ returns c =
     let s = start (first e3) in
     priced-held (s .args .run) (s .args .list) _
     (held-by (s .args .run) (e3 .before .before .before .before .entries .ensures .0) (e3 .before .before .entries2 .ensures .0) (e3 .entries3 .ensures .0) (e7 .before .before .before .before .before .before .entries4 .ensures .0) (e7 .before .before .before .before .entries5 .ensures .0))
-    _ _ (e7 .before .before .entries6 .ensures .0) (e7 .entries7 .ensures .0) (numbers-long s) _ (search needs) (search needs) _ (p .price .ensures .0)
+    _ _ (e7 .before .before .entries6 .ensures .0) (e7 .entries7 .ensures .0) (numbers-long s) _ (search needs) (search needs) _ (p .price-any .ensures .0)
 
 pub priced-spec : {M : Type 1} → statement M
 priced-spec =
@@ -109,7 +109,7 @@ priced-spec =
     entries-requires-6
     slice-aggregate-entries-7
     entries-requires-7
-    slice-aggregate-price
-    slice-aggregate-price-2
-    price-requires
+    slice-aggregate-price-any
+    slice-aggregate-price-any-2
+    price-any-requires
     returns)
