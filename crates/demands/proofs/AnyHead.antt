@@ -50,13 +50,15 @@ use Rattle.planner.proofs.Same.{verdict-same, plan-same}
 use Rattle.demands.specs.RefusalTable.{HasStops}
 use Rattle.demands.specs.Demand1.{ByTheTable, priceOrder, planOrder}
 use Rattle.demands.specs.Demand2.{listIn}
-use Rattle.demands.specs.AnyHead.{RunAppliesAny, ListIsBadAny, PriceAnyApplies, PlanAnyApplies, Demand1PriceAny, Demand1PriceAnyIff, Demand1PlanAny, Demand1PlanAnyIff, IsFormedAny, IsWalkAnyOf, IsLeastAny, Demand2PriceAny, Demand2WalkAny, Demand2LeastAny, Demand2OneAny, NoLessAnyByFile, Demand3Any, Demand3AnySame, PriceAnySame, PlanAnySame, LeftOfAll}
+use Rattle.demands.specs.AnyLegs.{AreLegsOf}
+use Rattle.demands.specs.AnyHead.{RunAppliesAny, ListIsBadAny, PriceAnyApplies, PlanAnyApplies, Demand1PriceAny, Demand1PriceAnyIff, Demand1PlanAny, Demand1PlanAnyIff, IsFormedAny, LegsAreMade, LegsAreOne, IsWalkAnyOf, IsLeastAny, Demand2PriceAny, Demand2WalkAny, Demand2LeastAny, Demand2OneAny, NoLessAnyByFile, Demand3Any, Demand3AnySame, PriceAnySame, PlanAnySame, LeftOfAll}
 use Rattle.demands.proofs.Tests.{tells-below}
 use Rattle.demands.proofs.Checks.{Decides, refused, passed, refused-iff, decides-if, decides-reworded, Finds, finds-none, finds-first}
 use Rattle.demands.proofs.Demand1.{refusal-only-place, tells-reads, IsShort, tells-short}
 use Rattle.demands.proofs.Demand3.{one-table}
 use Rattle.demands.proofs.Counted.{has-stops, stops-one}
 use Rattle.demands.proofs.AnyLifted.{stops-down, stops-up}
+use Rattle.demands.proofs.AnyLegs.{legs-made, legs-one}
 use Rattle.demands.proofs.AnyJudged.{any-small, run-any-finds, nothing-judged-any, judged-nothing-any, start-named, stop-names, decides-list-any}
 
 -- Demand 1: the pricer.
@@ -259,6 +261,17 @@ module _ (r : Run) (good : GoodAnyRun r) (list : List Detour) where
       let good-list = any-good (r .head) (stopsOf r) froms tos (list-any-accepted (r .head) (stopsOf r) froms tos even list-is) in
       rw (list-of-halves list) at (any-walkable (lifted r) (good .run) froms tos good-list (r .head) (good .near) .moves)
 
+-- The legs of a list by their conditions.
+pub legs-are-made : LegsAreMade
+legs-are-made r nothing list v =
+    let good = accepted-any r (nothing-judged-any r nothing) in
+    legs-made r good list (formed-list-any r good list v)
+
+pub legs-are-one : LegsAreOne
+legs-are-one r nothing list v gs are =
+    let good = accepted-any r (nothing-judged-any r nothing) in
+    legs-one r good list (formed-list-any r good list v) gs are
+
 -- The numbers, times and legs of a well-formed list's walk, in rows that have them in front.
 priced-walk : (r : Run) (list : List Detour) (rows before : ReadRows) (answer : Answer) → GoodAnyRun r → answer ≡ pricedAnyAnswer r list → rows ≡ readAnyRowsWith r list before
     → WellFormedAny (r .head) (stopsOf r) list → IsWalkAnyOf r list rows answer
@@ -269,6 +282,7 @@ priced-walk r list rows before answer good says fills w =
     record {
       number = rw says;
       formed = is-formed-any r good list w;
+      made = legs-made r good list w;
       moves = list-moves r good list w;
       serves = any-served (r .head) (lifted r .head) (stopsOf r) (run-sound (lifted r) (good .run)) list;
       times = rw fills (take-at (timesOf (r .turn) (headAt (r .head)) (runLegs r list) (wantStopsOf r)) (drop (length (r .numbers)) (before .times)) (length (r .numbers)) (size _));
@@ -326,9 +340,11 @@ demand2-least-any r before answer after plans accepts =
     let plan = planned r before answer after plans accepts in
     let good = good-run r before answer after plans accepts in
     let sum = reported r (plan .list) answer (plan .says) in
+    let walks : (other : List Detour) → IsFormedAny r other → (gs : List Leg) → AreLegsOf r other gs → sumOf (r .turn) (headAt (r .head)) gs (stopsOf r) ≡ listSumAny (r .turn) (r .head) (stopsOf r) other
+    = λ other v gs are. ap (λ hs. sumOf (r .turn) (headAt (r .head)) hs (stopsOf r)) (legs-one r good other (formed-list-any r good other v) gs are) in
     record {
-      smallest = λ other v. rw sum (plan .least .smallest other (formed-list-any r good other v));
-      first = λ other v e. rw (listed r before answer after plans accepts) (plan .least .first other (formed-list-any r good other v) (e ∙ sum));
+      smallest = λ other v gs are. rw (sum, walks other v gs are) (plan .least .smallest other (formed-list-any r good other v));
+      first = λ other v gs are e. rw (listed r before answer after plans accepts) (plan .least .first other (formed-list-any r good other v) (sym (walks other v gs are) ∙ e ∙ sum));
     }
 
 pub demand2-one-any : Demand2OneAny

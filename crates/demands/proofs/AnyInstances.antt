@@ -1,13 +1,13 @@
 -- A head anywhere, worked: the hypotheses can be met. A day of three runs, each from where the one before ended: 01's sheet with the head at 0, which is
 -- read from left to right; a run of 01; and one whose least list begins with a detour from the head, left of the file that it reads.
-use Prim.Native.Nat.{ℕ, _≤_, _<_}
+use Prim.Native.Nat.{ℕ, _+_, _≤_}
 use mathlib.Core.Path.{_≡_, refl, sym}
 use mathlib.Core.Bool.{Bool, true, false, cond}
 use mathlib.Core.List.{List, [], _∷_}
 use native.Mathlib.Omega.{arith}
 use native.Mathlib.Nat.{le-refl}
 use lib.Dec.{eqb}
-use lib.ListN.{length, replicate}
+use lib.ListN.{replicate}
 use Rattle.refusals.specs.declared.Refusal.the-variants.{Accepted, HeadPlace}
 use Rattle.refusals.specs.Refusals.{firstWhere}
 use Rattle.runs.specs.Run.{Run, runOf, goesOn, firstMember, lastWithin, wantStops, joinTo, joined, stopsOf}
@@ -116,11 +116,20 @@ ends-at : answerTo mounted .end ≡ 50
 unfolding planAnyAnswer planAnyVerdict judgeAnyOf firstWhere goesOn firstMember lastWithin wantStops joinTo joined rightEnd pulled pricedAnyAnswer walked startOf endOf served unreadEnd sweepEnd lastSweep legsOf leastList planDetours W lowest scan filledTo filled candidate next value choice built nextPlan best
 ends-at = refl
 
-some : 0 < length (stopsOf mounted)
-unfolding goesOn firstMember lastWithin wantStops joinTo joined
-some = omega arith
-
-pub chained : Chained mounted next-run (answerTo mounted) (listIn (answerTo mounted) (rowsAfter mounted)) (listIn (answerTo next-run) (rowsAfter next-run))
+pub chained : Chained mounted next-run (answerTo mounted .finish + 1) (answerTo next-run) (listIn (answerTo mounted) (rowsAfter mounted)) (listIn (answerTo next-run) (rowsAfter next-run))
 chained =
-    any-chain mounted next-run lent lent (answerTo mounted) (answerTo next-run) (rowsAfter mounted) (rowsAfter next-run) (plans-any-for-every-input mounted lent) (accepted .0) some
-    (plans-any-for-every-input next-run lent) (accepted .1) (sym ends-at) refl
+    any-chain mounted next-run lent lent (answerTo mounted) (answerTo next-run) (rowsAfter mounted) (rowsAfter next-run) (plans-any-for-every-input mounted lent) (accepted .0)
+    (plans-any-for-every-input next-run lent) (accepted .1) (sym ends-at) refl .read (omega arith)
+
+-- Behind a run that wants nothing it begins at once.
+abbrev pub idle-run : Run
+idle-run = asked [] [] 50
+
+idle-ends : (answerTo idle-run .refusal ≡ Accepted) × (answerTo idle-run .end ≡ 50)
+unfolding planAnyAnswer planAnyVerdict judgeAnyOf firstWhere goesOn firstMember lastWithin wantStops joinTo joined rightEnd pulled pricedAnyAnswer walked lastSweep legsOf leastList planDetours
+idle-ends = (refl, refl)
+
+pub chained-at-once : Chained idle-run next-run 0 (answerTo next-run) (listIn (answerTo idle-run) (rowsAfter idle-run)) (listIn (answerTo next-run) (rowsAfter next-run))
+chained-at-once =
+    any-chain idle-run next-run lent lent (answerTo idle-run) (answerTo next-run) (rowsAfter idle-run) (rowsAfter next-run) (plans-any-for-every-input idle-run lent) (idle-ends .0)
+    (plans-any-for-every-input next-run lent) (accepted .1) (sym (idle-ends .1)) refl .idle refl

@@ -14,14 +14,15 @@ pub mod Demand3
 pub mod Multiplied
 pub mod AnyLifted
 pub mod AnyJudged
+pub mod AnyLegs
 pub mod AnyHead
-pub mod AnyChain
 pub mod AnyCalls
 pub mod Offices
 pub mod Plain
 pub mod Stops
 pub mod Ends
 pub mod Nothing
+pub mod AnyChain
 pub mod Legs
 pub mod Aggregates
 pub mod Called

@@ -13,17 +13,23 @@ use Rattle.runs.specs.Judging.{judgeOf}
 use Rattle.runs.specs.Lists.{Detour, listOf}
 use Rattle.walk.specs.Walk.{headAt, walked, sumOf}
 use Rattle.walk.specs.Detours.{legsOf, lastSweep}
+use Rattle.walk.specs.AnyHead.{legsAnyOf, runLegs}
 use Rattle.walk.specs.Rows.{ReadRows}
 use Rattle.refusals.proofs.Verdicts.{refuses}
 use Rattle.runs.proofs.Judged.{accepted-run}
+use Rattle.runs.proofs.AnyHead.{GoodAnyRun}
+use Rattle.walk.proofs.AnyHead.{any-formed}
 use Rattle.least.proofs.Lists.{none-wanted}
+use Rattle.least.proofs.LeastAny.{pulled-none}
 use Rattle.planner.specs.Rows.{readsIn}
 use Rattle.demands.specs.Demand2.{IsFormed, listIn, IsWalkOf}
-use Rattle.demands.specs.Ends.{NothingWanted, PriceOfNothing, PlanOfNothing}
+use Rattle.demands.specs.AnyHead.{IsFormedAny, IsWalkAnyOf}
+use Rattle.demands.specs.Ends.{NothingWanted, PriceOfNothing, PlanOfNothing, PriceAnyOfNothing, PlanAnyOfNothing}
 use Rattle.demands.proofs.Planned.{run-accepted}
 use Rattle.demands.proofs.Demand2.{formed-list, demand2-price, demand2-walk, price-run-accepted}
+use Rattle.demands.proofs.AnyHead.{formed-list-any, good-run, price-any-good, demand2-price-any, demand2-walk-any}
 
-no-stops : (starts lengths aggregates ns cs : List ℕ) → length ns ≡ 0 → joined (wantStops starts lengths aggregates ns cs) ≡ []
+pub no-stops : (starts lengths aggregates ns cs : List ℕ) → length ns ≡ 0 → joined (wantStops starts lengths aggregates ns cs) ≡ []
 unfolding wantStops joined
 no-stops starts lengths aggregates [] cs e = refl
 no-stops starts lengths aggregates (n ∷ ns) cs e = absurd (omega arith)
@@ -49,7 +55,7 @@ module _ (r : Run) (ok : refuses (judgeOf r) ≡ false) (list : List Detour) (ro
   stands : walked (r .turn) (headAt (r .head)) (legsOf (stopsOf r) list) ≡ headAt (r .head)
   stands = rw (stops, empty list (walk .formed)) (no-walk (r .turn) (r .head))
 
-  nothing-read : NothingWanted r answer
+  nothing-read : NothingWanted (IsFormed r) r answer
   nothing-read =
       record {
         only = λ other. (empty other, λ e. rw e (empty-formed r));
@@ -68,3 +74,39 @@ pub plan-of-nothing : PlanOfNothing
 plan-of-nothing r before answer after plans accepts none =
     nothing-read r (run-accepted r before answer after plans accepts) (listIn answer after) (readsIn after) answer
     (demand2-walk r before answer after plans accepts) none
+
+-- From a head anywhere.
+empty-formed-any : (r : Run) → IsFormedAny r []
+empty-formed-any r place = ⊎-elim (λ h. h .1 refl) (λ h. omega (arith, h .1 .within))
+
+no-walk-any : (U m : ℕ) → walked U (headAt m) (legsAnyOf m [] []) ≡ headAt m
+no-walk-any U m = rw (pulled-none m) (no-walk U m)
+
+module _ (r : Run) (good : GoodAnyRun r) (list : List Detour) (rows : ReadRows) (answer : Answer) (walk : IsWalkAnyOf r list rows answer) (none : length (r .numbers) ≡ 0) where
+  stops-any : stopsOf r ≡ []
+  stops-any = no-stops (r .starts) (r .lengths) (r .aggregates) (r .numbers) (r .counts) none
+
+  empty-any : (other : List Detour) → IsFormedAny r other → other ≡ []
+  empty-any other formed = none-wanted other (any-formed (r .head) [] other (rw stops-any at (formed-list-any r good other formed)))
+
+  stands-any : walked (r .turn) (headAt (r .head)) (runLegs r list) ≡ headAt (r .head)
+  stands-any = rw (stops-any, empty-any list (walk .formed)) (no-walk-any (r .turn) (r .head))
+
+  nothing-read-any : NothingWanted (IsFormedAny r) r answer
+  unfolding sumOf
+  nothing-read-any =
+      record {
+        only = λ other. (empty-any other, λ e. rw e (empty-formed-any r));
+        sum = walk .sum ∙ rw stops-any refl;
+        finish = walk .finish ∙ ap (λ (h : Head). h .clock) stands-any;
+        end = walk .end ∙ ap (λ (h : Head). h .place) stands-any;
+        detours = sym (walk .number) ∙ ap length (empty-any list (walk .formed));
+      }
+
+pub price-any-of-nothing : PriceAnyOfNothing
+price-any-of-nothing r froms tos rows answer out says fills accepts none =
+    nothing-read-any r (price-any-good r froms tos rows answer says accepts) (listOf froms tos) out answer (demand2-price-any r froms tos rows answer out says fills accepts .1) none
+
+pub plan-any-of-nothing : PlanAnyOfNothing
+plan-any-of-nothing r before answer after plans accepts none =
+    nothing-read-any r (good-run r before answer after plans accepts) (listIn answer after) (readsIn after) answer (demand2-walk-any r before answer after plans accepts) none

@@ -29,6 +29,7 @@ use Rattle.planner.specs.Rows.{Rows, rowsOf, readsIn}
 use Rattle.demands.specs.RefusalTable.{NothingApplies}
 use Rattle.demands.specs.Demand3.{AsksNoLess}
 use Rattle.demands.specs.Movements.{AsksNoLessByFile}
+use Rattle.demands.specs.Demand2.{IsFormed}
 use Rattle.demands.specs.Ends.{NothingWanted}
 use Rattle.demands.specs.Aggregates.{StopsByMembers, MembersShare}
 use Rattle.demands.specs.Offices.{Reports, OneTape, Shares, Multiplies, SamePlan}
@@ -181,7 +182,7 @@ pub both-share-a-time : getD (rowsAfter bothMembers .times) 0 0 ≡ getD (rowsAf
 both-share-a-time = both-share .times 0 1 (omega arith) (omega arith) (inr (refl, omega arith))
 
 -- The run that wants nothing.
-pub nothing-is-read : NothingWanted nothing (answerTo nothing)
+pub nothing-is-read : NothingWanted (IsFormed nothing) nothing (answerTo nothing)
 nothing-is-read =
     plan-of-nothing nothing lent (answerTo nothing) (rowsAfter nothing) (reported nothing (accepted .5) .plans) (reported nothing (accepted .5) .accepts) refl
 
@@ -189,7 +190,7 @@ empty-priced : priceAnswer nothing [] [] (readsIn lent) .refusal ≡ Accepted
 unfolding priceAnswer priceVerdict judgeOf anyBelow firstWhere goesOn firstMember lastWithin wantStops joinTo joined rightEnd listVerdict listOf firstBadEntry pricedAnswer
 empty-priced = refl
 
-pub nothing-is-priced : NothingWanted nothing (priceAnswer nothing [] [] (readsIn lent))
+pub nothing-is-priced : NothingWanted (IsFormed nothing) nothing (priceAnswer nothing [] [] (readsIn lent))
 nothing-is-priced =
     price-of-nothing nothing [] [] (readsIn lent) (priceAnswer nothing [] [] (readsIn lent)) (priceRows nothing [] [] (readsIn lent)) refl refl empty-priced refl
 

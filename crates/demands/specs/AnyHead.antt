@@ -18,7 +18,6 @@ use Rattle.walk.specs.Price.{priceAnswer, priceRows}
 use Rattle.walk.specs.AnyHead.{runLegs, priceAnyAnswer, priceAnyRows}
 use Rattle.walk.specs.Rows.{ReadRows}
 use Rattle.least.specs.Least.{ComesFirst}
-use Rattle.least.specs.AnyHead.{listSumAny}
 use Rattle.least.specs.Wants.{readsOf}
 use Rattle.planner.specs.Plan.{Plans}
 use Rattle.planner.specs.AnyHead.{PlansAny}
@@ -27,6 +26,7 @@ use Rattle.demands.specs.RefusalTable.{FirstBad, NamesStop, HasStops, En
 use Rattle.demands.specs.Demand1.{ByTheTable, priceOrder, planOrder}
 use Rattle.demands.specs.Demand2.{listIn}
 use Rattle.demands.specs.Movements.{AsksNoLessByFile}
+use Rattle.demands.specs.AnyLegs.{AreLegsOf}
 
 -- 1 to 7: as in 01's table, but that 7 is only a head past the last place.
 pub data RunAppliesAny (r : Run) : Refusal → ℕ → Type 0 where
@@ -99,10 +99,18 @@ Demand1PlanAnyIff =
 abbrev pub IsFormedAny : Run → List Detour → Type 0
 IsFormedAny r list = (place : ℕ) → ListIsBadAny r (map (λ d. d .from) list) (map (λ d. d .to) list) place → ⊥
 
--- The numbers are those of the list's walk from the run's head; its legs are a movement from there that reads everything wanted.
+-- In a run that nothing applies to every well-formed list has legs, and one row of legs alone.
+abbrev pub LegsAreMade : Type 0
+LegsAreMade = (r : Run) → NothingAppliesAny r → (list : List Detour) → IsFormedAny r list → AreLegsOf r list (runLegs r list)
+
+abbrev pub LegsAreOne : Type 0
+LegsAreOne = (r : Run) → NothingAppliesAny r → (list : List Detour) → IsFormedAny r list → (gs : List Leg) → AreLegsOf r list gs → gs ≡ runLegs r list
+
+-- The numbers are those of the walk of the list's legs from the run's head, which are a movement from there that reads everything wanted.
 pub record IsWalkAnyOf (r : Run) (list : List Detour) (rows : ReadRows) (answer : Answer) : Type 0 where
   pub number : length list ≡ answer .detours
   pub formed : IsFormedAny r list
+  pub made : AreLegsOf r list (runLegs r list)
   pub moves : Moves (r .head) (runLegs r list)
   pub serves : ServesAll (runLegs r list) (stopsOf r)
   pub times : take (length (r .numbers)) (rows .times) ≡ timesOf (r .turn) (headAt (r .head)) (runLegs r list) (wantStopsOf r)
@@ -127,10 +135,10 @@ Demand2WalkAny =
     → answer .refusal ≡ Accepted
     → IsWalkAnyOf r (listIn answer after) (readsIn after) answer
 
--- No well-formed list is cheaper, and one of the same sum is the same list or comes later by the tie rule.
+-- The walk of no well-formed list has a smaller sum, and a list whose walk has the same is the same list or comes later by the tie rule.
 pub record IsLeastAny (r : Run) (answer : Answer) (after : Rows) : Type 0 where
-  pub smallest : (other : List Detour) → IsFormedAny r other → answer .sum ≤ listSumAny (r .turn) (r .head) (stopsOf r) other
-  pub first : (other : List Detour) → IsFormedAny r other → listSumAny (r .turn) (r .head) (stopsOf r) other ≡ answer .sum
+  pub smallest : (other : List Detour) → IsFormedAny r other → (gs : List Leg) → AreLegsOf r other gs → answer .sum ≤ sumOf (r .turn) (headAt (r .head)) gs (stopsOf r)
+  pub first : (other : List Detour) → IsFormedAny r other → (gs : List Leg) → AreLegsOf r other gs → sumOf (r .turn) (headAt (r .head)) gs (stopsOf r) ≡ answer .sum
       → (other ≡ listIn answer after) ⊎ ComesFirst (listIn answer after) other
 
 abbrev pub Demand2LeastAny : Type 0
@@ -220,23 +228,29 @@ LeftOfAll =
     → ((f : ℕ) → NamesStop r f → r .head ≤ getD (r .starts) (f - 1) 0)
     → ReadsAtOnce r answer after
 
--- Of two runs at one turn price, the second from where the first ended. The legs of the first and then those of the second are one movement. In it the
--- first's reads have the times reported; for the second's the clock begins one turn after the first's finish, since the head faces right by then.
-pub record Chained (first second : Run) (answer : Answer) (list list′ : List Detour) : Type 0 where
+-- Two runs at one turn price, the second from where the first ended: the legs of the first and then those of the second are one movement. In it the first's
+-- reads have the times reported, and the second's those reported and `later` on top. It ends where and when the second does, that much later.
+pub record Chained (first second : Run) (later : ℕ) (answer′ : Answer) (list list′ : List Detour) : Type 0 where
   pub moves : Moves (first .head) (runLegs first list ++ runLegs second list′)
-  pub earlier : (s : Stop) → T (served (runLegs first list) s)
+  pub first-times : (s : Stop) → T (served (runLegs first list) s)
       → timeOf (first .turn) (headAt (first .head)) (runLegs first list ++ runLegs second list′) s ≡ timeOf (first .turn) (headAt (first .head)) (runLegs first list) s
-  pub later : (s : Stop) → (T (served (runLegs first list) s) → ⊥) → T (served (runLegs second list′) s)
-      → timeOf (first .turn) (headAt (first .head)) (runLegs first list ++ runLegs second list′) s ≡ answer .finish + first .turn + timeOf (second .turn) (headAt (second .head)) (runLegs second list′) s
+  pub second-times : (s : Stop) → (T (served (runLegs first list) s) → ⊥) → T (served (runLegs second list′) s)
+      → timeOf (first .turn) (headAt (first .head)) (runLegs first list ++ runLegs second list′) s ≡ later + timeOf (second .turn) (headAt (second .head)) (runLegs second list′) s
+  pub finish : 0 < length (second .numbers) → walked (first .turn) (headAt (first .head)) (runLegs first list ++ runLegs second list′) .clock ≡ later + answer′ .finish
+  pub end : walked (first .turn) (headAt (first .head)) (runLegs first list ++ runLegs second list′) .place ≡ answer′ .end
+
+-- Later by the first's finish and one turn, since the head faces right by then; where the first wants nothing, by nothing, since it has not moved.
+pub record ChainsOn (first second : Run) (answer answer′ : Answer) (list list′ : List Detour) : Type 0 where
+  pub read : 0 < length (first .numbers) → Chained first second (answer .finish + first .turn) answer′ list list′
+  pub idle : length (first .numbers) ≡ 0 → Chained first second 0 answer′ list list′
 
 abbrev pub AnyChain : Type 0
 AnyChain =
     (first second : Run) (before before′ : Rows) (answer answer′ : Answer) (after after′ : Rows)
     → PlansAny first before answer after
     → answer .refusal ≡ Accepted
-    → 0 < length (stopsOf first)
     → PlansAny second before′ answer′ after′
     → answer′ .refusal ≡ Accepted
     → second .head ≡ answer .end
     → second .turn ≡ first .turn
-    → Chained first second answer (listIn answer after) (listIn answer′ after′)
+    → ChainsOn first second answer answer′ (listIn answer after) (listIn answer′ after′)

@@ -19,6 +19,7 @@ use Rattle.planner.specs.AnyHead.{PlansAny}
 use Rattle.planner.specs.Rows.{Rows}
 use Rattle.demands.specs.RefusalTable.{IsFile, Together, endOfFile, NothingApplies}
 use Rattle.demands.specs.Demand2.{IsFormed}
+use Rattle.demands.specs.AnyHead.{IsFormedAny}
 
 -- The finish is the time of one of the wants and no want has a later one; the end is the end of the last file that lies together with it.
 pub record EndsWithARead (r : Run) (times : List ℕ) (answer : Answer) : Type 0 where
@@ -77,8 +78,8 @@ abbrev pub TimesStay : Type 0
 TimesStay = (r : Run) → NothingApplies r → (list : List Detour) → Stay r list
 
 -- Where nothing is wanted, only the empty list is well formed, sum and finish are 0, and the head ends where it stood.
-pub record NothingWanted (r : Run) (answer : Answer) : Type 0 where
-  pub only : (list : List Detour) → IsFormed r list ↔ (list ≡ [])
+pub record NothingWanted (formed : List Detour → Type 0) (r : Run) (answer : Answer) : Type 0 where
+  pub only : (list : List Detour) → formed list ↔ (list ≡ [])
   pub sum : answer .sum ≡ 0
   pub finish : answer .finish ≡ 0
   pub end : answer .end ≡ r .head
@@ -91,7 +92,7 @@ PriceOfNothing =
     → out ≡ priceRows r froms tos rows
     → answer .refusal ≡ Accepted
     → length (r .numbers) ≡ 0
-    → NothingWanted r answer
+    → NothingWanted (IsFormed r) r answer
 
 abbrev pub PlanOfNothing : Type 0
 PlanOfNothing =
@@ -99,4 +100,22 @@ PlanOfNothing =
     → Plans r before answer after
     → answer .refusal ≡ Accepted
     → length (r .numbers) ≡ 0
-    → NothingWanted r answer
+    → NothingWanted (IsFormed r) r answer
+
+-- The same for a head anywhere.
+abbrev pub PriceAnyOfNothing : Type 0
+PriceAnyOfNothing =
+    (r : Run) (froms tos : List ℕ) (rows : ReadRows) (answer : Answer) (out : ReadRows)
+    → answer ≡ priceAnyAnswer r froms tos rows
+    → out ≡ priceAnyRows r froms tos rows
+    → answer .refusal ≡ Accepted
+    → length (r .numbers) ≡ 0
+    → NothingWanted (IsFormedAny r) r answer
+
+abbrev pub PlanAnyOfNothing : Type 0
+PlanAnyOfNothing =
+    (r : Run) (before : Rows) (answer : Answer) (after : Rows)
+    → PlansAny r before answer after
+    → answer .refusal ≡ Accepted
+    → length (r .numbers) ≡ 0
+    → NothingWanted (IsFormedAny r) r answer

@@ -14,8 +14,10 @@ use Rattle.runs.specs.Lists.{Detour, listOf}
 use Rattle.walk.specs.Walk.{headAt, setOff, runRight, walked, reads}
 use Rattle.walk.specs.Detours.{legsOf}
 use Rattle.walk.specs.Price.{priceAnswer, priceRows}
+use Rattle.walk.specs.AnyHead.{runLegs, priceAnyAnswer, priceAnyRows}
 use Rattle.walk.specs.Rows.{ReadRows}
 use Rattle.planner.specs.Plan.{Plans}
+use Rattle.planner.specs.AnyHead.{PlansAny}
 use Rattle.planner.specs.Rows.{Rows, readsIn}
 use Rattle.demands.specs.Demand2.{listIn}
 
@@ -31,12 +33,12 @@ pub record ReadsIn (price : ℕ) (h : Head) (gs : List Leg) (s : Stop) (time n :
   pub first : (m : ℕ) → 0 < m → m < n → reads (legNumbered gs m) s ≡ false
   pub clock : time ≡ (runRight (setOff price (walked price h (take (n - 1) gs)) (legNumbered gs n)) (s .end)) .clock
 
--- What the rows tell of a list's walk. There are as many legs as detours and one more, the last sweep, where anything is wanted. Each want is
--- read in its leg; the leftmost in the last. With no detours all are read in leg 1. Wants with different legs have different times.
-pub record LegsTold (r : Run) (list : List Detour) (rows : ReadRows) : Type 0 where
-  pub many : 0 < length (r .numbers) → length (legsOf (stopsOf r) list) ≡ length list + 1
+-- What the rows tell of a list's walk, whose legs are gs. There are as many legs as detours and one more, the last sweep, where anything is wanted. Each
+-- want is read in its leg; the leftmost in the last. With no detours all are read in leg 1. Wants with different legs have different times.
+pub record LegsTold (r : Run) (list : List Detour) (gs : List Leg) (rows : ReadRows) : Type 0 where
+  pub many : 0 < length (r .numbers) → length gs ≡ length list + 1
   pub each : (i : ℕ) → i < length (r .numbers)
-      → ReadsIn (r .turn) (headAt (r .head)) (legsOf (stopsOf r) list) (stopAt (wantStopsOf r) i) (getD (rows .times) i 0) (getD (rows .legs) i 0)
+      → ReadsIn (r .turn) (headAt (r .head)) gs (stopAt (wantStopsOf r) i) (getD (rows .times) i 0) (getD (rows .legs) i 0)
   pub leftmost : 0 < length (r .numbers) → getD (rows .legs) 0 0 ≡ length list + 1
   pub one : list ≡ [] → (i : ℕ) → i < length (r .numbers) → getD (rows .legs) i 0 ≡ 1
   pub apart : (i j : ℕ) → i < length (r .numbers) → j < length (r .numbers)
@@ -48,11 +50,27 @@ PriceTellsLegs =
     → answer ≡ priceAnswer r froms tos rows
     → out ≡ priceRows r froms tos rows
     → answer .refusal ≡ Accepted
-    → LegsTold r (listOf froms tos) out
+    → LegsTold r (listOf froms tos) (legsOf (stopsOf r) (listOf froms tos)) out
 
 abbrev pub PlanTellsLegs : Type 0
 PlanTellsLegs =
     (r : Run) (before : Rows) (answer : Answer) (after : Rows)
     → Plans r before answer after
     → answer .refusal ≡ Accepted
-    → LegsTold r (listIn answer after) (readsIn after)
+    → LegsTold r (listIn answer after) (legsOf (stopsOf r) (listIn answer after)) (readsIn after)
+
+-- The same for a head anywhere.
+abbrev pub PriceAnyTellsLegs : Type 0
+PriceAnyTellsLegs =
+    (r : Run) (froms tos : List ℕ) (rows : ReadRows) (answer : Answer) (out : ReadRows)
+    → answer ≡ priceAnyAnswer r froms tos rows
+    → out ≡ priceAnyRows r froms tos rows
+    → answer .refusal ≡ Accepted
+    → LegsTold r (listOf froms tos) (runLegs r (listOf froms tos)) out
+
+abbrev pub PlanAnyTellsLegs : Type 0
+PlanAnyTellsLegs =
+    (r : Run) (before : Rows) (answer : Answer) (after : Rows)
+    → PlansAny r before answer after
+    → answer .refusal ≡ Accepted
+    → LegsTold r (listIn answer after) (runLegs r (listIn answer after)) (readsIn after)

@@ -6,9 +6,10 @@ pub mod Demand1
 pub mod Demand2
 pub mod Demand3
 pub mod Movements
+pub mod Legs
+pub mod AnyLegs
 pub mod AnyHead
 pub mod Ends
-pub mod Legs
 pub mod Offices
 pub mod Calls
 pub mod AnyCalls
