@@ -274,15 +274,15 @@ legs-are-one r nothing list v gs are =
 
 -- The numbers, times and legs of a well-formed list's walk, in rows that have them in front.
 priced-walk : (r : Run) (list : List Detour) (rows before : ReadRows) (answer : Answer) → GoodAnyRun r → answer ≡ pricedAnyAnswer r list → rows ≡ readAnyRowsWith r list before
-    → WellFormedAny (r .head) (stopsOf r) list → IsWalkAnyOf r list rows answer
+    → WellFormedAny (r .head) (stopsOf r) list → IsFormedAny r list → AreLegsOf r list (runLegs r list) → IsWalkAnyOf r list rows answer
 unfolding pricedAnyAnswer timesOf legsFor
-priced-walk r list rows before answer good says fills w =
+priced-walk r list rows before answer good says fills w formed made =
     let same : length (r .counts) ≡ length (r .numbers) = sym (good .run .wants .equal) in
     let size : (f : Stop → ℕ) → length (map f (wantStopsOf r)) ≡ length (r .numbers) = λ f. one-each f (wantStopsOf r) ∙ wants-length (r .starts) (r .lengths) (r .aggregates) (r .numbers) (r .counts) same in
     record {
       number = rw says;
-      formed = is-formed-any r good list w;
-      made = legs-made r good list w;
+      formed = formed;
+      made = made;
       moves = list-moves r good list w;
       serves = any-served (r .head) (lifted r .head) (stopsOf r) (run-sound (lifted r) (good .run)) list;
       times = rw fills (take-at (timesOf (r .turn) (headAt (r .head)) (runLegs r list) (wantStopsOf r)) (drop (length (r .numbers)) (before .times)) (length (r .numbers)) (size _));
@@ -292,6 +292,10 @@ priced-walk r list rows before answer good says fills w =
       finish = rw says;
       end = rw says;
     }
+
+well-walked : (r : Run) (list : List Detour) (rows before : ReadRows) (answer : Answer) → GoodAnyRun r → answer ≡ pricedAnyAnswer r list → rows ≡ readAnyRowsWith r list before
+    → WellFormedAny (r .head) (stopsOf r) list → IsWalkAnyOf r list rows answer
+well-walked r list rows before answer good says fills w = priced-walk r list rows before answer good says fills w (is-formed-any r good list w) (legs-made r good list w)
 
 -- An answer of the pricer that is no refusal comes of a verdict that is none.
 price-accepts : (r : Run) (froms tos : List ℕ) (rows : ReadRows) (answer : Answer) → answer ≡ priceAnyAnswer r froms tos rows → answer .refusal ≡ Accepted
@@ -316,7 +320,7 @@ unfolding priceAnyVerdict
 price-of-list-any r froms tos rows e answer out says fills =
     let checks = all-accept (judgeAnyOf r ∷ listVerdictAny (r .head) (stopsOf r) froms tos ∷ refuseIf (shortReadRows (length (r .numbers)) rows) ShortRow ∷ []) e in (
       any-even (r .head) (stopsOf r) froms tos (checks .1 .0),
-      priced-walk r (listOf froms tos) out rows answer (accepted-any r (checks .0)) says fills (any-list-formed (r .head) (stopsOf r) froms tos (checks .1 .0)),
+      well-walked r (listOf froms tos) out rows answer (accepted-any r (checks .0)) says fills (any-list-formed (r .head) (stopsOf r) froms tos (checks .1 .0)),
     )
 
 pub demand2-price-any : Demand2PriceAny
@@ -329,23 +333,30 @@ pub demand2-walk-any : Demand2WalkAny
 demand2-walk-any r before answer after plans accepts =
     let plan = planned r before answer after plans accepts in
     rw (listed r before answer after plans accepts)
-    (priced-walk r (plan .list) (readsIn after) (readsIn before) answer (good-run r before answer after plans accepts) (plan .says) (ap readsIn (plan .rows)) (plan .least .formed))
+    (well-walked r (plan .list) (readsIn after) (readsIn before) answer (good-run r before answer after plans accepts) (plan .says) (ap readsIn (plan .rows)) (plan .least .formed))
 
 reported : (r : Run) (list : List Detour) (answer : Answer) → answer ≡ pricedAnyAnswer r list → answer .sum ≡ listSumAny (r .turn) (r .head) (stopsOf r) list
 unfolding pricedAnyAnswer
 reported r list answer says = rw says
 
+-- The least list is least over all walks of lists, given that well-formed lists have their legs and no others.
+least-of-list : (r : Run) (list : List Detour) (answer : Answer) (after : Rows) → LeastAnyFor (r .turn) (r .head) (stopsOf r) list → answer .sum ≡ listSumAny (r .turn) (r .head) (stopsOf r) list
+    → listIn answer after ≡ list → ((other : List Detour) → IsFormedAny r other → WellFormedAny (r .head) (stopsOf r) other)
+    → ((other : List Detour) → IsFormedAny r other → (gs : List Leg) → AreLegsOf r other gs → gs ≡ runLegs r other) → IsLeastAny r answer after
+least-of-list r list answer after least sum is formed one =
+    let walks : (other : List Detour) → IsFormedAny r other → (gs : List Leg) → AreLegsOf r other gs → sumOf (r .turn) (headAt (r .head)) gs (stopsOf r) ≡ listSumAny (r .turn) (r .head) (stopsOf r) other
+    = λ other v gs are. ap (λ hs. sumOf (r .turn) (headAt (r .head)) hs (stopsOf r)) (one other v gs are) in
+    record {
+      smallest = λ other v gs are. rw (sum, walks other v gs are) (least .smallest other (formed other v));
+      first = λ other v gs are e. rw is (least .first other (formed other v) (sym (walks other v gs are) ∙ e ∙ sum));
+    }
+
 pub demand2-least-any : Demand2LeastAny
 demand2-least-any r before answer after plans accepts =
     let plan = planned r before answer after plans accepts in
     let good = good-run r before answer after plans accepts in
-    let sum = reported r (plan .list) answer (plan .says) in
-    let walks : (other : List Detour) → IsFormedAny r other → (gs : List Leg) → AreLegsOf r other gs → sumOf (r .turn) (headAt (r .head)) gs (stopsOf r) ≡ listSumAny (r .turn) (r .head) (stopsOf r) other
-    = λ other v gs are. ap (λ hs. sumOf (r .turn) (headAt (r .head)) hs (stopsOf r)) (legs-one r good other (formed-list-any r good other v) gs are) in
-    record {
-      smallest = λ other v gs are. rw (sum, walks other v gs are) (plan .least .smallest other (formed-list-any r good other v));
-      first = λ other v gs are e. rw (listed r before answer after plans accepts) (plan .least .first other (formed-list-any r good other v) (sym (walks other v gs are) ∙ e ∙ sum));
-    }
+    least-of-list r (plan .list) answer after (plan .least) (reported r (plan .list) answer (plan .says)) (listed r before answer after plans accepts)
+    (formed-list-any r good) (λ other v gs are. legs-one r good other (formed-list-any r good other v) gs are)
 
 pub demand2-one-any : Demand2OneAny
 demand2-one-any r before answer answer′ after after′ plans plans′ = plan-any-determined r before answer answer′ after after′ plans plans′

@@ -165,12 +165,12 @@ plan-tells-legs r before answer after plans accepts =
     told r (run-accepted r before answer after plans accepts) (listIn answer after) (readsIn after) answer (demand2-walk r before answer after plans accepts)
 
 -- From a head anywhere: the run with its head at the end of the tape has the same rows and stops.
-module _ (r : Run) (good : GoodAnyRun r) (list : List Detour) (rows : ReadRows) (answer : Answer) (walk : IsWalkAnyOf r list rows answer) where
+module _ (r : Run) (good : GoodAnyRun r) (list : List Detour) (rows : ReadRows) (answer : Answer) (walk : IsWalkAnyOf r list rows answer) (formed : WellFormedAny (r .head) (stopsOf r) list) where
   told-any : LegsTold r list (runLegs r list) rows
   told-any =
       let gs = runLegs r list in
       let many = walk .made .many in
-      let last = leftmost-leg-any (r .head) (lifted r .head) (stopsOf r) (run-sound (lifted r) (good .run)) list (formed-list-any r good list (walk .formed)) in
+      let last = leftmost-leg-any (r .head) (lifted r .head) (stopsOf r) (run-sound (lifted r) (good .run)) list formed in
       record {
         many = λ some. many (some-stops (lifted r) (good .run) some);
         each = told-each (lifted r) (good .run) (r .head) gs rows (walk .serves) (walk .times) (walk .legs);
@@ -181,8 +181,12 @@ module _ (r : Run) (good : GoodAnyRun r) (list : List Detour) (rows : ReadRows) 
 
 pub price-any-tells-legs : PriceAnyTellsLegs
 price-any-tells-legs r froms tos rows answer out says fills accepts =
-    told-any r (price-any-good r froms tos rows answer says accepts) (listOf froms tos) out answer (demand2-price-any r froms tos rows answer out says fills accepts .1)
+    let good = price-any-good r froms tos rows answer says accepts in
+    let walk = demand2-price-any r froms tos rows answer out says fills accepts .1 in
+    told-any r good (listOf froms tos) out answer walk (formed-list-any r good (listOf froms tos) (walk .formed))
 
 pub plan-any-tells-legs : PlanAnyTellsLegs
 plan-any-tells-legs r before answer after plans accepts =
-    told-any r (good-run r before answer after plans accepts) (listIn answer after) (readsIn after) answer (demand2-walk-any r before answer after plans accepts)
+    let good = good-run r before answer after plans accepts in
+    let walk = demand2-walk-any r before answer after plans accepts in
+    told-any r good (listIn answer after) (readsIn after) answer walk (formed-list-any r good (listIn answer after) (walk .formed))
