@@ -66,10 +66,13 @@ can_start() {
     done
 }
 
-# start CRATE LANE: a call in the background, which ends with a line in the pipe: the crate, the lane, the status.
+# start CRATE LANE: a call in the background, which ends with a line in the pipe: the crate, the lane, the status. Descriptor 8, where there is one, is
+# the lock (tools/beside.sh), which goes with this script.
 start() {
     {
-        (cd "$rooms/$2" && RT_JOBS=1 TMPDIR=$rooms rt check "$1") > "$rooms/$2/said" 2>&1 3>&-
+        trap 'kill "$!" 2> /dev/null; exit 143' TERM
+        (cd "$rooms/$2" && exec env RT_JOBS=1 TMPDIR="$rooms" rt check "$1") > "$rooms/$2/said" 2>&1 3>&- 8>&- &
+        wait "$!"
         printf '%s %s %s\n' "$1" "$2" "$?" >&3
     } &
     state[$1]=begun running=$((running + 1))
@@ -126,5 +129,5 @@ case $1 in
     check) prove_below "$2" || exit ;;
 esac
 cd "$here" || exit
-TMPDIR=$rooms rt "$@" &
+TMPDIR=$rooms rt "$@" 8>&- &
 wait "$!"

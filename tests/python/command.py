@@ -971,7 +971,7 @@ STAND_IN = """#!/bin/sh
 printf '%s\\n' "$*" >> "${0%/*}/../calls"
 mkdir -p target/bin target/log target/stamp target/staticlib
 : > target/log/walk.out
-case $2 in cmd_*) sleep "${SLOW:-0}" ;; esac
+case $2 in cmd_*) sleep "${SLOW:-0}" ;; *) sleep "${SLOW_BELOW:-0}" ;; esac
 echo 'rt: refusals proved (unchanged since it was last proved)'
 echo 'logic=proved'
 echo 'rt: walk proved (7 s)' | tee target/log/walk.out
@@ -1039,7 +1039,7 @@ def building(at):
         raise Wrong(f"rt was called so: {called(at)}")
 
 
-def below(at, program):
+def below(at, program, order=None):
     """What a program stands on was proved once each, and nothing before what it names."""
     with open(at.path("crates.txt")) as handle:
         named = dict(line.split("#")[0].split(":") for line in handle if ":" in line.split("#")[0])
@@ -1050,7 +1050,7 @@ def below(at, program):
         if crate not in under:
             under.add(crate)
             todo += named[crate]
-    order = proved_first(at)
+    order = proved_first(at) if order is None else order
     if sorted(order) != sorted(under):
         raise Wrong(f"under {program} there are {sorted(under)}, and proved were {order}")
     for at_once, crate in enumerate(order):
@@ -1111,7 +1111,110 @@ def building_interrupted(at):
     at.must("./violstream plan examples/VX0041.run", 0, PLAN, ["building cmd_plan"])
 
 
-SCRIPTS = ("violstream", "tools/build.sh", "tools/edits.sh", "tools/machine.sh", "tools/native.sh")
+# A stand-in for cargo, which compiles nothing: it brings the command that is kept beside it.
+CARGO = """#!/bin/sh
+printf 'cargo\\n' >> "${0%/*}/../calls"
+sleep "${COMPILING:-0}"
+[ -z "${CARGO_FAULT:-}" ] || { echo "error: $CARGO_FAULT"; exit 1; }
+while [ "$1" != --target-dir ]; do shift; done
+mkdir -p "$2/release" && cp "${0%/*}/../command.kept" "$2/release/violstream"
+printf 'compiled\\n' >> "${0%/*}/../calls"
+"""
+
+
+def uncompiled(at):
+    """The checkout with nothing built at all, and stand-ins for rt and cargo."""
+    unbuilt(at)
+    os.rename(at.path(BUILT), at.path("command.kept"))
+    at.write("stand-in/cargo", CARGO.encode())
+    os.chmod(at.path("stand-in/cargo"), 0o755)
+
+
+def forget_compiled(at):
+    forget_built(at)
+    for name in (BUILT, "target/command/made/target/release/violstream"):
+        if os.path.exists(at.path(name)):
+            os.remove(at.path(name))
+    at.write("calls", b"")
+
+
+def all_calls(at):
+    with open(at.path("calls")) as handle:
+        return handle.read().split("\n")[:-1]
+
+
+def beside(at):
+    """On a fresh clone the command is compiled while rt is at work; whichever fails is told, and whatever ends the call ends both."""
+    uncompiled(at)
+    sheet = "./violstream plan examples/VX0041.run"
+    words = ["compiling the command", "and proving and building cmd_plan beside it", "violstream: walk proved (7 s)\n"]
+    at.must(f"COMPILING=2 {sheet}", 0, PLAN, words)
+    calls = all_calls(at)
+    if calls.count("check cmd_plan") != 1 or calls.count("cargo") != 1 or calls.index("check cmd_plan") > calls.index("compiled"):
+        raise Wrong(f"rt and cargo were not called beside each other, and once each: {calls}")
+    below(at, "cmd_plan", [call.split()[1] for call in calls if re.match("check (?!cmd_)", call)])
+    at.must(sheet, 0, PLAN, silent=True)
+    # The command is there first: it waits for what was begun, and does not call it another's.
+    forget_compiled(at)
+    printed, said, status = at.shell(f"SLOW=3 VIOLSTREAM_SILENCE=1 {sheet}")
+    if (printed, status) != (PLAN, 0) or "another call" in said or "still proving, " not in said or all_calls(at).count("check cmd_plan") != 1:
+        raise Wrong(f"a call whose proofs outlast the compiler printed {printed!r}, said {said!r} and called {all_calls(at)}")
+    for line, program in (("plan --any examples/mounted.run", "cmd_plan_any"), ("buys examples/VX0041.run", "cmd_buys")):
+        forget_compiled(at)
+        at.must(f"./violstream {line}", 0, None, [f"building {program} beside it"])
+    for line, status in (("help", 0), ("plan --help", 0), ("version", 0), ("nothing", 2)):
+        forget_compiled(at)
+        at.must(f"./violstream {line}", status)
+        if called(at):
+            raise Wrong(f"{line} had {called(at)} built")
+    # What fails is told: rt by the command, which tries again; the compiler by the plain answer.
+    forget_compiled(at)
+    at.must(f"FAULT='error: it is not so' {sheet}", 1, b"", ["error: it is not so", "'rt check cmd_plan' failed"])
+    forget_compiled(at)
+    at.must(f"CARGO_FAULT='no such crate' {sheet}", 0, PLAN, ["error: no such crate", "so the proved program answers by itself", "beside it"])
+    forget_compiled(at)
+    at.must(f"CARGO_FAULT='no such crate' FAULT='error: it is not so' {sheet}", 1, b"", ["error: no such crate", "'rt check cmd_plan' failed"])
+    beside_ended(at)
+
+
+def beside_ended(at):
+    """A call that cannot be answered, or is ended, leaves neither at work."""
+    forget_compiled(at)
+    at.surroundings.update(SLOW="30")
+    printed, said, status = at.shell("./violstream plan no-such.run; echo $?; for n in $(seq 100); do [ -e $TMPDIR/violstream.* ] || break; sleep 0.05; done")
+    if printed != b"1\n" or "cannot read no-such.run" not in said:
+        raise Wrong(f"without its file a first call printed {printed!r} and said {said!r}")
+    ends = ((signal.SIGINT, os.killpg), (signal.SIGTERM, os.kill), (signal.SIGKILL, os.kill), (signal.SIGHUP, os.killpg))
+    for slow, compiling, met in (("0", "0", "compiled"), ("0", "30", "cargo"), ("30", "30", "check refusals")):
+        for number, end in ends:
+            forget_compiled(at)
+            call = subprocess.Popen(["./violstream", "plan", "examples/VX0041.run"], cwd=at.root, stdout=subprocess.PIPE, stderr=subprocess.DEVNULL,
+                                    env=dict(at.surroundings, SLOW_BELOW=slow, COMPILING=compiling), start_new_session=True)
+            until(lambda: met in all_calls(at) and (called(at) or slow != "0"), "rt or cargo was not called")
+            end(call.pid, number)
+            call.wait(LIMIT)
+            until(lambda: not os.listdir(at.temporary), f"signal {number}: left {os.listdir(at.temporary)}")
+            until(lambda: not at_work(at), f"signal {number}: still at work: {at_work(at)}")
+    at.surroundings.update(SLOW="0")
+    forget_compiled(at)
+    at.must("./violstream plan examples/VX0041.run", 0, PLAN)
+
+
+def at_work(at):
+    """The stand-ins, and what they have started, that are still there."""
+    found = []
+    for number in filter(str.isdigit, os.listdir("/proc")):
+        try:
+            with open(f"/proc/{number}/cmdline", "rb") as handle:
+                words = handle.read()
+        except OSError:
+            continue
+        if at.path("stand-in").encode() in words or at.path("tools/build.sh").encode() in words:
+            found.append(words)
+    return found
+
+
+SCRIPTS = ("violstream", "tools/beside.sh", "tools/build.sh", "tools/edits.sh", "tools/machine.sh", "tools/native.sh")
 # Names that are the caller's to set, and those of the shell itself.
 OUTSIDE = {"PATH", "TMPDIR", "DESTDIR", "PREFIX", "RATTLE_HOME", "RT_JOBS", "VIOLSTREAM_SILENCE", "VIOLSTREAM_MAINTAINER", "PIPESTATUS", "SECONDS"}
 
@@ -1141,6 +1244,8 @@ def surrounded(at):
         read, emptied = names_in(script)
         names |= read | emptied
         machine = names_in("tools/machine.sh")[1] if b"/machine.sh\"" in contents(script) else set()
+        machine |= names_in("tools/beside.sh")[1] if b"/beside.sh\"" in contents(script) else set()
+        machine |= {"here"} if script == "tools/beside.sh" else set()
         if read - emptied - machine:
             raise Wrong(f"{script} reads what it has not emptied first: {sorted(read - emptied - machine)}")
     at.write("month", b"%d\n" % len(RUN) + RUN)
@@ -1189,7 +1294,7 @@ def until(true, otherwise):
 
 
 TESTS = (answers, any_run, fielding, figures, pairs, explained, rewriting, mending, monthly, desk, statuses, help_and_version, nothing_lost, closed, odd_ends, quick, broken_program, several, ltfs_inputs, words_of_sheets, words_of_damaged_sheets,
-         words_of_tapes, keyboard, transcripts, manual, interrupted, manners, as_json, installing, packaged, limits, other_user, without_compiler, building, building_fails, building_twice, building_interrupted, surrounded)
+         words_of_tapes, keyboard, transcripts, manual, interrupted, manners, as_json, installing, packaged, limits, other_user, without_compiler, building, building_fails, building_twice, building_interrupted, beside, surrounded)
 
 
 def built():

@@ -8,7 +8,7 @@ use nix::fcntl::{flock, FlockArg};
 use nix::libc;
 use nix::unistd::geteuid;
 use std::fs::{self, DirBuilder, File, OpenOptions};
-use std::io;
+use std::io::{self, Read};
 use std::os::unix::fs::{DirBuilderExt, MetadataExt, OpenOptionsExt, PermissionsExt};
 use std::os::unix::io::AsRawFd;
 use std::path::Path;
@@ -25,7 +25,7 @@ impl Lock {
             Ok(file) => file,
             Err(error) => return failed(format!("cannot write {}/: {}", quoted(folder.as_os_str()), reason(&error))),
         };
-        let mut told: Option<Instant> = None;
+        let (mut told, mut ours): (Option<Instant>, bool) = (None, false);
         let began = Instant::now();
         loop {
             match flock(file.as_raw_fd(), FlockArg::LockExclusiveNonblock) {
@@ -35,11 +35,15 @@ impl Lock {
             }
             match told {
                 None => {
-                    say("another call is building here; waiting for it");
+                    ours = began_here(&file);
+                    if !ours {
+                        say("another call is building here; waiting for it");
+                    }
                     told = Some(Instant::now());
                 }
                 Some(at) if at.elapsed() >= silence() => {
-                    say(&format!("still waiting for the other call, {} s by now", began.elapsed().as_secs()));
+                    let what = if ours { "still proving" } else { "still waiting for the other call" };
+                    say(&format!("{what}, {} s by now", began.elapsed().as_secs()));
                     told = Some(Instant::now());
                 }
                 Some(_) => {}
@@ -47,6 +51,12 @@ impl Lock {
             std::thread::sleep(Duration::from_millis(200));
         }
     }
+}
+
+/// The script that became this command has begun to prove while the command was compiled (tools/beside.sh), and has written down its number.
+fn began_here(file: &File) -> bool {
+    let mut text = String::new();
+    file.take(20).read_to_string(&mut text).is_ok() && text.trim_end() == std::process::id().to_string()
 }
 
 fn open(folder: &Path) -> io::Result<File> {
