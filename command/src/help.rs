@@ -7,7 +7,7 @@ use crate::usage;
 use std::path::Path;
 
 const WHOLE: &str = include_str!("../help/whole.txt");
-const EACH: [(&str, &str); 19] = [
+const EACH: [(&str, &str); 21] = [
     ("plan", include_str!("../help/plan.txt")),
     ("field", include_str!("../help/field.txt")),
     ("buys", include_str!("../help/buys.txt")),
@@ -19,6 +19,8 @@ const EACH: [(&str, &str); 19] = [
     ("month", include_str!("../help/month.txt")),
     ("ltfs", include_str!("../help/ltfs.txt")),
     ("desk", include_str!("../help/desk.txt")),
+    ("record", include_str!("../help/record.txt")),
+    ("audit", include_str!("../help/audit.txt")),
     ("build", include_str!("../help/build.txt")),
     ("test", include_str!("../help/test.txt")),
     ("install", include_str!("../help/install.txt")),

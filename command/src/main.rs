@@ -9,6 +9,7 @@
 #![deny(unsafe_code)]
 
 mod answers;
+mod book;
 mod build;
 mod commands;
 mod deb;

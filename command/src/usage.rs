@@ -1,6 +1,7 @@
 //! The words of a call, read by clap, and what to say of those that are wrong.
 
-use crate::commands::Asked;
+use crate::book::is_name;
+use crate::commands::{Asked, Sought};
 use crate::places::Places;
 use crate::say::quoted;
 use crate::status::Stop;
@@ -29,7 +30,7 @@ const fn known(name: &'static str, synopsis: &'static str, about: &'static str, 
     Known { name, synopsis, about, options, words }
 }
 
-pub const COMMANDS: [Known; 19] = [
+pub const COMMANDS: [Known; 21] = [
     known("plan", "[--any] [--json] [FILE...]", "the plan sheet of each run sheet", &["any", "json"], Words::Files),
     known("field", "[FILE...]", "the same by the plain engine, for at most eight wants", &[], Words::Files),
     known("buys", "[--json] [FILE...]", "what each detour of a plan buys", &["json"], Words::Files),
@@ -41,6 +42,14 @@ pub const COMMANDS: [Known; 19] = [
     known("month", "[--json] [FILE...]", "one page over up to 1,000 run sheets", &["json"], Words::Files),
     known("ltfs", "NAME LABEL INDEX", "the run sheet of a tape from its LTFS label and index", &[], Words::Files),
     known("desk", "SHEET [EVENTS]", "a day at the desk of two offices", &[], Words::Files),
+    known("record", "[--by WHO] BOOK RUN...", "plan each run, and keep what was asked and answered in a book", &["by"], Words::Files),
+    known(
+        "audit",
+        "[--tape NAME [--file N]] [--html FILE] BOOK",
+        "whether a book is right, and what it says",
+        &["tape", "file", "html"],
+        Words::Folder,
+    ),
     known("build", "", "prove and build what the others need", &[], Words::None),
     known("test", "", "prove everything from nothing and run every test", &[], Words::None),
     known("install", "[PREFIX]", "install this command and the library", &[], Words::Folder),
@@ -56,15 +65,35 @@ pub const FOR_CHECKOUTS: [&str; 4] = ["build", "test", "install", "deb"];
 
 // ---- For clap ----
 
+/// Options that take a value, and what it is.
+const VALUES: [(&str, &str); 5] = [
+    ("--svg", "the name of a file"),
+    ("--html", "the name of a file"),
+    ("--by", "a name of whoever asks, on one line"),
+    ("--tape", "the name of a tape, 1 to 16 of A-Z and 0-9"),
+    ("--file", "the number of a file, 1 to 256"),
+];
+
+fn needs(option: &str) -> String {
+    let value = VALUES.iter().find(|(known, _)| *known == option).map_or("a value", |(_, value)| value);
+    format!("{option} needs {value}")
+}
+
 fn option(name: &str) -> Arg {
     match name {
         "any" => Arg::new("any").long("any").action(ArgAction::SetTrue).help("any run: the head anywhere, and more room"),
         "json" => Arg::new("json").long("json").action(ArgAction::SetTrue).help("one object of JSON for each answer"),
-        "svg" => {
-            Arg::new("svg").long("svg").value_name("FILE").value_parser(value_parser!(OsString)).value_hint(ValueHint::FilePath).help("a picture too")
-        }
+        "svg" => valued("svg", "FILE", ValueHint::FilePath, "a picture too"),
+        "by" => valued("by", "WHO", ValueHint::Other, "who asks; without it the user's name"),
+        "tape" => valued("tape", "NAME", ValueHint::Other, "when files of this tape were read"),
+        "file" => valued("file", "N", ValueHint::Other, "this file of it alone"),
+        "html" => valued("html", "FILE", ValueHint::FilePath, "a page for a browser too"),
         _ => unreachable!("no option {name}"),
     }
+}
+
+fn valued(name: &'static str, value: &'static str, hint: ValueHint, help: &'static str) -> Arg {
+    Arg::new(name).long(name).value_name(value).value_parser(value_parser!(OsString)).value_hint(hint).help(help)
 }
 
 fn definition(known: &Known) -> Command {
@@ -152,7 +181,7 @@ impl Usage<'_> {
         match error.kind() {
             ErrorKind::UnknownArgument => format!("{} has no option {shown} (a file of that name is ./{shown})", self.known.name),
             ErrorKind::TooManyValues => format!("{shown} takes no value"),
-            _ if about == "--svg" => "--svg needs the name of a file".to_string(),
+            _ if VALUES.iter().any(|(option, _)| *option == about) => needs(&about),
             _ => error.to_string().lines().next().unwrap_or_default().trim_start_matches("error: ").to_string(),
         }
     }
@@ -176,6 +205,8 @@ impl Usage<'_> {
             "explain" => self.explain(words, matches.get_one::<OsString>("svg")),
             "ltfs" => self.ltfs(words),
             "desk" => self.desk(words),
+            "record" => self.record(words, matches.get_one::<OsString>("by")),
+            "audit" => self.audit(words, matches),
             "install" | "uninstall" => self.folder(words),
             "completions" => self.completions(words),
             "help" => self.help(words),
@@ -221,7 +252,7 @@ impl Usage<'_> {
 
     fn explain(&self, words: Vec<OsString>, picture: Option<&OsString>) -> Result<Asked, Stop> {
         if picture.map_or(false, |picture| picture.is_empty()) {
-            return self.misused("--svg needs the name of a file");
+            return self.misused(needs("--svg"));
         }
         match <[OsString; 1]>::try_from(words) {
             Ok([run]) => Ok(Asked::Explain { run, picture: picture.cloned() }),
@@ -248,6 +279,52 @@ impl Usage<'_> {
                 Ok(Asked::Desk { sheet, events })
             }
             _ => self.misused("desk takes a file with a run sheet and, if not standard input, one with the events"),
+        }
+    }
+
+    fn record(&self, words: Vec<OsString>, by: Option<&OsString>) -> Result<Asked, Stop> {
+        let by = match by.map(|by| by.to_str().filter(|by| is_name(by)).map(str::to_string)) {
+            Some(None) => return self.misused(needs("--by")),
+            Some(by) => by,
+            None => None,
+        };
+        let mut words = words.into_iter();
+        match (words.next(), words.collect::<Vec<_>>()) {
+            (Some(book), files) if !files.is_empty() => {
+                self.only_once(&files.iter().collect::<Vec<_>>())?;
+                Ok(Asked::Record { book, by, files })
+            }
+            _ => self.misused("record takes the folder of a book and the files of one run sheet or more"),
+        }
+    }
+
+    fn audit(&self, words: Vec<OsString>, matches: &ArgMatches) -> Result<Asked, Stop> {
+        let given = |name: &str| matches.get_one::<OsString>(name);
+        let page = given("html").cloned();
+        if page.as_ref().map_or(false, |page| page.is_empty() || page == "-") {
+            return self.misused(needs("--html"));
+        }
+        let book = match <[OsString; 1]>::try_from(words) {
+            Ok([book]) => book,
+            Err(_) => return self.misused("audit takes the folder of one book"),
+        };
+        Ok(Asked::Audit { book, sought: self.sought(given("tape"), given("file"))?, page })
+    }
+
+    fn sought(&self, tape: Option<&OsString>, file: Option<&OsString>) -> Result<Option<Sought>, Stop> {
+        let is_tape = |tape: &&str| (1..=16).contains(&tape.len()) && tape.bytes().all(|byte| byte.is_ascii_uppercase() || byte.is_ascii_digit());
+        let tape = match tape.map(|tape| tape.to_str().filter(is_tape)) {
+            Some(None) => return self.misused(needs("--tape")),
+            Some(tape) => tape,
+            None => None,
+        };
+        let number = |file: &OsString| {
+            file.to_str().and_then(|text| text.parse().ok().filter(|number: &usize| (1..=256).contains(number) && number.to_string() == text))
+        };
+        match (tape, file.map(number)) {
+            (_, Some(None)) => self.misused(needs("--file")),
+            (None, Some(_)) => self.misused("--file needs --tape, since every tape has files of its own"),
+            (tape, file) => Ok(tape.map(|tape| Sought { tape: tape.to_string(), file: file.flatten() })),
         }
     }
 

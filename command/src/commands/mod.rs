@@ -1,10 +1,12 @@
 //! What each command does, a module each.
 
+mod audit;
 mod desk;
 mod explain;
 mod ltfs;
 mod month;
 mod pair;
+mod record;
 mod sheets;
 
 use crate::answers::Refusal;
@@ -33,6 +35,8 @@ pub enum Asked {
     Month { files: Vec<OsString>, json: bool },
     Ltfs { tape: OsString, label: OsString, index: OsString },
     Desk { sheet: OsString, events: OsString },
+    Record { book: OsString, by: Option<String>, files: Vec<OsString> },
+    Audit { book: OsString, sought: Option<Sought>, page: Option<OsString> },
     Build,
     Test,
     Install { prefix: Option<OsString> },
@@ -43,8 +47,14 @@ pub enum Asked {
     Help(Option<&'static str>),
 }
 
+/// What is looked for in a book: a tape, and a file of it or every file.
+pub struct Sought {
+    pub tape: String,
+    pub file: Option<usize>,
+}
+
 /// The most that is read of a sheet: a byte more than it may have.
-const SHEET: usize = 16385;
+pub const SHEET: usize = 16385;
 
 pub fn answer(asked: &Asked, call: &Call) -> Result<Status, Stop> {
     match asked {
@@ -54,13 +64,15 @@ pub fn answer(asked: &Asked, call: &Call) -> Result<Status, Stop> {
         Asked::Month { files, json } => month::answer(files, *json, call),
         Asked::Ltfs { tape, label, index } => ltfs::answer(tape, label, index, call),
         Asked::Desk { sheet, events } => desk::answer(sheet, events, call),
+        Asked::Record { book, by, files } => record::answer(book, by.as_deref(), files, call),
+        Asked::Audit { book, sought, page } => audit::answer(book, sought.as_ref(), page.as_deref(), call),
         Asked::Version => print(&help::version(&call.places)?),
         Asked::Help(None) => print(&help::whole(&call.places)),
         Asked::Help(Some(command)) => print(&help::of(command, &call.places)),
         Asked::Completions { shell } => print(&help::completions(shell)),
         Asked::Build => {
             build::everything(call)?;
-            say("built: what plan, field, buys, price, check, explain, rewrite, mend, month, ltfs, desk and install need");
+            say("built: what plan, field, buys, price, check, explain, rewrite, mend, month, ltfs, desk, record, audit and install need");
             Ok(Status::Answered)
         }
         Asked::Test => Ok(if build::test(call)? { Status::Answered } else { Status::Failed }),
@@ -93,6 +105,6 @@ fn told(sentence: &str) -> Status {
 }
 
 /// A run sheet and another text as a program takes them: the former behind a line with its size.
-fn frame_pair(run: &[u8], other: &[u8]) -> Vec<u8> {
+pub fn frame_pair(run: &[u8], other: &[u8]) -> Vec<u8> {
     [format!("{}\n", run.len()).as_bytes(), run, other].concat()
 }

@@ -11,14 +11,14 @@ use crate::words::sheet::By;
 use crate::{json, say, words};
 use std::ffi::{OsStr, OsString};
 
-struct Sheets<'a> {
+pub struct Sheets<'a> {
     command: &'a str,
     /// plan --any.
     any: bool,
     several: bool,
     json: bool,
     program: Option<Program>,
-    call: &'a Call,
+    pub call: &'a Call,
 }
 
 pub fn answer(command: &str, any: bool, files: &[OsString], json: bool, call: &Call) -> Result<Status, Stop> {
@@ -41,7 +41,12 @@ fn program_of(command: &str, any: bool) -> &'static str {
     }
 }
 
-impl Sheets<'_> {
+impl<'a> Sheets<'a> {
+    /// For whoever plans by itself, and gives its answers as plan --any does.
+    pub fn of_plan_any(several: bool, call: &'a Call) -> Sheets<'a> {
+        Sheets { command: "plan", any: true, several, json: false, program: None, call }
+    }
+
     fn answer(&mut self, file: &OsStr) -> Result<Status, Stop> {
         let sheet = match take(file, SHEET, &self.call.began) {
             Ok(sheet) => sheet,
@@ -64,7 +69,7 @@ impl Sheets<'_> {
     }
 
     /// What the program says on standard error is part of its answer.
-    fn put_aside(&self, file: &OsStr, aside: &[u8]) -> Status {
+    pub fn put_aside(&self, file: &OsStr, aside: &[u8]) -> Status {
         if aside.is_empty() {
             return Status::Answered;
         }
@@ -83,7 +88,7 @@ impl Sheets<'_> {
         }
     }
 
-    fn give(&self, file: &OsStr, sheet: &[u8], answer: &[u8]) -> Result<Status, Stop> {
+    pub fn give(&self, file: &OsStr, sheet: &[u8], answer: &[u8]) -> Result<Status, Stop> {
         let why = refusal(answer).map(|refused| (self.words(&refused, sheet), refused));
         if self.json {
             let name = if self.several { Some(quoted(file)) } else { None };

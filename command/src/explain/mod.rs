@@ -5,6 +5,7 @@
 //! which is so much later as it is long. Nothing here reads or writes a file.
 
 pub mod picture;
+pub mod sketch;
 pub mod table;
 
 use crate::answers::lines;
@@ -66,7 +67,7 @@ pub struct Texts<'a> {
 }
 
 /// The lines of a text: key, and the values between commas.
-fn entries(text: &[u8]) -> Vec<(String, Vec<String>)> {
+pub fn entries(text: &[u8]) -> Vec<(String, Vec<String>)> {
     lines(text)
         .map(|line| {
             let line = String::from_utf8_lossy(line);
@@ -178,7 +179,8 @@ impl Plan {
             Some(detour) => self.done.iter().find(|read| read.leg == number && self.left_of(read.file) == self.left_of(detour.from)),
         };
         let (file, time) = first.map_or((0, 0), |read| (read.file, read.time));
-        let turns_at = self.left_of(file);
+        // Whatever lies right of the head is read from where the head stands.
+        let turns_at = self.left_of(file).min(self.head);
         let runs_to = detour.map_or(self.last_place, |detour| self.right_of(detour.to));
         let sets_off = time - (self.right_of(file) - turns_at);
         Leg {

@@ -41,7 +41,7 @@ struct Picture<'a> {
 }
 
 /// A round step that cuts a length into four to ten.
-fn step_for(length: i64) -> i64 {
+pub(super) fn step_for(length: i64) -> i64 {
     let mut step = 1;
     loop {
         let parts = length as f64 / step as f64;
@@ -59,7 +59,7 @@ fn step_for(length: i64) -> i64 {
 }
 
 /// A number with its digits in groups, to be read.
-fn grouped(number: i64) -> String {
+pub fn grouped(number: i64) -> String {
     let digits = number.to_string();
     let mut out = String::new();
     for (at, digit) in digits.chars().enumerate() {
