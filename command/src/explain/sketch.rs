@@ -6,10 +6,11 @@ use super::Plan;
 use std::fmt::Write as _;
 
 const LEFT: f64 = 84.0;
-const WIDE: f64 = 520.0;
-const TOP: f64 = 48.0;
-/// With more files than this their dots have no words.
+const WIDE: f64 = 480.0;
+const TOP: f64 = 60.0;
+/// With more files than this, or longer times, their dots have no words.
 const NAMED: usize = 8;
+const LONG: usize = 9;
 
 pub fn draw(plan: &Plan) -> String {
     if plan.legs.is_empty() {
@@ -22,6 +23,24 @@ pub fn draw(plan: &Plan) -> String {
     sketch.names();
     sketch.out.push_str("</svg>");
     sketch.out
+}
+
+/// The step between the numbers of an axis, and how many thousands it is of: the numbers stay short.
+fn steps(length: i64) -> (i64, i64) {
+    let step = step_for(length) * 2;
+    let mut unit = 1;
+    while step % (unit * 1000) == 0 {
+        unit *= 1000;
+    }
+    (step, unit)
+}
+
+fn in_units(unit: i64) -> String {
+    if unit == 1 {
+        String::new()
+    } else {
+        format!(", in units of {}", grouped(unit))
+    }
 }
 
 struct Sketch<'a> {
@@ -55,7 +74,7 @@ impl Sketch<'_> {
     }
 
     fn y(&self, clock: i64) -> f64 {
-        TOP + 6.0 + clock as f64 * (self.tall - 18.0) / self.plan.finish.max(1) as f64
+        TOP + 6.0 + clock as f64 * (self.tall - 32.0) / self.plan.finish.max(1) as f64
     }
 
     fn text(&mut self, at: (f64, f64), anchor: &str, kind: &str, what: &str) {
@@ -81,22 +100,22 @@ impl Sketch<'_> {
     fn axes(&mut self) {
         let (bottom, right) = (TOP + self.tall, LEFT + WIDE);
         let mut lines = format!("M{LEFT} {TOP}V{bottom:.0}H{right:.0}");
-        let step = step_for(self.plan.finish.max(1)) * 2;
+        let (step, unit) = steps(self.plan.finish.max(1));
         for clock in (0..=self.plan.finish).step_by(step as usize) {
             let y = self.y(clock);
             let _ = write!(lines, "M{:.0} {y:.0}h5", LEFT - 5.0);
-            self.text((LEFT - 9.0, y + 4.0), "end", "st", &grouped(clock));
+            self.text((LEFT - 9.0, y + 4.0), "end", "st", &grouped(clock / unit));
         }
-        let step = step_for(self.high - self.low) * 2;
+        self.text((4.0, 16.0), "start", "st", &format!("clock{}", in_units(unit)));
+        let (step, unit) = steps(self.high - self.low);
         let first = step * ((self.low + step - 1) / step);
         for place in (first..=self.high).step_by(step as usize) {
             let x = self.x(place);
             let _ = write!(lines, "M{x:.0} {bottom:.0}v5");
-            self.text((x, bottom + 19.0), "middle", "st", &grouped(place));
+            self.text((x, bottom + 19.0), "middle", "st", &grouped(place / unit));
         }
         let _ = write!(self.out, "<path class=\"sa\" d=\"{lines}\"/>");
-        self.text((LEFT + WIDE / 2.0, bottom + 39.0), "middle", "st", "place on the tape");
-        self.text((LEFT, TOP - 32.0), "end", "st", "clock");
+        self.text((LEFT + WIDE / 2.0, bottom + 41.0), "middle", "st", &format!("place on the tape{}", in_units(unit)));
     }
 
     /// The head's path, the stretches on which it reads, and a dot where a file has been read.
@@ -135,16 +154,19 @@ impl Sketch<'_> {
             let x = (self.x(file.start) + self.x(file.end)) / 2.0;
             if let Some(row) = (0..2).find(|row| x - taken[*row] >= 8.0 + 8.0 * name.len() as f64) {
                 taken[row] = x;
-                self.text((x, TOP - 6.0 - 14.0 * row as f64), "middle", "sn", &name);
+                self.text((x, TOP - 6.0 - 18.0 * row as f64), "middle", "sn", &name);
             }
         }
-        if self.plan.done.len() > NAMED {
+        if self.plan.done.len() > NAMED || grouped(self.plan.finish).len() > LONG {
             return;
         }
         for read in &self.plan.done {
             let (x, y) = (self.x(self.plan.right_of(read.file)), self.y(read.time));
-            let (at, anchor) = if x > LEFT + WIDE - 90.0 { (x - 9.0, "end") } else { (x + 9.0, "start") };
-            self.text((at, y - 5.0), anchor, "sn", &format!("{} at {}", read.file, grouped(read.time)));
+            let name = format!("{} at {}", read.file, grouped(read.time));
+            // Beside the dot, or where that is over the edge below the line that comes to it.
+            let fits = x + 9.0 + 7.5 * name.len() as f64 <= 640.0;
+            let (at, anchor, below) = if fits { (x + 9.0, "start", -5.0) } else { (x + 4.0, "end", 20.0) };
+            self.text((at, y + below), anchor, "sn sm", &name);
         }
     }
 }

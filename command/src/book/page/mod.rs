@@ -146,10 +146,11 @@ impl<'a> Page<'a> {
         let _ = write!(
             out,
             "<section id=\"entries\">\n<h2>The entries</h2>\n{}<div class=\"wide\"><table class=\"index\"><caption>{}</caption>\n<thead><tr><th scope=\"col\">Entry</th>\
-             <th scope=\"col\">Made</th><th scope=\"col\">By</th><th scope=\"col\">What</th></tr></thead>\n<tbody>\n{}</tbody></table></div>\n",
+             <th scope=\"col\">Made</th><th scope=\"col\">By</th><th scope=\"col\">What</th></tr></thead>\n<tbody>\n{}{}</tbody></table></div>\n",
             if audit.entries == 0 { "<p>There is none that could be shown.</p>\n" } else { "" },
             "Each is further down, by its number",
-            self.rows
+            self.rows,
+            Page::row_of_wrong(audit)
         );
         out.push_str("</section>\n<section>\n<h2>Entry by entry</h2>\n");
         out.push_str(&self.articles);
@@ -168,8 +169,8 @@ impl<'a> Page<'a> {
             None => writeln!(out, "<p class=\"state good\"><strong>\u{2713} This book is right.</strong> {}</p>", texts::RIGHT),
             Some(wrong) => writeln!(
                 out,
-                "<p class=\"state bad\"><strong>\u{2717} Entry {} of this book cannot be right.</strong> What is wrong: {}. The entries before it are as they were \
-                 recorded; what follows was not looked at.</p>",
+                "<p class=\"state bad\"><strong>\u{2717} Entry {} of this book cannot be right.</strong> What is wrong: {}. Nothing was found wrong with the entries \
+                 before it; what follows was not looked at.</p>",
                 written(wrong.number),
                 escaped(&wrong.why)
             ),
@@ -184,6 +185,14 @@ impl<'a> Page<'a> {
             audit.last,
             moment(&self.made)
         );
+    }
+
+    /// What is wrong stands in the list of the entries too.
+    fn row_of_wrong(audit: &Audit) -> String {
+        let row = |number: String| {
+            format!("<tr><th scope=\"row\"><a href=\"#e{number}\">{number}</a></th><td></td><td></td><td>cannot be right</td></tr>\n")
+        };
+        audit.wrong.as_ref().map(|wrong| row(written(wrong.number))).unwrap_or_default()
     }
 
     fn put_wrong(&self, out: &mut String, audit: &Audit) {
@@ -205,19 +214,19 @@ fn put_table(out: &mut String, wants: &Wants) {
         return;
     }
     out.push_str(
-        "<div class=\"wide\"><table><caption>When each file is read</caption>\n<thead><tr><th scope=\"col\">File</th><th scope=\"col\">Starts at</th><th scope=\"col\">Ends at</th>\
-         <th scope=\"col\">Reads that waited</th><th scope=\"col\">Read at</th><th scope=\"col\">In leg</th></tr></thead>\n<tbody>\n",
+        "<div class=\"wide\"><table><caption>When each file is read</caption>\n<thead><tr><th scope=\"col\">File</th><th scope=\"col\">Read at</th><th scope=\"col\">In leg</th>\
+         <th scope=\"col\">Reads that waited</th><th scope=\"col\">Starts at</th><th scope=\"col\">Ends at</th></tr></thead>\n<tbody>\n",
     );
     for want in &wants.wants {
         let Want { file, start, end, in_aggregate, reads, time, leg } = want;
         let _ = writeln!(
             out,
-            "<tr><th scope=\"row\">{file}{}</th><td>{}</td><td>{}</td><td>{}</td><td>{}</td><td>{leg}</td></tr>",
+            "<tr><th scope=\"row\">{file}{}</th><td>{}</td><td>{leg}</td><td>{}</td><td>{}</td><td>{}</td></tr>",
             if *in_aggregate { " (with its aggregate)" } else { "" },
-            grouped(*start),
-            grouped(*end),
+            digits(time),
             digits(reads),
-            digits(time)
+            grouped(*start),
+            grouped(*end)
         );
     }
     out.push_str("</tbody></table></div>\n");

@@ -27,6 +27,7 @@ figure { margin: 0.75rem 0; overflow-x: auto; } svg { display: block; width: 100
 svg text { font: 13px system-ui, 'Liberation Sans', sans-serif; fill: var(--ink); } svg .st { fill: var(--soft); } svg .sn { font-weight: 600; paint-order: stroke; stroke: var(--paper); stroke-width: 3px; }
 .sf { fill: var(--band); } .sw { fill: var(--wanted); } .sa { fill: none; stroke: var(--soft); } .sh { fill: none; stroke: var(--head); stroke-width: 1.75; stroke-linejoin: round; }
 .sr { fill: none; stroke: var(--read); stroke-width: 4; stroke-linecap: round; } .sd { fill: none; stroke: var(--read); stroke-width: 10; stroke-linecap: round; }
+@media (max-width: 40rem) { svg { min-width: 0; } svg text { font-size: 19px; } svg .sm { display: none; } }
 .checked { color: var(--good); } summary { cursor: pointer; color: var(--link); }
 @media print { :root { color-scheme: light; --paper: #ffffff; --ink: #000000; --soft: #444444; --line: #aaaaaa; --band: #eeeeee; --wanted: #d5d5d5; --link: #000000; --head: #1f4e8c; --read: #a83600; \
 --good: #14602c; --goodpaper: #ffffff; --bad: #96160f; --badpaper: #ffffff; --code: #ffffff; }

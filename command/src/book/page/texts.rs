@@ -3,7 +3,7 @@
 pub const RIGHT: &str = "Its numbers have no gap, every entry names the digest of the one before, and every answer was judged anew: each plan is the plan of its run sheet, \
 to the last number, and each refusal is the one that its run sheet gets.";
 
-pub const PICTURE: &str = "Place on the tape from left to right, the clock from top to bottom. Bands are files, the darker ones wanted, with their numbers above. The line is the head; \
+pub const PICTURE: &str = "Place on the tape from left to right, the clock from top to bottom. Bands are files; those that are wanted stand out, with their numbers above. The line is the head; \
 it is thick where it reads, and has a dot where a file has been read.";
 
 pub const PLAN_CHECKED: &str = "Checked anew: the entry has its number and the digest of the one before. By the proved program <code>check</code> the detours are well formed, every time \
@@ -29,7 +29,7 @@ all that is still unread, is the <em>last sweep</em>.</li>
 </section>
 <section>
 <h2>What was checked</h2>
-<p>Everything, and again for this page: that no number is missing; that every entry has the form of an entry, and names the SHA-256 of the one before it; and of every answer that it is the \
+<p>One entry after the other, anew for this page, up to the first that cannot be right where there is one: that no number is missing; that every entry has the form of an entry, and names the SHA-256 of the one before it; and of every answer that it is the \
 answer to the run sheet beside it. Whoever has the book and the program can do the same: <code>violstream audit BOOK</code>. For one entry alone <code>violstream check RUN PLAN</code> does, on \
 the two sheets that the entry holds. Both need no trust in whoever kept the book.</p>
 </section>
