@@ -293,6 +293,7 @@ run python/paths
 run python/rows
 run python/command
 run python/faults
+run python/record
 
 [ "$tests_run" -gt 0 ] || fail "no test is called $only"
 printf 'tests/run.sh: all as it must be; tests run: %d\n' "$tests_run"

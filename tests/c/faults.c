@@ -1,7 +1,7 @@
 /* Makes one call of the system fail, for tests/python/faults.py, which compiles this as a shared object and has it loaded before libc. The call is
    the N-th of one kind in the process called `violstream`, and in no other:
 
-       VIOLSTREAM_FAULT=KIND:N:ERRNO      the N-th fails; with N = 0 none does
+       VIOLSTREAM_FAULT=KIND:N:ERRNO      the N-th fails; with N = 0 none does; with a signal below 0 for ERRNO the process gets that in its place
        VIOLSTREAM_FAULT_COUNT=FILE        the number of calls of that kind is written there at the end
 
    Descriptors above 2 that are not sockets or terminals, and 0 to 2, are all the same here: whatever the command reads and writes may fail. */
@@ -10,6 +10,7 @@
 #include <errno.h>
 #include <fcntl.h>
 #include <poll.h>
+#include <signal.h>
 #include <stdarg.h>
 #include <stdio.h>
 #include <stdlib.h>
@@ -49,6 +50,8 @@ static int fails(const char *what)
 {
     if (!active || strcmp(what, kind) || ++met != at)
         return 0;
+    if (error < 0)
+        kill(getpid(), (int)-error);
     errno = (int)error;
     return 1;
 }
@@ -76,6 +79,7 @@ WRAP(int, execvp, (const char *file, char *const words[]), (file, words))
 WRAP(int, flock, (int fd, int how), (fd, how))
 WRAP(int, rename, (const char *from, const char *to), (from, to))
 WRAP(int, fsync, (int fd), (fd))
+WRAP(int, linkat, (int from, const char *path, int to, const char *name, int how), (from, path, to, name, how))
 WRAP(int, mkdir, (const char *path, mode_t mode), (path, mode))
 WRAP(int, unlink, (const char *path), (path))
 WRAP(int, symlink, (const char *to, const char *path), (to, path))

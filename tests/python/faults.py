@@ -18,12 +18,13 @@ import programs
 from command import BUILT, INDEX, LABEL, Checkout, built, forget_built, unbuilt
 
 KINDS = {"read": errno.EIO, "write": errno.ENOSPC, "open": errno.EMFILE, "close": errno.EIO, "poll": errno.ENOMEM, "pipe2": errno.EMFILE, "fork": errno.EAGAIN,
-         "waitpid": errno.ECHILD, "dup2": errno.EMFILE, "execvp": errno.EACCES, "fcntl": errno.EBADF, "flock": errno.ENOLCK, "rename": errno.EXDEV, "fsync": errno.EIO,
+         "waitpid": errno.ECHILD, "dup2": errno.EMFILE, "execvp": errno.EACCES, "fcntl": errno.EBADF, "flock": errno.ENOLCK, "rename": errno.EXDEV, "fsync": errno.EIO, "linkat": errno.EPERM,
          "mkdir": errno.EACCES, "unlink": errno.EACCES, "symlink": errno.EPERM, "fchmod": errno.EPERM, "readlink": errno.EACCES}
 RUN, PLAN = "examples/VX0041.run", "examples/VX0041.plan"
 CALLS = (f"plan {RUN}", "plan --any examples/mounted.run", f"plan {RUN} examples/no-wants.run", f"field {RUN}", f"buys --json {RUN}", f"price {RUN} examples/VX0041.list", f"check {RUN} {PLAN}",
          f"explain {RUN} --svg picture", "rewrite examples/no-wants.run", "mend loose.run", "month may.month", f"month {RUN} examples/retired-rule.run",
-         f"ltfs VX0041 {LABEL} {INDEX}", "desk examples/day.run examples/day.events", f"plan {PLAN}", f"price {RUN} {RUN}", "version", "help", "plan --help")
+         f"ltfs VX0041 {LABEL} {INDEX}", "desk examples/day.run examples/day.events", f"plan {PLAN}", f"price {RUN} {RUN}", f"record vault {RUN} examples/retired-rule.run",
+         "audit ledger", "audit --tape VX0041 --html page ledger", "version", "help", "plan --help")
 # Calls that leave something behind, which are put right before each try.
 MAKING = ("install PREFIX", "uninstall PREFIX", f"first plan {RUN}")
 
@@ -114,6 +115,7 @@ def main():
         os.makedirs(at.path("target/staticlib"))
         at.write("target/staticlib/libboundary.a", b"!<arch>\n")
         tries = Tries(at, shim)
+        tries.call(f"record ledger {RUN} examples/retired-rule.run examples/no-wants.run")
         for words in CALLS + MAKING:
             if only is None or only in words:
                 tries.try_call(words)
