@@ -209,6 +209,7 @@ command_sources() {
     made=$here/target/command/made
     step "the layout of the command's sources" cargo fmt --check --manifest-path "$here/command/Cargo.toml"
     (cd "$made/crate" && step "clippy" cargo clippy -q --release --target-dir "$made/target" -- -D warnings) || exit 1
+    (cd "$made/crate" && step "clippy, with the library" cargo clippy -q --release --features library --target-dir "$made/target" -- -D warnings) || exit 1
     (cd "$made/crate" && step "the command's own tests" cargo test -q --release --target-dir "$made/target" > "$out/cargo.log") || exit 1
     printf 'command_sources: in the layout of rustfmt, nothing found by clippy, its own tests passed\n'
 }
@@ -294,6 +295,11 @@ run python/rows
 run python/command
 run python/faults
 run python/record
+if grep -q violstream_waiting "$archive"; then
+    run python/serve
+else
+    printf 'python/serve: left out, the library has no violstream_event and no violstream_waiting\n'
+fi
 
 [ "$tests_run" -gt 0 ] || fail "no test is called $only"
 printf 'tests/run.sh: all as it must be; tests run: %d\n' "$tests_run"

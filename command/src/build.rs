@@ -3,7 +3,7 @@
 mod lock;
 
 use crate::commands::Call;
-use crate::places::Places;
+use crate::places::{Places, BUILT};
 use crate::programs::on_path;
 use crate::say::{line, quoted, reason, say};
 use crate::status::{failed, Stop};
@@ -16,8 +16,9 @@ use nix::sys::time::TimeSpec;
 use nix::unistd::{access, AccessFlags};
 use std::ffi::OsStr;
 use std::fs::{self, DirEntry, Metadata};
-use std::io::Read;
+use std::io::{ErrorKind, Read};
 use std::os::unix::io::AsRawFd;
+use std::os::unix::process::CommandExt;
 use std::path::{Path, PathBuf};
 use std::process::{Child, Command, Stdio};
 use std::time::{Duration, Instant, SystemTime};
@@ -57,6 +58,23 @@ pub fn everything(call: &Call) -> Result<(), Stop> {
         program(name, call)?;
     }
     library(call)
+}
+
+/// The library, and this command with it. Where it was compiled with another or none, the script at the top of the checkout compiles it again, and this
+/// call becomes that one.
+pub fn linked(call: &Call) -> Result<(), Stop> {
+    library(call)?;
+    let same = |one: Vec<u8>| fs::read(call.places.linked()).map_or(false, |other| one == other);
+    if fs::read(call.places.archive()).map_or(true, same) || !cfg!(target_arch = "x86_64") {
+        return Ok(());
+    }
+    let (script, built) = (call.places.root.join("violstream"), call.places.root.join(BUILT));
+    let removed = fs::remove_file(&built).or_else(|error| if error.kind() == ErrorKind::NotFound { Ok(()) } else { Err(error) });
+    let error = match removed {
+        Ok(()) => Command::new(&script).args(std::env::args_os().skip(1)).exec(),
+        Err(error) => error,
+    };
+    failed(format!("cannot compile this command with the library: {}: {}", quoted(script.as_os_str()), reason(&error)))
 }
 
 /// The gate, alone in this checkout.

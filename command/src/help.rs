@@ -19,6 +19,8 @@ const EACH: [(&str, &str); 21] = [
     ("month", include_str!("../help/month.txt")),
     ("ltfs", include_str!("../help/ltfs.txt")),
     ("desk", include_str!("../help/desk.txt")),
+    ("serve", include_str!("../help/serve.txt")),
+    ("ask", include_str!("../help/ask.txt")),
     ("record", include_str!("../help/record.txt")),
     ("audit", include_str!("../help/audit.txt")),
     ("build", include_str!("../help/build.txt")),

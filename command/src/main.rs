@@ -11,6 +11,7 @@
 mod answers;
 mod book;
 mod build;
+mod clock;
 mod commands;
 mod deb;
 mod explain;
@@ -18,10 +19,13 @@ mod help;
 mod input;
 mod install;
 mod json;
+#[allow(unsafe_code)]
+mod library;
 mod output;
 mod places;
 mod programs;
 mod say;
+mod serve;
 mod status;
 #[allow(unsafe_code)]
 mod system;

@@ -45,6 +45,11 @@ impl Places {
         self.root.join(if self.installed { OWN } else { "target/bin" }).join(name)
     }
 
+    /// The library that was there when this command was compiled, as the script at the top of the checkout has kept it.
+    pub fn linked(&self) -> PathBuf {
+        self.root.join("target/command/linked.a")
+    }
+
     /// The library for C, as rt makes it.
     pub fn archive(&self) -> PathBuf {
         self.root.join("target/staticlib/libboundary.a")

@@ -1,7 +1,8 @@
-//! What must be asked of the system in its own terms: the only file with `unsafe` in it.
+//! What must be asked of the system in its own terms: beside `library` the only file with `unsafe` in it.
 
 use nix::libc;
 use nix::sys::signal::{raise, Signal};
+use std::os::unix::io::RawFd;
 use std::os::unix::process::CommandExt;
 use std::process::Command;
 
@@ -65,6 +66,18 @@ pub fn end_by_broken_pipe() -> ! {
     let _ = raise(Signal::SIGPIPE);
     // SAFETY: ends the process at once, where the signal was blocked.
     unsafe { libc::_exit(128 + libc::SIGPIPE) }
+}
+
+/// The user and the process at the other end of a socket, when they connected: the system says so, and not they.
+pub fn other_end(socket: RawFd) -> std::io::Result<(u32, i32)> {
+    let mut who = libc::ucred { pid: 0, uid: 0, gid: 0 };
+    let mut size = std::mem::size_of::<libc::ucred>() as libc::socklen_t;
+    // SAFETY: the room is a ucred's, and its size is said.
+    let asked = unsafe { libc::getsockopt(socket, libc::SOL_SOCKET, libc::SO_PEERCRED, std::ptr::addr_of_mut!(who).cast(), &mut size) };
+    match asked {
+        0 => Ok((who.uid, who.pid)),
+        _ => Err(std::io::Error::last_os_error()),
+    }
 }
 
 /// However this call ends, what it has started ends with it.

@@ -1,13 +1,14 @@
 //! The words of a call, read by clap, and what to say of those that are wrong.
 
 use crate::book::is_name;
-use crate::commands::{Asked, Sought};
+use crate::commands::{Asked, Serve, Sought};
 use crate::places::Places;
 use crate::say::quoted;
 use crate::status::Stop;
 use clap::error::{ContextKind, ContextValue, ErrorKind};
 use clap::{value_parser, Arg, ArgAction, ArgMatches, Command, ValueHint};
 use std::ffi::{OsStr, OsString};
+use std::os::unix::ffi::OsStrExt;
 
 /// A command's name, the words that it takes, and a line on what it does.
 pub struct Known {
@@ -41,7 +42,15 @@ pub const COMMANDS: [Known; 21] = [
     known("mend", "[FILE...]", "each run sheet put in order", &[], Words::Files),
     known("month", "[--json] [FILE...]", "one page over up to 1,000 run sheets", &["json"], Words::Files),
     known("ltfs", "NAME LABEL INDEX", "the run sheet of a tape from its LTFS label and index", &[], Words::Files),
-    known("desk", "SHEET [EVENTS]", "a day at the desk of two offices", &[], Words::Files),
+    known("desk", "SHEET [EVENTS] | --replay JOURNAL [--keep FOLDER]", "a day at the desk of two offices", &["replay", "keep"], Words::Files),
+    known(
+        "serve",
+        "--journal FILE --windows FOLDER [--group1 NAME] [--group2 NAME] [--group NAME] SHEET",
+        "the desk for two offices in two rooms",
+        &["journal", "windows", "group1", "group2", "group"],
+        Words::Files,
+    ),
+    known("ask", "[--plain] WINDOW [EVENT...]", "events at a window of serve", &["plain"], Words::Files),
     known("record", "[--by WHO] BOOK RUN...", "plan each run, and keep what was asked and answered in a book", &["by"], Words::Files),
     known(
         "audit",
@@ -88,6 +97,14 @@ fn option(name: &str) -> Arg {
         "tape" => valued("tape", "NAME", ValueHint::Other, "when files of this tape were read"),
         "file" => valued("file", "N", ValueHint::Other, "this file of it alone"),
         "html" => valued("html", "FILE", ValueHint::FilePath, "a page for a browser too"),
+        "plain" => Arg::new("plain").long("plain").action(ArgAction::SetTrue).help("without keys for what was typed before"),
+        "journal" => valued("journal", "FILE", ValueHint::FilePath, "where accepted events are written"),
+        "windows" => valued("windows", "FOLDER", ValueHint::DirPath, "where the windows are"),
+        "group1" => valued("group1", "NAME", ValueHint::Other, "who may speak for office 1"),
+        "group2" => valued("group2", "NAME", ValueHint::Other, "who may speak for office 2"),
+        "group" => valued("group", "NAME", ValueHint::Other, "who may speak for the operator"),
+        "replay" => valued("replay", "JOURNAL", ValueHint::FilePath, "the journal of a server once more"),
+        "keep" => valued("keep", "FOLDER", ValueHint::DirPath, "with the run sheet and the plan sheet of each boarding"),
         _ => unreachable!("no option {name}"),
     }
 }
@@ -182,6 +199,7 @@ impl Usage<'_> {
             ErrorKind::UnknownArgument => format!("{} has no option {shown} (a file of that name is ./{shown})", self.known.name),
             ErrorKind::TooManyValues => format!("{shown} takes no value"),
             _ if VALUES.iter().any(|(option, _)| *option == about) => needs(&about),
+            _ if self.known.options.contains(&about.trim_start_matches("--")) => format!("{about} needs a name"),
             _ => error.to_string().lines().next().unwrap_or_default().trim_start_matches("error: ").to_string(),
         }
     }
@@ -194,8 +212,10 @@ impl Usage<'_> {
         let words: Vec<OsString> = matches.get_many::<OsString>("words").unwrap_or_default().cloned().collect();
         let given = |option: &str| self.known.options.contains(&option) && matches.get_flag(option);
         let (any, json) = (given("any"), given("json"));
-        // A tape's name is judged by the program.
-        if words.iter().skip(usize::from(name == "ltfs")).any(|word| word.is_empty()) {
+        let value = |option: &str| matches.get_one::<OsString>(option).cloned();
+        // A tape's name is judged by the program, and an event by the server.
+        let names = words.iter().skip(usize::from(name == "ltfs")).take(if name == "ask" { 1 } else { words.len() });
+        if names.into_iter().any(|word| word.is_empty()) {
             return self.misused("an empty word is no name");
         }
         match name {
@@ -204,7 +224,9 @@ impl Usage<'_> {
             "price" | "check" => self.pair(words, json),
             "explain" => self.explain(words, matches.get_one::<OsString>("svg")),
             "ltfs" => self.ltfs(words),
-            "desk" => self.desk(words),
+            "desk" => self.desk(words, value("replay"), value("keep")),
+            "serve" => self.serve(words, value),
+            "ask" => self.ask(words, given("plain")),
             "record" => self.record(words, matches.get_one::<OsString>("by")),
             "audit" => self.audit(words, matches),
             "install" | "uninstall" => self.folder(words),
@@ -270,7 +292,16 @@ impl Usage<'_> {
         }
     }
 
-    fn desk(&self, words: Vec<OsString>) -> Result<Asked, Stop> {
+    fn desk(&self, words: Vec<OsString>, journal: Option<OsString>, keep: Option<OsString>) -> Result<Asked, Stop> {
+        if [&journal, &keep].into_iter().flatten().any(|name| name.is_empty()) {
+            return self.misused("an empty word is no name");
+        }
+        match (journal, keep) {
+            (Some(journal), keep) if words.is_empty() => return Ok(Asked::Replay { journal, keep }),
+            (Some(_), _) => return self.misused("with --replay desk takes no other file: the run sheet stands in the journal"),
+            (None, Some(_)) => return self.misused("--keep goes with --replay"),
+            (None, None) => {}
+        }
         let mut words = words.into_iter();
         match (words.next(), words.next(), words.next()) {
             (Some(sheet), events, None) => {
@@ -326,6 +357,35 @@ impl Usage<'_> {
             (None, Some(_)) => self.misused("--file needs --tape, since every tape has files of its own"),
             (tape, file) => Ok(tape.map(|tape| Sought { tape: tape.to_string(), file: file.flatten() })),
         }
+    }
+
+    fn serve(&self, words: Vec<OsString>, value: impl Fn(&str) -> Option<OsString>) -> Result<Asked, Stop> {
+        let groups = [value("group1"), value("group2"), value("group")];
+        let sheet = <[OsString; 1]>::try_from(words);
+        match (value("journal"), value("windows"), sheet) {
+            (Some(journal), Some(windows), Ok([sheet])) => {
+                if groups.iter().flatten().chain([&journal, &windows]).any(|name| name.is_empty()) {
+                    return self.misused("an empty word is no name");
+                }
+                Ok(Asked::Serve(Serve { journal, windows, groups, sheet }))
+            }
+            (None, _, _) => self.misused("serve needs --journal, the file that it writes accepted events to"),
+            (_, None, _) => self.misused("serve needs --windows, the folder where it listens"),
+            _ => self.misused("serve takes one run sheet, of which the files alone are used"),
+        }
+    }
+
+    fn ask(&self, words: Vec<OsString>, plain: bool) -> Result<Asked, Stop> {
+        let mut words = words.into_iter();
+        let window = match words.next() {
+            Some(window) => window,
+            None => return self.misused("ask takes the path of a window and, if not standard input, events"),
+        };
+        let events: Vec<OsString> = words.collect();
+        if events.iter().any(|event| event.as_bytes().contains(&b'\n')) {
+            return self.misused("an event is one line");
+        }
+        Ok(Asked::Ask { window, events, plain })
     }
 
     fn folder(&self, words: Vec<OsString>) -> Result<Asked, Stop> {

@@ -24,6 +24,7 @@ from plan import answer, cases as sheets_of_plan, sheet_of
 LIMIT = 120
 BUILT = "target/command/violstream"
 PROGRAMS = ("cmd_plan", "cmd_plan_any", "cmd_field", "cmd_buys", "cmd_price", "cmd_check", "cmd_rewrite", "cmd_mend", "cmd_month", "cmd_ltfs", "cmd_desk")
+ARCHIVE = b"!<arch>\n"
 LABEL, INDEX = "examples/ltfs/VX0041.label.xml", "examples/ltfs/VX0041.index.xml"
 
 
@@ -61,6 +62,8 @@ class Checkout:
             shutil.copy(source, os.path.join(self.root, "target/bin", name))
             self.write(f"target/stamp/{name}", b"\n")
         shutil.copy(os.path.join(programs.ROOT, BUILT), os.path.join(self.root, BUILT))
+        # The library that it was compiled with, as far as it can know.
+        self.write("target/command/linked.a", ARCHIVE)
         self.surroundings = dict(os.environ, TMPDIR=self.temporary)
 
     def path(self, name):
@@ -341,7 +344,7 @@ def desk(at):
     at.must("./violstream desk examples/day.run examples", 1, b"", ["cannot read examples"])
     at.must("./violstream desk examples/day.run examples/day.events > /dev/full", 1, b"", ["cannot write to standard output"])
     for line in ("desk", "desk a b c", "desk - -", "desk -", "desk -x"):
-        at.must(f"./violstream {line}", 2, b"", ["usage: ./violstream desk SHEET [EVENTS]"])
+        at.must(f"./violstream {line}", 2, b"", ["usage: ./violstream desk SHEET [EVENTS] | --replay JOURNAL [--keep FOLDER]   (more"])
     # Nothing more is asked for once the day has ended, and no answer waits for the next event.
     with subprocess.Popen(["./violstream", "desk", "examples/day.run"], cwd=at.root, stdin=subprocess.PIPE, stdout=subprocess.PIPE, stderr=subprocess.DEVNULL, env=at.surroundings) as held:
         for event, said in ((b"file=2,1,1\n", b"filed=2,1\n"), (b"withdraw=2,1\n", b"withdrawn=2,1\n")):
@@ -353,6 +356,42 @@ def desk(at):
         held.stdin.flush()
         if held.stdout.read() != refusal(11, 3) or held.wait(LIMIT) != 3:
             raise Wrong("desk: the day does not end at a bad event")
+    # Typed, a line that is no event does not end the day.
+    mine, theirs = pty.openpty()
+    call = subprocess.Popen(["./violstream", "desk", "examples/day.run"], cwd=at.root, stdin=theirs, stdout=subprocess.PIPE, stderr=subprocess.PIPE, env=at.surroundings)
+    os.close(theirs)
+    os.write(mine, b"file=1,3,2\nfile=1,3\n\nfile=9,9,9\nwhat\nfile=2,5,4\nboard=60,3\n\x04")
+    out, said = call.communicate(timeout=LIMIT)
+    os.close(mine)
+    expected = b"filed=1,1\n" + refusal(11, 2) * 2 + refusal(15) + refusal(11, 3) + b"filed=2,1\nboarded=1,1\n"
+    if not out.startswith(expected) or not out.endswith(b"waiting=0,0\n") or said.count(b"the day goes on\n") != 3 or call.returncode != 0:
+        raise Wrong(f"desk, typed in: printed {out!r}, said {said!r}, status {call.returncode}")
+
+
+def replaying(at):
+    """A journal once more: lines that begin with # are passed over and do not count, and the sheets of its boardings are left for check."""
+    sheet, events = contents("examples/day.run"), contents("examples/day.events")
+    front, day, folder = b"%d\n" % len(sheet) + sheet, contents("examples/day.answers"), at.path("kept")
+    remarked = front + b"".join(b"# %d\n#\n" % number + event + b"\n" for number, event in enumerate(events.split(b"\n")[:-1]))
+    for text in (front + events, remarked, remarked + b"# the end\n"):
+        at.write("journal", text)
+        at.must("./violstream desk --replay journal", 0, day, ["journal: event 5, "])
+        at.must("./violstream desk --replay - < journal", 0, day, ["standard input: event 5, "])
+    os.makedirs(folder)
+    at.must("./violstream desk --keep kept --replay journal", 0, day)
+    for number in (1, 2, 3):
+        at.must(f"./violstream check kept/{number}.run kept/{number}.plan", 0, b"formed=yes\nwalk=yes\nleast=yes\n", silent=True)
+        at.must(f"./violstream plan kept/{number}.run | cmp - kept/{number}.plan", 0, b"", silent=True)
+    at.must("ls kept | wc -l", 0, b"6\n")
+    at.must("./violstream desk --replay journal --keep kept", 1, None, ["cannot write kept/1.run: File exists"])
+    at.must("./violstream desk --replay journal --keep no-such", 1, b"", ["there is no folder no-such"])
+    at.must("./violstream desk --replay no-such", 1, b"", ["cannot read no-such"])
+    for text, out, says in ((front + b"# x\n#\nfile=1,3,2\n# y\nwhat\n", b"filed=1,1\n" + refusal(11, 2), "event 2 is not file="), (front + b"file=1,3,2", refusal(11, 1), "event 1 is not file="),
+                            (b"x" + front, refusal(25, 1), "refused (25)"), (front[:-1], refusal(25, 1), "refused (25)"), (b"", refusal(25, 1), "refused (25)"),
+                            (b"5\ntape=\n", refusal(11, 1), "refused (11)"), (b"20000\n" + b"x" * 20000, refusal(12), "refused (12)")):
+        at.must("./violstream desk --replay -", 3, out, [says], data=text)
+    for line in ("desk --replay", "desk --replay a b", "desk --keep a", "desk --keep a b", "desk --replay ''", "desk --replay a --keep ''", "desk --replay a --keep"):
+        at.must(f"./violstream {line}", 2, b"", ["usage: ./violstream desk SHEET [EVENTS] | --replay JOURNAL"])
 
 
 def statuses(at):
@@ -362,7 +401,7 @@ def statuses(at):
     at.must(f"./violstream ltfs vx0041 {LABEL} {INDEX}", 3, refusal(13))
     at.must(f"set -o pipefail; ./violstream ltfs VX0041 {INDEX} {INDEX} | ./violstream plan", 3, refusal(11, 1))
     at.must("./violstream help", 0, silent=True)
-    for line in ("nothing", "plan -x", "plan - -", "field -x", "field - -", "buys -x", "buys - -", "price", "price A", "price A B C", "price -x A", "check A", "check - -", "explain", "explain A B", "explain --svg", "explain -x", "rewrite -x", "rewrite - -", "mend -x", "mend - -", "month -x", "month - -", "month a ''", "plan ''", "plan a ''", "price '' a", "explain --svg= a", "explain --svg a", "desk ''", "install ''", "uninstall ''", "plan --json=1", "plan --any=1", "plan --any - -", "plan --any -x", "plan --any ''", "field --any", "buys --any", "field --json", "plan --svg a b", "help no-such", "help plan buys", "completions", "completions csh", "version x", "--no-such", "ltfs", "ltfs A B", "ltfs A B C D", "ltfs A - -", "ltfs -A B C", "install a", "install /a /b",
+    for line in ("nothing", "plan -x", "plan - -", "field -x", "field - -", "buys -x", "buys - -", "price", "price A", "price A B C", "price -x A", "check A", "check - -", "explain", "explain A B", "explain --svg", "explain -x", "rewrite -x", "rewrite - -", "mend -x", "mend - -", "month -x", "month - -", "month a ''", "plan ''", "plan a ''", "price '' a", "explain --svg= a", "explain --svg a", "desk ''", "serve", "serve A", "serve --journal A B", "serve --windows A B", "serve --journal A --windows B", "serve --journal A --windows B C D", "serve --journal", "serve --journal= --windows A B", "serve -x", "ask", "ask ''", "ask -x A", "ask A $'a\\nb'", "install ''", "uninstall ''", "plan --json=1", "plan --any=1", "plan --any - -", "plan --any -x", "plan --any ''", "field --any", "buys --any", "field --json", "plan --svg a b", "help no-such", "help plan buys", "completions", "completions csh", "version x", "--no-such", "ltfs", "ltfs A B", "ltfs A B C D", "ltfs A - -", "ltfs -A B C", "install a", "install /a /b",
                  "uninstall a", "install -x", "build x", "test x", "deb x"):
         at.must(f"./violstream {line}", 2, b"", ["violstream: ", "\nusage: ./violstream "])
         said = at.shell(f"./violstream {line}")[1]
@@ -373,7 +412,7 @@ def statuses(at):
     at.must("./violstream uninstall /no-such", 1, b"", ["nothing that this command knows of is installed below /no-such"])
 
 
-COMMANDS = ("plan", "field", "buys", "price", "check", "explain", "rewrite", "mend", "month", "ltfs", "desk", "build", "test", "install", "deb", "uninstall", "completions", "version", "help")
+COMMANDS = ("plan", "field", "buys", "price", "check", "explain", "rewrite", "mend", "month", "ltfs", "desk", "serve", "ask", "build", "test", "install", "deb", "uninstall", "completions", "version", "help")
 
 
 def help_and_version(at):
@@ -398,7 +437,7 @@ def help_and_version(at):
     for line in ("version", "plan --version", "ltfs --version", "test --version", "plan no-such --version"):
         at.must(f"./violstream {line}", 0, version, silent=True)
     at.must("./violstream version > /dev/full", 1, b"", ["cannot write to standard output"])
-    for number in (2, 3, 4, 5, 6, 7, 9, 10, 11, 12, 13, 15, 16, 17, 18, 19, 20, 21, 22, 23, 24, 25):
+    for number in (2, 3, 4, 5, 6, 7, 9, 10, 11, 12, 13, 15, 16, 17, 18, 19, 20, 21, 22, 23, 24, 25, 43):
         if re.search(rb"\n +%d  \S" % number, text) is None:
             raise Wrong(f"./violstream help does not list refusal {number}")
 
@@ -711,7 +750,7 @@ def manual(at):
     if f'"{version}"' not in page:
         raise Wrong(f"docs/violstream.1 is not of {version}")
     text = " ".join(at.shell("./violstream help")[0].decode().split())
-    for number in (2, 3, 4, 5, 6, 7, 9, 10, 11, 12, 13, 15, 16, 17, 18, 19, 20, 21, 22, 23, 24, 25):
+    for number in (2, 3, 4, 5, 6, 7, 9, 10, 11, 12, 13, 15, 16, 17, 18, 19, 20, 21, 22, 23, 24, 25, 43):
         words = re.search(r"\n%d\n([^.]*)\n\." % number, page)
         if words is None or " ".join(words[1].split()) not in text:
             raise Wrong(f"docs/violstream.1 does not say of refusal {number} what the help says: {words and words[1]!r}")
@@ -829,7 +868,7 @@ def as_json(at):
 def installing(at):
     """What is installed works by itself; nothing foreign is overwritten or removed; what was cut off can be removed."""
     os.makedirs(at.path("target/staticlib"))
-    at.write("target/staticlib/libboundary.a", b"!<arch>\n")
+    at.write("target/staticlib/libboundary.a", ARCHIVE)
     prefix = at.path("prefix")
     listed = os.path.join(prefix, "libexec/violstream/installed")
 
@@ -894,7 +933,8 @@ def packaged(at):
         return
     archive = os.path.join(programs.ROOT, "target/staticlib/libboundary.a")
     os.makedirs(at.path("target/staticlib"))
-    at.write("target/staticlib/libboundary.a", contents(archive) if os.path.exists(archive) else b"!<arch>\n")
+    for name in ("target/staticlib/libboundary.a", "target/command/linked.a"):
+        at.write(name, contents(archive) if os.path.exists(archive) else ARCHIVE)
     number = at.shell("./violstream version")[0].decode().split()[1]
     at.must("umask 077 && ./violstream deb", 0, f"made {at.root}/target/command/deb/violstream_{number}-1_amd64.deb\n".encode(), silent=True)
     at.must("dpkg-deb -x target/command/deb/*.deb unpacked && unpacked/usr/bin/violstream plan examples/VX0041.run", 0, PLAN, silent=True)
@@ -980,7 +1020,7 @@ mktemp -d > /dev/null
 case $1,$2 in
 check,cmd_*) [ -e "target/stamp/$2" ] || cp "kept/$2" "target/bin/$2"; echo > "target/stamp/$2" ;;
 check,*) echo > "target/stamp/$2" ;;
-staticlib,*) echo > target/staticlib/libboundary.a ;;
+staticlib,*) printf '!<arch>\\n' > target/staticlib/libboundary.a ;;
 esac
 """
 
@@ -1293,7 +1333,7 @@ def until(true, otherwise):
     raise Wrong(otherwise)
 
 
-TESTS = (answers, any_run, fielding, figures, pairs, explained, rewriting, mending, monthly, desk, statuses, help_and_version, nothing_lost, closed, odd_ends, quick, broken_program, several, ltfs_inputs, words_of_sheets, words_of_damaged_sheets,
+TESTS = (answers, any_run, fielding, figures, pairs, explained, rewriting, mending, monthly, desk, replaying, statuses, help_and_version, nothing_lost, closed, odd_ends, quick, broken_program, several, ltfs_inputs, words_of_sheets, words_of_damaged_sheets,
          words_of_tapes, keyboard, transcripts, manual, interrupted, manners, as_json, installing, packaged, limits, other_user, without_compiler, building, building_fails, building_twice, building_interrupted, beside, surrounded)
 
 

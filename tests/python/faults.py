@@ -15,7 +15,7 @@ import sys
 import tempfile
 
 import programs
-from command import BUILT, INDEX, LABEL, Checkout, built, forget_built, unbuilt
+from command import ARCHIVE, BUILT, INDEX, LABEL, Checkout, built, forget_built, unbuilt
 
 KINDS = {"read": errno.EIO, "write": errno.ENOSPC, "open": errno.EMFILE, "close": errno.EIO, "poll": errno.ENOMEM, "pipe2": errno.EMFILE, "fork": errno.EAGAIN,
          "waitpid": errno.ECHILD, "dup2": errno.EMFILE, "execvp": errno.EACCES, "fcntl": errno.EBADF, "flock": errno.ENOLCK, "rename": errno.EXDEV, "fsync": errno.EIO, "linkat": errno.EPERM,
@@ -113,7 +113,7 @@ def main():
         with open(at.path(RUN), "rb") as handle:
             at.write("loose.run", handle.read().replace(b"turn=1\n", b"turn=\n"))
         os.makedirs(at.path("target/staticlib"))
-        at.write("target/staticlib/libboundary.a", b"!<arch>\n")
+        at.write("target/staticlib/libboundary.a", ARCHIVE)
         tries = Tries(at, shim)
         tries.call(f"record ledger {RUN} examples/retired-rule.run examples/no-wants.run")
         for words in CALLS + MAKING:

@@ -1,6 +1,8 @@
 //! desk: a day of two offices. Each event goes to the program when the answer to the one before has been written: after an answer that nobody
-//! could be given, nothing more happens.
+//! could be given, nothing more happens. A line that is no event ends the day, but for a person at a keyboard: then the program is started again
+//! and given the events before.
 
+use super::replay::Keeper;
 use super::{say_refused, told, Call, SHEET};
 use crate::answers::{lines, refusal, Refusal};
 use crate::input::{self, cannot_read, take, tell_if_keyboard, Input};
@@ -11,6 +13,7 @@ use crate::status::{failed, Status, Stop};
 use crate::words;
 use nix::errno::Errno;
 use nix::poll::{poll, PollFd, PollFlags};
+use nix::unistd::isatty;
 use std::ffi::OsStr;
 use std::io;
 use std::os::unix::io::{AsRawFd, RawFd};
@@ -42,40 +45,59 @@ pub fn answer(sheet_file: &OsStr, events_file: &OsStr, call: &Call) -> Result<St
         Ok(child) => child,
         Err(sentence) => return Ok(told(&sentence)),
     };
-    let mut day = Day { program: &program, child, sheet: &sheet, name: events_file, number: 0 };
-    let ended = day.send(&framed).and_then(|()| day.hold(&events));
-    day.end();
-    ended
+    let is_typed = matches!(events, Input::Standard) && isatty(events.as_raw_fd()) == Ok(true);
+    let events = Events { input: &events, held: Vec::new(), remarks: false };
+    Day { program: &program, child, sheet: &sheet, name: events_file, number: 0, typed: is_typed.then(Vec::new), keeper: None }.whole(events)
 }
 
-struct Day<'a> {
-    program: &'a Program,
-    child: Child,
-    sheet: &'a [u8],
-    name: &'a OsStr,
+/// Where events come from, and what has come and was not handed over yet.
+pub struct Events<'a> {
+    pub input: &'a Input,
+    pub held: Vec<u8>,
+    /// Whether lines that begin with # are passed over.
+    pub remarks: bool,
+}
+
+pub struct Day<'a> {
+    pub program: &'a Program,
+    pub child: Child,
+    pub sheet: &'a [u8],
+    pub name: &'a OsStr,
     /// Events that were handed over.
-    number: u64,
+    pub number: u64,
+    /// What was typed by now, for a person at a keyboard.
+    pub typed: Option<Vec<Vec<u8>>>,
+    pub keeper: Option<Keeper<'a>>,
 }
 
 /// A line longer than any event is handed over without its end.
 const LONGEST: usize = 4096;
 
 impl Day<'_> {
+    pub fn whole(mut self, events: Events<'_>) -> Result<Status, Stop> {
+        let ended = self.send(&super::frame_pair(self.sheet, b"")).and_then(|()| self.hold(events));
+        self.end();
+        ended
+    }
+
     /// Event by event, to the end of the day.
-    fn hold(&mut self, events: &Input) -> Result<Status, Stop> {
-        let mut held: Vec<u8> = Vec::new();
+    fn hold(&mut self, events: Events<'_>) -> Result<Status, Stop> {
+        let (from, mut held) = (events.input.as_raw_fd(), events.held);
         let mut room = vec![0; 65536];
         loop {
             let mut done = 0;
             while let Some(length) = length_of_event(&held[done..]) {
-                if let Some(status) = self.event(&held[done..done + length])? {
-                    return Ok(status);
+                let line = &held[done..done + length];
+                if !(events.remarks && line.starts_with(b"#")) {
+                    if let Some(status) = self.event(line)? {
+                        return Ok(status);
+                    }
                 }
                 done += length;
             }
             held.drain(..done);
-            self.wait_for(events.as_raw_fd())?;
-            match input::read(events.as_raw_fd(), &mut room) {
+            self.wait_for(from)?;
+            match input::read(from, &mut room) {
                 Ok(0) => return self.evening(&held),
                 Ok(count) => held.extend_from_slice(&room[..count]),
                 Err(errno) => return failed(cannot_read(self.name, &io::Error::from(errno))),
@@ -92,15 +114,45 @@ impl Day<'_> {
         match refusal(&answer) {
             Some(refused) if refused.number == 11 => {
                 self.no_event(&refused);
-                Ok(Some(Status::Refused))
+                self.again()
             }
             Some(refused) => {
                 let event = format!("{}: event {}, {}", shown(self.name), self.number, words::in_quotes(&words::visible(&line[..line.len() - 1])));
                 say_refused(&event, &refused, &words::desk::words(&refused, line, self.sheet));
+                self.remember(line);
                 Ok(None)
             }
-            None => Ok(None),
+            None => {
+                self.remember(line);
+                self.keeper.as_mut().map_or(Ok(()), |keeper| keeper.keep(line, &answer))?;
+                Ok(None)
+            }
         }
+    }
+
+    fn remember(&mut self, line: &[u8]) {
+        if let Some(typed) = &mut self.typed {
+            typed.push(line.to_vec());
+        }
+    }
+
+    /// After a line that is no event the program has ended. At a keyboard another takes its place, and the events before bring it to where that was; such a
+    /// line does not count.
+    fn again(&mut self) -> Result<Option<Status>, Stop> {
+        let typed = match self.typed.take() {
+            Some(typed) => typed,
+            None => return Ok(Some(Status::Refused)),
+        };
+        self.end();
+        self.child = self.program.start(Stdio::inherit()).or_else(failed)?;
+        self.send(&super::frame_pair(self.sheet, b""))?;
+        for line in &typed {
+            self.send(line)?;
+            self.receive(is_whole)?;
+        }
+        self.number = typed.len() as u64;
+        self.typed = Some(typed);
+        Ok(None)
     }
 
     /// What is left without a line feed is no event.
@@ -121,8 +173,9 @@ impl Day<'_> {
 
     fn no_event(&self, refused: &Refusal) {
         let words = format!(
-            "event {} is not file=OFFICE,FILE,COUNT, withdraw=OFFICE,NUMBER or board=HEAD,TURN and a line feed; the day ends there",
-            refused.place
+            "event {} is not file=OFFICE,FILE,COUNT, withdraw=OFFICE,NUMBER or board=HEAD,TURN and a line feed; the day {}",
+            refused.place,
+            if self.typed.is_some() { "goes on" } else { "ends there" }
         );
         say_refused(&shown(self.name), refused, &words);
     }

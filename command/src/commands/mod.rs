@@ -1,5 +1,6 @@
 //! What each command does, a module each.
 
+mod ask;
 mod audit;
 mod desk;
 mod explain;
@@ -7,6 +8,8 @@ mod ltfs;
 mod month;
 mod pair;
 mod record;
+mod replay;
+mod serve;
 mod sheets;
 
 use crate::answers::Refusal;
@@ -37,6 +40,9 @@ pub enum Asked {
     Desk { sheet: OsString, events: OsString },
     Record { book: OsString, by: Option<String>, files: Vec<OsString> },
     Audit { book: OsString, sought: Option<Sought>, page: Option<OsString> },
+    Replay { journal: OsString, keep: Option<OsString> },
+    Serve(Serve),
+    Ask { window: OsString, events: Vec<OsString>, plain: bool },
     Build,
     Test,
     Install { prefix: Option<OsString> },
@@ -53,6 +59,14 @@ pub struct Sought {
     pub file: Option<usize>,
 }
 
+/// The words of serve; the groups are those of office 1, office 2 and the operator.
+pub struct Serve {
+    pub journal: OsString,
+    pub windows: OsString,
+    pub groups: [Option<OsString>; 3],
+    pub sheet: OsString,
+}
+
 /// The most that is read of a sheet: a byte more than it may have.
 pub const SHEET: usize = 16385;
 
@@ -66,22 +80,27 @@ pub fn answer(asked: &Asked, call: &Call) -> Result<Status, Stop> {
         Asked::Desk { sheet, events } => desk::answer(sheet, events, call),
         Asked::Record { book, by, files } => record::answer(book, by.as_deref(), files, call),
         Asked::Audit { book, sought, page } => audit::answer(book, sought.as_ref(), page.as_deref(), call),
+        Asked::Replay { journal, keep } => replay::answer(journal, keep.as_deref(), call),
+        Asked::Serve(asked) => serve::answer(asked, call),
+        Asked::Ask { window, events, plain } => ask::answer(window, events, *plain, call),
         Asked::Version => print(&help::version(&call.places)?),
         Asked::Help(None) => print(&help::whole(&call.places)),
         Asked::Help(Some(command)) => print(&help::of(command, &call.places)),
         Asked::Completions { shell } => print(&help::completions(shell)),
         Asked::Build => {
             build::everything(call)?;
-            say("built: what plan, field, buys, price, check, explain, rewrite, mend, month, ltfs, desk, record, audit and install need");
+            say("built: what plan, field, buys, price, check, explain, rewrite, mend, month, ltfs, desk, serve, record, audit and install need");
             Ok(Status::Answered)
         }
         Asked::Test => Ok(if build::test(call)? { Status::Answered } else { Status::Failed }),
         Asked::Install { prefix } => {
             build::everything(call)?;
+            build::linked(call)?;
             install::install(prefix.as_deref(), call)
         }
         Asked::Deb => {
             build::everything(call)?;
+            build::linked(call)?;
             deb::make(call)
         }
         Asked::Uninstall { prefix } => install::uninstall(prefix.as_deref(), call),

@@ -1,0 +1,800 @@
+#!/usr/bin/env python3
+"""Has `violstream serve` run, speaks at its windows, kills it, fills its disk, damages its journal, and compares with a model of a day of two offices.
+
+usage: tests/python/serve.py [--only NAME] [--kills N] [--days N] [--connections N] [--fuzz SECONDS] [--seed S] [--long]
+
+The model is that of day.py, which shares nothing with the crates. A kill is a SIGKILL at a drawn moment under the load of eight askers; tests/c/disk.c,
+loaded before libc, then says how much of the journal a disk would have kept had the power gone too, and the rest is cut off at a drawn byte. Nothing that was
+answered may be missing, and no number may have been given twice. --long does what takes longer than a minute: thousands of kills, a fuzzer, 10,000
+connections.
+"""
+import argparse
+import grp
+import os
+import random
+import re
+import resource
+import select
+import shutil
+import signal
+import socket
+import stat
+import subprocess
+import sys
+import tempfile
+import threading
+import time
+
+import day
+import programs
+import sheets
+
+COMMAND = os.path.join(programs.ROOT, "target/command/violstream")
+SHEET = os.path.join(programs.ROOT, "examples/day.run")
+LIMIT = 60
+OFFICES = {"office1": 1, "office2": 2}
+WINDOWS = ("office1", "office2", "operator")
+
+
+class Wrong(Exception):
+    pass
+
+
+def must(true, otherwise):
+    if not true:
+        raise Wrong(otherwise() if callable(otherwise) else otherwise)
+
+
+def contents(name):
+    with open(name, "rb") as handle:
+        return handle.read()
+
+
+# ---- The server, and who asks ----
+
+class Server:
+    """A server in a folder of its own, with its journal and its windows."""
+
+    def __init__(self, folder, shim=None, sheet=SHEET, journal=None):
+        self.folder, self.sheet, self.shim, self.call = folder, sheet, shim, None
+        self.windows, self.journal = os.path.join(folder, "windows"), journal or os.path.join(folder, "journal")
+        self.disk, self.synced = os.path.join(folder, "disk"), os.path.join(folder, "synced")
+        os.makedirs(self.windows, exist_ok=True)
+
+    def words(self, *more):
+        return [COMMAND, "serve", "--journal", self.journal, "--windows", self.windows, *more, self.sheet]
+
+    def start(self, *more, **how):
+        """Started, and ready when its sentence is there; or what it has said, and its status."""
+        surroundings = dict(os.environ)
+        if self.shim:
+            surroundings.update(LD_PRELOAD=self.shim, VIOLSTREAM_DISK=self.disk, VIOLSTREAM_SYNCED=self.synced)
+        self.call = subprocess.Popen(self.words(*more), stdin=subprocess.DEVNULL, stdout=subprocess.PIPE, stderr=subprocess.PIPE, env=surroundings, **how)
+        said = self.call.stderr.readline().decode()
+        if ": serving at " in said:
+            return said
+        rest = self.call.stderr.read().decode()
+        return said + rest + self.call.stdout.read().decode(), self.call.wait(LIMIT)
+
+    def begin(self, *more, **how):
+        said = self.start(*more, **how)
+        must(isinstance(said, str), f"the server does not start: {said}")
+        return int(said.rsplit(" ", 1)[1])
+
+    def end(self, number=signal.SIGTERM):
+        self.call.send_signal(number)
+        status = self.call.wait(LIMIT)
+        self.call.stdout.close()
+        self.call.stderr.close()
+        return status
+
+    def path(self, window):
+        return os.path.join(self.windows, window)
+
+    def at(self, window):
+        return Asker(self.path(window))
+
+    def entries(self):
+        """The events of the journal, each with what stands above it."""
+        front, text = contents(self.sheet), contents(self.journal)
+        front = b"%d\n" % len(front) + front
+        must(text.startswith(front), "the journal does not begin with its sheet")
+        lines = text[len(front):].split(b"\n")
+        must(lines.pop() == b"" and len(lines) % 2 == 0, f"the journal ends so: {text[-100:]!r}")
+        return list(zip(lines[::2], lines[1::2]))
+
+
+class Asker:
+    def __init__(self, path):
+        self.socket = socket.socket(socket.AF_UNIX)
+        self.socket.settimeout(LIMIT)
+        self.socket.connect(path)
+        self.held = b""
+
+    def send(self, text):
+        self.socket.sendall(text)
+
+    def answer(self):
+        """The next answer, without its empty line."""
+        while b"\n\n" not in self.held:
+            more = self.socket.recv(65536)
+            if not more:
+                raise EOFError
+            self.held += more
+        answer, self.held = self.held.split(b"\n\n", 1)
+        return answer + b"\n"
+
+    def ask(self, line):
+        self.send(line + b"\n")
+        return self.answer()
+
+    def close(self):
+        self.socket.close()
+
+
+class Model:
+    """What the windows must answer, and what the journal must then hold."""
+
+    def __init__(self, sheet=SHEET):
+        self.desk, self.journal = day.Desk(sheets.read(contents(sheet))[3]), []
+
+    def waiting(self):
+        lines = [f"waits={office},{number},{file},{count},{ahead},{ahead // 4 + 1}\n" for office in (1, 2)
+                 for ahead, (_, number, file, count) in enumerate(self.desk.waiting[office])]
+        return ("".join(lines) + f"waiting={len(self.desk.waiting[1])},{len(self.desk.waiting[2])}\n").encode()
+
+    def event(self, window, line):
+        """The event of a line, where its form is an event's of that window."""
+        office, patterns = OFFICES.get(window), {"file": 2, "withdraw": 1} if window in OFFICES else {"board": 2}
+        for name, numbers in patterns.items():
+            found = re.fullmatch(name.encode() + b"=(" + b",".join([day.NUMBER.replace(b"(", b"(?:")] * numbers) + b")", line)
+            if found and all(int(value) < 2**64 for value in found[1].split(b",")):
+                return line if office is None else b"%s=%d,%s" % (name.encode(), office, found[1])
+        return None
+
+    def answer(self, window, line):
+        if line == b"waiting":
+            return self.waiting()
+        event = self.event(window, line)
+        if event is None:
+            return b"refused=%d\nplace=0\n" % (43 if any(self.event(other, line) for other in WINDOWS) else 11)
+        said = self.desk.answer(event)
+        if not said.startswith(b"refused="):
+            self.journal.append(event)
+        return said
+
+
+ABOVE = re.compile(rb"# \d{4}-\d\d-\d\dT\d\d:\d\d:\d\dZ (office1|office2|operator) uid=(\d+) pid=(\d+)")
+
+
+# ---- What is said at the windows ----
+
+def protocol(at):
+    """Every kind of line at every window, in exact words."""
+    server, model = Server(at.folder), Model()
+    must(server.begin() == 0, "a new journal has events")
+    askers = {window: server.at(window) for window in WINDOWS}
+    lines = [b"", b"waiting", b"waiting ", b"Waiting", b"waiting\r", b"# file=1,1", b"#", b"file=3,2", b"file=1,3,2", b"file=3", b"file=", b"file=3,2,", b"file=03,2", b"file=+3,2", b"file=3, 2",
+             b"file=0,1", b"file=7,1", b"file=1,0", b"file=1,129", b"file=18446744073709551615,1", b"file=18446744073709551616,1", b"withdraw=1", b"withdraw=1,1", b"withdraw=", b"withdraw=9", b"board=70,3",
+             b"board=10,1", b"board=70,4294967297", b"board=1099511627777,1", b"board=70", b"board=", b"board=1,2,3", b"stop", b"file", b"\0", b"\xff\xfe", b"x" * 200, b"x" * 201, b"x" * 5000,
+             b"file=3,2" + b" " * 300, b"file=1,1\0", b"refused=11"]
+    for line in lines + lines[::-1] + [b"file=%d,%d" % (n % 6 + 1, n + 1) for n in range(20)] * 2 + [b"board=60,3", b"waiting"] * 8:
+        for window, asker in askers.items():
+            said, expected = asker.ask(line), model.answer(window, line)
+            must(said == expected, f"at {window} {line!r} is answered {said!r} and not {expected!r}")
+    must(set(model.desk.met) >= {"file refused=15", "file refused=16", "withdraw refused=17", "board refused=6", "board refused=7"}, f"not met: {model.desk.met}")
+    # Byte by byte, many at once, and half a line when the asker goes.
+    asker = askers["office1"]
+    for byte in b"file=2,1\n":
+        asker.send(bytes([byte]))
+        time.sleep(0.002)
+    must(asker.answer() == model.answer("office1", b"file=2,1"), "a line in parts is answered otherwise")
+    many = [b"waiting", b"file=1,1", b"withdraw=%d" % model.desk.last[1], b"board=1,1", b""] * 30
+    asker.send(b"".join(line + b"\n" for line in many))
+    for line in many:
+        said, expected = asker.answer(), model.answer("office1", line)
+        must(said == expected, f"of many at once {line!r} is answered {said!r} and not {expected!r}")
+    asker.send(b"file=4,4")
+    asker.close()
+    # Whole lines of one who goes at once are events all the same.
+    gone = server.at("office2")
+    gone.send(b"file=5,1\nfile=6,2\nfile=4,")
+    gone.close()
+    [model.answer("office2", line) for line in (b"file=5,1", b"file=6,2")]
+    until(lambda: askers["operator"].ask(b"waiting") == model.waiting(), lambda: f"waiting is {askers['operator'].ask(b'waiting')!r} and not {model.waiting()!r}")
+    # One who asks and then sends no more gets his answers.
+    done = server.at("operator")
+    done.send(b"waiting\nwaiting\nwai")
+    done.socket.shutdown(socket.SHUT_WR)
+    must(done.answer() + done.answer() == model.waiting() * 2 and done.socket.recv(1) == b"", "half closed, a window answers otherwise")
+    entries = server.entries()
+    must([event for _, event in entries] == model.journal, f"the journal has {entries}, and must have {model.journal}")
+    for above, event in entries:
+        found = ABOVE.fullmatch(above)
+        must(found and found[2] == b"%d" % os.getuid() and found[3] == b"%d" % os.getpid(), f"above {event!r} stands {above!r}")
+        must(Model().event(found[1].decode(), event.replace(b"=%d," % OFFICES.get(found[1].decode(), 0), b"=", 1)) == event, f"{event!r} is of another window than {above!r}")
+    must(server.end() == 0 and os.listdir(server.windows) == [], "SIGTERM does not end the server with 0 and without sockets")
+    replayed(server, model)
+
+
+def replayed(server, model):
+    """The proved desk alone gives the same day, and the sheets of its boardings are right."""
+    desk, expected = day.Desk(model.desk.table), b""
+    for event in model.journal:
+        expected += desk.answer(event)
+    expected += f"waiting={len(desk.waiting[1])},{len(desk.waiting[2])}\n".encode()
+    keep = os.path.join(server.folder, "keep")
+    shutil.rmtree(keep, ignore_errors=True)
+    os.makedirs(keep)
+    done = called("desk", "--replay", server.journal, "--keep", keep)
+    must((done.stdout, done.returncode, done.stderr) == (expected, 0, b""), lambda: f"replayed, the journal gives {done}, and must give {expected!r}")
+    boardings = expected.count(b"boarded=")
+    must(sorted(os.listdir(keep)) == sorted(f"{n}.{kind}" for n in range(1, boardings + 1) for kind in ("run", "plan")), f"kept: {os.listdir(keep)}")
+    for number in range(1, min(boardings, 12) + 1):
+        run, plan = (os.path.join(keep, f"{number}.{kind}") for kind in ("run", "plan"))
+        checked = called("check", run, plan)
+        refused = checked.stdout == b"refused=9\nplace=0\n"
+        must(refused or checked.stdout == b"formed=yes\nwalk=yes\nleast=yes\n", lambda: f"check says of {contents(run)!r} and {contents(plan)!r}: {checked.stdout!r}")
+    must(called("desk", "--replay", server.journal, "--keep", keep).returncode == (1 if boardings else 0), "sheets that are there are written over")
+
+
+def called(*words, **how):
+    return subprocess.run([COMMAND, *words], capture_output=True, timeout=LIMIT, **how)
+
+
+def days(at):
+    """Drawn lines at drawn windows, with servers ended and killed between them."""
+    for number in range(at.words.days):
+        draw, server, model = random.Random(at.words.seed + number), Server(os.path.join(at.folder, str(number))), Model()
+        must(server.begin() == 0, "a new journal has events")
+        for _ in range(6):
+            askers = {window: server.at(window) for window in WINDOWS}
+            for _ in range(draw.randrange(1, 60)):
+                window, line = draw.choice(WINDOWS), drawn_line(draw, model)
+                said, expected = askers[window].ask(line), model.answer(window, line)
+                must(said == expected, f"seed {at.words.seed + number}: at {window} {line!r} is answered {said!r} and not {expected!r}")
+            server.end(draw.choice((signal.SIGTERM, signal.SIGKILL, signal.SIGINT)))
+            must(server.begin() == len(model.journal), "started again, the server has another number of events")
+        must(server.at("operator").ask(b"waiting") == model.waiting(), "started again, others wait")
+        server.end()
+        replayed(server, model)
+
+
+def drawn_line(draw, model):
+    kind = draw.random()
+    if kind < 0.5:
+        return b"file=%d,%d" % (draw.randrange(0, 8), draw.choice((0, 1, 1, 2, 3, 128, 129)))
+    if kind < 0.65:
+        return b"withdraw=%d" % draw.randrange(0, max(model.desk.last.values()) + 2)
+    if kind < 0.8:
+        return b"board=%d,%d" % (draw.choice((0, 49, 50, 60, 2**40, 2**40 + 1)), draw.choice((0, 3, 12000, 2**32, 2**32 + 1)))
+    return draw.choice((b"waiting", b"waiting", b"", b"# x", b"file=1,1,1", b"withdraw=1,1", bytes(draw.randrange(256) for _ in range(draw.randrange(9))).replace(b"\n", b"")))
+
+
+def asking(at):
+    """ask: a client for a person."""
+    server = Server(at.folder)
+    server.begin()
+    window = server.path("office1")
+    for words, data, status, out, says in (
+            (["file=3,2", "waiting"], b"", 0, b"filed=1,1\nwaits=1,1,3,2,0,1\nwaiting=1,0\n", b""),
+            (["board=60,1", "waiting"], b"", 3, b"refused=43\nplace=0\nwaits=1,1,3,2,0,1\nwaiting=1,0\n", b'office1: "board=60,1": refused (43): an event that is not for this window'),
+            ([], b"withdraw=1\nwithdraw=1\n", 3, b"withdrawn=1,1\nrefused=17\nplace=0\n", b"refused (17)"),
+            ([""], b"", 3, b"refused=11\nplace=0\n", b"refused (11)"),
+            ([], b"waiting", 1, b"", b'standard input ends without a line feed; "waiting" was not sent'),
+            (["a\nb"], b"", 2, b"", b"an event is one line"),
+            ([], b"", 0, b"", b"")):
+        done = called("ask", window, *words, input=data)
+        must((done.stdout, done.returncode) == (out, status) and says in done.stderr, f"ask {words} with {data!r} gives {done}")
+    must(called("ask", server.path("nobody")).returncode == 1, "ask does not fail where nobody listens")
+    server.end()
+    done = called("ask", window, "waiting")
+    must(done.returncode == 1 and b"nobody can be asked" in done.stderr, f"ask of a server that has ended gives {done}")
+
+
+# ---- Who stalls, floods, or comes in numbers ----
+
+def stalling(at):
+    """Half a line, answers that nobody takes, a flood: others are answered at once, and the server does not grow."""
+    server = Server(at.folder)
+    server.begin()
+    half, deaf, flood = server.at("office1"), server.at("office1"), server.at("office1")
+    half.send(b"file=1,")
+    for one, text in ((deaf, b"waiting\n" * 1000), (flood, b"x" * 65536)):
+        one.socket.setblocking(False)
+        try:
+            while one.socket.send(text):
+                pass
+        except BlockingIOError:
+            pass
+    flooding = threading.Event()
+
+    def go_on():
+        while not flooding.is_set():
+            select.select([], [flood.socket], [], 0.05)
+            try:
+                flood.socket.send(b"x" * 65536)
+            except BlockingIOError:
+                pass
+
+    thread = threading.Thread(target=go_on)
+    thread.start()
+    try:
+        asker = server.at("office1")
+        longest = 0
+        for number in range(1, 9):
+            began = time.monotonic()
+            must(asker.ask(b"file=1,1") == b"filed=1,%d\n" % number, "beside one who stalls, another is answered otherwise")
+            longest = max(longest, time.monotonic() - began)
+        must(longest < 2, f"beside one who stalls, another waits for {longest:.1f} s")
+        with open(f"/proc/{server.call.pid}/status") as handle:
+            kilobytes = int(re.search(r"VmRSS:\s+(\d+)", handle.read())[1])
+        must(kilobytes < 30000, f"the server has grown to {kilobytes} KB")
+    finally:
+        flooding.set()
+        thread.join()
+    half.send(b"2\n")
+    must(half.answer() == b"filed=1,9\n", "half a line is not waited for")
+    deaf.socket.setblocking(True)
+    must(deaf.answer() == b"waiting=0,0\n", "who has not taken answers does not find them later")
+    server.end()
+
+
+def crowds(at):
+    """Many connections in turn, and more at once than a window holds: whoever has been silent longest makes room."""
+    server = Server(at.folder)
+    server.begin()
+    for number in range(at.words.connections):
+        asker = server.at(WINDOWS[number % 3])
+        if number % 10 == 0:
+            must(asker.ask(b"waiting") == b"waiting=0,0\n", "a connection in turn is answered otherwise")
+        asker.close()
+    other = server.at("office2")
+    must(other.ask(b"file=1,1") == b"filed=2,1\n", "office 2 is not answered")
+    crowd = []
+    for number in range(600):
+        crowd.append(server.at("office1"))
+        if number % 50 == 0:
+            must(crowd[-1].ask(b"waiting").endswith(b"waiting=0,1\n"), "in a crowd, who comes last is not answered")
+    must(crowd[-1].ask(b"file=1,1") == b"filed=1,1\n", "in a crowd, who comes last is not answered")
+    must(other.ask(b"file=1,1") == b"filed=2,2\n", "one office's crowd sends the other office away")
+    must(crowd[0].socket.recv(1) == b"", "who has been silent longest is not sent away")
+    [asker.close() for asker in crowd]
+    must(server.at("operator").ask(b"waiting").endswith(b"waiting=1,2\n"), "after a crowd the operator is not answered")
+    server.end()
+    # With few descriptors, fewer are let in, and it goes on.
+    must(server.begin(preexec_fn=lambda: resource.setrlimit(resource.RLIMIT_NOFILE, (64, 64))) == 3, "another number of events")
+    crowd = [server.at("office1") for _ in range(100)]
+    must(crowd[-1].ask(b"waiting").endswith(b"waiting=1,2\n") and server.at("office2").ask(b"withdraw=1") == b"withdrawn=2,1\n", "with few descriptors nobody is answered")
+    server.end()
+
+
+# ---- Starting, ending, damage ----
+
+def starting(at):
+    """Who may start, and what stands in the way."""
+    server = Server(at.folder)
+    server.begin()
+    server.at("office1").ask(b"file=1,1")
+    for window in WINDOWS:
+        about = os.stat(server.path(window))
+        must(stat.S_ISSOCK(about.st_mode) and stat.S_IMODE(about.st_mode) == 0o660, f"{window} has mode {about.st_mode:o}")
+    second = Server(at.folder)
+    refused(second, "another server is at work with")
+    second.journal = os.path.join(at.folder, "other")
+    refused(second, "another server has its windows there")
+    os.makedirs(os.path.join(at.folder, "elsewhere"))
+    second.journal, second.windows = server.journal, os.path.join(at.folder, "elsewhere")
+    refused(second, "another server is at work with")
+    must(os.listdir(second.windows) == [] and server.at("office1").ask(b"waiting").endswith(b"waiting=1,0\n"), "a second server disturbs the first")
+    # Killed, it leaves its sockets, and the next starts.
+    server.end(signal.SIGKILL)
+    must(sorted(os.listdir(server.windows)) == sorted(WINDOWS), "a killed server leaves no sockets, so this tries nothing")
+    must(server.begin() == 1 and server.end() == 0 and os.listdir(server.windows) == [], "after a kill the next does not start or end")
+    for number in (signal.SIGINT, signal.SIGHUP):
+        server.begin()
+        must(server.end(number) == 0 and os.listdir(server.windows) == [], f"signal {number} does not end the server as SIGTERM does")
+    with open(server.path("office2"), "w"):
+        refused(server, "something that is no window is there")
+        must(os.listdir(server.windows) == ["office2"], "a server that does not start leaves sockets")
+        os.remove(server.path("office2"))
+    with socket.socket(socket.AF_UNIX) as foreign:
+        foreign.bind(server.path("operator"))
+        foreign.listen()
+        refused(server, "another program listens there")
+        os.remove(server.path("operator"))
+    mine = grp.getgrgid(os.getgroups()[-1] if os.getgroups() else os.getgid()).gr_name
+    must(server.begin("--group1", mine, "--group2", mine, "--group", mine) == 1, "with groups another number of events")
+    must(all(os.stat(server.path(window)).st_gid == grp.getgrnam(mine).gr_gid for window in WINDOWS), "the windows are of another group")
+    server.end()
+    must("there is no group no-such-group" in server.start("--group1", "no-such-group")[0], "an unknown group is taken")
+    for words, says, status in ((["--windows", "/no-such"], "there is no folder /no-such", 1), (["--journal", "/no-such/journal"], "cannot open /no-such/journal", 1), (["--journal", "/"], "cannot open /", 1),
+                                (["--journal", "/dev/null"], "is no file", 1)):
+        said = server.start(*words)
+        must(says in said[0] and said[1] == status, f"with {words} the server says {said}")
+    for sheet, says, status in (("no-such", "cannot read no-such", 1), (os.path.join(programs.ROOT, "examples/retired-rule.run"), "refused (19)", 3), (server.journal, "refused (11)", 3)):
+        said = Server(at.folder, sheet=sheet).start()
+        must(says in said[0] and said[1] == status, f"with the sheet {sheet} the server says {said}")
+    for words in ((), ("--journal", "a"), ("--windows", "a"), ("--journal", "a", "--windows", "b"), ("--journal", "a", "--windows", "b", "c", "d"), ("--journal", "", "--windows", "b", "c")):
+        must(called("serve", *words).returncode == 2, f"serve {words} is taken for right")
+
+
+def refused(server, says):
+    """It does not start, says so, ends with 1, and writes nothing."""
+    before = contents(server.journal) if os.path.exists(server.journal) else b""
+    said = server.start()
+    must(not isinstance(said, str) and says in said[0] and said[1] == 1, f"the server must say {says!r}, and says {said}")
+    must(not os.path.exists(server.journal) or contents(server.journal) == before or before == b"", "a server that does not start has written")
+
+
+def damage(at):
+    """A torn tail is cut off; a journal that was being made is made; anything else is refused by its line, and stays as it is."""
+    server, model = Server(at.folder), Model()
+    server.begin()
+    for window, line in (("office1", b"file=3,2"), ("office2", b"file=5,1"), ("office1", b"file=1,1"), ("operator", b"board=60,1"), ("office1", b"file=1,1")):
+        must(server.at(window).ask(line) == model.answer(window, line), "answered otherwise")
+    server.end()
+    whole = contents(server.journal)
+    front = len(whole) - len(b"".join(above + event + b"\n\n" for above, event in server.entries()))
+    ends = [front]
+    for above, event in server.entries():
+        ends.append(ends[-1] + len(above + event) + 2)
+
+    def starts(text, events, length, what):
+        with open(server.journal, "wb") as handle:
+            handle.write(text)
+        must(server.begin() == events, f"{what}: another number of events than {events}")
+        server.end()
+        must(contents(server.journal) == (text[:length] if length <= len(text) else whole[:length]), f"{what}: the journal is {contents(server.journal)!r}")
+
+    for cut in [*range(0, front, 7), front - 1, *range(front, len(whole) + 1)]:
+        events = max(0, sum(end <= cut for end in ends) - 1)
+        starts(whole[:cut], events, max(front, ends[events]), f"cut at byte {cut}")
+    for tail in (b"x", b"# ", b"#\n", b"# 2026\n", b"# 2026\nfile=1,1,1", b"\0" * 5000, b"# x\n\0\0", b"file=1,1,1", b"x" * 300):
+        starts(whole + tail, 5, len(whole), f"with {tail!r} at its end")
+    lines, first = whole.count(b"\n"), whole[:front].count(b"\n") + 1
+    entry = whole[ends[4]:]
+    above = entry.split(b"\n")[0] + b"\n"
+    kinds = [(whole + tail, lines + line, tail) for tail, line in (
+        (b"\n", 1), (b"x\n", 1), (b"file=1,1,1\n", 1), (b"#\nfile=1,1,1\n", 1), (above + b"\n", 2), (above + b"x\n", 2), (above + b"file=2,1,1\n", 2), (above + b"file=1,9,1\n", 2),
+        (above + b"withdraw=1,1\n", 2), (above + b"board=60,1\n", 2), (above + above + b"file=1,1,1\n", 2), (above.replace(b"office1", b"office3") + b"file=1,1,1\n", 1),
+        (above.replace(b"uid=", b"uid=x") + b"file=1,1,1\n", 1), (above.replace(b"Z", b"") + b"file=1,1,1\n", 1), (above + b"file=1,1,1\r\n", 2), (above + b"x" * 300 + b"\n", 2),
+        (b"#" * 300 + b"\nfile=1,1,1\n", 1), (above + b"file=1,1,1" + b" " * 300 + b"\n" + b"x", 2), (b"\0" * 300 + b"\n", 1))]
+    kinds += [(whole.replace(b"file=2,5,1", b"file=2,5,9"), None, "another count"), (b"x" + whole, 1, "another first byte"), (b"0" + whole, 1, "a count with a zero before it"), (b"\n" + whole, 1, "an empty line")]
+    kinds += [(whole[:ends[number]] + whole[end:], None, f"without entry {number + 1}") for number, end in enumerate(ends[1:-1])]
+    for at_byte in range(front, len(whole)):
+        if whole[at_byte:at_byte + 1] == b"\n":
+            changed = whole[:at_byte] + b"x" + whole[at_byte + 1:]
+            kinds.append((changed, whole[:at_byte].count(b"\n") + 1 if at_byte < ends[-2] else None, f"no LF at byte {at_byte}"))
+        if whole[at_byte:at_byte + 1] in b"=,#" and at_byte < len(whole) - 1:
+            kinds.append((whole[:at_byte] + b"\x7f" + whole[at_byte + 1:], whole[:at_byte].count(b"\n") + 1, f"another byte {at_byte}"))
+    for text, line, what in kinds:
+        with open(server.journal, "wb") as handle:
+            handle.write(text)
+        said = server.start()
+        if line is None:
+            # Not to be seen by the journal alone: what it says is a day that could have been, or has a tail.
+            must(isinstance(said, str), f"{what!r}: the server says {said}")
+            server.end()
+            continue
+        must(not isinstance(said, str) and said[1] == 1 and f", line {line}: " in said[0], lambda: f"{what!r} must be refused at line {line}, and the server says {said}: {text[front:]!r}")
+        must(contents(server.journal) == text and os.listdir(server.windows) == [], f"{what!r} is refused, and something was written")
+    other = os.path.join(at.folder, "other.run")
+    sheet = contents(SHEET)
+    for changed in [sheet[:n] + bytes([sheet[n] ^ 1]) + sheet[n + 1:] for n in (5, sheet.index(b"file=") + 5)] + [sheet.replace(b"wants=0", b"wants=1\nwant=1,1"), sheet.replace(b"file=45,5,0", b"file=45,6,0")]:
+        with open(server.journal, "wb") as handle:
+            handle.write(whole)
+        with open(other, "wb") as handle:
+            handle.write(changed)
+        said = Server(at.folder, sheet=other).start()
+        must(not isinstance(said, str) and said[1] in (1, 3) and contents(server.journal) == whole, f"with another sheet the server says {said}")
+        must(said[1] == 3 or "is the journal of another run sheet" in said[0], f"with another sheet the server says {said}")
+
+
+# ---- The disk ----
+
+def full(at):
+    """A file that may not grow: what was accepted stays, nothing more is, and what was not is nowhere; then there is room again."""
+    server, model = Server(at.folder), Model()
+    size = len(contents(SHEET)) + 700
+    server.begin(preexec_fn=lambda: resource.setrlimit(resource.RLIMIT_FSIZE, (size, resource.RLIM_INFINITY)))
+    asker, told = server.at("office1"), []
+    for _ in range(30):
+        before = model.waiting()
+        said = asker.ask(b"file=1,2")
+        told.append(said)
+        if said == b"failed=journal\n":
+            must(asker.ask(b"waiting") == before, "after failed=journal something has changed")
+            must(asker.ask(b"withdraw=99") == b"refused=17\nplace=0\n" and asker.ask(b"board=1,1") == b"refused=43\nplace=0\n", "a refusal is no refusal where the disk is full")
+        else:
+            must(said == model.answer("office1", b"file=1,2"), f"answered {said!r}")
+        must(len(contents(server.journal)) <= size and [event for _, event in server.entries()] == model.journal, "the journal has something else")
+    must(told.count(b"failed=journal\n") > 5 and told[0] != told[-1], f"the disk was never full, or always: {told}")
+    must(server.at("operator").ask(b"board=60,1") == b"failed=journal\n", "a boarding is accepted where the disk is full")
+    server.end(signal.SIGKILL)
+    server.begin()
+    must(server.at("office1").ask(b"waiting") == model.waiting() and server.at("office1").ask(b"file=1,2") == model.answer("office1", b"file=1,2"), "with room again it goes on otherwise")
+    server.end()
+
+
+def failing(at):
+    """Writes that fail, whole or after a part; syncs that fail after the write went through; a file that cannot be made shorter. And a slow disk."""
+    server, model = Server(at.folder, at.shim), Model()
+    server.begin()
+    askers = {window: server.at(window) for window in WINDOWS}
+
+    def disk(words):
+        with open(server.disk + ".new", "w") as handle:
+            handle.write(words)
+        os.rename(server.disk + ".new", server.disk)
+
+    def good():
+        for window, line in (("office1", b"file=1,2"), ("office2", b"file=3,1"), ("operator", b"waiting"), ("office1", b"withdraw=%d" % model.desk.last[1])):
+            said, expected = askers[window].ask(line), model.answer(window, line)
+            must(said == expected, f"{line!r} is answered {said!r} and not {expected!r}")
+        if len(model.desk.waiting[2]) > 12:
+            must(askers["operator"].ask(b"board=60,1") == model.answer("operator", b"board=60,1"), "a boarding is answered otherwise")
+
+    for words in ("write", "half", "sync", "write cut", "half cut", "sync cut", "half sync cut"):
+        good()
+        disk(words)
+        for _ in range(3):
+            before = model.waiting()
+            for window, line in (("office1", b"file=1,2"), ("office2", b"withdraw=%d" % model.desk.waiting[2][0][1]), ("operator", b"board=60,1")):
+                said = askers[window].ask(line)
+                must(said == b"failed=journal\n", f"with {words} failing, {line!r} is answered {said!r}")
+            # Of lines that come together the others are answered as if those that fail had not been.
+            askers["office1"].send(b"file=1,2\nwithdraw=%d\nwaiting\nfile=9,9\n" % (model.desk.last[1] + 1))
+            said = [askers["office1"].answer() for _ in range(4)]
+            must(said == [b"failed=journal\n", b"refused=17\nplace=0\n", before, b"refused=15\nplace=0\n"], f"with {words} failing, together: {said}")
+            if "cut" not in words:
+                must([event for _, event in server.entries()] == model.journal, f"with {words} failing the journal has what was not accepted")
+        disk("")
+        good()
+        must([event for _, event in server.entries()] == model.journal, f"after {words} the journal has something else")
+        if "cut" in words:
+            # Ended while it could not take back what it wrote, it says so, and with 1.
+            disk("half cut" if "half" in words else words)
+            askers["office1"].ask(b"file=1,2")
+            must(server.end() == 1, f"after {words} the server ends as if all was well")
+            disk("")
+            journal = contents(server.journal)
+            with open(server.journal, "wb") as handle:
+                handle.write(journal[:journal.index(model_front()) + len(model_front())] + b"".join(above + b"\n" + event + b"\n" for above, event in entries_of(journal)[:len(model.journal)]))
+            must(server.begin() == len(model.journal), "another number of events")
+            askers = {window: server.at(window) for window in WINDOWS}
+    # Moved away, the journal is not written to; back in its place, it is.
+    os.rename(server.journal, server.journal + ".moved")
+    must(askers["office1"].ask(b"file=1,2") == b"failed=journal\n", "a journal that was moved away is written to")
+    os.rename(server.journal + ".moved", server.journal)
+    good()
+    # A slow disk: who waits shares a sync.
+    disk("slow")
+    clients = [server.at(("office1", "office2")[n % 2]) for n in range(8)]
+    began = time.monotonic()
+    for _ in range(4):
+        [client.send(b"withdraw=0\nfile=0,0\n") for client in clients]
+        [client.answer() for client in clients for _ in range(2)]
+    askers["operator"].ask(b"board=60,1")
+    [client.send(b"file=1,1\n") for client in clients]
+    [client.answer() for client in clients]
+    taken = time.monotonic() - began
+    must(taken < 0.05 * 8, f"eight filings and a boarding on a slow disk take {taken:.2f} s, as if each had a sync of its own")
+    disk("")
+    server.end()
+
+
+def model_front():
+    sheet = contents(SHEET)
+    return b"%d\n" % len(sheet) + sheet
+
+
+def entries_of(journal):
+    lines = journal[len(model_front()):].split(b"\n")
+    return list(zip(lines[::2], lines[1::2]))
+
+
+# ---- Kills ----
+
+class Load(threading.Thread):
+    """One who asks and writes down what was answered, until nobody answers."""
+
+    def __init__(self, server, window, seed):
+        super().__init__()
+        self.path, self.window, self.draw, self.told, self.fault = server.path(window), window, random.Random(seed), [], None
+
+    def run(self):
+        try:
+            asker = Asker(self.path)
+            while True:
+                line = self.line()
+                self.told.append((line, asker.ask(line)))
+        except (EOFError, OSError):
+            pass
+        except Exception as fault:  # told by whoever waits for this thread
+            self.fault = fault
+
+    def line(self):
+        if self.window == "operator":
+            return b"board=%d,%d" % (self.draw.randrange(50, 90), self.draw.randrange(5))
+        numbers = [said for _, said in self.told if said.startswith(b"filed=")]
+        if numbers and self.draw.random() < 0.3:
+            return b"withdraw=" + self.draw.choice(numbers).split(b",")[1].strip()
+        return b"file=%d,%d" % (self.draw.randrange(1, 7), self.draw.randrange(1, 129))
+
+
+def answered(told, events, given):
+    """Everything that was answered is in the journal, with the number that was given; and no number was given twice."""
+    numbers, filed, withdrawn, boarded = {1: 0, 2: 0}, {}, set(), 0
+    for event in events:
+        name, values = event.split(b"=")
+        values = [int(value) for value in values.split(b",")]
+        if name == b"file":
+            numbers[values[0]] += 1
+            filed[(values[0], numbers[values[0]])] = tuple(values[1:])
+        elif name == b"withdraw":
+            withdrawn.add(tuple(values))
+        else:
+            boarded += 1
+    boardings = 0
+    for window, line, said in told:
+        office = OFFICES.get(window)
+        if said.startswith(b"filed="):
+            ticket = tuple(int(value) for value in said.strip().split(b"=")[1].split(b","))
+            must(filed.get(ticket) == tuple(int(value) for value in line.split(b"=")[1].split(b",")), f"{said!r} was answered to {line!r}, and the journal has {filed.get(ticket)}")
+            must(ticket not in given, f"number {ticket} was given twice")
+            given.add(ticket)
+        elif said.startswith(b"withdrawn="):
+            must((office, int(line.split(b"=")[1])) in withdrawn, f"{said!r} was answered, and is not in the journal")
+        elif said.startswith(b"boarded="):
+            boardings += 1
+        else:
+            must(said in (b"refused=16\nplace=0\n", b"refused=17\nplace=0\n"), f"{line!r} was answered {said!r}")
+    return boardings, boarded
+
+
+def kills(at):
+    """Killed at drawn moments under load, with the power gone: nothing that was answered is lost."""
+    total = lost = 0
+    for series in range(0, at.words.kills, 50):
+        draw, server = random.Random(at.words.seed + series), Server(os.path.join(at.folder, str(series)), at.shim)
+        given, boardings = set(), 0
+        for number in range(min(50, at.words.kills - series)):
+            tell = f"kill {series + number}, seed {at.words.seed}: "
+            server.begin()
+            loads = [Load(server, ("office1", "office2", "office1", "office2", "office1", "office2", "operator", "office1")[n], draw.random()) for n in range(8)]
+            [load.start() for load in loads]
+            time.sleep(draw.choice((0, 0.001, 0.005, 0.02, 0.05)) * draw.random() * 2)
+            server.end(signal.SIGKILL)
+            [load.join(LIMIT) for load in loads]
+            must(not any(load.fault for load in loads), f"{tell}{[load.fault for load in loads]}")
+            told = [(load.window, line, said) for load in loads for line, said in load.told]
+            total += len(told)
+            # What the disk had, and of the rest a drawn part.
+            kept, text = int(contents(server.synced)), contents(server.journal)
+            must(kept <= len(text), f"{tell}the journal is shorter than what was synced")
+            lost += len(text) - kept
+            with open(server.journal, "r+b") as handle:
+                handle.truncate(draw.randrange(kept, len(text) + 1))
+            server.begin()
+            entries = [event for _, event in server.entries()]
+            model = Model()
+            must(not any(model.desk.answer(event).startswith(b"refused") for event in entries), f"{tell}the journal has what is not accepted")
+            must(server.at("operator").ask(b"waiting") == model.waiting(), f"{tell}others wait than the journal says")
+            more, boarded = answered(told, entries, given)
+            boardings += more
+            must(boardings <= boarded, f"{tell}{boardings} boardings were answered, and the journal has {boarded}")
+            server.end()
+    must(total > at.words.kills and (lost > 0 or at.words.kills < 50), f"of {at.words.kills} kills none met an answer, or none a write: {total}, {lost}")
+    print(f"serve.py: {at.words.kills} kills, {total} answers before them, {lost} bytes that no disk had kept")
+
+
+def numbers(at):
+    """A day up to number 65,535, and 18 behind it; then started again."""
+    with tempfile.TemporaryDirectory(dir="/dev/shm" if os.access("/dev/shm", os.W_OK) else None) as quick:
+        count_to_the_end(at, Server(at.folder, journal=os.path.join(quick, "journal")))
+
+
+def count_to_the_end(at, server):
+    server.begin()
+    asker, most = server.at("office1"), 65535
+    sender = threading.Thread(target=lambda: asker.send(b"".join(b"file=1,1\nwithdraw=%d\n" % number for number in range(1, most + 1))))
+    sender.start()
+    for number in range(1, most + 1):
+        must((asker.answer(), asker.answer()) == (b"filed=1,%d\n" % number, b"withdrawn=1,%d\n" % number), f"number {number} is answered otherwise")
+    sender.join()
+    must(asker.ask(b"file=1,1") == b"refused=18\nplace=0\n" and server.at("office2").ask(b"file=1,1") == b"filed=2,1\n", "after number 65,535 it goes on otherwise")
+    server.end()
+    began = time.monotonic()
+    must(server.begin() == 2 * most + 1, "started again, another number of events")
+    print(f"serve.py: started again with {2 * most + 1} events in {time.monotonic() - began:.2f} s")
+    must(server.at("office1").ask(b"file=1,1") == b"refused=18\nplace=0\n" and server.at("office1").ask(b"waiting").endswith(b"waiting=0,1\n"), "started again, it goes on otherwise")
+    server.end()
+    if at.words.long:
+        done = subprocess.run([COMMAND, "desk", "--replay", server.journal], capture_output=True, timeout=600)
+        must(done.returncode == 0 and done.stdout.count(b"filed=") == most + 1 and done.stdout.endswith(b"waiting=0,1\n"), f"replayed: {done.stdout[-100:]!r}")
+
+
+def fuzz(at):
+    """Anything at all, at every window, for so many seconds: the server goes on."""
+    server, draw, ends, count = Server(at.folder), random.Random(at.words.seed), time.monotonic() + at.words.fuzz, 0
+    server.begin()
+    pieces = [b"file=", b"withdraw=", b"board=", b"waiting", b",", b"\n", b"\n", b"\n", b"1", b"2", b"16", b"128", b"65536", b"18446744073709551615", b"\0", b"\xff", b"#", b"=", b"x" * 199]
+    while time.monotonic() < ends:
+        askers = [server.at(draw.choice(WINDOWS)) for _ in range(draw.randrange(1, 9))]
+        for _ in range(draw.randrange(1, 40)):
+            asker = draw.choice(askers)
+            try:
+                asker.socket.setblocking(False)
+                asker.send(b"".join(draw.choice(pieces) for _ in range(draw.randrange(1, 60))))
+                count += 1
+                if draw.random() < 0.5:
+                    asker.socket.recv(draw.randrange(1, 5000))
+                if draw.random() < 0.05:
+                    asker.socket.shutdown(draw.choice((socket.SHUT_RD, socket.SHUT_WR)))
+            except (BlockingIOError, OSError):
+                pass
+        [asker.close() for asker in askers]
+        must(server.call.poll() is None, f"seed {at.words.seed}: the server has ended with {server.call.poll()}")
+    said = server.at("operator").ask(b"waiting")
+    must(b"waiting=" in said, f"after all that the answer is {said!r}")
+    server.end()
+    server.begin()
+    must(server.at("operator").ask(b"waiting") == said, "started again, others wait")
+    server.end()
+    print(f"serve.py: {count} pieces of anything in {at.words.fuzz} s")
+
+
+def until(true, otherwise):
+    for _ in range(200):
+        if true():
+            return
+        time.sleep(0.02)
+    raise Wrong(otherwise())
+
+
+TESTS = (protocol, days, asking, stalling, crowds, starting, damage, full, failing, kills, numbers, fuzz)
+
+
+class At:
+    def __init__(self, words, folder, shim):
+        self.words, self.folder, self.shim = words, folder, shim
+
+
+def main():
+    reader = argparse.ArgumentParser(description=__doc__.split("\n")[0])
+    reader.add_argument("--only", choices=[one.__name__ for one in TESTS], help="this test alone")
+    reader.add_argument("--long", action="store_true", help="what takes longer")
+    reader.add_argument("--kills", type=int, help="kills under load (default 150; long 5000)")
+    reader.add_argument("--days", type=int, help="drawn days (default 5; long 200)")
+    reader.add_argument("--connections", type=int, help="connections in turn (default 1000; long 10000)")
+    reader.add_argument("--fuzz", type=int, help="seconds of anything (default 3; long 1800)")
+    reader.add_argument("--seed", type=int, default=1)
+    words = reader.parse_args()
+    for name, short, long in (("kills", 150, 5000), ("days", 5, 200), ("connections", 1000, 10000), ("fuzz", 3, 1800)):
+        if getattr(words, name) is None:
+            setattr(words, name, long if words.long else short)
+    subprocess.run([os.path.join(programs.ROOT, "violstream"), "version"], check=True, stdout=subprocess.DEVNULL)
+    if os.uname().machine != "x86_64":
+        print("serve.py: left out, the library that serve needs is for x86-64")
+        return
+    tried = [one for one in TESTS if words.only in (None, one.__name__)]
+    with tempfile.TemporaryDirectory() as folder:
+        shim = os.path.join(folder, "disk.so")
+        source = os.path.join(programs.ROOT, "tests/c/disk.c")
+        subprocess.run([os.environ.get("CC", "cc"), "-O1", "-Wall", "-Wextra", "-Werror", "-shared", "-fPIC", source, "-o", shim, "-ldl"], check=True)
+        for one in tried:
+            began = time.monotonic()
+            within = os.path.join(folder, one.__name__)
+            os.makedirs(within)
+            try:
+                one(At(words, within, shim))
+            except Wrong as wrong:
+                sys.exit(f"serve.py: {one.__name__}: {wrong}")
+            if words.long:
+                print(f"serve.py: {one.__name__}: {time.monotonic() - began:.0f} s", flush=True)
+    print(f"serve.py: the server does what it must; tests: {', '.join(one.__name__ for one in tried)}")
+
+
+if __name__ == "__main__":
+    main()

@@ -1,0 +1,34 @@
+# shellcheck shell=sh disable=SC2086,SC2154  # words before cargo; what the script sets that reads this file
+# How cargo compiles the command: lay_out and compile, for the script at the top of the checkout, which sets what they go by (here, built, made, archive,
+# registry, cargo, ending).
+
+# A folder of the command's own for cargo, so that nothing is written beside the sources; its lock file takes the registry's checksums there.
+lay_out() {
+    mkdir -p "$here/target/command" && { [ -d "$made" ] || mkdir -m 700 "$made"; } && mkdir -p "$made/crate/.cargo" || return 1
+    for name in Cargo.toml src help; do
+        ln -sfn "$here/command/$name" "$made/crate/$name" || return 1
+    done
+    if [ -d "$registry/clap-4.0.32" ]; then
+        printf '[net]\noffline = true\n[source.crates-io]\nreplace-with = "debian"\n[source.debian]\ndirectory = "%s"\n' "$registry"
+    fi > "$made/crate/.cargo/config.toml"
+    cp "$here/command/Cargo.lock" "$made/crate/Cargo.lock"
+}
+
+# With the library where it is there, for this processor, and has the calls of serve. Of other bytes it stands in another folder, so that cargo sees that
+# there is something to do. What was there is kept beside the command, which knows by it whether to be compiled again.
+compile() {
+    library=$made/linked.$$
+    if [ -f "$archive" ]; then cp "$archive" "$library"; else : > "$library"; fi || return 1
+    set --
+    if [ "$(uname -m)" = x86_64 ] && grep -q violstream_waiting "$library"; then
+        sum=$(cksum < "$library") && sum=$made/library.${sum%% *} && mkdir -p "$sum" && cp "$library" "$sum/libviolstream.a" || return 1
+        set -- --features library -- -L "native=$sum"
+    fi
+    # What would have cargo build something else, or write elsewhere.
+    unset -v CARGO_BUILD_RUSTFLAGS CARGO_BUILD_TARGET CARGO_ENCODED_RUSTFLAGS RUSTC RUSTC_WRAPPER RUSTFLAGS
+    [ ! -s "$made/crate/.cargo/config.toml" ] || export CARGO_HOME="$made/home"
+    (cd "$made/crate" && exec $ending nice -n 5 "$cargo" rustc --release --target-dir "$made/target" "$@") > "$made/log" 2>&1 || { grep -m 5 -E '^error' "$made/log" >&2; rm -f "$library"; return 1; }
+    rm -f "$built".[0-9]*
+    # At once, and whole.
+    cp "$made/target/release/violstream" "$built.$$" && mv -f "$built.$$" "$built" && mv -f "$library" "${built%/*}/linked.a"
+}
