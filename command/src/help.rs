@@ -7,7 +7,7 @@ use crate::usage;
 use std::path::Path;
 
 const WHOLE: &str = include_str!("../help/whole.txt");
-const EACH: [(&str, &str); 21] = [
+const EACH: [(&str, &str); 23] = [
     ("plan", include_str!("../help/plan.txt")),
     ("field", include_str!("../help/field.txt")),
     ("buys", include_str!("../help/buys.txt")),

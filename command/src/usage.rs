@@ -31,7 +31,7 @@ const fn known(name: &'static str, synopsis: &'static str, about: &'static str, 
     Known { name, synopsis, about, options, words }
 }
 
-pub const COMMANDS: [Known; 21] = [
+pub const COMMANDS: [Known; 23] = [
     known("plan", "[--any] [--json] [FILE...]", "the plan sheet of each run sheet", &["any", "json"], Words::Files),
     known("field", "[FILE...]", "the same by the plain engine, for at most eight wants", &[], Words::Files),
     known("buys", "[--json] [FILE...]", "what each detour of a plan buys", &["json"], Words::Files),
