@@ -4,7 +4,7 @@
 usage: tests/python/rows.py
 
 Judged is each cmd_X, and cmd_desk function by function, since each of its three has a row of its own: every row that it prints must be in the table below, have
-as many bytes as the definition named there says, and be printed from its front. The row of an event is that of RowTakesEveryAnswer (DeskDays). The line of those
+as many bytes as the definition named there says, and be printed from its front; it may come from a function of the program that gives it. The row of an event is that of RowTakesEveryAnswer (DeskDays). The line of those
 who wait must be put as WaitingIsWhole says. A row that is a byte short is planted in each program, and another text in these functions, and must be found.
 """
 import os
@@ -36,6 +36,7 @@ PUT = {
 }
 NUMBER = re.compile(r"^(\w+Row) = (\d+)$", re.M)
 ROW = re.compile(r"let mut (\w+) = \[0u8; (\d+)\];")
+GIVEN = re.compile(r"let mut (\w+) = (\w+)\(\);")
 PRINTED = re.compile(r"io::write_all\(\s*STD\w+,\s*([^;]*)\);")
 FRONT = re.compile(r"(?:text_inputs::)?front\(&(\w+),[^&]*\)$")
 EVENT = re.compile(r"^RowTakesEveryAnswer =$.*?^    → (\d+) ≤ length out$", re.M | re.S)
@@ -49,7 +50,9 @@ def read(path):
 
 def judged(name, text, numbers):
     """What is wrong with the rows of a program, or of a function of one."""
-    rows, printed = dict(ROW.findall(text)), [FRONT.match(what.strip()) for what in PRINTED.findall(text)]
+    rows = dict(ROW.findall(text)) | {row: size for row, giver in GIVEN.findall(text)
+                                      for size in re.findall(rf"fn {giver}\(\) -> \[u8; (\d+)\] {{\n    \[0u8; \1\]\n", text)}
+    printed = [FRONT.match(what.strip()) for what in PRINTED.findall(text)]
     if not printed or None in printed or {p[1] for p in printed} != set(ROWS[name]):
         return [f"cmd_{name}: what it prints is not the fronts of {', '.join(ROWS[name])}"]
     if name in PUT and text.count(PUT[name]) != 1:
@@ -68,7 +71,7 @@ def main():
     found = [wrong for name in ROWS for wrong in judged(name, texts[name], numbers)]
     for name, rows in ROWS.items():
         for row, number in rows.items():
-            short = texts[name].replace(f"let mut {row} = [0u8; {numbers[number]}]", f"let mut {row} = [0u8; {int(numbers[number]) - 1}]")
+            short = re.sub(rf"\b{numbers[number]}\b", str(int(numbers[number]) - 1), texts[name])
             found += [] if judged(name, short, numbers) else [f"a row {row} of cmd_{name} that is a byte short is not found"]
     found += [f"another text of cmd_{name} is not found" for name, put in PUT.items() if not judged(name, texts[name].replace(put, put.replace("(", "s(")), numbers)]
     if found:

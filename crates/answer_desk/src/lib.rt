@@ -207,6 +207,12 @@ fn lesser(a: usize, b: usize) -> usize
     if a < b { a } else { b }
 }
 
+// The most room that a boarding uses. A long row comes from a function of its own: where it is made and lent in one, the check counts its entries one
+// by one.
+fn empty_room() -> [u64; 65600] {
+    [0u64; 65600]
+}
+
 // How many bytes the text of a boarding in so many words of room has; 0 where it is refused. The text is made in rows of its own.
 fn rehearse(
     len: usize,
@@ -219,7 +225,7 @@ fn rehearse(
 ) -> u64
     ensures { λ r. ⌜ Rehearsed len (tapeAt starts lengths aggregates) day boarding words r ⌝ }
 {
-    let mut room = [0u64; 65600];
+    let mut room = empty_room();
     let mut out = [0u8; 2677];
     let n = lesser(words, MOST_ROOM);
     let told = board_now(

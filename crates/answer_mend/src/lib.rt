@@ -81,6 +81,15 @@ fn hand_both(text: &[u8], changes: &[u8], out: &mut [u8], notes: &mut [u8]) -> M
     }
 }
 
+// Long rows come from functions of their own: where one is made and lent in one function, the check counts its entries one by one.
+fn blank_page() -> [u8; 19483] {
+    [0u8; 19483]
+}
+
+fn blank_list() -> [u8; 98424] {
+    [0u8; 98424]
+}
+
 fn write_mended(
     sheet: &[u8],
     parts: Parts,
@@ -93,9 +102,9 @@ fn write_mended(
     requires { ⌜ Writable (now sheet) parts (now wanted) (now counts) (now row) ⌝ }
     ensures { λ r. ⌜ MendHanded (firstOf (textsVerdicts (mendedText (now (sheet .entry))) (changesText (now (sheet .entry))) (now (out .entry)) (now (notes .entry)))) (mendedText (now (sheet .entry))) (changesText (now (sheet .entry))) (now (out .entry)) (now (notes .entry)) r (now (out .exit)) (now (notes .exit)) ⌝ }
 {
-    let mut page = [0u8; 19483];
+    let mut page = blank_page();
     let bytes = put_sheet(&mut page, sheet, parts, wanted, counts, row);
-    let mut list = [0u8; 98424];
+    let mut list = blank_list();
     let noted = put_changes(&mut list, sheet, parts, wanted, counts, row);
     hand_both(&page[..bytes], &list[..noted], out, notes)
 }

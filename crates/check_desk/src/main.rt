@@ -97,14 +97,19 @@ fn mixed(before: u64, value: u64) -> u64 {
     (before % 2147483647 * 31 + value % 2147483647) % 2147483647
 }
 
-fn mixed_row(before: u64, row: &[u64; 8]) -> u64 {
+// The first n of eight numbers.
+fn mixed_first(before: u64, row: [u64; 8], n: usize) -> u64 {
     let mut sum = before;
     let mut i: usize = 0;
-    while i < 8 {
-        sum = mixed(sum, row[i]);
+    while i < n {
+        sum = mixed(sum, row[i % 8]);
         i += 1;
     }
     sum
+}
+
+fn mixed_row(before: u64, row: [u64; 8]) -> u64 {
+    mixed_first(before, row, 8)
 }
 
 fn mixed_table(before: u64, table: [Ticket; 32]) -> u64 {
@@ -112,10 +117,7 @@ fn mixed_table(before: u64, table: [Ticket; 32]) -> u64 {
     let mut i: usize = 0;
     while i < 32 {
         let t = table[i];
-        sum = mixed(
-            mixed(mixed(mixed(sum, t.office), t.file), t.count),
-            t.number,
-        );
+        sum = mixed_first(sum, [t.office, t.file, t.count, t.number, 0, 0, 0, 0], 4);
         i += 1;
     }
     sum
@@ -156,12 +158,20 @@ fn file(day: Day, len: usize, filing: Filing) -> Day {
     let kind = verdict.refusal;
     let lasts = answer.lasts;
     let after = done.row;
-    let mut sum = mixed(mixed(day.sum, number(kind)), verdict.place);
-    sum = mixed(mixed(mixed(sum, answer.number), lasts.one), lasts.two);
+    let told = [
+        number(kind),
+        verdict.place,
+        answer.number,
+        lasts.one,
+        lasts.two,
+        0,
+        0,
+        0,
+    ];
     Day {
         table: after,
         lasts,
-        sum: mixed_table(sum, after),
+        sum: mixed_table(mixed_first(day.sum, told, 5), after),
     }
 }
 
@@ -183,12 +193,20 @@ fn withdraw(day: Day, len: usize, withdrawal: Withdrawal) -> Day {
     let kind = verdict.refusal;
     let lasts = answer.lasts;
     let after = done.row;
-    let mut sum = mixed(mixed(day.sum, number(kind)), verdict.place);
-    sum = mixed(mixed(sum, lasts.one), lasts.two);
+    let told = [
+        number(kind),
+        verdict.place,
+        lasts.one,
+        lasts.two,
+        0,
+        0,
+        0,
+        0,
+    ];
     Day {
         table: after,
         lasts,
-        sum: mixed_table(sum, after),
+        sum: mixed_table(mixed_first(day.sum, told, 4), after),
     }
 }
 
@@ -202,13 +220,37 @@ fn mixed_boarding(before: u64, done: BoardedRow) -> u64 {
     let numbers = wants.numbers;
     let counts = wants.counts;
     let lasts = boarded.lasts;
-    let mut sum = mixed(mixed(before, number(kind)), answer.place);
-    sum = mixed(mixed(sum, answer.sum), answer.finish);
-    sum = mixed(mixed(sum, answer.end), answer.detours);
-    sum = mixed(mixed(sum, taken.one as u64), taken.two as u64);
-    sum = mixed(sum, wants.k as u64);
-    sum = mixed(mixed(sum, lasts.one), lasts.two);
-    mixed_row(mixed_row(sum, &numbers), &counts)
+    let told = [
+        number(kind),
+        answer.place,
+        answer.sum,
+        answer.finish,
+        answer.end,
+        answer.detours,
+        taken.one as u64,
+        taken.two as u64,
+    ];
+    let more = [wants.k as u64, lasts.one, lasts.two, 0, 0, 0, 0, 0];
+    let sum = mixed_first(mixed_row(before, told), more, 3);
+    mixed_row(mixed_row(sum, numbers), counts)
+}
+
+// The rows that were lent, of the room three words.
+fn mixed_rows(
+    before: u64,
+    froms: [u64; 8],
+    tos: [u64; 8],
+    times: [u64; 8],
+    legs: [u64; 8],
+    words: [u64; 8],
+) -> u64 {
+    let list = mixed_row(mixed_row(before, froms), tos);
+    mixed_first(mixed_row(mixed_row(list, times), legs), words, 3)
+}
+
+// Long room comes from a function of its own: where a row is made and lent in one, the check counts its entries one by one.
+fn some_room() -> [u64; 65600] {
+    [9u64; 65600]
 }
 
 fn board(day: Day, len: usize, boarding: Boarding, entries: usize, words: usize) -> Day {
@@ -216,7 +258,7 @@ fn board(day: Day, len: usize, boarding: Boarding, entries: usize, words: usize)
     let mut tos = [9u64; 8];
     let mut times = [9u64; 8];
     let mut legs = [9u64; 8];
-    let mut room = [9u64; 65600];
+    let mut room = some_room();
     let table = day.table;
     let n = entries % 9;
     let w = words % 65601;
@@ -233,10 +275,8 @@ fn board(day: Day, len: usize, boarding: Boarding, entries: usize, words: usize)
         &mut legs[..n],
         &mut room[..w],
     );
-    let mut sum = mixed_boarding(day.sum, done);
-    sum = mixed_row(mixed_row(sum, &froms), &tos);
-    sum = mixed_row(mixed_row(sum, &times), &legs);
-    sum = mixed(mixed(mixed(sum, room[0]), room[63]), room[199]);
+    let seen = [room[0], room[63], room[199], 0, 0, 0, 0, 0];
+    let sum = mixed_rows(mixed_boarding(day.sum, done), froms, tos, times, legs, seen);
     let after = done.row;
     let answer = done.boarded;
     let lasts = answer.lasts;

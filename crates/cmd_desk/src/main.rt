@@ -79,6 +79,13 @@ fn placed(verdict: Verdict, place: u64) -> Verdict {
     verdict
 }
 
+// Room enough for every boarding. A long row comes from a function of its own: where it is made and lent in one, the check counts its entries one by one.
+fn empty_room() -> [u64; 65600]
+    ensures { λ r. ⌜ mostRoom ≤ length r ⌝ }
+{
+    [0u64; 65600]
+}
+
 // Whether a line was cut off at the end of its row.
 fn is_cut(line: &[u8; 68], n: usize) -> bool {
     if n == 68 {
@@ -118,7 +125,7 @@ fn place_of(before: u64, line: &[u8; 68], n: usize) -> u64 {
 // digits, two commas and the LF.
 fn take_event(day: Day, before: u64, starts: &[u64], lengths: &[u64], aggregates: &[u64]) -> Step {
     let mut line = [0u8; 68];
-    let mut room = [0u64; 65600];
+    let mut room = empty_room();
     let mut out = [0u8; 2677];
     let n = text_inputs::read_line(&mut line);
     if n == 0 {

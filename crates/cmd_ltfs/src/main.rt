@@ -6,9 +6,14 @@ use libc::STDIN_FILENO;
 use libc::STDOUT_FILENO;
 use text_inputs::front;
 
+// A long row comes from a function of its own: where it is made and lent in one, the check counts its entries one by one.
+fn empty_input() -> [u8; 524289] {
+    [0u8; 524289]
+}
+
 // A byte more than an input may have is read. No sheet and no refusal is longer than the first row, and no report than the second.
 fn main() {
-    let mut input = [0u8; 524289];
+    let mut input = empty_input();
     let mut out = [0u8; 16384];
     let mut notes = [0u8; 54];
     let n = io::read_full(STDIN_FILENO, &mut input);

@@ -7,11 +7,16 @@ use refusals::Verdict;
 use refusals::refused;
 use text_inputs::front;
 
+// A long row comes from a function of its own: where it is made and lent in one, the check counts its entries one by one.
+fn empty_notes() -> [u8; 98424] {
+    [0u8; 98424]
+}
+
 // A byte more than a sheet may have is read. No mended sheet is longer than a sheet may be, and there are fewer changes than fill the row for them.
 fn main() {
     let mut sheet = [0u8; 16385];
     let mut out = [0u8; 16384];
-    let mut notes = [0u8; 98424];
+    let mut notes = empty_notes();
     let n = io::read_full(STDIN_FILENO, &mut sheet);
     let mended = answer_mend::mend(&sheet[..n], &mut out, &mut notes);
     let refusal = mended.refusal;

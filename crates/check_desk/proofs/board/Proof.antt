@@ -6,6 +6,9 @@ use borrow.Author.Needs.{needs}
 use Rattle.check_desk.proofs.board.Statement.{statement}
 use Rattle.check_desk.proofs.board.Tie as tie
 
+some-room-requires : tie.Need-some-room-requires
+some-room-requires c κs = search needs
+
 slice-aggregate-board-in : tie.Need-slice-aggregate-board-in
 slice-aggregate-board-in c = search needs
 
@@ -39,38 +42,20 @@ slice-aggregate-board-in-8 c = sym (length-take-le _ _ (array-borrow-prefix-room
 board-in-requires : tie.Need-board-in-requires
 board-in-requires c κs = search needs
 
+array-read-mixed-rows : tie.Need-array-read-mixed-rows
+array-read-mixed-rows c = search needs
+
+array-read-t45 : tie.Need-array-read-t45
+array-read-t45 c = search needs
+
+array-read-t48 : tie.Need-array-read-t48
+array-read-t48 c = search needs
+
 mixed-boarding-requires : tie.Need-mixed-boarding-requires
 mixed-boarding-requires c κs = search needs
 
-mixed-row-requires : tie.Need-mixed-row-requires
-mixed-row-requires c κs = search needs
-
-mixed-row-requires-2 : tie.Need-mixed-row-requires-2
-mixed-row-requires-2 c κs = search needs
-
-mixed-row-requires-3 : tie.Need-mixed-row-requires-3
-mixed-row-requires-3 c κs = search needs
-
-mixed-row-requires-4 : tie.Need-mixed-row-requires-4
-mixed-row-requires-4 c κs = search needs
-
-array-read-mixed : tie.Need-array-read-mixed
-array-read-mixed c = search needs
-
-mixed-requires : tie.Need-mixed-requires
-mixed-requires c κs = search needs
-
-array-read-mixed-2 : tie.Need-array-read-mixed-2
-array-read-mixed-2 c = search needs
-
-mixed-requires-2 : tie.Need-mixed-requires-2
-mixed-requires-2 c κs = search needs
-
-array-read-mixed-3 : tie.Need-array-read-mixed-3
-array-read-mixed-3 c = search needs
-
-mixed-requires-3 : tie.Need-mixed-requires-3
-mixed-requires-3 c κs = search needs
+mixed-rows-requires : tie.Need-mixed-rows-requires
+mixed-rows-requires c κs = search needs
 
 mixed-table-requires : tie.Need-mixed-table-requires
 mixed-table-requires c κs = search needs
@@ -82,6 +67,7 @@ pub board-spec : {M : Type 1} → statement M
 board-spec =
     tie.close
     (tie.spec
+    some-room-requires
     slice-aggregate-board-in
     slice-aggregate-board-in-2
     slice-aggregate-board-in-3
@@ -93,16 +79,10 @@ board-spec =
     array-borrow-prefix-room
     slice-aggregate-board-in-8
     board-in-requires
+    array-read-mixed-rows
+    array-read-t45
+    array-read-t48
     mixed-boarding-requires
-    mixed-row-requires
-    mixed-row-requires-2
-    mixed-row-requires-3
-    mixed-row-requires-4
-    array-read-mixed
-    mixed-requires
-    array-read-mixed-2
-    mixed-requires-2
-    array-read-mixed-3
-    mixed-requires-3
+    mixed-rows-requires
     mixed-table-requires
     returns)

@@ -20,17 +20,8 @@ mul-t c = search needs
 array-copy-out-t : tie.Need-array-copy-out-t Inv-loop μ-loop
 array-copy-out-t c = search needs
 
-mixed-requires : tie.Need-mixed-requires Inv-loop μ-loop
-mixed-requires c κs = search needs
-
-mixed-requires-2 : tie.Need-mixed-requires-2 Inv-loop μ-loop
-mixed-requires-2 c κs = search needs
-
-mixed-requires-3 : tie.Need-mixed-requires-3 Inv-loop μ-loop
-mixed-requires-3 c κs = search needs
-
-mixed-requires-4 : tie.Need-mixed-requires-4 Inv-loop μ-loop
-mixed-requires-4 c κs = search needs
+mixed-first-requires : tie.Need-mixed-first-requires Inv-loop μ-loop
+mixed-first-requires c κs = search needs
 
 add-i : tie.Need-add-i Inv-loop μ-loop
 add-i c = search needs
@@ -53,10 +44,7 @@ mixed-table-spec =
     loop-holds
     mul-t
     array-copy-out-t
-    mixed-requires
-    mixed-requires-2
-    mixed-requires-3
-    mixed-requires-4
+    mixed-first-requires
     add-i
     loop-less
     loop-again

@@ -1,15 +1,15 @@
--- `check_desk::mixed_row` is safe and ends.
+-- `check_desk::mixed_first` is safe and ends.
 -- Assumes nothing.
 use borrow.Author.Needs.{needs}
 use Prim.Native.Nat.{_-_}
-use Rattle.check_desk.proofs.mixed_row.Statement.{statement}
-use Rattle.check_desk.proofs.mixed_row.Tie as tie
+use Rattle.check_desk.proofs.mixed_first.Statement.{statement}
+use Rattle.check_desk.proofs.mixed_first.Tie as tie
 
 abbrev Inv-loop : tie.InvT-loop
-Inv-loop before row sum₀ i₀ sum i = Unit {0}
+Inv-loop before n row sum₀ i₀ sum i = Unit {0}
 
 abbrev μ-loop : tie.MeasureT-loop
-μ-loop before row sum₀ i₀ sum i = 8 - i
+μ-loop before n row sum₀ i₀ sum i = n - i
 
 loop-holds : tie.Need-loop-holds Inv-loop μ-loop
 loop-holds c = tt
@@ -17,8 +17,8 @@ loop-holds c = tt
 mul-mixed : tie.Need-mul-mixed Inv-loop μ-loop
 mul-mixed c = search needs
 
-element-copy-out-mixed : tie.Need-element-copy-out-mixed Inv-loop μ-loop
-element-copy-out-mixed c = search needs
+array-read-mixed : tie.Need-array-read-mixed Inv-loop μ-loop
+array-read-mixed c = search needs
 
 mixed-requires : tie.Need-mixed-requires Inv-loop μ-loop
 mixed-requires c κs = search needs
@@ -35,15 +35,15 @@ loop-again c = tt
 returns : tie.Need-returns Inv-loop μ-loop
 returns c = search needs
 
-pub mixed-row-spec : {M : Type 1} → statement M
-mixed-row-spec =
+pub mixed-first-spec : {M : Type 1} → statement M
+mixed-first-spec =
     tie.close
     (tie.spec
     Inv-loop
     μ-loop
     loop-holds
     mul-mixed
-    element-copy-out-mixed
+    array-read-mixed
     mixed-requires
     add-i
     loop-less
