@@ -130,6 +130,8 @@ command_installed() {
     same "the installed command's plain engine" "$here/examples/VX0041.plan" "$out/field.is"
     step "the installed command's figures" env -u RATTLE_HOME PATH="${path%:}" "$prefix/bin/violstream" buys "$here/examples/VX0041.run" > "$out/buys.is"
     same "the installed command's figures" "$here/crates/cmd_buys/stdout" "$out/buys.is"
+    step "the installed command's figures for a head anywhere" env -u RATTLE_HOME PATH="${path%:}" "$prefix/bin/violstream" buys --any "$here/examples/mounted-3.run" > "$out/buys.is"
+    same "the installed command's figures for a head anywhere" "$here/crates/cmd_buys_any/stdout" "$out/buys.is"
     step "the installed command's price" env -u RATTLE_HOME PATH="${path%:}" "$prefix/bin/violstream" price "$here/examples/VX0041.run" "$here/examples/VX0041.list" > "$out/price.is"
     same "the installed command's price" "$here/crates/cmd_price/stdout" "$out/price.is"
     printf 'formed=yes\nwalk=yes\nleast=yes\n' > "$out/check.must"
@@ -276,6 +278,7 @@ run python/plan --any
 run python/field
 [ -n "$only" ] || run python/field --sheets "$out/c.sheets" --sheets "$out/rust.sheets"
 run python/buys
+run python/buys --any
 run python/check
 run python/rewrite
 run python/mend

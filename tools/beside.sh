@@ -13,14 +13,14 @@ fi
 needed_by() {
     case ${1:-} in
         plan | field | buys | price | check | rewrite | mend | month | ltfs | desk) needed=cmd_$1 ;;
-        explain | build | install | deb) needed=cmd_plan ;;
-        record) needed=cmd_plan_any ;;
+        build | install | deb) needed=cmd_plan ;;
+        explain | record) needed=cmd_plan_any ;;
         audit) needed=cmd_check ;;
         *) return 1 ;;
     esac
     for word in "$@"; do
         case $needed:$word in
-            cmd_plan:--any) needed=cmd_plan_any ;;
+            cmd_plan:--any | cmd_buys:--any) needed=${needed}_any ;;
             *:--help | *:-h | *:--version) return 1 ;;
         esac
     done

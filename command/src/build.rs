@@ -24,11 +24,12 @@ use std::process::{Child, Command, Stdio};
 use std::time::{Duration, Instant, SystemTime};
 
 /// The programs, and for how many minutes at most everything under each is proved on two idle cores (docs/landings).
-pub const PROGRAMS: [(&str, u32); 11] = [
+pub const PROGRAMS: [(&str, u32); 12] = [
     ("cmd_plan", 3),
     ("cmd_plan_any", 4),
     ("cmd_field", 5),
     ("cmd_buys", 5),
+    ("cmd_buys_any", 5),
     ("cmd_price", 5),
     ("cmd_check", 5),
     ("cmd_rewrite", 3),

@@ -34,7 +34,7 @@ const fn known(name: &'static str, synopsis: &'static str, about: &'static str, 
 pub const COMMANDS: [Known; 23] = [
     known("plan", "[--any] [--json] [FILE...]", "the plan sheet of each run sheet", &["any", "json"], Words::Files),
     known("field", "[FILE...]", "the same by the plain engine, for at most eight wants", &[], Words::Files),
-    known("buys", "[--json] [FILE...]", "what each detour of a plan buys", &["json"], Words::Files),
+    known("buys", "[--any] [--json] [FILE...]", "what each detour of a plan buys", &["any", "json"], Words::Files),
     known("price", "RUN LIST", "the plan sheet of a list of your own", &[], Words::Files),
     known("check", "[--json] RUN PLAN", "whether a plan sheet is right", &["json"], Words::Files),
     known("explain", "[--svg FILE] RUN", "the plan for a person, and its picture", &["svg"], Words::Files),

@@ -23,7 +23,7 @@ from plan import answer, cases as sheets_of_plan, sheet_of
 
 LIMIT = 120
 BUILT = "target/command/violstream"
-PROGRAMS = ("cmd_plan", "cmd_plan_any", "cmd_field", "cmd_buys", "cmd_price", "cmd_check", "cmd_rewrite", "cmd_mend", "cmd_month", "cmd_ltfs", "cmd_desk")
+PROGRAMS = ("cmd_plan", "cmd_plan_any", "cmd_field", "cmd_buys", "cmd_buys_any", "cmd_price", "cmd_check", "cmd_rewrite", "cmd_mend", "cmd_month", "cmd_ltfs", "cmd_desk")
 ARCHIVE = b"!<arch>\n"
 LABEL, INDEX = "examples/ltfs/VX0041.label.xml", "examples/ltfs/VX0041.index.xml"
 
@@ -142,19 +142,20 @@ def any_run(at):
     head = 'the head (line 2, "head=0") stands left of 50, the end of file 3, the rightmost wanted file (line 8, "file=20,30,0")'
     named, above = "; plan --any takes the head where it stands\n", 'the head (line 2, "head=1099511627777") stands above 1099511627776 (2^40)\n'
     at.must("./violstream plan examples/mounted.run", 3, refusal(7), [f"violstream: examples/mounted.run: refused (7): {head}{named}"])
-    for command in ("field", "buys", "explain"):
-        at.must(f"./violstream {command} examples/mounted.run", 3, refusal(7), [f"refused (7): {head}\n"])
-    for line in ("plan", "plan --any"):
+    at.must("./violstream field examples/mounted.run", 3, refusal(7), [f"refused (7): {head}\n"])
+    at.must("./violstream buys examples/mounted.run", 3, refusal(7), [f"refused (7): {head}; buys --any takes the head where it stands\n"])
+    for line in ("plan", "plan --any", "buys", "buys --any", "explain -"):
         at.must(f"./violstream {line}", 3, refusal(7), [f"refused (7): {above}"], data=changed(2, b"head=1099511627777"))
     many = changed(10, b"want=1,564")
     room = "3 wants with 568 reads in all ask for 3 * 3 * 569 = 5121 words of working room; there are 5120"
     at.must("./violstream plan", 3, refusal(9), [f"refused (9): {room}, and plan --any has 655360\n"], data=many)
-    at.must("./violstream buys", 3, refusal(9), [f"refused (9): {room}\n"], data=many)
+    at.must("./violstream buys", 3, refusal(9), [f"refused (9): {room}, and buys --any has 655360\n"], data=many)
     at.must("./violstream plan --any", 0, answer(many, True), data=many, silent=True)
     at.must("./violstream plan --any | sed -n 3p", 0, b"reads=159\n", data=sheet_of(64, 159), silent=True)
     room = "64 wants with 160 reads in all ask for 64 * 64 * 161 = 659456 words of working room; "
     at.must("./violstream plan", 3, refusal(9), [f"refused (9): {room}there are 5120, and plan --any has 655360\n"], data=sheet_of(64, 160))
-    at.must("./violstream plan --any", 3, refusal(9), [f"refused (9): {room}plan --any has 655360 (5 MiB), and no command has more\n"], data=sheet_of(64, 160))
+    for line, command in (("plan --any", "plan --any"), ("buys --any", "buys --any"), ("explain -", "explain")):
+        at.must(f"./violstream {line}", 3, refusal(9), [f"refused (9): {room}{command} has 655360 (5 MiB), and no command has more\n"], data=sheet_of(64, 160))
 
 
 def figures(at):
@@ -167,6 +168,12 @@ def figures(at):
     at.must("./violstream buys examples/VX0041.run no-such examples/VX0041.plan", 1,
             b"sheet=examples/VX0041.run\n" + bought + b"sheet=examples/VX0041.plan\n" + refusal(11, 2), ["cannot read no-such", "examples/VX0041.plan: refused (11)"])
     at.must("./violstream buys examples/VX0041.run > /dev/full", 1, b"", ["cannot write to standard output"])
+    # With the head anywhere.
+    for line in ("--any examples/mounted-3.run", "examples/mounted-3.run --any", "--any < examples/mounted-3.run"):
+        at.must(f"./violstream buys {line}", 0, b"tape=VX0041\nsum=308\ndetours=1\nbuys=3,3,18\n", silent=True)
+    at.must("./violstream buys --any examples/VX0041.run", 0, bought, silent=True)
+    at.must("./violstream buys --any examples/mounted.run", 0, b"tape=VX0041\nsum=107\ndetours=0\n", silent=True)
+    at.must("./violstream buys --any", 3, refusal(11, 3), ["refused (11): line 3"], data=changed(3, b"turn=x"))
 
 
 def pairs(at):
@@ -218,6 +225,16 @@ def explained(at):
     picture = open(at.path("picture.svg"), "rb").read()
     if picture.count(b'class="read"') != 3 or picture.count(b'class="wanted"') != 3 or not picture.endswith(b"</svg>\n"):
         raise Wrong(f"the picture is {picture!r}")
+    # The head where it stands, left of what is wanted: it goes right at once, and the picture reaches to where it goes.
+    for run, parts in (("mounted", (b"sweep         0         0         1        50        51  1 at 11 (1), 2 at 15 (3), 3 at 51 (1)\n", b"the head turns where it stands", b"sum of this plan      107\n")),
+                       ("mounted-3", (b"    1        10        10         1        50        41  3 at 41 (5)\n", b"sweep        50         0        93        10       103  1 at 103 (1)\n", b"detour 3,3 buys 18\n"))):
+        text = at.shell(f"./violstream explain --svg picture.svg examples/{run}.run")[0]
+        for part in parts:
+            if part not in text:
+                raise Wrong(f"./violstream explain prints {text!r}, without {part!r}")
+        picture = open(at.path("picture.svg"), "rb").read()
+        if b'points="110.0,112.0 110.0,' not in picture and run == "mounted" or b' 910.0,' not in picture:
+            raise Wrong(f"the picture of {run} is {picture!r}")
     at.must("./violstream explain examples/retired-rule.run", 3, refusal(19, 4), ["refused (19)"])
     at.must("./violstream explain --svg no-such/picture.svg examples/VX0041.run", 1, b"", ["cannot write no-such/picture.svg"])
     at.must("./violstream explain examples/no-wants.run", 0, silent=True)
@@ -401,7 +418,7 @@ def statuses(at):
     at.must(f"./violstream ltfs vx0041 {LABEL} {INDEX}", 3, refusal(13))
     at.must(f"set -o pipefail; ./violstream ltfs VX0041 {INDEX} {INDEX} | ./violstream plan", 3, refusal(11, 1))
     at.must("./violstream help", 0, silent=True)
-    for line in ("nothing", "plan -x", "plan - -", "field -x", "field - -", "buys -x", "buys - -", "price", "price A", "price A B C", "price -x A", "check A", "check - -", "explain", "explain A B", "explain --svg", "explain -x", "rewrite -x", "rewrite - -", "mend -x", "mend - -", "month -x", "month - -", "month a ''", "plan ''", "plan a ''", "price '' a", "explain --svg= a", "explain --svg a", "desk ''", "serve", "serve A", "serve --journal A B", "serve --windows A B", "serve --journal A --windows B", "serve --journal A --windows B C D", "serve --journal", "serve --journal= --windows A B", "serve -x", "ask", "ask ''", "ask -x A", "ask A $'a\\nb'", "install ''", "uninstall ''", "plan --json=1", "plan --any=1", "plan --any - -", "plan --any -x", "plan --any ''", "field --any", "buys --any", "field --json", "plan --svg a b", "help no-such", "help plan buys", "completions", "completions csh", "version x", "--no-such", "ltfs", "ltfs A B", "ltfs A B C D", "ltfs A - -", "ltfs -A B C", "install a", "install /a /b",
+    for line in ("nothing", "plan -x", "plan - -", "field -x", "field - -", "buys -x", "buys - -", "price", "price A", "price A B C", "price -x A", "check A", "check - -", "explain", "explain A B", "explain --svg", "explain -x", "rewrite -x", "rewrite - -", "mend -x", "mend - -", "month -x", "month - -", "month a ''", "plan ''", "plan a ''", "price '' a", "explain --svg= a", "explain --svg a", "desk ''", "serve", "serve A", "serve --journal A B", "serve --windows A B", "serve --journal A --windows B", "serve --journal A --windows B C D", "serve --journal", "serve --journal= --windows A B", "serve -x", "ask", "ask ''", "ask -x A", "ask A $'a\\nb'", "install ''", "uninstall ''", "plan --json=1", "plan --any=1", "plan --any - -", "plan --any -x", "plan --any ''", "field --any", "buys --any=1", "buys --any - -", "price --any", "field --json", "plan --svg a b", "help no-such", "help plan buys", "completions", "completions csh", "version x", "--no-such", "ltfs", "ltfs A B", "ltfs A B C D", "ltfs A - -", "ltfs -A B C", "install a", "install /a /b",
                  "uninstall a", "install -x", "build x", "test x", "deb x"):
         at.must(f"./violstream {line}", 2, b"", ["violstream: ", "\nusage: ./violstream "])
         said = at.shell(f"./violstream {line}")[1]
@@ -469,7 +486,7 @@ def closed(at):
     """With any of the three descriptors closed: as without, but for what cannot be read, or that nobody can be told."""
     run, plan = "examples/VX0041.run", "examples/VX0041.plan"
     at.write("month", b"%d\n" % len(RUN) + RUN)
-    for words in (f"plan {run}", f"plan --json {run} {plan}", f"plan --any {run} examples/mounted.run", f"field {run}", f"buys {run}", f"price {run} /dev/null", f"check {run} {plan}", f"explain {run} --svg picture", f"rewrite {run}",
+    for words in (f"plan {run}", f"plan --json {run} {plan}", f"plan --any {run} examples/mounted.run", f"field {run}", f"buys {run}", f"buys --any {run}", f"price {run} /dev/null", f"check {run} {plan}", f"explain {run} --svg picture", f"rewrite {run}",
                   f"mend {run}", "month month", f"month {run} {plan}", f"ltfs VX0041 {LABEL} {INDEX}", "desk examples/day.run examples/day.events", "version", "help", "help plan", "completions fish"):
         out, said, status = at.shell(f"./violstream {words}")
         at.must(f"./violstream {words} <&-", status, out, said.split("\n"))
@@ -965,7 +982,7 @@ def limits(at):
     at.write("deep.xml", b"<ltfsindex>" + b"<a>" * 31 + b"</a>" * 31 + b"<directory><contents/></directory>" + b"<a/>" * 120000 + b"</ltfsindex>")
     at.write("many.run", sheet_of(64, 159))
     at.write("many.plan", at.shell("./violstream plan --any many.run")[0])
-    for enough, words in [(6144, words) for words in ("plan --any large.run", "plan --any many.run", "check examples/VX0041.run examples/VX0041.plan", "check many.run many.plan")] + [(1024, words) for words in ("plan large.run", "buys large.run", "price large.run /dev/null", "explain large.run", "rewrite large.run", "mend large.run", "month large.month", "field examples/VX0041.run",
+    for enough, words in [(6144, f"{words} {run}") for words in ("plan --any", "buys --any", "explain") for run in ("large.run", "many.run")] + [(6144, words) for words in ("check examples/VX0041.run examples/VX0041.plan", "check many.run many.plan")] + [(1024, words) for words in ("plan large.run", "buys large.run", "price large.run /dev/null", "rewrite large.run", "mend large.run", "month large.month", "field examples/VX0041.run",
                   "desk examples/day.run examples/day.events", f"ltfs VX0041 {LABEL} deep.xml")]:
         must = at.shell(f"./violstream {words}")
         if must[2] != 0 or at.shell(f"ulimit -s {enough} && ./violstream {words}") != must:
@@ -1070,12 +1087,12 @@ def building(at):
     below(at, "cmd_plan")
     at.must(f"./violstream ltfs VX0041 {LABEL} {INDEX}", 0, SHEET, ["building cmd_ltfs"])
     at.must("rm target/bin/cmd_plan && ./violstream plan examples/VX0041.run", 0, PLAN, ["building cmd_plan"])
-    at.must("./violstream build", 0, b"", ["building cmd_plan_any", "building cmd_field", "building cmd_buys", "building cmd_price", "building cmd_check", "building cmd_rewrite", "building cmd_mend", "building cmd_month", "building cmd_desk", "building libboundary.a"])
-    at.must("touch -d '+1 minute' crates/refusals/newer && ./violstream build", 0, b"", ["cmd_plan;", "cmd_plan_any", "cmd_field", "cmd_buys", "cmd_price", "cmd_check", "cmd_rewrite", "cmd_mend", "cmd_month", "cmd_ltfs", "cmd_desk", "libboundary.a"])
+    at.must("./violstream build", 0, b"", ["building cmd_plan_any", "building cmd_field", "building cmd_buys", "building cmd_buys_any", "building cmd_price", "building cmd_check", "building cmd_rewrite", "building cmd_mend", "building cmd_month", "building cmd_desk", "building libboundary.a"])
+    at.must("touch -d '+1 minute' crates/refusals/newer && ./violstream build", 0, b"", ["cmd_plan;", "cmd_plan_any", "cmd_field", "cmd_buys", "cmd_buys_any", "cmd_price", "cmd_check", "cmd_rewrite", "cmd_mend", "cmd_month", "cmd_ltfs", "cmd_desk", "libboundary.a"])
     at.must("rm crates/refusals/newer && ./violstream build", 0, b"", ["violstream: built"])
     at.must("./violstream build more", 2, b"")
-    every = ["check cmd_plan", "check cmd_plan_any", "check cmd_field", "check cmd_buys", "check cmd_price", "check cmd_check", "check cmd_rewrite", "check cmd_mend", "check cmd_month", "check cmd_ltfs", "check cmd_desk", "staticlib boundary"]
-    if called(at) != ["check cmd_plan", "check cmd_ltfs", "check cmd_plan", "check cmd_plan_any", "check cmd_field", "check cmd_buys", "check cmd_price", "check cmd_check", "check cmd_rewrite", "check cmd_mend", "check cmd_month", "check cmd_desk", "staticlib boundary"] + every:
+    every = ["check cmd_plan", "check cmd_plan_any", "check cmd_field", "check cmd_buys", "check cmd_buys_any", "check cmd_price", "check cmd_check", "check cmd_rewrite", "check cmd_mend", "check cmd_month", "check cmd_ltfs", "check cmd_desk", "staticlib boundary"]
+    if called(at) != ["check cmd_plan", "check cmd_ltfs", "check cmd_plan", "check cmd_plan_any", "check cmd_field", "check cmd_buys", "check cmd_buys_any", "check cmd_price", "check cmd_check", "check cmd_rewrite", "check cmd_mend", "check cmd_month", "check cmd_desk", "staticlib boundary"] + every:
         raise Wrong(f"rt was called so: {called(at)}")
 
 
@@ -1290,7 +1307,7 @@ def surrounded(at):
             raise Wrong(f"{script} reads what it has not emptied first: {sorted(read - emptied - machine)}")
     at.write("month", b"%d\n" % len(RUN) + RUN)
     run, plan = "examples/VX0041.run", "examples/VX0041.plan"
-    lines = [f"./violstream plan {run}", "./violstream plan --any examples/mounted.run", f"./violstream field {run}", f"./violstream buys {run}", f"./violstream price {run} examples/VX0041.list",
+    lines = [f"./violstream plan {run}", "./violstream plan --any examples/mounted.run", f"./violstream field {run}", f"./violstream buys {run}", "./violstream buys --any examples/mounted-3.run", f"./violstream price {run} examples/VX0041.list",
              f"./violstream check {run} {plan}", f"./violstream explain --svg picture {run} && cat picture", f"./violstream rewrite {run}",
              f"./violstream mend {run}", "./violstream month month", f"./violstream ltfs VX0041 {LABEL} {INDEX}",
              "./violstream desk examples/day.run examples/day.events", f"./violstream plan {plan}", f"./violstream ltfs VX0041 {LABEL} /dev/null",

@@ -19,6 +19,7 @@ ROWS = {
     "plan_any": {"out": "planRow"},
     "field": {"out": "planRow"},
     "buys": {"out": "buysRow"},
+    "buys_any": {"out": "buysRow"},
     "price": {"out": "priceRow"},
     "check": {"out": "checkRow"},
     "month": {"page": "monthRow"},

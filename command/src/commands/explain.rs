@@ -9,6 +9,7 @@ use crate::programs::Program;
 use crate::say::{reason, shown};
 use crate::status::{Status, Stop};
 use crate::words;
+use crate::words::sheet::By;
 use std::ffi::OsStr;
 
 pub fn answer(run: &OsStr, picture_file: Option<&OsStr>, call: &Call) -> Result<Status, Stop> {
@@ -18,14 +19,15 @@ pub fn answer(run: &OsStr, picture_file: Option<&OsStr>, call: &Call) -> Result<
     };
     let framed = frame_pair(&sheet, b"");
     let mut answers = Vec::new();
-    for (name, text) in [("cmd_plan", &sheet), ("cmd_buys", &sheet), ("cmd_price", &framed)] {
+    for (name, text) in [("cmd_plan_any", &sheet), ("cmd_buys_any", &sheet), ("cmd_price", &framed)] {
         let answer = match Program::ready(name, call)?.ask(text) {
             Ok(printed) => printed.answer,
             Err(sentence) => return Ok(told(&sentence)),
         };
-        if let Some(refused) = refusal(&answer) {
+        // What the plan takes, the figures take; where the empty list has no price, nothing is said of it.
+        if let (Some(refused), true) = (refusal(&answer), answers.is_empty()) {
             put(&answer)?;
-            say_refused(&shown(run), &refused, &words::of_sheet(&refused, &sheet));
+            say_refused(&shown(run), &refused, &words::of_plan(&refused, &sheet, By::Explain));
             return Ok(Status::Refused);
         }
         answers.push(answer);

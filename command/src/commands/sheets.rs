@@ -1,4 +1,4 @@
-//! plan, field, buys, rewrite and mend: each run sheet by a program of its own; plan --any by another than plan.
+//! plan, field, buys, rewrite and mend: each run sheet by a program of its own; plan --any and buys --any by others than without.
 
 use super::{say_refused, told, Call, SHEET};
 use crate::answers::{refusal, Refusal};
@@ -13,7 +13,7 @@ use std::ffi::{OsStr, OsString};
 
 pub struct Sheets<'a> {
     command: &'a str,
-    /// plan --any.
+    /// plan --any, buys --any.
     any: bool,
     several: bool,
     json: bool,
@@ -33,6 +33,7 @@ pub fn answer(command: &str, any: bool, files: &[OsString], json: bool, call: &C
 fn program_of(command: &str, any: bool) -> &'static str {
     match command {
         "field" => "cmd_field",
+        "buys" if any => "cmd_buys_any",
         "buys" => "cmd_buys",
         "rewrite" => "cmd_rewrite",
         "mend" => "cmd_mend",
@@ -109,6 +110,7 @@ impl<'a> Sheets<'a> {
         match self.command {
             "mend" => words::loose::words(refused, sheet),
             "plan" => words::of_plan(refused, sheet, if self.any { By::PlanAny } else { By::Plan }),
+            "buys" => words::of_plan(refused, sheet, if self.any { By::BuysAny } else { By::Buys }),
             _ => words::of_sheet(refused, sheet),
         }
     }

@@ -1,8 +1,8 @@
 //! A plan for a person: what the run sheet, its plan sheet, its figure sheet and the plan sheet of the empty list say, arranged.
 //!
 //! Sums go through as texts. Worked out here, since no sheet gives it: where a leg turns and ends, which are starts and ends of the run sheet's
-//! files; the clock as it sets off to the right, which is the time of the file at its left end less that file's length; and the clock at its end,
-//! which is so much later as it is long. Nothing here reads or writes a file.
+//! files, or the head's first place where a leg turns there; the clock as it sets off to the right, which is the time of its first file less the
+//! way to that file's end; and the clock at its end, which is so much later as it is long. Nothing here reads or writes a file.
 
 pub mod picture;
 pub mod sketch;
@@ -179,7 +179,7 @@ impl Plan {
             Some(detour) => self.done.iter().find(|read| read.leg == number && self.left_of(read.file) == self.left_of(detour.from)),
         };
         let (file, time) = first.map_or((0, 0), |read| (read.file, read.time));
-        // Whatever lies right of the head is read from where the head stands.
+        // Where the file lies right of the head's first place, the leg turns at that place.
         let turns_at = self.left_of(file).min(self.head);
         let runs_to = detour.map_or(self.last_place, |detour| self.right_of(detour.to));
         let sets_off = time - (self.right_of(file) - turns_at);
@@ -190,6 +190,11 @@ impl Plan {
             runs_to,
             ends_at: sets_off + (runs_to - turns_at),
         }
+    }
+
+    /// The rightmost place that the head comes to.
+    fn furthest(&self) -> i64 {
+        self.legs.iter().map(|leg| leg.runs_to).chain([self.head]).max().unwrap_or(self.head)
     }
 
     fn wanted(&self) -> BTreeSet<usize> {

@@ -29,12 +29,14 @@ pub fn draw(plan: &Plan) -> String {
     draw_figures(plan, &mut out);
     let width = widest(&plan.sum, &plan.sum_of_sweep);
     let _ = writeln!(out, "sum of this plan      {:>width$}", plan.sum);
-    let _ = writeln!(out, "sum without detours   {:>width$}", plan.sum_of_sweep);
+    if !plan.sum_of_sweep.is_empty() {
+        let _ = writeln!(out, "sum without detours   {:>width$}", plan.sum_of_sweep);
+    }
     out
 }
 
 fn draw_legs(plan: &Plan, out: &mut String) {
-    let place = widest("turns at", &plan.head.to_string());
+    let place = widest("turns at", &plan.furthest().to_string());
     let clock = widest("sets off", &plan.finish.to_string());
     let mut row = |name: &str, from: &str, turns_at: &str, sets_off: &str, runs_to: &str, ends: &str, reads: &str| {
         let _ = writeln!(out, "{name:>5}  {from:>place$}  {turns_at:>place$}  {sets_off:>clock$}  {runs_to:>place$}  {ends:>clock$}  {reads}");
@@ -55,7 +57,9 @@ fn draw_legs(plan: &Plan, out: &mut String) {
 }
 
 fn draw_figures(plan: &Plan, out: &mut String) {
-    out.push_str(if plan.detours.is_empty() {
+    out.push_str(if plan.detours.is_empty() && plan.legs[0].turns_at == plan.head {
+        "\nNo detour pays for itself: the head turns where it stands and reads on its way to the right.\n"
+    } else if plan.detours.is_empty() {
         "\nNo detour pays for itself: the head goes straight to the left and reads on its way back.\n"
     } else {
         "\nWhat each detour buys: the sum without it less the sum with it.\n"

@@ -18,6 +18,9 @@ pub enum By {
     Plan,
     PlanAny,
     Check,
+    Buys,
+    BuysAny,
+    Explain,
     Another,
 }
 
@@ -319,7 +322,11 @@ impl Sheet {
         } else {
             format!("the last of the aggregate of file {wanted}, which is the rightmost wanted")
         };
-        let advice = if by == By::Plan { "; plan --any takes the head where it stands" } else { "" };
+        let advice = match by {
+            By::Plan => "; plan --any takes the head where it stands",
+            By::Buys => "; buys --any takes the head where it stands",
+            _ => "",
+        };
         format!("{words} stands left of {}, the end of file {rightmost}, {whose} ({}){advice}", self.end_of(rightmost), self.stands(rightmost + 5))
     }
 
@@ -331,6 +338,9 @@ impl Sheet {
             By::Plan => format!("there are {ROOM}, and plan --any has {ROOM_ANY}"),
             By::PlanAny => format!("plan --any has {ROOM_ANY} (5 MiB), and no command has more"),
             By::Check => format!("check has {ROOM_ANY} (5 MiB), and no command has more"),
+            By::Buys => format!("there are {ROOM}, and buys --any has {ROOM_ANY}"),
+            By::BuysAny => format!("buys --any has {ROOM_ANY} (5 MiB), and no command has more"),
+            By::Explain => format!("explain has {ROOM_ANY} (5 MiB), and no command has more"),
             By::Another => format!("there are {ROOM}"),
         };
         format!(

@@ -28,10 +28,10 @@ use Rattle.answer_any.specs.AnyLists.{RunListedAny, TextOfList}
 use Rattle.answer_any.proofs.Planned.{room-kept, any-judged}
 
 -- The rules for a list, which the least list meets.
-abbrev anyRule : Run → List ℕ → List ℕ → Verdict
+abbrev pub anyRule : Run → List ℕ → List ℕ → Verdict
 anyRule run froms tos = listVerdictAny (run .head) (stopsOf run) froms tos
 
-any-meets : (run : Run) (list : List Detour) → LeastAny run list → refuses (anyRule run (map (λ d. d .from) list) (map (λ d. d .to) list)) ≡ false
+pub any-meets : (run : Run) (list : List Detour) → LeastAny run list → refuses (anyRule run (map (λ d. d .from) list) (map (λ d. d .to) list)) ≡ false
 unfolding listVerdictAny
 any-meets run list least = rw (eq-eqb _ _ (halves-even (λ d. d .from) (λ d. d .to) list), list-of-halves list, least .formed)
 
@@ -59,6 +59,9 @@ module _ (sheet : List ℕ) (r : SheetRun) (is : r ≡ runByValue sheet) (room :
       lists .cleared ∙ ap (λ x. roomAfter x (runHeld r) room) (verdict-is checks sheet r is)
       ∙ ap (λ x. roomAfter (anyVerdict (length room) sheet) x room) (holds checks sheet r is e .run)
 
+  pub room-of-sheet : room′ ≡ roomLeft sheet room
+  room-of-sheet = room-is (refuses v) refl
+
   -- What a refusal leaves, for a caller.
   pub answer-refused : f ≡ true → (row : List ℕ) (w : Written) → w ≡ writtenOf (l .verdict) 0 → SheetAnswered sheet row room w row room′
   answer-refused e row w w-is =
@@ -85,7 +88,7 @@ module _ (sheet : List ℕ) (r : SheetRun) (is : r ≡ runByValue sheet) (room :
   recalled row n row′ written =
       record {
         given = given checks sheet r is judgeAnyOf anyRule LeastAny planAnyText any-meets (any-judged (length room)) l (lists .listed) row n row′ (record { text = written .text; bytes = written .bytes; refused = written .refused; planned = written .planned });
-        cleared = room-is (refuses v) refl;
+        cleared = room-of-sheet;
       }
 
   pub recall-refused : f ≡ true → (row : List ℕ) (w : Written) (row′ : List ℕ) → RefusalWritten (l .verdict) row w row′ → SheetRecalledAny sheet row room (w .bytes) row′ room′

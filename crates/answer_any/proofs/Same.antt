@@ -76,7 +76,7 @@ module _ (sheet : List ℕ) (words : ℕ) (enough : roomWords ≤ words) (place 
       (true-or-false (refuses (sheetVerdict sheet)))
 
   -- The least list from where the head stands is 01's, and so is its sheet.
-  accepts : refuses (recallVerdict sheet) ≡ false → refuses (judgeOf (sheetRun sheet)) ≡ false
+  pub accepts : refuses (recallVerdict sheet) ≡ false → refuses (judgeOf (sheetRun sheet)) ≡ false
   unfolding verdictBy
   accepts e = all-accept (sheetVerdict sheet ∷ ruleVerdict sheet ∷ runChecks (sheetRun sheet)) e .1 .1 .0
 

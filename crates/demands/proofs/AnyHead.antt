@@ -1,25 +1,24 @@
 -- A head anywhere: the three demands, that 01's functions answer alike, and the head left of everything wanted.
 use Prim.Native.Nat.{ℕ, suc, _+_, _-_, _*_, _≤_, _<_}
 use mathlib.Core.Path.{_≡_, refl, sym, ap, ap₂, _∙_}
-use mathlib.Core.Bool.{Bool, true, false, not, _||_, true≢false}
+use mathlib.Core.Bool.{Bool, true, false, _||_, true≢false}
 use mathlib.Core.Logic.{_⊎_, inl, inr, ⊎-elim}
 use mathlib.Core.List.{List, [], _∷_, map}
 use native.Mathlib.Omega.{arith}
 use native.Mathlib.Nat.{le-refl}
 use lib.ListN.{length, getD, take, drop, length-map}
 use lib.Seq.{take-at}
-use lib.Dec.{ltb, eqb}
-use borrow.Author.Tests.{eq-eqb}
+use lib.Dec.{ltb}
 use Rattle.refusals.specs.declared.Refusal.{Refusal}
 use Rattle.refusals.specs.declared.Refusal.the-variants.{Accepted, HeadPlace, BadEntry, ShortRow, ShortRoom}
 use Rattle.refusals.specs.declared.Verdict.{Verdict}
-use Rattle.refusals.specs.Refusals.{numberOf, isRefusal, accepted, refuseIf, refuseAt, firstOf}
-use Rattle.refusals.proofs.Verdicts.{none-refuses, refuses, first-refuses, all-accept, accepts-at}
+use Rattle.refusals.specs.Refusals.{numberOf, isRefusal, accepted, refuseIf, firstOf}
+use Rattle.refusals.proofs.Verdicts.{none-refuses, refuses, first-refuses, all-accept}
 use Rattle.runs.specs.Run.{Run, Stop, stopsOf, wantStopsOf}
 use Rattle.runs.specs.Rows.{stopAt}
 use Rattle.runs.specs.Judging.{judgeOf}
 use Rattle.runs.specs.Lists.{Detour, listOf, WellFormed}
-use Rattle.runs.specs.AnyHead.{judgeAnyOf, firstBadEntryAny, WellFormedAny, listVerdictAny, lifted}
+use Rattle.runs.specs.AnyHead.{judgeAnyOf, WellFormedAny, listVerdictAny, lifted}
 use Rattle.runs.proofs.Search.{true-or-false}
 use Rattle.runs.proofs.Stops.{run-sound, wants-length}
 use Rattle.runs.proofs.Sound.{Sound}
@@ -37,6 +36,7 @@ use Rattle.walk.proofs.Walks.{any-walkable}
 use Rattle.walk.proofs.Priced.{price-any-accepted}
 use Rattle.walk.proofs.AnyHead.{any-even, any-good, any-formed, price-any-same}
 use Rattle.engine_stops.proofs.Halves.{list-of-halves, halves-even}
+use Rattle.figures.proofs.AnyHead.{list-any-accepted, list-any-formed}
 use Rattle.least.specs.AnyHead.{LeastAnyFor, listSumAny}
 use Rattle.least.proofs.LeastAny.{any-served, no-detour-left, read-at-once}
 use Rattle.least.proofs.Unbeaten.{Covers, covers-of-reads}
@@ -107,15 +107,18 @@ pub price-any-refused-iff : Demand1PriceAnyIff
 price-any-refused-iff r froms tos rows answer says =
     refused-iff (PriceAnyApplies r froms tos rows) (demand1-price-any r froms tos rows answer (priceAnyRows r froms tos rows) says refl .first) (refl, (refl, (refl, (refl, (refl, (refl, (refl, (refl, (refl, tt)))))))))
 
--- The rows of an accepted plan hold its list.
-list-in-rows : (r : Run) (list : List Detour) (before : Rows) (answer : Answer) (after : Rows) → answer ≡ pricedAnyAnswer r list → after ≡ rowsAnyWith r list before → listIn answer after ≡ list
-unfolding pricedAnyAnswer
-list-in-rows r list before answer after says rows =
-    let starts : take (answer .detours) (after .froms) ≡ map (λ d. d .from) list
-    = rw (says, rows) (take-at (map (λ d. d .from) list) (drop (length list) (before .froms)) (length list) (length-map list (λ d. d .from))) in
-    let ends : take (answer .detours) (after .tos) ≡ map (λ d. d .to) list
-    = rw (says, rows) (take-at (map (λ d. d .to) list) (drop (length list) (before .tos)) (length list) (length-map list (λ d. d .to))) in
-    ap₂ listOf starts ends ∙ list-of-halves list
+-- The rows of an accepted plan hold its list's starts and ends.
+module _ (r : Run) (list : List Detour) (before : Rows) (answer : Answer) (after : Rows) (says : answer ≡ pricedAnyAnswer r list) (rows : after ≡ rowsAnyWith r list before) where
+  pub any-starts-in-rows : take (answer .detours) (after .froms) ≡ map (λ d. d .from) list
+  unfolding pricedAnyAnswer
+  any-starts-in-rows = rw (says, rows) (take-at (map (λ d. d .from) list) (drop (length list) (before .froms)) (length list) (length-map list (λ d. d .from)))
+
+  pub any-ends-in-rows : take (answer .detours) (after .tos) ≡ map (λ d. d .to) list
+  unfolding pricedAnyAnswer
+  any-ends-in-rows = rw (says, rows) (take-at (map (λ d. d .to) list) (drop (length list) (before .tos)) (length list) (length-map list (λ d. d .to)))
+
+  list-in-rows : listIn answer after ≡ list
+  list-in-rows = ap₂ listOf any-starts-in-rows any-ends-in-rows ∙ list-of-halves list
 
 -- The planner.
 module _ (r : Run) (rows : Rows) where
@@ -189,14 +192,14 @@ module _ (r : Run) (rows : Rows) where
 
     -- What an accepted answer says.
     module _ (accepts : answer .refusal ≡ Accepted) where
-      not-refused : refuses (planAnyVerdict r rows) ≡ false
+      pub not-refused : refuses (planAnyVerdict r rows) ≡ false
       not-refused = go (refuses (planAnyVerdict r rows)) refl
         where
           go : (b : Bool) → refuses (planAnyVerdict r rows) ≡ b → refuses (planAnyVerdict r rows) ≡ false
           go true e = ap isRefusal (sym (ap (λ a. a .refusal) (plans .refused e .says)) ∙ accepts)
           go false e = e
 
-      planned : PlannedAny r rows answer after
+      pub planned : PlannedAny r rows answer after
       planned = plans .planned not-refused
 
       pub good-run : GoodAnyRun r
@@ -214,17 +217,6 @@ demand1-plan-any r before answer after plans = plan-says r before answer after p
 pub plan-any-refused-iff : Demand1PlanAnyIff
 plan-any-refused-iff r before answer after plans =
     refused-iff (PlanAnyApplies r before) (demand1-plan-any r before answer after plans .first) (refl, (refl, (refl, (refl, (refl, (refl, (refl, (refl, (refl, tt)))))))))
-
--- 10 accepts exactly the well-formed lists in rows of one length.
-module _ (m : ℕ) (ss : List Stop) (froms tos : List ℕ) where
-  list-any-accepted : length froms ≡ length tos → WellFormedAny m ss (listOf froms tos) → refuses (listVerdictAny m ss froms tos) ≡ false
-  unfolding listVerdictAny
-  list-any-accepted even w = rw (eq-eqb (length froms) (length tos) even, w)
-
-  any-list-formed : refuses (listVerdictAny m ss froms tos) ≡ false → WellFormedAny m ss (listOf froms tos)
-  unfolding listVerdictAny
-  any-list-formed e =
-      accepts-at _ BadEntry refl (all-accept (refuseIf (not (eqb (length froms) (length tos))) BadEntry ∷ refuseAt (firstBadEntryAny m ss (listOf froms tos)) BadEntry ∷ []) e .1 .0)
 
 -- What 01 refuses by its judging.
 verdict-of-run : (r : Run) (rows : Rows) → refuses (judgeOf r) ≡ true → planVerdict r rows ≡ judgeOf r
@@ -244,7 +236,7 @@ module _ (r : Run) (good : GoodAnyRun r) (list : List Detour) where
     where
       go : Decides BadEntry (ListIsBadAny r froms tos) (listVerdictAny (r .head) (stopsOf r) froms tos) → WellFormedAny (r .head) (stopsOf r) list
       go (refused p e h) = absurd (n p h)
-      go (passed e none) = rw (list-of-halves list) at (any-list-formed (r .head) (stopsOf r) froms tos (ap refuses e))
+      go (passed e none) = rw (list-of-halves list) at (list-any-formed (r .head) (stopsOf r) froms tos (ap refuses e))
 
   pub is-formed-any : WellFormedAny (r .head) (stopsOf r) list → IsFormedAny r list
   is-formed-any w = go (decides-list-any r good froms tos)
@@ -320,7 +312,7 @@ unfolding priceAnyVerdict
 price-of-list-any r froms tos rows e answer out says fills =
     let checks = all-accept (judgeAnyOf r ∷ listVerdictAny (r .head) (stopsOf r) froms tos ∷ refuseIf (shortReadRows (length (r .numbers)) rows) ShortRow ∷ []) e in (
       any-even (r .head) (stopsOf r) froms tos (checks .1 .0),
-      well-walked r (listOf froms tos) out rows answer (accepted-any r (checks .0)) says fills (any-list-formed (r .head) (stopsOf r) froms tos (checks .1 .0)),
+      well-walked r (listOf froms tos) out rows answer (accepted-any r (checks .0)) says fills (list-any-formed (r .head) (stopsOf r) froms tos (checks .1 .0)),
     )
 
 pub demand2-price-any : Demand2PriceAny

@@ -11,24 +11,24 @@ use lib.ListN.{length, getD, take, length-map}
 use lib.Seq.{take-at, getD-at, getD-take, length-take-le, ext-getD}
 use Rattle.runs.specs.Run.{Run, Stop, stopsOf}
 use Rattle.runs.specs.Rows.{stopAt}
-use Rattle.runs.specs.Lists.{Detour, entryOf, badEntry, firstBadEntry, WellFormed}
-use Rattle.runs.specs.AnyHead.{smaller, pulledStop, pulled, pastHead, badEntryAny, firstBadEntryAny, WellFormedAny, lifted}
-use Rattle.runs.proofs.Search.{true-or-false, or-false-both, first-zero}
+use Rattle.runs.specs.Lists.{Detour, entryOf, WellFormed}
+use Rattle.runs.specs.AnyHead.{smaller, pulledStop, pulled, WellFormedAny, lifted}
+use Rattle.runs.proofs.Search.{true-or-false}
 use Rattle.runs.proofs.Sound.{Sound}
 use Rattle.runs.proofs.Stops.{run-sound}
-use Rattle.runs.proofs.Formed.{formed-names, formed-entries, names-most}
-use Rattle.runs.proofs.AnyHead.{GoodAnyRun, accepted-any, smaller-first, smaller-second, smaller-is, smaller-above, pulled-length}
+use Rattle.runs.proofs.Formed.{formed-names, names-most}
+use Rattle.runs.proofs.AnyHead.{GoodAnyRun, smaller-first, smaller-second, smaller-is, pulled-length}
 use Rattle.walk.specs.declared.Leg.{Leg}
 use Rattle.walk.specs.Walk.{served}
-use Rattle.walk.specs.Detours.{startOf, legOf, unreadEnd, sweepEnd, lastSweep, legsOf}
+use Rattle.walk.specs.Detours.{legOf, unreadEnd, sweepEnd, lastSweep, legsOf}
 use Rattle.walk.specs.AnyHead.{runLegs, legsAnyOf}
 use Rattle.walk.proofs.Walks.{found}
 use Rattle.walk.proofs.Sweeps.{passed, kept}
 use Rattle.walk.proofs.Pulled.{start-pulled, end-pulled, detours-left, served-pulled, sweep-pulled}
-use Rattle.walk.proofs.AnyHead.{any-formed, past-each}
+use Rattle.walk.proofs.AnyHead.{any-formed}
 use Rattle.least.proofs.Lists.{none-wanted}
-use Rattle.least.proofs.Sweeps.{none-reads-first, detour-past-first, legs-count}
-use Rattle.least.proofs.LeastAny.{pulled-none}
+use Rattle.least.proofs.Sweeps.{none-reads-first, legs-count}
+use Rattle.least.proofs.LeastAny.{starts-past-first}
 use Rattle.demands.specs.Legs.{legNumbered}
 use Rattle.demands.specs.AnyLegs.{IsSmaller, GoesOver, SweepsUp, AreLegsOf}
 
@@ -114,29 +114,11 @@ leg-in-list ss rest (d ∷ list) (suc i) l = leg-in-list ss rest list i (omega a
 numbered : (gs : List Leg) (i : ℕ) → legNumbered gs (i + 1) ≡ getD gs i (record { left = 0; right = 0 })
 numbered gs i = let e : i + 1 - 1 ≡ i = omega arith in rw e
 
-module _ (m M : ℕ) (stops : List Stop) (ok : Sound stops M) (list : List Detour) (formed : WellFormedAny m stops list) where
-  not-past : (i : ℕ) → i < length list → pastHead m stops (entryOf list i .from) ≡ false
-  unfolding firstBadEntryAny
-  not-past i l = or-false-both (badEntry stops list i) _ (first-zero (badEntryAny m stops list) (length list) formed i l) .1
-
-  by-01 : WellFormed stops list
-  by-01 = any-formed m stops list formed
-
-module _ (m M : ℕ) (s : Stop) (ss : List Stop) (ok : Sound (s ∷ ss) M) (list : List Detour) (formed : WellFormedAny m (s ∷ ss) list) where
-  -- No detour reads the leftmost stop.
-  past-first : (i : ℕ) → i < length list → smaller (s .start) m < startOf (pulled m (s ∷ ss)) (entryOf list i .from)
-  unfolding firstBadEntry
-  past-first i l =
-      let v = by-01 m M (s ∷ ss) ok list formed in
-      let alone = or-false-both _ _ (first-zero (badEntry (s ∷ ss) list) (length list) v i l) .0 in
-      let low : s .start < startOf (s ∷ ss) (entryOf list i .from) = detour-past-first s ss M ok (entryOf list i) alone in
-      let here : s .start < m
-      = past-each m (s ∷ ss) (entryOf list i .from) (not-past m M (s ∷ ss) ok list formed i l) 0 (omega arith) (formed-entries (s ∷ ss) list v i l .inner) in
-      omega (arith, start-pulled m (s ∷ ss) (entryOf list i .from), smaller-is (s .start) m .first, smaller-above (s .start) (startOf (s ∷ ss) (entryOf list i .from)) m low here)
-
-  pub leftmost-unread : served (map (legOf (pulled m (s ∷ ss))) list) (pulledStop m s) ≡ false
-  unfolding pulled
-  leftmost-unread = none-reads-first (pulledStop m s) (pulled m ss) list past-first
+-- No detour reads the leftmost stop.
+pub leftmost-unread : (m M : ℕ) (s : Stop) (ss : List Stop) → Sound (s ∷ ss) M → (list : List Detour) → WellFormedAny m (s ∷ ss) list
+    → served (map (legOf (pulled m (s ∷ ss))) list) (pulledStop m s) ≡ false
+unfolding pulled
+leftmost-unread m M s ss ok list formed = none-reads-first (pulledStop m s) (pulled m ss) list (starts-past-first m M s ss ok list formed 0)
 
 -- The last sweep of a list: where it stands among the legs, where it turns, and where it ends.
 record Sweep (m : ℕ) (stops : List Stop) (list : List Detour) : Type 0 where

@@ -28,7 +28,7 @@ use Rattle.walk.specs.Detours.{startOf, endOf, unreadEnd, sweepEnd, lastSweep, 
 use Rattle.walk.specs.Price.{pricedAnswer}
 use Rattle.walk.proofs.Walks.{accepted-list}
 use Rattle.least.specs.Least.{startFor, ComesFirst, listSum, LeastFor}
-use Rattle.figures.specs.Figures.{without, figureOf, figuresFrom, figuresOf, figuresVerdict, figuresAnswer, figuresRow}
+use Rattle.figures.specs.Figures.{without, figureOf, figuresBy, figuresOf, figuresVerdict, figuresAnswer, figuresRow}
 use Rattle.figures.specs.Private.{Priceable}
 use Rattle.figures.proofs.Without.{without-length, without-formed}
 use Rattle.figures.proofs.Answers.{list-accepted, list-formed, figures-length, figure-at, figured-so}
@@ -98,7 +98,7 @@ pub figures-one : FiguresOne
 figures-one r froms tos row answer answer′ out out′ fits fits′ = (fits .0 ∙ sym (fits′ .0), fits .1 ∙ sym (fits′ .1))
 
 -- Of two whole numbers the one less the other.
-is-less : (a b : ℕ) → IsLess a b (pos a -ℤ pos b)
+pub is-less : (a b : ℕ) → IsLess a b (pos a -ℤ pos b)
 is-less a zero = IsLess.over {n = a + 0} (omega arith)
 is-less a (suc b) =
     elim (decLt a (suc b)) [
@@ -106,7 +106,7 @@ is-less a (suc b) =
       | no n ↦ rw (le-ltb a (suc b) (omega arith)) (IsLess.over {n = a - suc b} (omega arith))
     ]
 
-less-above : (a b : ℕ) (z : ℤ) → IsLess a b z → b < a → (n : ℕ) × (0 < n) × (z ≡ pos n)
+pub less-above : (a b : ℕ) (z : ℤ) → IsLess a b z → b < a → (n : ℕ) × (0 < n) × (z ≡ pos n)
 less-above a b z (IsLess.over {n} e) l = (n, omega (arith, e, l), refl)
 less-above a b z (IsLess.under e) l = absurd (omega (arith, e, l))
 
@@ -186,7 +186,7 @@ figures-tell r froms tos row answer out says fills accepts =
     answer (rw e at says) out ((rw e at fills) ∙ ap (λ k. figuresOf r (listOf froms tos) ++ drop k row) n)
 
 -- Where two entries of a list have different ends, the start for a file in the list without an entry is none, or the one in the list.
-abbrev Apart : List Detour → Type 0
+abbrev pub Apart : List Detour → Type 0
 Apart list = (j k : ℕ) → j < k → k < length list → entryOf list j .to ≡ entryOf list k .to → ⊥
 
 none-ends : (list : List Detour) (f : ℕ) → ((k : ℕ) → k < length list → entryOf list k .to ≡ f → ⊥) → startFor list f ≡ 0
@@ -211,7 +211,7 @@ start-without (d ∷ list) (suc i) f apart = go (eqb (d .to) f) refl (start-with
     go false e rest = rw e rest
 
 -- So the list never comes before itself without an entry.
-not-first : (list : List Detour) (i : ℕ) → Apart list → ComesFirst list (without i list) → ⊥
+pub not-first : (list : List Detour) (i : ℕ) → Apart list → ComesFirst list (without i list) → ⊥
 not-first list i apart first =
     ⊎-elim
     (λ none. ⊎-elim (λ s. omega (arith, none, s .1)) (λ s. omega (arith, none, s .0)) (first .sooner))
@@ -219,24 +219,29 @@ not-first list i apart first =
     (start-without list i (first .file) apart)
 
 -- In a well-formed list no two entries have one end.
-ends-apart : (stops : List Stop) (list : List Detour) → WellFormed stops list → Apart list
+pub ends-apart : (stops : List Stop) (list : List Detour) → WellFormed stops list → Apart list
 ends-apart stops list formed j k l m e =
     let rules = formed-by-the-rules stops list .0 formed in
     let lower = falls stops list rules k j l m in
     let ordered = rules .each j (omega arith) .ordered in
     ⊎-elim (λ h. omega (arith, e, h, ordered)) (λ h. omega (arith, e, h)) (rules .apart k j m (omega arith) lower)
 
--- A least list has a smaller sum than itself without an entry.
+-- A least list has a smaller sum than itself without an entry, whatever sums are: the list without it is no earlier at a tie.
+pub less-without : (sum : List Detour → ℕ) (list : List Detour) (i : ℕ) → i < length list → Apart list → sum list ≤ sum (without i list)
+    → (sum (without i list) ≡ sum list → (without i list ≡ list) ⊎ ComesFirst list (without i list)) → sum list < sum (without i list)
+less-without sum list i l apart smallest first =
+    by-cases (decLt (sum list) (sum (without i list))) (λ h. h)
+    (λ n. absurd
+    (⊎-elim
+    (λ same. omega (arith, ap length same, without-length i list l))
+    (not-first list i apart)
+    (first (omega (arith, n, smallest)))))
+
 cheaper : (price m : ℕ) (stops : List Stop) (list : List Detour) → LeastFor price m stops list → (i : ℕ) → i < length list
     → listSum price m stops list < listSum price m stops (without i list)
 cheaper price m stops list least i l =
     let formed = without-formed stops list i l (least .formed) in
-    by-cases (decLt (listSum price m stops list) (listSum price m stops (without i list))) (λ h. h)
-    (λ n. absurd
-    (⊎-elim
-    (λ same. omega (arith, ap length same, without-length i list l))
-    (not-first list i (ends-apart stops list (least .formed)))
-    (least .first (without i list) formed (omega (arith, n, least .smallest (without i list) formed)))))
+    less-without (listSum price m stops) list i l (ends-apart stops list (least .formed)) (least .smallest (without i list) formed) (least .first (without i list) formed)
 
 -- A plan's list is accepted by itself, in two rows.
 module _ (r : Run) (list : List Detour) (accepts : refuses (judgeOf r) ≡ false) (least : LeastFor (r .turn) (r .head) (stopsOf r) list) (row : List ℤ) (fits : length list ≤ length row) where
@@ -283,7 +288,7 @@ plans-pay r before planned after plans accepts row fits answer says out fills =
 
 -- The worked figures, by evaluation.
 pub bought-worked : BoughtHold
-unfolding figuresAnswer figuresRow figuresVerdict figuresFrom figureOf without pricedAnswer judgeOf firstWhere goesOn firstMember lastWithin wantStops joinTo joined rightEnd listVerdict listOf firstBadEntry wanted anyBelow startOf endOf served unreadEnd sweepEnd lastSweep legsOf walked timeOf sumOf
+unfolding figuresAnswer figuresRow figuresVerdict figuresBy figureOf without pricedAnswer judgeOf firstWhere goesOn firstMember lastWithin wantStops joinTo joined rightEnd listVerdict listOf firstBadEntry wanted anyBelow startOf endOf served unreadEnd sweepEnd lastSweep legsOf walked timeOf sumOf
 bought-worked = (
   record { accepted = refl; fills = refl },
   (

@@ -29,6 +29,7 @@ pub mod Called
 pub mod Cases
 pub mod Alone
 pub mod Buys
+pub mod AnyBuys
 pub mod Lines
 pub mod FirstLine
 pub mod Sheets

@@ -19,6 +19,7 @@ pub mod Alone
 pub mod Lines
 pub mod Sheets
 pub mod Buys
+pub mod AnyBuys
 pub mod Tapes
 pub mod Turns
 pub mod Plain

@@ -2,4 +2,5 @@
 pub mod Without
 pub mod Filling
 pub mod Answers
+pub mod AnyHead
 pub mod Differences

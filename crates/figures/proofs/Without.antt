@@ -11,7 +11,9 @@ use lib.Seq.{take-at}
 use Rattle.refusals.specs.Refusals.{firstWhere}
 use Rattle.runs.specs.Run.{Stop}
 use Rattle.runs.specs.Lists.{Detour, listOf, badAlone, badAfter, badEntry, anyBelow, entryOf, firstBadEntry, WellFormed}
+use Rattle.runs.specs.AnyHead.{pastHead, badEntryAny, firstBadEntryAny, WellFormedAny}
 use Rattle.runs.proofs.Search.{first-zero, first-all, any-zero, or-false-both}
+use Rattle.walk.proofs.AnyHead.{any-formed}
 use Rattle.figures.specs.Figures.{without}
 
 -- Where an entry of the shorter list stands in the longer one.
@@ -97,3 +99,15 @@ without-formed stops list i h formed = first-all (badEntry stops (without i list
         let before : anyBelow (λ k. badAfter (entryOf (without i list) k) (entryOf (without i list) j)) j ≡ false =
         any-all _ j (λ k m. rw (at k, at j) (any-zero (λ n. badAfter (entryOf list n) (entryOf list (past i j))) (past i j) (both .1) (past i k) (past-rises i k j m))) in
         rw (before, at j, both .0)
+
+-- So it is for a head anywhere, of which the rules ask something of an entry by itself.
+pub without-formed-any : (m : ℕ) (stops : List Stop) (list : List Detour) (i : ℕ) → i < length list → WellFormedAny m stops list → WellFormedAny m stops (without i list)
+unfolding firstBadEntryAny firstBadEntry
+without-formed-any m stops list i h formed = first-all (badEntryAny m stops (without i list)) (length (without i list)) each
+  where
+    each : (j : ℕ) → j < length (without i list) → badEntryAny m stops (without i list) j ≡ false
+    each j l =
+        let by-01 = first-zero (badEntry stops (without i list)) (length (without i list)) (without-formed stops list i h (any-formed m stops list formed)) j l in
+        let was = first-zero (badEntryAny m stops list) (length list) formed (past i j) (omega (arith, past-most i j, without-length i list h)) in
+        let clear : pastHead m stops (entryOf list (past i j) .from) ≡ false = or-false-both (badEntry stops list (past i j)) _ was .1 in
+        rw (by-01, without-at (record { from = 0; to = 0 }) i list j, clear)

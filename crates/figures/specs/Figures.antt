@@ -24,14 +24,14 @@ without (suc i) (x ∷ xs) = x ∷ without i xs
 unfoldable pub figureOf : Run → List Detour → ℕ → ℤ
 figureOf r list i = pos (pricedAnswer r (without i list) .sum) -ℤ pos (pricedAnswer r list .sum)
 
--- The figures of n entries, from entry i on.
-unfoldable pub figuresFrom : Run → List Detour → ℕ → ℕ → List ℤ
-figuresFrom r list zero i = []
-figuresFrom r list (suc n) i = figureOf r list i ∷ figuresFrom r list n (suc i)
+-- The figures of n entries, from entry i on, by what each buys.
+unfoldable pub figuresBy : (ℕ → ℤ) → ℕ → ℕ → List ℤ
+figuresBy buys zero i = []
+figuresBy buys (suc n) i = buys i ∷ figuresBy buys n (suc i)
 
 -- One for each entry, in the list's order.
 abbrev pub figuresOf : Run → List Detour → List ℤ
-figuresOf r list = figuresFrom r list (length list) 0
+figuresOf r list = figuresBy (figureOf r list) (length list) 0
 
 -- The refusals: 1 to 7, then 10, then 8 for a row shorter than the list.
 unfoldable pub figuresVerdict : Run → List ℕ → List ℕ → List ℤ → Verdict

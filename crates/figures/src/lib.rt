@@ -1,5 +1,6 @@
 // figures: what each detour of a list buys, the sum without it less the sum with it.
-// It stands on the pricer's promise alone: the list, and the list without one entry, are priced.
+// It stands on the pricer's promise alone: the list, and the list without one entry, are priced. The head may stand anywhere; 01's figures are those of
+// a run whose head 01 accepts.
 ghost use mathlib.Core.Path.{_≡_};
 ghost use mathlib.Core.List.{_++_};
 ghost use Prim.Native.Nat.{_+_, _-_, _≤_, _<_, _^_};
@@ -7,14 +8,15 @@ ghost use lib.ListN.{length, getD, drop};
 ghost use lib.IntN.{pos, _-ℤ_};
 ghost use Rattle.runs.specs.Rows.{runIn, runAt};
 ghost use Rattle.runs.specs.Lists.{listOf};
-ghost use Rattle.walk.specs.Price.{pricedAnswer};
-ghost use Rattle.figures.specs.Figures.{without, figuresOf, figuresAnswer, figuresRow};
-ghost use Rattle.figures.specs.Private.{Priceable};
+ghost use Rattle.walk.specs.AnyHead.{pricedAnyAnswer};
+ghost use Rattle.figures.specs.Figures.{without, figuresAnswer, figuresRow};
+ghost use Rattle.figures.specs.AnyHead.{figuresAnyOf, figuresAnyAnswer, figuresAnyRow};
+ghost use Rattle.figures.specs.Private.{PriceableAny};
 use refusals::Refusal;
 use refusals::Verdict;
 use refusals::refused;
 use walk::Answer;
-use walk::price;
+use walk::price_any;
 
 // The entry at an index of a row without one entry.
 fn entry_without(row: &[u64], i: usize, j: usize) -> u64
@@ -54,9 +56,9 @@ fn sum_without(
     tos: &[u64],
     i: usize,
 ) -> u64
-    requires { ⌜ Priceable (runIn starts lengths aggregates numbers counts head turn) (now froms) (now tos) ⌝ }
+    requires { ⌜ PriceableAny (runIn starts lengths aggregates numbers counts head turn) (now froms) (now tos) ⌝ }
     requires { ⌜ i < length (now froms) ⌝ }
-    ensures { λ r. ⌜ r ≡ pricedAnswer (runAt starts lengths aggregates numbers counts head turn) (without i (listOf (now (froms .entry)) (now (tos .entry)))) .sum ⌝ }
+    ensures { λ r. ⌜ r ≡ pricedAnyAnswer (runAt starts lengths aggregates numbers counts head turn) (without i (listOf (now (froms .entry)) (now (tos .entry)))) .sum ⌝ }
 {
     let mut lefts = [0u64; 64];
     let mut rights = [0u64; 64];
@@ -65,7 +67,7 @@ fn sum_without(
     let n = froms.len() - 1;
     let mut times = [0u64; 64];
     let mut legs = [0u64; 64];
-    let answer = price(
+    let answer = price_any(
         starts,
         lengths,
         aggregates,
@@ -108,10 +110,10 @@ fn fill_figures(
     sum: u64,
     row: &mut [i64],
 )
-    requires { ⌜ Priceable (runIn starts lengths aggregates numbers counts head turn) (now froms) (now tos) ⌝ }
-    requires { ⌜ sum ≡ pricedAnswer (runIn starts lengths aggregates numbers counts head turn) (listOf (now froms) (now tos)) .sum ⌝ }
+    requires { ⌜ PriceableAny (runIn starts lengths aggregates numbers counts head turn) (now froms) (now tos) ⌝ }
+    requires { ⌜ sum ≡ pricedAnyAnswer (runIn starts lengths aggregates numbers counts head turn) (listOf (now froms) (now tos)) .sum ⌝ }
     requires { ⌜ length (now froms) ≤ length (now row) ⌝ }
-    ensures { λ _. ⌜ now (row .exit) ≡ figuresOf (runAt starts lengths aggregates numbers counts head turn) (listOf (now (froms .entry)) (now (tos .entry))) ++ drop (length (now (froms .entry))) (now (row .entry)) ⌝ }
+    ensures { λ _. ⌜ now (row .exit) ≡ figuresAnyOf (runAt starts lengths aggregates numbers counts head turn) (listOf (now (froms .entry)) (now (tos .entry))) ++ drop (length (now (froms .entry))) (now (row .entry)) ⌝ }
 {
     let mut i: usize = 0;
     while i < froms.len() {
@@ -132,8 +134,8 @@ fn fill_figures(
     }
 }
 
-// What each detour of a list buys, and the list's price: refusals 1 to 7, 10 and 8.
-pub fn figures(
+// What each detour of a list buys with the head anywhere, and the list's price: refusals 1 to 7, 10 and 8.
+pub fn figures_any(
     starts: &[u64],
     lengths: &[u64],
     aggregates: &[u64],
@@ -145,12 +147,12 @@ pub fn figures(
     tos: &[u64],
     row: &mut [i64],
 ) -> Answer
-    ensures { λ r. ⌜ r ≡ figuresAnswer (runAt starts lengths aggregates numbers counts head turn) (now (froms .entry)) (now (tos .entry)) (now (row .entry)) ⌝ }
-    ensures { λ _. ⌜ now (row .exit) ≡ figuresRow (runAt starts lengths aggregates numbers counts head turn) (now (froms .entry)) (now (tos .entry)) (now (row .entry)) ⌝ }
+    ensures { λ r. ⌜ r ≡ figuresAnyAnswer (runAt starts lengths aggregates numbers counts head turn) (now (froms .entry)) (now (tos .entry)) (now (row .entry)) ⌝ }
+    ensures { λ _. ⌜ now (row .exit) ≡ figuresAnyRow (runAt starts lengths aggregates numbers counts head turn) (now (froms .entry)) (now (tos .entry)) (now (row .entry)) ⌝ }
 {
     let mut times = [0u64; 64];
     let mut legs = [0u64; 64];
-    let answer = price(
+    let answer = price_any(
         starts,
         lengths,
         aggregates,
@@ -191,4 +193,38 @@ pub fn figures(
         row,
     );
     answer
+}
+
+// The same for a run of 01: the head is judged by its 7, and then priced from as any.
+pub fn figures(
+    starts: &[u64],
+    lengths: &[u64],
+    aggregates: &[u64],
+    numbers: &[u64],
+    counts: &[u64],
+    head: u64,
+    turn: u64,
+    froms: &[u64],
+    tos: &[u64],
+    row: &mut [i64],
+) -> Answer
+    ensures { λ r. ⌜ r ≡ figuresAnswer (runAt starts lengths aggregates numbers counts head turn) (now (froms .entry)) (now (tos .entry)) (now (row .entry)) ⌝ }
+    ensures { λ _. ⌜ now (row .exit) ≡ figuresRow (runAt starts lengths aggregates numbers counts head turn) (now (froms .entry)) (now (tos .entry)) (now (row .entry)) ⌝ }
+{
+    let run = runs::judge(starts, lengths, aggregates, numbers, counts, head, turn);
+    if refused(run) {
+        return walk::refuse(run);
+    }
+    figures_any(
+        starts,
+        lengths,
+        aggregates,
+        numbers,
+        counts,
+        head,
+        turn,
+        froms,
+        tos,
+        row,
+    )
 }

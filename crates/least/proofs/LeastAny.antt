@@ -249,7 +249,7 @@ module _ (m M : ℕ) (s : Stop) (ss : List Stop) (ok : Sound (s ∷ ss) M) (left
 
 -- The last event of a list's walk is a read.
 module _ (m M : ℕ) (s : Stop) (ss : List Stop) (ok : Sound (s ∷ ss) M) (list : List Detour) (formed : WellFormedAny m (s ∷ ss) list) (U : ℕ) where
-  starts-past-first : (i : ℕ) → i < length list → smaller (s .start) m < startOf (pulled m (s ∷ ss)) (entryOf list i .from)
+  pub starts-past-first : (i : ℕ) → i < length list → smaller (s .start) m < startOf (pulled m (s ∷ ss)) (entryOf list i .from)
   unfolding firstBadEntry
   starts-past-first i l =
       let rules = any-rules m (s ∷ ss) list formed in

@@ -33,7 +33,7 @@ pub any-begins : (name : List ℕ) (run : Run) (froms tos : List ℕ) → getD (
 unfolding planAnyText planLines planTop
 any-begins name run froms tos = refl
 
-any-near : (words : ℕ) (run : Run) → AllNear (anyChecks words run)
+pub any-near : (words : ℕ) (run : Run) → AllNear (anyChecks words run)
 any-near words run = (rw (judge-any run) (judge-near (lifted run)), λ e. (if-near (ltb words (roomFor run)) ShortRoom, λ d. tt))
 
 module _ (words : ℕ) (sheet : List ℕ) where

@@ -7,7 +7,7 @@ use mathlib.Core.List.{List, [], _∷_, _++_, map}
 use native.Mathlib.Omega.{arith}
 use lib.ListN.{length, getD, length-append}
 use lib.Dec.{ltb, leb}
-use lib.IntN.{ℤ, pos, negsuc}
+use lib.IntN.{ℤ, pos, negsuc, _-ℤ_}
 use mir.Syntax.{w64}
 use mir.Val.{SFits}
 use mir.ValLaws.{toZ-ofZ}
@@ -22,6 +22,7 @@ use Rattle.runs.specs.Judging.{rightEnd, tableChecks, wantsChecks, headChecks, 
 use Rattle.runs.specs.Lists.{listOf}
 use Rattle.runs.proofs.Search.{true-or-false, first-within}
 use Rattle.runs.proofs.Entries.{length-list}
+use Rattle.walk.specs.declared.Answer.{Answer}
 use Rattle.walk.specs.Price.{pricedAnswer, pricedTimes, pricedLegs}
 use Rattle.walk.proofs.Places.{placeMost, AllNear, first-near, if-near, judge-near}
 use Rattle.least.proofs.LeastList.{least-unique}
@@ -344,18 +345,39 @@ lines-length (a ∷ froms) (b ∷ tos) (z ∷ figures) s t u =
       lines-length froms tos figures (λ i l. s (suc i) (omega arith)) (λ i l. t (suc i) (omega arith)) (λ i l. u (suc i) (omega arith)),
     )
 
+-- The sheet of any sum, list and figures that are small.
+pub page-short : (name : List ℕ) → isName name ≡ true → (answer : Answer) → answer .sum < 2 ^ 64 → answer .detours < 2 ^ 64
+    → (froms tos : List ℕ) → length froms ≤ 64 → SmallRow froms → SmallRow tos → (figures : List ℤ) → ((i : ℕ) → i < length figures → SFits w64 (getD figures i (pos 0)))
+    → length (figurePage name answer froms tos figures) ≤ buysRow
+unfolding figurePage
+page-short name named answer sum detours froms tos few s t figures fits =
+    omega (
+      arith,
+      length-append (line tapeKey name ++ numberLine sumKey (answer .sum) ++ numberLine detoursKey (answer .detours)) (figureLines froms tos figures),
+      length-append (line tapeKey name ++ numberLine sumKey (answer .sum)) (numberLine detoursKey (answer .detours)),
+      length-append (line tapeKey name) (numberLine sumKey (answer .sum)),
+      line-length tapeKey name,
+      name-length name named,
+      number-length sumKey (answer .sum) sum,
+      number-length detoursKey (answer .detours) detours,
+      lines-length froms tos figures s t fits,
+      few,
+    )
+
+-- A figure whose two sums are small fits a signed word.
+pub less-fits : (a b : ℕ) → a < 2 ^ 58 → b < 2 ^ 58 → (z : ℤ) → pos a -ℤ pos b ≡ z → SFits w64 z
+less-fits a b l m z is =
+    let w = word-fits a b l m in
+    subst (SFits w64) (sym (toZ-ofZ w64 _ w) ∙ difference-is a b l m ∙ is) w
+
 module _ (r : Run) (froms tos : List ℕ) (p : Priceable r froms tos) where
   small : PlanSmall (total (r .counts)) (pricedAnswer r (listOf froms tos)) froms tos (r .numbers) (pricedTimes r (listOf froms tos)) (pricedLegs r (listOf froms tos))
   small = plan-small r froms tos (p .run) (p .list)
 
   figure-fits : (i : ℕ) → i < length froms → SFits w64 (figureOf r (listOf froms tos) i)
   figure-fits i l =
-      let a = pricedAnswer r (without i (listOf froms tos)) .sum in
-      let b = pricedAnswer r (listOf froms tos) .sum in
-      let few = sum-without-small r froms tos p i l in
-      let all = sum-small r froms tos p in
-      let w = word-fits a b few all in
-      subst (SFits w64) (sym (toZ-ofZ w64 _ w) ∙ difference-is a b few all ∙ figure-is r (listOf froms tos) i a b refl refl) w
+      less-fits (pricedAnswer r (without i (listOf froms tos)) .sum) (pricedAnswer r (listOf froms tos) .sum) (sum-without-small r froms tos p i l) (sum-small r froms tos p) _
+      (figure-is r (listOf froms tos) i _ _ refl refl)
 
   figures-fit : (i : ℕ) → i < length (figuresOf r (listOf froms tos)) → SFits w64 (getD (figuresOf r (listOf froms tos)) i (pos 0))
   figures-fit i l =
@@ -364,22 +386,10 @@ module _ (r : Run) (froms tos : List ℕ) (p : Priceable r froms tos) where
       subst (SFits w64) (figure-at r (listOf froms tos) i (omega (arith, many))) (figure-fits i (omega (arith, many, size)))
 
   pub figures-short : (name : List ℕ) → isName name ≡ true → length (figureText name r froms tos) ≤ buysRow
-  unfolding figureText figurePage
+  unfolding figureText
   figures-short name named =
-      let answer = pricedAnswer r (listOf froms tos) in
-      let figures = figuresOf r (listOf froms tos) in
-      omega (
-        arith,
-        length-append (line tapeKey name ++ numberLine sumKey (answer .sum) ++ numberLine detoursKey (answer .detours)) (figureLines froms tos figures),
-        length-append (line tapeKey name ++ numberLine sumKey (answer .sum)) (numberLine detoursKey (answer .detours)),
-        length-append (line tapeKey name) (numberLine sumKey (answer .sum)),
-        line-length tapeKey name,
-        name-length name named,
-        number-length sumKey (answer .sum) (small .sum),
-        number-length detoursKey (answer .detours) (omega (arith, small .detours, small .few)),
-        lines-length froms tos figures (small .froms) (small .tos) figures-fit,
-        small .few,
-      )
+      page-short name named (pricedAnswer r (listOf froms tos)) (small .sum) (omega (arith, small .detours, small .few)) froms tos (omega (arith, small .few)) (small .froms) (small .tos)
+      (figuresOf r (listOf froms tos)) figures-fit
 
 pub figures-begin : (name : List ℕ) (run : Run) (froms tos : List ℕ) → getD (figureText name run froms tos) 0 0 ≡ 116
 unfolding figureText figurePage

@@ -56,5 +56,6 @@ pub mod Answers
 pub mod MonthPage
 pub mod AnswersCases
 pub mod AnswersAny
+pub mod AnyFigures
 pub mod AnyRecord
 pub mod TwoTexts

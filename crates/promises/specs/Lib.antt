@@ -24,6 +24,7 @@ pub mod BuysLines
 pub mod Answers
 pub mod MonthPage
 pub mod AnswersAny
+pub mod AnyFigures
 pub mod CheckWhole
 pub mod ListLines
 pub mod ListEntries

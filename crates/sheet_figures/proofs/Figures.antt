@@ -19,23 +19,31 @@ use Rattle.refusals.specs.declared.Refusal.the-variants.{BadName}
 use Rattle.refusals.specs.declared.Verdict.{Verdict}
 use Rattle.walk.specs.declared.Answer.{Answer}
 use Rattle.refusals.specs.Refusals.{isRefusal, refuseIf, firstOf, accepted}
+use Rattle.refusals.proofs.Verdicts.{refuses, first-refuses}
 use Rattle.runs.specs.Run.{Run, stopsOf, mostWants}
 use Rattle.runs.specs.Judging.{judgeOf}
 use Rattle.runs.specs.Lists.{listOf, listVerdict}
-use Rattle.walk.specs.Price.{refusalAnswer, pricedAnswer}
+use Rattle.runs.specs.AnyHead.{judgeAnyOf, listVerdictAny, lifted}
+use Rattle.walk.specs.Price.{refusalAnswer}
+use Rattle.walk.specs.AnyHead.{pricedAnyAnswer}
 use Rattle.runs.proofs.Search.{true-or-false}
 use Rattle.runs.proofs.Entries.{length-list}
-use Rattle.runs.proofs.Judged.{GoodRun}
-use Rattle.walk.proofs.Walks.{GoodList, accepted-list, list-fits}
-use Rattle.figures.specs.Figures.{figuresOf, figuresVerdict, figuresAnswer, figuresRow}
-use Rattle.figures.proofs.Answers.{figures-length}
+use Rattle.runs.proofs.Judged.{accepted-run}
+use Rattle.runs.proofs.Stops.{run-sound}
+use Rattle.runs.proofs.AnyHead.{GoodAnyRun, accepted-any, sound-right, list-any-same, judge-any-same}
+use Rattle.walk.proofs.Walks.{GoodList, list-fits}
+use Rattle.walk.proofs.AnyHead.{any-good, priced-same}
+use Rattle.figures.specs.AnyHead.{figuresAnyOf, figuresAnyVerdict, figuresAnyAnswer, figuresAnyRow}
+use Rattle.figures.proofs.AnyHead.{figures-length, figures-are}
 use Rattle.text_bytes.specs.Text.{isName, comma, decimal}
 use Rattle.text_pages.specs.Printing.{numberLine, pairText, Wrote, Put}
+use Rattle.sheet_writer.specs.declared.Written.{Written}
 use Rattle.sheet_writer.specs.Writing.{rowVerdict}
-use Rattle.sheet_figures.specs.FigureSheet.{buysKey, figureLine, figureLines, figurePage, figureText, figureSheetVerdict}
+use Rattle.sheet_figures.specs.FigureSheet.{buysKey, figureLine, figureLines, figurePage, figureText, figureSheetVerdict, FigureWritten}
+use Rattle.sheet_figures.specs.AnyHead.{figureAnyText, figureAnySheetVerdict, FigureAnyWritten}
 use Rattle.sheet_figures.specs.Private.{figureMost, FigureFits}
 use Rattle.text_pages.proofs.Pages.{wrote-on, wrote-within}
-use Rattle.sheet_writer.proofs.Sheets.{last-verdict, judged-refused, judged-passes, run-passes, good-run, name-fits}
+use Rattle.sheet_writer.proofs.Sheets.{last-verdict, judged-refused, judged-passes, run-passes, name-fits}
 
 -- A signed word below zero: one less than its size, as the code takes it from -1, and then the size.
 below : (z : ℤ) → SFits w64 z → ltZ (toZ w64 (ofZ w64 z)) (pos 0) ≡ true → negsuc 0 -ℤ toZ w64 (ofZ w64 z) ≡ pos (natAbs z - 1)
@@ -116,58 +124,58 @@ module _ (froms tos : List ℕ) (figures : List ℤ) (even : length froms ≡ le
   figures-over l = rw (drop-of-length-le froms l)
 
 -- v is the run's verdict, w that of the run and the name, f whether w refuses.
-module _ (name : List ℕ) (run : Run) (froms tos row : List ℕ) (v w : Verdict) (v-is : v ≡ judgeOf run) (w-is : w ≡ firstOf (v ∷ refuseIf (not (isName name)) BadName ∷ [])) (f : Bool)
+module _ (name : List ℕ) (run : Run) (froms tos row : List ℕ) (v w : Verdict) (v-is : v ≡ judgeAnyOf run) (w-is : w ≡ firstOf (v ∷ refuseIf (not (isName name)) BadName ∷ [])) (f : Bool)
     (f-is : f ≡ isRefusal (w .refusal)) where
-  pub figures-refused : f ≡ true → figureSheetVerdict name run froms tos row ≡ w
-  unfolding figureSheetVerdict
-  figures-refused e = judged-refused name (judgeOf run) false v w v-is w-is f f-is (listVerdict (stopsOf run) froms tos ∷ rowVerdict (figureText name run froms tos) row ∷ []) e
+  pub figures-refused : f ≡ true → figureAnySheetVerdict name run froms tos row ≡ w
+  unfolding figureAnySheetVerdict
+  figures-refused e = judged-refused name (judgeAnyOf run) false v w v-is w-is f f-is (listVerdictAny (run .head) (stopsOf run) froms tos ∷ rowVerdict (figureAnyText name run froms tos) row ∷ []) e
 
   module _ (good : f ≡ false) where
-    good-figures : GoodRun run
-    good-figures = good-run name run false v w v-is w-is f f-is good
+    good-figures : GoodAnyRun run
+    good-figures = accepted-any run (run-passes name (judgeAnyOf run) false v w v-is w-is f f-is good)
 
-    figures-pass : figureSheetVerdict name run froms tos row ≡ firstOf (listVerdict (stopsOf run) froms tos ∷ rowVerdict (figureText name run froms tos) row ∷ [])
-    unfolding figureSheetVerdict
-    figures-pass = judged-passes name (judgeOf run) false v w v-is w-is f f-is good (listVerdict (stopsOf run) froms tos ∷ rowVerdict (figureText name run froms tos) row ∷ [])
+    figures-pass : figureAnySheetVerdict name run froms tos row ≡ firstOf (listVerdictAny (run .head) (stopsOf run) froms tos ∷ rowVerdict (figureAnyText name run froms tos) row ∷ [])
+    unfolding figureAnySheetVerdict
+    figures-pass = judged-passes name (judgeAnyOf run) false v w v-is w-is f f-is good (listVerdictAny (run .head) (stopsOf run) froms tos ∷ rowVerdict (figureAnyText name run froms tos) row ∷ [])
 
     -- a is what the figures' routine answered with a row for figures that is long enough, g whether that refuses.
-    module _ (space : List ℤ) (room : mostWants ≤ length space) (a : Answer) (a-is : a ≡ figuresAnswer run froms tos space) (g : Bool) (g-is : g ≡ isRefusal (a .refusal)) where
+    module _ (space : List ℤ) (room : mostWants ≤ length space) (a : Answer) (a-is : a ≡ figuresAnyAnswer run froms tos space) (g : Bool) (g-is : g ≡ isRefusal (a .refusal)) where
       list : Verdict
-      list = listVerdict (stopsOf run) froms tos
+      list = listVerdictAny (run .head) (stopsOf run) froms tos
 
       list-length : isRefusal (list .refusal) ≡ false → (length (listOf froms tos) ≡ length froms) × (length froms ≤ mostWants)
       unfolding list
       list-length e =
-          let entries = accepted-list (stopsOf run) froms tos e in
-          (length-list froms tos (entries .even), omega (arith, list-fits run good-figures froms tos entries, good-figures .wants .few))
+          let entries = any-good (run .head) (stopsOf run) froms tos e in
+          (length-list froms tos (entries .even), omega (arith, list-fits (lifted run) (good-figures .run) froms tos entries, good-figures .run .wants .few))
 
-      verdict-good : isRefusal (list .refusal) ≡ false → figuresVerdict run froms tos space ≡ accepted
-      unfolding figuresVerdict list
+      verdict-good : isRefusal (list .refusal) ≡ false → figuresAnyVerdict run froms tos space ≡ accepted
+      unfolding figuresAnyVerdict list
       verdict-good e =
           let size = list-length e in
-          rw (run-passes name (judgeOf run) false v w v-is w-is f f-is good, e, le-ltb (length space) (length (listOf froms tos)) (omega (arith, size .0, size .1))) refl
+          rw (run-passes name (judgeAnyOf run) false v w v-is w-is f f-is good, e, le-ltb (length space) (length (listOf froms tos)) (omega (arith, size .0, size .1))) refl
 
-      verdict-refused : isRefusal (list .refusal) ≡ true → figuresVerdict run froms tos space ≡ list
-      unfolding figuresVerdict list
-      verdict-refused e = rw (run-passes name (judgeOf run) false v w v-is w-is f f-is good, e) refl
+      verdict-refused : isRefusal (list .refusal) ≡ true → figuresAnyVerdict run froms tos space ≡ list
+      unfolding figuresAnyVerdict list
+      verdict-refused e = rw (run-passes name (judgeAnyOf run) false v w v-is w-is f f-is good, e) refl
 
       figured-refused : isRefusal (list .refusal) ≡ true → a ≡ refusalAnswer list
-      unfolding figuresAnswer
+      unfolding figuresAnyAnswer
       figured-refused e = a-is ∙ rw (verdict-refused e, e)
 
-      figured-good : isRefusal (list .refusal) ≡ false → a ≡ pricedAnswer run (listOf froms tos)
-      unfolding figuresAnswer
+      figured-good : isRefusal (list .refusal) ≡ false → a ≡ pricedAnyAnswer run (listOf froms tos)
+      unfolding figuresAnyAnswer
       figured-good e = a-is ∙ rw (verdict-good e)
 
       list-says : isRefusal (list .refusal) ≡ g
-      unfolding pricedAnswer
+      unfolding pricedAnyAnswer
       list-says =
           ⊎-elim
           (λ e. ap (λ x. isRefusal (x .refusal)) (sym (figured-refused e)) ∙ sym g-is)
           (λ e. e ∙ sym (g-is ∙ ap (λ x. isRefusal (x .refusal)) (figured-good e)))
           (true-or-false (isRefusal (list .refusal)))
 
-      pub figures-list-refused : g ≡ true → figureSheetVerdict name run froms tos row ≡ record { refusal = a .refusal; place = a .place }
+      pub figures-list-refused : g ≡ true → figureAnySheetVerdict name run froms tos row ≡ record { refusal = a .refusal; place = a .place }
       unfolding list
       figures-list-refused e =
           figures-pass ∙ rw (list-says ∙ e) (ap (λ x. record { refusal = x .refusal; place = x .place }) (sym (figured-refused (list-says ∙ e))))
@@ -175,25 +183,25 @@ module _ (name : List ℕ) (run : Run) (froms tos row : List ℕ) (v w : Verdict
       module _ (fine : g ≡ false) where
         good-list : GoodList (stopsOf run) froms tos
         unfolding list
-        good-list = accepted-list (stopsOf run) froms tos (list-says ∙ fine)
+        good-list = any-good (run .head) (stopsOf run) froms tos (list-says ∙ fine)
 
         pub few-figures : length froms ≤ mostWants
         few-figures = list-length (list-says ∙ fine) .1
 
-        pub figures-last : figureSheetVerdict name run froms tos row ≡ rowVerdict (figureText name run froms tos) row
+        pub figures-last : figureAnySheetVerdict name run froms tos row ≡ rowVerdict (figureAnyText name run froms tos) row
         unfolding list
-        figures-last = figures-pass ∙ rw (list-says ∙ fine) (last-verdict (figureText name run froms tos) row)
+        figures-last = figures-pass ∙ rw (list-says ∙ fine) (last-verdict (figureAnyText name run froms tos) row)
 
         -- The figures that the routine left in the row.
-        module _ (space′ : List ℤ) (space-is : space′ ≡ figuresRow run froms tos space) where
-          figures-size : length (figuresOf run (listOf froms tos)) ≡ length froms
-          figures-size = figures-length run (listOf froms tos) _ 0 ∙ list-length (list-says ∙ fine) .0
+        module _ (space′ : List ℤ) (space-is : space′ ≡ figuresAnyRow run froms tos space) where
+          figures-size : length (figuresAnyOf run (listOf froms tos)) ≡ length froms
+          figures-size = figures-length run (listOf froms tos) ∙ list-length (list-says ∙ fine) .0
 
-          figures-taken : take (length froms) space′ ≡ figuresOf run (listOf froms tos)
-          unfolding figuresRow
+          figures-taken : take (length froms) space′ ≡ figuresAnyOf run (listOf froms tos)
+          unfolding figuresAnyRow
           figures-taken =
               ap (take (length froms)) (space-is ∙ rw (verdict-good (list-says ∙ fine)) refl)
-              ∙ take-at (figuresOf run (listOf froms tos)) (drop (length (listOf froms tos)) space) (length froms) figures-size
+              ∙ take-at (figuresAnyOf run (listOf froms tos)) (drop (length (listOf froms tos)) space) (length froms) figures-size
 
           pub figures-count : length froms ≡ length (take (length froms) space′)
           figures-count = sym (ap length figures-taken ∙ figures-size)
@@ -202,13 +210,37 @@ module _ (name : List ℕ) (run : Run) (froms tos row : List ℕ) (v w : Verdict
           figures-fit page wide =
               record {
                 room = wide;
-                short = name-fits name (judgeOf run) false v w v-is w-is f f-is good;
+                short = name-fits name (judgeAnyOf run) false v w v-is w-is f f-is good;
                 few = few-figures;
                 even = good-list .even;
                 figured = figures-count;
               }
 
           pub figures-wrote : (page page′ : List ℕ) (n : ℕ) → Wrote page 0 (figurePage name a froms tos (take (length froms) space′)) figureMost page′ n
-              → Wrote page 0 (figureText name run froms tos) figureMost page′ n
-          unfolding figureText
+              → Wrote page 0 (figureAnyText name run froms tos) figureMost page′ n
+          unfolding figureAnyText
           figures-wrote page page′ n w = rw (← figured-good (list-says ∙ fine), ← figures-taken) w
+
+-- Of a run that 01 accepts the sheet, the checks and what is written are 01's.
+module _ (name : List ℕ) (run : Run) (accepts : refuses (judgeOf run) ≡ false) (froms tos : List ℕ) where
+  pub text-same : figureAnyText name run froms tos ≡ figureText name run froms tos
+  unfolding figureAnyText figureText
+  text-same = rw (priced-same run (accepted-run run accepts) (listOf froms tos), figures-are run froms tos [] accepts (listOf froms tos))
+
+  pub sheet-same : (row : List ℕ) → figureAnySheetVerdict name run froms tos row ≡ figureSheetVerdict name run froms tos row
+  unfolding figureAnySheetVerdict figureSheetVerdict
+  sheet-same row =
+      rw (
+        judge-any-same run (λ is. true≢false (sym (ap isRefusal is) ∙ accepts)),
+        list-any-same (run .head) (stopsOf run) (sound-right (stopsOf run) (run .head) (run-sound run (accepted-run run accepts))) froms tos,
+        text-same,
+      )
+
+  pub written-same : (row : List ℕ) (r : Written) (row′ : List ℕ) → FigureAnyWritten name run froms tos row r row′ → FigureWritten name run froms tos row r row′
+  written-same row r row′ h = record { answer = h .answer ∙ rw (sheet-same row, text-same); left = h .left ∙ rw (sheet-same row, text-same) }
+
+-- One that the judging refuses is refused so.
+pub run-refused : (name : List ℕ) (run : Run) (froms tos row : List ℕ) → refuses (judgeOf run) ≡ true → figureSheetVerdict name run froms tos row ≡ judgeOf run
+unfolding figureSheetVerdict
+run-refused name run froms tos row e =
+    sym (first-refuses (judgeOf run) (refuseIf (not (isName name)) BadName ∷ listVerdict (stopsOf run) froms tos ∷ rowVerdict (figureText name run froms tos) row ∷ []) e)

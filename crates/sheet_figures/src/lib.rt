@@ -1,4 +1,5 @@
-// sheet_figures: the figure sheet writer: what each detour of the list that it is given buys.
+// sheet_figures: the figure sheet writer: what each detour of the list that it is given buys. The head may stand anywhere; 01's figure sheet is that of
+// a run whose head 01 accepts.
 // For the program and the tools, which see only this contract. What the words mean stands in specs/; the function answers every input.
 ghost use mathlib.Core.Path.{_≡_};
 ghost use Prim.Native.Nat.{_+_, _*_, _≤_};
@@ -7,12 +8,14 @@ ghost use lib.IntN.{natAbs};
 ghost use Rattle.runs.specs.Rows.{runAt};
 ghost use Rattle.text_pages.specs.Printing.{Wrote};
 ghost use Rattle.sheet_figures.specs.FigureSheet.{figureLine, figureLines, figurePage, FigureWritten};
+ghost use Rattle.sheet_figures.specs.AnyHead.{FigureAnyWritten};
 ghost use Rattle.sheet_figures.specs.Private.{figureMost, FigureFits};
 use refusals::Verdict;
 use refusals::refused;
 use sheet_writer::Written;
 use sheet_writer::answer_to;
 use sheet_writer::hand_out;
+use sheet_writer::judge_any;
 use sheet_writer::judge_name;
 use text_pages::put;
 use text_pages::put_line;
@@ -74,7 +77,8 @@ fn put_figure_sheet(
     put_figures(page, buys_at, froms, tos, figures)
 }
 
-pub fn write_figures(
+// The figure sheet of a run with the head anywhere.
+pub fn write_figures_any(
     name: &[u8],
     starts: &[u64],
     lengths: &[u64],
@@ -87,15 +91,15 @@ pub fn write_figures(
     tos: &[u64],
     out: &mut [u8],
 ) -> Written
-    ensures { λ r. ⌜ FigureWritten (now (name .entry)) (runAt starts lengths aggregates numbers counts head turn) (now (froms .entry)) (now (tos .entry)) (now (out .entry)) r (now (out .exit)) ⌝ }
+    ensures { λ r. ⌜ FigureAnyWritten (now (name .entry)) (runAt starts lengths aggregates numbers counts head turn) (now (froms .entry)) (now (tos .entry)) (now (out .entry)) r (now (out .exit)) ⌝ }
 {
-    let run = runs::judge(starts, lengths, aggregates, numbers, counts, head, turn);
+    let run = judge_any(starts, lengths, aggregates, numbers, counts, head, turn);
     let named = judge_name(run, false, name);
     if refused(named) {
         return answer_to(named, 0);
     }
     let mut row = [0i64; 64];
-    let answer = figures::figures(
+    let answer = figures::figures_any(
         starts,
         lengths,
         aggregates,
@@ -119,4 +123,39 @@ pub fn write_figures(
     let mut page = [0u8; 4492];
     let bytes = put_figure_sheet(&mut page, name, answer, froms, tos, &row[..detours]);
     hand_out(&page[..bytes], out)
+}
+
+// The figure sheet of a run of 01: the head is judged by its 7, and then priced from as any.
+pub fn write_figures(
+    name: &[u8],
+    starts: &[u64],
+    lengths: &[u64],
+    aggregates: &[u64],
+    numbers: &[u64],
+    counts: &[u64],
+    head: u64,
+    turn: u64,
+    froms: &[u64],
+    tos: &[u64],
+    out: &mut [u8],
+) -> Written
+    ensures { λ r. ⌜ FigureWritten (now (name .entry)) (runAt starts lengths aggregates numbers counts head turn) (now (froms .entry)) (now (tos .entry)) (now (out .entry)) r (now (out .exit)) ⌝ }
+{
+    let run = runs::judge(starts, lengths, aggregates, numbers, counts, head, turn);
+    if refused(run) {
+        return answer_to(run, 0);
+    }
+    write_figures_any(
+        name,
+        starts,
+        lengths,
+        aggregates,
+        numbers,
+        counts,
+        head,
+        turn,
+        froms,
+        tos,
+        out,
+    )
 }

@@ -28,6 +28,7 @@ use Rattle.walk.specs.Private.{Walkable}
 use Rattle.walk.proofs.Walks.{any-walkable}
 use Rattle.walk.proofs.AnyHead.{any-even, any-good, any-formed}
 use Rattle.walk.proofs.Filling.{one-each, timeMost, end-bound, time-bound}
+use Rattle.walk.proofs.Laws.{sum-within}
 use Rattle.text_bytes.specs.Text.{isName}
 use Rattle.sheet_reader.specs.Sheet.{longestSheet}
 use Rattle.sheet_writer.specs.AnyHead.{planAnyText}
@@ -35,12 +36,6 @@ use Rattle.sheet_lists.specs.Form.{planFroms, planTos}
 use Rattle.sheet_lists.specs.Reading.{planForm}
 use Rattle.sheet_lists.proofs.Bounds.{end-near, leg-within, each-below}
 use Rattle.sheet_lists.proofs.RoundTrip.{PlanSmall, plan-small, all-described, starts-back, ends-back, short-enough}
-
--- Where no read comes later than at a time, the sum is at most that time for each read.
-sum-most : (turn most : ℕ) (h : Head) (gs : List Leg) → ((s : Stop) → timeOf turn h gs s ≤ most) → (ss : List Stop) → sumOf turn h gs ss ≤ most * readsOf ss
-unfolding sumOf readsOf
-sum-most turn most h gs early [] = omega arith
-sum-most turn most h gs early (s ∷ ss) = omega (arith, sum-most turn most h gs early ss, mul-le-mul-left (s .count) (early s))
 
 -- The run with its head at the end of the tape, which 01 accepts, has the same rows.
 module _ (r : Run) (froms tos : List ℕ) (run : refuses (judgeAnyOf r) ≡ false) (list : refuses (listVerdictAny (r .head) (stopsOf r) froms tos) ≡ false) where
@@ -72,7 +67,7 @@ module _ (r : Run) (froms tos : List ℕ) (run : refuses (judgeAnyOf r) ≡ fals
       let s = plan-small (lifted r) froms tos judged-01 listed-01 in
       record {
         reads = s .reads;
-        sum = omega (arith, sum-most (r .turn) timeMost (headAt (r .head)) _ (time-bound _ (r .head) (r .turn) within) (stopsOf r), stops-reads (lifted r) (good .run), good .run .wants .reads);
+        sum = omega (arith, sum-within (r .turn) (r .head) _ within (stopsOf r), stops-reads (lifted r) (good .run), good .run .wants .reads);
         finish = omega (arith, end-bound _ (r .head) (r .turn) within);
         end = omega (arith, end-near (r .turn) lastPlace (runLegs r (listOf froms tos)) (headAt (r .head)) (within .near) (within .onTape));
         detours = s .detours;

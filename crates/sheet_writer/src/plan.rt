@@ -54,7 +54,7 @@ fn put_plan(
 }
 
 // 1 to 7 for a head anywhere.
-fn judge_any(
+pub fn judge_any(
     starts: &[u64],
     lengths: &[u64],
     aggregates: &[u64],

@@ -9,17 +9,17 @@ use lib.IntN.{pos}
 use Rattle.runs.specs.Run.{Run, runOf}
 use Rattle.runs.specs.Lists.{listOf}
 use Rattle.runs.proofs.Entries.{length-list}
-use Rattle.figures.specs.Figures.{figuresOf}
+use Rattle.figures.specs.AnyHead.{figuresAnyOf}
 use Rattle.figures.proofs.Filling.{Filling, filling-start, filling-more, filling-all}
-use Rattle.figures.proofs.Differences.{stored-is, figure-is}
-use Rattle.figures.proofs.Answers.{even, sum-small, sum-without-small, figures-length, figure-at}
+use Rattle.figures.proofs.Differences.{stored-is}
+use Rattle.figures.proofs.AnyHead.{even, sum-small, sum-without-small, figure-is, figures-length, figure-at}
 use borrow.Author.Needs.{needs}
 use Rattle.figures.proofs.fill_figures.Statement.{statement}
 use Rattle.figures.proofs.fill_figures.Tie as tie
 
 abbrev Inv-loop : tie.InvT-loop
 Inv-loop starts lengths aggregates numbers counts head turn froms tos sum row₀ i₀ row i =
-    Filling (pos 0) (figuresOf (runOf starts lengths aggregates numbers counts head turn) (listOf froms tos)) row₀ row i
+    Filling (pos 0) (figuresAnyOf (runOf starts lengths aggregates numbers counts head turn) (listOf froms tos)) row₀ row i
 
 abbrev μ-loop : tie.MeasureT-loop
 μ-loop starts lengths aggregates numbers counts head turn froms tos sum row₀ i₀ row i = length froms - i
@@ -27,11 +27,11 @@ abbrev μ-loop : tie.MeasureT-loop
 abbrev run : tie.Start Inv-loop μ-loop → Run
 run s = let a = s .args in runOf (a .starts .now) (a .lengths .now) (a .aggregates .now) (a .numbers .now) (a .counts .now) (a .head) (a .turn)
 
-size : (s : tie.Start Inv-loop μ-loop) → length (figuresOf (run s) (listOf (s .args .froms .now) (s .args .tos .now))) ≡ length (s .args .froms .now)
+size : (s : tie.Start Inv-loop μ-loop) → length (figuresAnyOf (run s) (listOf (s .args .froms .now) (s .args .tos .now))) ≡ length (s .args .froms .now)
 size s =
     let f = s .args .froms .now in
     let t = s .args .tos .now in
-    figures-length (run s) (listOf f t) _ 0 ∙ length-list f t (even (run s) f t (s .pre .0))
+    figures-length (run s) (listOf f t) ∙ length-list f t (even (run s) f t (s .pre .0))
 
 abbrev start : tie.At-loop Inv-loop μ-loop → tie.Start Inv-loop μ-loop
 start l = l .before .before .before .before .before .before .before .before
@@ -84,7 +84,7 @@ returns : tie.Need-returns Inv-loop μ-loop
 returns c =
     let l = c .before in
     let s = start l in
-    filling-all (pos 0) _ _ _ _ (l .loop .inv) (omega (arith, size s, c .loop-test .left)) ∙ ap (λ n. figuresOf (run s) (listOf (s .args .froms .now) (s .args .tos .now)) ++ drop n (s .args .row .now)) (size s)
+    filling-all (pos 0) _ _ _ _ (l .loop .inv) (omega (arith, size s, c .loop-test .left)) ∙ ap (λ n. figuresAnyOf (run s) (listOf (s .args .froms .now) (s .args .tos .now)) ++ drop n (s .args .row .now)) (size s)
 
 pub fill-figures-spec : {M : Type 1} → statement M
 fill-figures-spec =

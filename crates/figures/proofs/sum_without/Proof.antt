@@ -6,9 +6,9 @@ use Prim.Native.Nat.{_+_, _-_, _≤_, _<_}
 use lib.ListN.{length}
 use lib.Seq.{length-take-le}
 use Rattle.runs.specs.Run.{Run, runOf}
-use Rattle.figures.specs.Private.{Priceable}
+use Rattle.figures.specs.Private.{PriceableAny}
 use Rattle.figures.proofs.Without.{front-long, front-is}
-use Rattle.figures.proofs.Answers.{Long, even, few, sum-is}
+use Rattle.figures.proofs.AnyHead.{Long, even, few, sum-is}
 use borrow.Author.Needs.{needs}
 use Rattle.figures.proofs.sum_without.Statement.{statement}
 use Rattle.figures.proofs.sum_without.Tie as tie
@@ -61,25 +61,25 @@ other-less s = omega (arith, s .pre .1, same s)
 array-share-prefix-lefts : tie.Need-array-share-prefix-lefts
 array-share-prefix-lefts c = let s = origin c in front-long (s .args .froms .now) _ _ (s .args .i) _ (s .pre .1) (one-less s) (first c .leave-out .ensures)
 
-slice-aggregate-price : tie.Need-slice-aggregate-price
-slice-aggregate-price c = sym (length-take-le _ _ (array-share-prefix-lefts (c .before)))
+slice-aggregate-price-any : tie.Need-slice-aggregate-price-any
+slice-aggregate-price-any c = sym (length-take-le _ _ (array-share-prefix-lefts (c .before)))
 
 array-share-prefix-rights : tie.Need-array-share-prefix-rights
 array-share-prefix-rights c =
     let s = origin (c .before) in
     front-long (s .args .tos .now) _ _ (s .args .i) _ (inside s) (other-less s) (c .before .before .leave-out2 .ensures)
 
-slice-aggregate-price-2 : tie.Need-slice-aggregate-price-2
-slice-aggregate-price-2 c = sym (length-take-le _ _ (array-share-prefix-rights (c .before)))
+slice-aggregate-price-any-2 : tie.Need-slice-aggregate-price-any-2
+slice-aggregate-price-any-2 c = sym (length-take-le _ _ (array-share-prefix-rights (c .before)))
 
-slice-aggregate-price-3 : tie.Need-slice-aggregate-price-3
-slice-aggregate-price-3 c = search needs
+slice-aggregate-price-any-3 : tie.Need-slice-aggregate-price-any-3
+slice-aggregate-price-any-3 c = search needs
 
-slice-aggregate-price-4 : tie.Need-slice-aggregate-price-4
-slice-aggregate-price-4 c = search needs
+slice-aggregate-price-any-4 : tie.Need-slice-aggregate-price-any-4
+slice-aggregate-price-any-4 c = search needs
 
-price-requires : tie.Need-price-requires
-price-requires c κs = search needs
+price-any-requires : tie.Need-price-any-requires
+price-any-requires c κs = search needs
 
 returns : tie.Need-returns
 returns c =
@@ -89,7 +89,7 @@ returns c =
     sum-is (run s) (s .args .froms .now) (s .args .tos .now) (s .pre .0) (s .args .i) (s .pre .1) _ _
     (front-is (s .args .froms .now) _ _ (s .args .i) _ (s .pre .1) (one-less s) (first d .leave-out .ensures))
     (front-is (s .args .tos .now) _ _ (s .args .i) _ (inside s) (other-less s) (d .before .leave-out2 .ensures)) _
-    (record { times = omega arith; legs = omega arith }) _ (p .price .ensures .0)
+    (record { times = omega arith; legs = omega arith }) _ (p .price-any .ensures .0)
 
 pub sum-without-spec : {M : Type 1} → statement M
 sum-without-spec =
@@ -101,10 +101,10 @@ sum-without-spec =
     leave-out-requires-2
     sub-n
     array-share-prefix-lefts
-    slice-aggregate-price
+    slice-aggregate-price-any
     array-share-prefix-rights
-    slice-aggregate-price-2
-    slice-aggregate-price-3
-    slice-aggregate-price-4
-    price-requires
+    slice-aggregate-price-any-2
+    slice-aggregate-price-any-3
+    slice-aggregate-price-any-4
+    price-any-requires
     returns)
