@@ -5,7 +5,7 @@
 # A folder of the command's own for cargo, so that nothing is written beside the sources; its lock file takes the registry's checksums there.
 lay_out() {
     mkdir -p "$here/target/command" && { [ -d "$made" ] || mkdir -m 700 "$made"; } && mkdir -p "$made/crate/.cargo" || return 1
-    for name in Cargo.toml src help; do
+    for name in Cargo.toml src help systemd; do
         ln -sfn "$here/command/$name" "$made/crate/$name" || return 1
     done
     if [ -d "$registry/clap-4.0.32" ]; then

@@ -75,6 +75,7 @@ impl Package {
 
     fn put(&self, item: &Item) -> Result<(), Stop> {
         let to = match item.to.strip_prefix("lib/") {
+            Some(name) if name.starts_with("systemd/") => format!("usr/lib/{name}"),
             Some(name) => format!("usr/{LIBRARIES}/{name}"),
             None => format!("usr/{}", item.to),
         };

@@ -81,7 +81,7 @@ mod linked {
 
     impl Library {
         pub fn open() -> Option<Library> {
-            Some(Library { room: vec![0; 65600], out: vec![0; 4096] })
+            Some(Library { room: vec![0; 65600], out: vec![0; 8192] })
         }
 
         fn told(&self, result: u64, size: u64) -> Told {

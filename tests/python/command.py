@@ -895,12 +895,17 @@ def installing(at):
     at.must(f"umask 077 && ./violstream install {prefix}", 0, silent=True)
     whole = files()
     for name in ("bin/violstream", "libexec/violstream/cmd_plan", "libexec/violstream/cmd_plan_any", "share/man/man1/violstream.1", "share/doc/violstream/OPERATOR.md", "share/doc/violstream/examples/VX0041.run",
-                 "share/bash-completion/completions/violstream", "lib/libviolstream.a", "lib/libviolstream.so", "lib/pkgconfig/violstream.pc", "include/violstream.h"):
+                 "share/bash-completion/completions/violstream", "lib/libviolstream.a", "lib/libviolstream.so", "lib/pkgconfig/violstream.pc", "include/violstream.h",
+                 "lib/systemd/system/violstream-desk@.service"):
         if name not in whole or not os.stat(os.path.join(prefix, name)).st_mode & 0o004 or not os.stat(os.path.dirname(os.path.join(prefix, name))).st_mode & 0o001:
             raise Wrong(f"{name} was not installed, or not for everybody")
     at.must("cd / && $OLDPWD/prefix/bin/violstream plan -", 0, PLAN, data=RUN, silent=True)
     at.must("cd / && $OLDPWD/prefix/bin/violstream plan --any -", 0, contents("examples/mounted.plan"), data=contents("examples/mounted.run"), silent=True)
     at.must("prefix/bin/violstream version", 0, at.shell("./violstream version")[0], silent=True)
+    if shutil.which("systemd-analyze"):
+        printed, said, _ = at.shell("systemd-analyze verify --man=no prefix/lib/systemd/system/violstream-desk@VX0041.service")
+        if "violstream-desk" in printed.decode() + said:
+            raise Wrong(f"systemd-analyze finds in the unit: {said}")
     at.must("prefix/bin/violstream build", 2, b"", ["build is for a checkout of the sources", "usage: violstream build"])
     text = at.shell("prefix/bin/violstream help")[0]
     if b"./violstream" in text or b"violstream build" in text or b"violstream uninstall" not in text:
@@ -956,7 +961,8 @@ def packaged(at):
     at.must("umask 077 && ./violstream deb", 0, f"made {at.root}/target/command/deb/violstream_{number}-1_amd64.deb\n".encode(), silent=True)
     at.must("dpkg-deb -x target/command/deb/*.deb unpacked && unpacked/usr/bin/violstream plan examples/VX0041.run", 0, PLAN, silent=True)
     at.must("unpacked/usr/bin/violstream plan --any examples/mounted.run", 0, contents("examples/mounted.plan"), silent=True)
-    for name in ("share/man/man1/violstream.1.gz", "share/doc/violstream/copyright", "lib/x86_64-linux-gnu/libviolstream.a", "lib/x86_64-linux-gnu/pkgconfig/violstream.pc", "include/violstream.h"):
+    for name in ("share/man/man1/violstream.1.gz", "share/doc/violstream/copyright", "lib/x86_64-linux-gnu/libviolstream.a", "lib/x86_64-linux-gnu/pkgconfig/violstream.pc", "include/violstream.h",
+                 "lib/systemd/system/violstream-desk@.service"):
         if not os.path.exists(at.path(f"unpacked/usr/{name}")):
             raise Wrong(f"the package has no {name}")
     at.must("find unpacked ! -perm -044 ! -type l", 0, b"")

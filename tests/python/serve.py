@@ -623,34 +623,55 @@ class Load(threading.Thread):
         return b"file=%d,%d" % (self.draw.randrange(1, 7), self.draw.randrange(1, 129))
 
 
-def answered(told, events, given):
-    """Everything that was answered is in the journal, with the number that was given; and no number was given twice."""
-    numbers, filed, withdrawn, boarded = {1: 0, 2: 0}, {}, set(), 0
-    for event in events:
+class Table:
+    """Who waits after the events of a journal, without a plan."""
+
+    def __init__(self):
+        self.waiting, self.filed, self.withdrawn, self.boarded = {1: {}, 2: {}}, {1: [], 2: []}, set(), 0
+
+    def take(self, event):
+        """Whether it can be accepted."""
         name, values = event.split(b"=")
         values = [int(value) for value in values.split(b",")]
+        if name == b"board":
+            self.boarded += 1
+            counts = [min(4, len(self.waiting[office])) for office in (1, 2)]
+            counts[0] += min(8 - sum(counts), len(self.waiting[1]) - counts[0])
+            counts[1] += min(8 - sum(counts), len(self.waiting[2]) - counts[1])
+            for office, count in zip((1, 2), counts):
+                for number in list(self.waiting[office])[:count]:
+                    del self.waiting[office][number]
+            return True
+        waiting = self.waiting[values[0]]
         if name == b"file":
-            numbers[values[0]] += 1
-            filed[(values[0], numbers[values[0]])] = tuple(values[1:])
-        elif name == b"withdraw":
-            withdrawn.add(tuple(values))
-        else:
-            boarded += 1
+            self.filed[values[0]].append(values[1:])
+            waiting[len(self.filed[values[0]])] = values[1:]
+            return len(waiting) <= 16
+        self.withdrawn.add(tuple(values))
+        return waiting.pop(values[1], None) is not None
+
+    def text(self):
+        lines = [b"waits=%d,%d,%d,%d,%d,%d\n" % (office, number, *ticket, ahead, ahead // 4 + 1) for office in (1, 2) for ahead, (number, ticket) in enumerate(self.waiting[office].items())]
+        return b"".join(lines) + b"waiting=%d,%d\n" % (len(self.waiting[1]), len(self.waiting[2]))
+
+
+def answered(told, table, given):
+    """Everything that was answered is in the journal, with the number that was given; and no number was given twice. How many boardings were answered."""
     boardings = 0
     for window, line, said in told:
-        office = OFFICES.get(window)
+        values = [int(value) for value in line.split(b"=")[1].split(b",")]
         if said.startswith(b"filed="):
-            ticket = tuple(int(value) for value in said.strip().split(b"=")[1].split(b","))
-            must(filed.get(ticket) == tuple(int(value) for value in line.split(b"=")[1].split(b",")), f"{said!r} was answered to {line!r}, and the journal has {filed.get(ticket)}")
-            must(ticket not in given, f"number {ticket} was given twice")
-            given.add(ticket)
+            office, number = (int(value) for value in said.strip().split(b"=")[1].split(b","))
+            must(number <= len(table.filed[office]) and table.filed[office][number - 1] == values, f"{said!r} was answered to {line!r}, and is not in the journal")
+            must((office, number) not in given, f"number {number} of office {office} was given twice")
+            given.add((office, number))
         elif said.startswith(b"withdrawn="):
-            must((office, int(line.split(b"=")[1])) in withdrawn, f"{said!r} was answered, and is not in the journal")
+            must((OFFICES[window], values[0]) in table.withdrawn, f"{said!r} was answered, and is not in the journal")
         elif said.startswith(b"boarded="):
             boardings += 1
         else:
             must(said in (b"refused=16\nplace=0\n", b"refused=17\nplace=0\n"), f"{line!r} was answered {said!r}")
-    return boardings, boarded
+    return boardings
 
 
 def kills(at):
@@ -677,13 +698,11 @@ def kills(at):
             with open(server.journal, "r+b") as handle:
                 handle.truncate(draw.randrange(kept, len(text) + 1))
             server.begin()
-            entries = [event for _, event in server.entries()]
-            model = Model()
-            must(not any(model.desk.answer(event).startswith(b"refused") for event in entries), f"{tell}the journal has what is not accepted")
-            must(server.at("operator").ask(b"waiting") == model.waiting(), f"{tell}others wait than the journal says")
-            more, boarded = answered(told, entries, given)
-            boardings += more
-            must(boardings <= boarded, f"{tell}{boardings} boardings were answered, and the journal has {boarded}")
+            table = Table()
+            must(all(table.take(event) for _, event in server.entries()), f"{tell}the journal has what is not accepted")
+            must(server.at("operator").ask(b"waiting") == table.text(), f"{tell}others wait than the journal says")
+            boardings += answered(told, table, given)
+            must(boardings <= table.boarded, f"{tell}{boardings} boardings were answered, and the journal has {table.boarded}")
             server.end()
     must(total > at.words.kills and (lost > 0 or at.words.kills < 50), f"of {at.words.kills} kills none met an answer, or none a write: {total}, {lost}")
     print(f"serve.py: {at.words.kills} kills, {total} answers before them, {lost} bytes that no disk had kept")

@@ -1,4 +1,5 @@
-//! What is installed: the command with its programs, its manual page and its pages, and for C the header, the library and violstream.pc.
+//! What is installed: the command with its programs, its manual page and its pages, a unit for systemd, and for C the header, the library and
+//! violstream.pc.
 
 use crate::build::PROGRAMS;
 use crate::commands::Call;
@@ -42,6 +43,7 @@ pub fn everything(prefix: &Path, call: &Call) -> Result<Vec<Item>, Stop> {
     for name in examples(&root.join("examples"))? {
         items.push(item(format!("share/doc/violstream/examples/{name}"), 0o644, from(&format!("examples/{name}"))?));
     }
+    items.push(item("lib/systemd/system/violstream-desk@.service", 0o644, unit(prefix)));
     let completions = [
         ("bash", "share/bash-completion/completions/violstream"),
         ("zsh", "share/zsh/site-functions/_violstream"),
@@ -57,6 +59,11 @@ pub fn read(path: &Path) -> Result<Vec<u8>, Stop> {
         Ok(bytes) => Ok(bytes),
         Err(error) => failed(format!("cannot read {}: {}", quoted(path.as_os_str()), reason(&error))),
     }
+}
+
+/// The server for systemd, by the name that the command has there.
+fn unit(prefix: &Path) -> Vec<u8> {
+    include_str!("../../systemd/violstream-desk@.service").replace("@PREFIX@", &prefix.to_string_lossy()).into_bytes()
 }
 
 /// Sheets, lists, days, labels and indexes: what an operator tries.
