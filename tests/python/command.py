@@ -429,7 +429,7 @@ def statuses(at):
     at.must("./violstream uninstall /no-such", 1, b"", ["nothing that this command knows of is installed below /no-such"])
 
 
-COMMANDS = ("plan", "field", "buys", "price", "check", "explain", "rewrite", "mend", "month", "ltfs", "desk", "serve", "ask", "build", "test", "install", "deb", "uninstall", "completions", "version", "help")
+COMMANDS = ("plan", "field", "buys", "price", "check", "explain", "rewrite", "mend", "month", "ltfs", "desk", "serve", "ask", "record", "audit", "build", "test", "install", "deb", "uninstall", "completions", "version", "help")
 
 
 def help_and_version(at):
@@ -841,6 +841,8 @@ def manners(at):
         made = at.shell(f"./violstream completions {shell}")[0]
         if b"explain" not in made or b"svg" not in made:
             raise Wrong(f"completions for {shell} do not know explain --svg")
+        if b"tape" not in made or b"html" not in made:
+            raise Wrong(f"completions for {shell} do not know audit --tape and --html")
         if b"-l any" not in made and b"--any" not in made:
             raise Wrong(f"completions for {shell} do not know plan --any")
         at.must(f"command -v {shell} > /dev/null || exit 0; ./violstream completions {shell} | {shell} -n /dev/stdin", 0)
@@ -1318,7 +1320,7 @@ def surrounded(at):
              f"./violstream mend {run}", "./violstream month month", f"./violstream ltfs VX0041 {LABEL} {INDEX}",
              "./violstream desk examples/day.run examples/day.events", f"./violstream plan {plan}", f"./violstream ltfs VX0041 {LABEL} /dev/null",
              "./violstream version", "./violstream help", "./violstream", "./violstream nothing", "./violstream build",
-             "./violstream install /nowhere/../proc/none", f"./violstream install '{at.root}/prefix'", f"./violstream uninstall '{at.root}/prefix'",
+             f"rm -rf book && ./violstream record book {run} && ./violstream audit book | head -n 3", "./violstream install /nowhere/../proc/none", f"./violstream install '{at.root}/prefix'", f"./violstream uninstall '{at.root}/prefix'",
              "./violstream completions bash", "tools/edits.sh no-such", "tools/native.sh"]
     unbuilt(at)
     os.rename(at.path("kept"), at.path("target.kept"))

@@ -120,7 +120,7 @@ def lay(at, sheets=SHEETS):
 def filled(at, sheets=SHEETS, name="vault"):
     """A book with an entry for each sheet."""
     lay(at, sheets)
-    _, said, status = at.shell(f"./violstream record --by 'Ana, news' {name} {' '.join(sheets)}")
+    _, said, status = at.shell(f"./violstream record --by 'news, desk 2' {name} {' '.join(sheets)}")
     if status not in (0, 3):
         raise Wrong(f"record says {said!r}")
     return Book(at, name)
@@ -142,7 +142,7 @@ def entries(at):
     names = list(SHEETS) + list(ANYWHERE)
     began = time.time()
     alone = at.shell("./violstream plan --any example.run")
-    for by, line in (("Ana", "--by Ana vault example.run"), ("b\u00e4nder, <2>", "vault example.run --by='b\u00e4nder, <2>'"), (pwd.getpwuid(os.geteuid()).pw_name, "vault - < example.run"), ("-x", "--by=-x -- vault example.run")):
+    for by, line in (("archive", "--by archive vault example.run"), ("b\u00e4nder, <2>", "vault example.run --by='b\u00e4nder, <2>'"), (pwd.getpwuid(os.geteuid()).pw_name, "vault - < example.run"), ("-x", "--by=-x -- vault example.run")):
         out, said, status = at.shell(f"./violstream record {line}")
         if (out, said, status) != alone:
             raise Wrong(f"record {line} gives {out!r}, {said!r}, {status}, and plan --any {alone}")
@@ -269,7 +269,7 @@ def tampered(at):
 
     for number in range(1, count + 1):
         behind = {number + 1} if number < count else {None}
-        for key, value in (("made", "2025-01-01T00:00:00Z"), ("by", "Eve"), ("program", "violstream 9")):
+        for key, value in (("made", "2025-01-01T00:00:00Z"), ("by", "another"), ("program", "violstream 9")):
             found(f"{key} of {number}", exchanged(number, **{key: value}), behind, "" if number == count else "is not the digest of entry")
         found(f"digest of {number}", exchanged(number, previous="1" * 64), {number}, "previous=" if number > 1 else "does not begin a book")
         found(f"number of {number}", exchanged(number, entry="000099"), {number}, "calls itself 000099")
@@ -297,7 +297,7 @@ def tampered(at):
         """Everything behind a change hashed anew: only last= tells."""
         before = NOTHING
         for number, text in enumerate(texts, 1):
-            made = entry(dict(parts(text), by="Eve", previous=before))
+            made = entry(dict(parts(text), by="another", previous=before))
             book.write(number, made)
             before = digest(made)
 
@@ -567,7 +567,7 @@ def seen_in_browser(at, folder):
     sheets = {f"{number:04}.run": drawn_sheet(draw, number) for number in range(1000)}
     filled(at, dict(taken_by_check(at)), "small")
     filled(at, sheets, "large")
-    at.must("cp -r small wrong && sed -i 's/^by=Ana/by=Eve/' wrong/000002.record", 0)
+    at.must("cp -r small wrong && sed -i 's/^by=news/by=film/' wrong/000002.record", 0)
     browser = Browser()
     try:
         for name, status in (("small", 0), ("wrong", 3), ("large", 0)):

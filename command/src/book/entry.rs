@@ -90,14 +90,14 @@ mod tests {
     use super::*;
 
     fn some() -> Vec<u8> {
-        let (made, by, program) = ("2026-11-16T08:00:00Z".to_string(), "Ana".to_string(), "violstream 3.0.0 (kit)".to_string());
+        let (made, by, program) = ("2026-11-16T08:00:00Z".to_string(), "archive".to_string(), "violstream 3.0.0 (kit)".to_string());
         Entry { number: 12, made, by, program, previous: NOTHING.to_string(), run: b"tape=A\nplan=3\n", plan: b"refused=11\nplace=2\n" }.text()
     }
 
     #[test]
     fn what_is_written_reads_back() {
         let text = some();
-        assert!(text.starts_with(b"entry=000012\nmade=2026-11-16T08:00:00Z\nby=Ana\nprogram=violstream 3.0.0 (kit)\nprevious=0000"));
+        assert!(text.starts_with(b"entry=000012\nmade=2026-11-16T08:00:00Z\nby=archive\nprogram=violstream 3.0.0 (kit)\nprevious=0000"));
         let entry = Entry::read(&text).unwrap();
         assert_eq!((entry.number, entry.run, entry.plan), (12, &b"tape=A\nplan=3\n"[..], &b"refused=11\nplace=2\n"[..]));
         assert_eq!(entry.text(), text);

@@ -91,7 +91,7 @@ mod tests {
 
     #[test]
     fn names() {
-        for name in ["Ana", "b\u{e4}nder, 2", "\u{6d4b}"] {
+        for name in ["archive", "b\u{e4}nder, 2", "\u{6d4b}"] {
             assert!(is_name(name), "{name}");
         }
         for name in ["", "a\nb", "a\tb", "\u{7f}", "\u{85}", "a\u{2028}b"] {

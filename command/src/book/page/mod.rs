@@ -145,10 +145,9 @@ impl<'a> Page<'a> {
         out.push_str(texts::WHAT);
         let _ = write!(
             out,
-            "<section id=\"entries\">\n<h2>The entries</h2>\n{}<div class=\"wide\"><table class=\"index\"><caption>{}</caption>\n<thead><tr><th scope=\"col\">Entry</th>\
+            "<section id=\"entries\">\n<h2>The entries</h2>\n{}<div class=\"wide\"><table class=\"index\"><caption>Each is further down, by its number</caption>\n<thead><tr><th scope=\"col\">Entry</th>\
              <th scope=\"col\">Made</th><th scope=\"col\">By</th><th scope=\"col\">What</th></tr></thead>\n<tbody>\n{}{}</tbody></table></div>\n",
             if audit.entries == 0 { "<p>There is none that could be shown.</p>\n" } else { "" },
-            "Each is further down, by its number",
             self.rows,
             Page::row_of_wrong(audit)
         );
