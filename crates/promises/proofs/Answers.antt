@@ -78,7 +78,7 @@ module _ (applies : Refusal → ℕ → Type 0) (order : List Refusal) (all : Al
         iff = (λ h. both .0 (λ e. no-lines e (h .0) (h .1 .0) (h .1 .1)), λ s. (v .refusal, (v .place, two-lines (both .1 s))));
       }
 
-run-few : (r : Run) (k : Refusal) (p : ℕ) → RunApplies r k p → numberOf k ≤ 7
+pub run-few : (r : Run) (k : Refusal) (p : ℕ) → RunApplies r k p → numberOf k ≤ 7
 run-few r k p h = run-small r h
 
 -- The checks of a sheet at the front of a row: 12, 11 and 19, then what the others find. An engine's own numbers are 9 or 24.
@@ -133,7 +133,7 @@ module _ (Judged : Run → Refusal → ℕ → Type 0) (small : (r : Run) (k : R
   sheet-accepts checks e = none-refuses (sheetVerdict sheet ∷ ruleVerdict sheet ∷ checks (sheetRun sheet)) e
 
 -- 9.
-room-own : (r : Run) (k : Refusal) (p : ℕ) → RoomApplies r k p → (numberOf k ≡ 9) ⊎ (numberOf k ≡ 24)
+pub room-own : (r : Run) (k : Refusal) (p : ℕ) → RoomApplies r k p → (numberOf k ≡ 9) ⊎ (numberOf k ≡ 24)
 room-own r k p (short-room s h) = inl refl
 
 module _ (sheet : List ℕ) where

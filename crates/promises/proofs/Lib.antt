@@ -53,6 +53,7 @@ pub mod InputTexts
 pub mod TapeInput
 pub mod BuysLines
 pub mod Answers
+pub mod MonthRuns
 pub mod MonthPage
 pub mod AnswersCases
 pub mod AnswersAny

@@ -123,7 +123,7 @@ module _ (sheet : List ℕ) (o : Outcome) (list : List Detour) (p : OutcomeOf sh
   abbrev run : Run
   run = sheetRun sheet
 
-  is : o ≡ plannedOutcome (sheetName sheet) run list
+  pub is : o ≡ plannedOutcome (sheetName sheet) run list
   is = planned-by (sheetName sheet) run o list (p .planned (passes sheet o p e)) least
 
   long : length (run .numbers) ≡ length (pricedTimes run list)

@@ -22,6 +22,7 @@ pub mod Checks
 pub mod Lengths
 pub mod BuysLines
 pub mod Answers
+pub mod MonthRuns
 pub mod MonthPage
 pub mod AnswersAny
 pub mod AnyFigures
