@@ -20,7 +20,7 @@ use Rattle.text_lines.specs.Lines.{lineOf, firstBadOf}
 use Rattle.text_lines.specs.Found.{ValueAt, ValueFound, Passed, LinesFound, LinesPassed, LineBad}
 use Rattle.text_lines.proofs.Passing.{value-at, line-passed, unkeyed}
 use Rattle.text_paths.specs.declared.PathLine.{PathLine}
-use Rattle.text_paths.specs.Paths.{slash, namesFrom, isPath, slashesOf, askedPath, isAsked, linesFrom, lineCount, mostLines, listVerdict}
+use Rattle.text_paths.specs.Paths.{slash, namesFrom, isPath, slashesOf, askedPath, isAsked, linesFrom, lineCount, mostLines, pathsVerdict}
 use Rattle.text_paths.specs.Rows.{PathAt, PathFound}
 use Rattle.text_paths.specs.Private.{countedAt}
 
@@ -188,8 +188,8 @@ module _ (text : List ℕ) (count : ℕ) (begun : Bool) (i : ℕ) (p : LinesLeft
 
 -- 11 before 5.
 module _ (text : List ℕ) (count : ℕ) (is : count ≡ lineCount text) (r : Lines) (found : LinesFound isAsked text 0 count r) where
-  pub list-bad : (line : ℕ) → r ≡ Lines.Bad line → refuseAt line BadLine ≡ listVerdict text
-  unfolding listVerdict
+  pub list-bad : (line : ℕ) → r ≡ Lines.Bad line → refuseAt line BadLine ≡ pathsVerdict text
+  unfolding pathsVerdict
   list-bad line e =
       let bad : LineBad isAsked text 0 count line = subst (λ k. LinesFound isAsked text 0 count k) e found in
       go line (rw is at (bad .first)) (bad .some)
@@ -198,8 +198,8 @@ module _ (text : List ℕ) (count : ℕ) (is : count ≡ lineCount text) (r : Li
       go zero h l = absurd (omega arith)
       go (suc n) h l = rw h
 
-  pub list-ended : (next : ℕ) → r ≡ Lines.End next → refuseIf (ltb mostLines count) TooManyReads ≡ listVerdict text
-  unfolding listVerdict
+  pub list-ended : (next : ℕ) → r ≡ Lines.End next → refuseIf (ltb mostLines count) TooManyReads ≡ pathsVerdict text
+  unfolding pathsVerdict
   list-ended next e =
       let passed : LinesPassed isAsked text 0 count next = subst (λ k. LinesFound isAsked text 0 count k) e found in
       let none : firstBadOf isAsked (lineCount text) text ≡ 0 = rw is at (passed .none) in
@@ -209,3 +209,13 @@ module _ (text : List ℕ) (count : ℕ) (is : count ≡ lineCount text) (r : Li
           → refuseIf (ltb mostLines count) TooManyReads ≡ firstOf (refuseAt (firstBadOf isAsked (lineCount text) text) BadLine ∷ refuseIf (ltb mostLines (lineCount text)) TooManyReads ∷ [])
       go true h none = rw (none, ← is, h)
       go false h none = rw (none, ← is, h)
+
+-- Of two answers that fit one line, neither differs from the other.
+pub path-determined : (text : List ℕ) (at : ℕ) (r s : PathLine) → PathFound text at r → PathFound text at s → r ≡ s
+path-determined text at (PathLine.Path from end) (PathLine.Path from′ end′) p q =
+    let f : from ≡ from′ = p .start ∙ sym (q .start) in
+    let e : end ≡ end′ = p .stop ∙ sym (q .stop) in
+    cc
+path-determined text at (PathLine.Path from end) PathLine.Bad p q = absurd (true≢false (sym (p .passed .good) ∙ q))
+path-determined text at PathLine.Bad (PathLine.Path from end) p q = absurd (true≢false (sym (q .passed .good) ∙ p))
+path-determined text at PathLine.Bad PathLine.Bad p q = refl

@@ -51,5 +51,5 @@ abbrev pub mostLines : ℕ
 mostLines = 1024
 
 -- 11 with the first line that asks for nothing, then 5 for too many lines.
-unfoldable pub listVerdict : List ℕ → Verdict
-listVerdict text = firstOf (refuseAt (firstBadOf isAsked (lineCount text) text) BadLine ∷ refuseIf (ltb mostLines (lineCount text)) TooManyReads ∷ [])
+unfoldable pub pathsVerdict : List ℕ → Verdict
+pathsVerdict text = firstOf (refuseAt (firstBadOf isAsked (lineCount text) text) BadLine ∷ refuseIf (ltb mostLines (lineCount text)) TooManyReads ∷ [])

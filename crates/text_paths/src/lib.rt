@@ -7,7 +7,7 @@ ghost use Prim.Native.Nat.{_+_, _-_, _≤_, _<_, min};
 ghost use lib.ListN.{length, drop, take};
 ghost use lib.Dec.{eqb};
 ghost use Rattle.text_lines.specs.Found.{LinesFound};
-ghost use Rattle.text_paths.specs.Paths.{slash, isPath, slashesOf, isAsked, lineCount, listVerdict};
+ghost use Rattle.text_paths.specs.Paths.{slash, isPath, slashesOf, isAsked, lineCount, pathsVerdict};
 ghost use Rattle.text_paths.specs.Rows.{PathFound, PathsRead};
 ghost use Rattle.text_paths.specs.Private.{countedAt};
 use refusals::Refusal;
@@ -136,7 +136,7 @@ fn wide(n: usize) -> u64
 
 // 11 with the line, or 5.
 pub fn judge_list(text: &[u8]) -> Verdict
-    ensures { λ r. ⌜ r ≡ listVerdict (now (text .entry)) ⌝ }
+    ensures { λ r. ⌜ r ≡ pathsVerdict (now (text .entry)) ⌝ }
 {
     let count = count_lines(text);
     let lines = path_lines(text, count);
