@@ -46,7 +46,7 @@ pub fn answer(sheet_file: &OsStr, events_file: &OsStr, call: &Call) -> Result<St
         Err(sentence) => return Ok(told(&sentence)),
     };
     let is_typed = matches!(events, Input::Standard) && isatty(events.as_raw_fd()) == Ok(true);
-    let events = Events { input: &events, held: Vec::new(), remarks: false };
+    let events = Events { input: &events, held: Vec::new() };
     Day { program: &program, child, sheet: &sheet, name: events_file, number: 0, typed: is_typed.then(Vec::new), keeper: None }.whole(events)
 }
 
@@ -54,8 +54,6 @@ pub fn answer(sheet_file: &OsStr, events_file: &OsStr, call: &Call) -> Result<St
 pub struct Events<'a> {
     pub input: &'a Input,
     pub held: Vec<u8>,
-    /// Whether lines that begin with # are passed over.
-    pub remarks: bool,
 }
 
 pub struct Day<'a> {
@@ -84,14 +82,17 @@ impl Day<'_> {
     fn hold(&mut self, events: Events<'_>) -> Result<Status, Stop> {
         let (from, mut held) = (events.input.as_raw_fd(), events.held);
         let mut room = vec![0; 65536];
+        // Whether what comes next still belongs to a line that begins with #. The program passes over such a line and says nothing.
+        let mut in_remark = false;
         loop {
             let mut done = 0;
             while let Some(length) = length_of_event(&held[done..]) {
                 let line = &held[done..done + length];
-                if !(events.remarks && line.starts_with(b"#")) {
-                    if let Some(status) = self.event(line)? {
-                        return Ok(status);
-                    }
+                if in_remark || line.starts_with(b"#") {
+                    self.send(line)?;
+                    in_remark = !line.ends_with(b"\n");
+                } else if let Some(status) = self.event(line)? {
+                    return Ok(status);
                 }
                 done += length;
             }

@@ -1,5 +1,5 @@
-//! desk --replay: a journal of the server once more, by the proved desk alone. Its lines that begin with # are passed over here, and do not count where an
-//! event is named by its place. With --keep the run sheet and the plan sheet of each boarding are left for check.
+//! desk --replay: a journal of the server once more, by the proved desk alone, which passes over the lines that begin with #. With --keep the run sheet
+//! and the plan sheet of each boarding are left for check.
 
 use super::desk::{Day, Events};
 use super::{frame_pair, say_refused, told, Call, SHEET};
@@ -55,7 +55,7 @@ pub fn answer(journal_file: &OsStr, keep: Option<&OsStr>, call: &Call) -> Result
         Err(sentence) => return Ok(told(&sentence)),
     };
     let keeper = keep.map(|folder| Keeper { folder: Path::new(folder), sheet: &sheet, number: 0 });
-    let events = Events { input: &journal, held, remarks: true };
+    let events = Events { input: &journal, held };
     Day { program: &program, child, sheet: &sheet, name: journal_file, number: 0, typed: None, keeper }.whole(events)
 }
 
