@@ -51,7 +51,7 @@ use Rattle.demands.specs.RefusalTable.{HasStops}
 use Rattle.demands.specs.Demand1.{ByTheTable, priceOrder, planOrder}
 use Rattle.demands.specs.Demand2.{listIn}
 use Rattle.demands.specs.AnyLegs.{AreLegsOf}
-use Rattle.demands.specs.AnyHead.{RunAppliesAny, ListIsBadAny, PriceAnyApplies, PlanAnyApplies, Demand1PriceAny, Demand1PriceAnyIff, Demand1PlanAny, Demand1PlanAnyIff, IsFormedAny, LegsAreMade, LegsAreOne, IsWalkAnyOf, IsLeastAny, Demand2PriceAny, Demand2WalkAny, Demand2LeastAny, Demand2OneAny, NoLessAnyByFile, Demand3Any, Demand3AnySame, PriceAnySame, PlanAnySame, LeftOfAll}
+use Rattle.demands.specs.AnyHead.{RunAppliesAny, ListIsBadAny, PriceAnyApplies, PlanAnyApplies, Demand1PriceAny, Demand1PriceAnyIff, Demand1PlanAny, Demand1PlanAnyIff, IsFormedAny, LegsAreMade, LegsAreOne, IsWalkAnyOf, IsLeastAny, LeastAnyMeans, Demand2PriceAny, Demand2WalkAny, Demand2LeastAny, Demand2OneAny, NoLessAnyByFile, Demand3Any, Demand3AnySame, PriceAnySame, PlanAnySame, LeftOfAll}
 use Rattle.demands.proofs.Tests.{tells-below}
 use Rattle.demands.proofs.Checks.{Decides, refused, passed, refused-iff, decides-if, decides-reworded, Finds, finds-none, finds-first}
 use Rattle.demands.proofs.Demand1.{refusal-only-place, tells-reads, IsShort, tells-short}
@@ -349,6 +349,18 @@ demand2-least-any r before answer after plans accepts =
     let good = good-run r before answer after plans accepts in
     least-of-list r (plan .list) answer after (plan .least) (reported r (plan .list) answer (plan .says)) (listed r before answer after plans accepts)
     (formed-list-any r good) (λ other v gs are. legs-one r good other (formed-list-any r good other v) gs are)
+
+pub least-any-means : LeastAnyMeans
+least-any-means r nothing list least gs are =
+    let good = accepted-any r (nothing-judged-any r nothing) in
+    let walks : (other : List Detour) → WellFormedAny (r .head) (stopsOf r) other → (hs : List Leg) → AreLegsOf r other hs → sumOf (r .turn) (headAt (r .head)) hs (stopsOf r) ≡ listSumAny (r .turn) (r .head) (stopsOf r) other
+    = λ other w hs fit. ap (λ ls. sumOf (r .turn) (headAt (r .head)) ls (stopsOf r)) (legs-one r good other w hs fit) in
+    let own = walks list (least .formed) gs are in
+    record {
+      formed = is-formed-any r good list (least .formed);
+      smallest = λ other v hs fit. let w = formed-list-any r good other v in rw (own, walks other w hs fit) (least .smallest other w);
+      first = λ other v hs fit e. let w = formed-list-any r good other v in least .first other w (sym (walks other w hs fit) ∙ e ∙ own);
+    }
 
 pub demand2-one-any : Demand2OneAny
 demand2-one-any r before answer answer′ after after′ plans plans′ = plan-any-determined r before answer answer′ after after′ plans plans′

@@ -18,6 +18,7 @@ use Rattle.walk.specs.Price.{priceAnswer, priceRows}
 use Rattle.walk.specs.AnyHead.{runLegs, priceAnyAnswer, priceAnyRows}
 use Rattle.walk.specs.Rows.{ReadRows}
 use Rattle.least.specs.Least.{ComesFirst}
+use Rattle.least.specs.AnyHead.{LeastAny}
 use Rattle.least.specs.Wants.{readsOf}
 use Rattle.planner.specs.Plan.{Plans}
 use Rattle.planner.specs.AnyHead.{PlansAny}
@@ -147,6 +148,16 @@ Demand2LeastAny =
     → PlansAny r before answer after
     → answer .refusal ≡ Accepted
     → IsLeastAny r answer after
+
+-- What the contracts call least for a head anywhere is that: of a list that is, and of its legs.
+pub record IsLeastWalk (r : Run) (list : List Detour) (gs : List Leg) : Type 0 where
+  pub formed : IsFormedAny r list
+  pub smallest : (other : List Detour) → IsFormedAny r other → (hs : List Leg) → AreLegsOf r other hs → sumOf (r .turn) (headAt (r .head)) gs (stopsOf r) ≤ sumOf (r .turn) (headAt (r .head)) hs (stopsOf r)
+  pub first : (other : List Detour) → IsFormedAny r other → (hs : List Leg) → AreLegsOf r other hs → sumOf (r .turn) (headAt (r .head)) hs (stopsOf r) ≡ sumOf (r .turn) (headAt (r .head)) gs (stopsOf r)
+      → (other ≡ list) ⊎ ComesFirst list other
+
+abbrev pub LeastAnyMeans : Type 0
+LeastAnyMeans = (r : Run) → NothingAppliesAny r → (list : List Detour) → LeastAny r list → (gs : List Leg) → AreLegsOf r list gs → IsLeastWalk r list gs
 
 abbrev pub Demand2OneAny : Type 0
 Demand2OneAny =
