@@ -2,10 +2,10 @@
 use Prim.Native.Nat.{ℕ, _≤_, _<_}
 use mathlib.Core.Path.{_≡_, refl, ap, sym, _∙_, subst}
 use mathlib.Core.Bool.{Bool, true, false, cond, true≢false}
-use mathlib.Core.Logic.{⊎-elim}
+use mathlib.Core.Logic.{_⊎_, inl, inr, ⊎-elim}
 use mathlib.Core.List.{List, [], _∷_, _++_}
 use native.Mathlib.Omega.{arith}
-use lib.ListN.{length, take, drop}
+use lib.ListN.{length, take, drop, replicate}
 use lib.Seq.{take-append-seam, drop-append-seam}
 use lib.Dec.{ltb}
 use borrow.Author.Tests.{ltb-true}
@@ -30,6 +30,7 @@ use Rattle.sheet_lists.specs.Reading.{planForm, listForm}
 use Rattle.answer_plan.specs.Recall.{verdictBy}
 use Rattle.answer_plan.specs.PlannedLists.{TextHanded}
 use Rattle.answer_any.specs.AnyRun.{anyChecks}
+use Rattle.answer_any.proofs.Planned.{room-kept, room-cleared}
 use Rattle.answer_check.specs.RunRules.{headAnywhere}
 use Rattle.answer_check.specs.Pricing.{pricingVerdict, priceText}
 use Rattle.answer_check.specs.Checking.{verdictOn, VerdictOf, SheetChecked, CheckAnswered}
@@ -48,11 +49,12 @@ use Rattle.promises.specs.Answers.{WordsApply, short-room, twoLines}
 use Rattle.promises.specs.Lengths.{checkRow}
 use Rattle.promises.specs.CheckWhole.{VerdictText}
 use Rattle.promises.specs.ListLines.{PlanFormApplies, ListFormApplies, formOrder}
-use Rattle.promises.specs.TwoTexts.{EarlyApplies, earlyOrder, PricedApplies, pricedOrder, PlannedApplies, plannedOrder, InThreeStages, PriceByTheTable, CheckByTheTable, AsPrinted, CallerIsTold}
+use Rattle.promises.specs.TwoTexts.{EarlyApplies, earlyOrder, PricedApplies, pricedOrder, PlannedApplies, plannedOrder, InThreeStages, PriceByTheTable, CheckByTheTable, AsPrinted, RoomAfterwards, CallerIsTold}
 use Rattle.promises.proofs.Checks.{put-whole}
 use Rattle.promises.proofs.DeskSteps.{not-accepted}
 use Rattle.promises.proofs.Answers.{lines-are}
-use Rattle.promises.proofs.InputLengths.{price-held, check-fits}
+use Rattle.promises.proofs.InputLengths.{price-held, check-passes, check-fits}
+use Rattle.promises.proofs.AnswersAny.{one}
 use Rattle.promises.proofs.AnyRecord.{NoEight, not-eight}
 use Rattle.promises.proofs.CheckWhole.{check-prints-all}
 use Rattle.promises.proofs.ListLines.{plan-form-by-the-table, list-form-by-the-table}
@@ -290,8 +292,34 @@ module _ (sheet plan row room out : List ℕ) (w : Written) (row′ room′ : Li
               ∙ sym (ap (λ x. drop (x .bytes) row) says);
         }
 
+    or-short : (w .refusal ≡ Accepted) ⊎ (w .refusal ≡ ShortRow)
+    unfolding rowVerdict writtenAnswer
+    or-short =
+        ⊎-elim
+        (λ (t : ltb (length row) (length (asked .text)) ≡ true). inr (ap (λ x. x .refusal) (asked .handed .answer) ∙ rw t))
+        (λ (t : ltb (length row) (length (asked .text)) ≡ false). inl (ap (λ x. x .refusal) (asked .handed .answer) ∙ rw t))
+        (true-or-false (ltb (length row) (length (asked .text))))
+
+  room-left : (b : Bool) → refuses said ≡ b → RoomAfterwards (sheetRun sheet) (w .refusal) room room′
+  room-left true e =
+      let kind : w .refusal ≡ said .refusal = ap (λ x. x .refusal) (c .refused e .says) in
+      record {
+        kept = λ a b. c .cleared ∙ room-kept said (sheetRun sheet) room e;
+        cleared = λ stops s is. absurd (⊎-elim (λ x. true≢false (sym e ∙ ap isRefusal (sym kind ∙ x))) (λ x. not-short (sym kind ∙ x)) is);
+      }
+  room-left false e =
+      record {
+        kept = λ a b. absurd (⊎-elim a b (or-short e));
+        cleared = λ stops s is.
+            c .cleared ∙ room-cleared said (sheetRun sheet) room e
+            ∙ ap (λ m. replicate m 0 ++ drop m room) (sym (one (length room) sheet stops (check-passes (length room) sheet plan e .1) s));
+      }
+
 pub caller-is-told : CallerIsTold
-caller-is-told sheet plan row room out w row′ room′ n out′ room″ c d wide = (go (refuses (verdictOn (length room) sheet plan)) refl, c .cleared ∙ sym (d .cleared))
+caller-is-told sheet plan row room out w row′ room′ n out′ room″ c d wide = (
+  go (refuses (verdictOn (length room) sheet plan)) refl,
+  (room-left sheet plan row room out w row′ room′ n out′ room″ c d wide (refuses (verdictOn (length room) sheet plan)) refl, c .cleared ∙ sym (d .cleared)),
+)
   where
     go : (b : Bool) → refuses (verdictOn (length room) sheet plan) ≡ b → AsPrinted (VerdictText (sheetName sheet) (sheetRun sheet) plan (planFroms plan) (planTos plan)) row w row′ (take n out′)
     go true e = told-refusal sheet plan row room out w row′ room′ n out′ room″ c d wide e

@@ -1,12 +1,13 @@
 -- `price` and `check`, by the table: the run sheet's 12, 11 and 19; then 12 and 11 of the list or the plan sheet; then 1 to 7 of a run whose head may stand
 -- anywhere, and 10 or 9. Then `check` for a caller, as a record, with 8 of the row last.
-use Prim.Native.Nat.{ℕ, _≤_, _<_}
+use Prim.Native.Nat.{ℕ, _+_, _*_, _≤_, _<_}
 use mathlib.Core.Path.{_≡_}
-use mathlib.Core.List.{List, [], _∷_}
-use lib.ListN.{length, take, drop}
+use mathlib.Core.Logic.{_⊎_}
+use mathlib.Core.List.{List, [], _∷_, _++_}
+use lib.ListN.{length, take, drop, replicate}
 use Rattle.refusals.specs.declared.Refusal.{Refusal}
 use Rattle.refusals.specs.declared.Refusal.the-variants.{Accepted, FileRows, BadFile, WantRows, BadWant, TooManyReads, TurnPrice, HeadPlace, ShortRow, ShortRoom, BadEntry, BadLine, LongSheet, RetiredRule}
-use Rattle.runs.specs.Run.{Run}
+use Rattle.runs.specs.Run.{Run, total}
 use Rattle.text_bytes.specs.Text.{bytes}
 use Rattle.sheet_reader.specs.Lines.{sweepText}
 use Rattle.sheet_reader.specs.Sheet.{sheetRun, sheetName}
@@ -15,7 +16,7 @@ use Rattle.sheet_writer.specs.AnyHead.{planAnyText}
 use Rattle.sheet_lists.specs.Form.{planFroms, planTos, listFroms, listTos}
 use Rattle.answer_check.specs.Pricing.{SheetPriced}
 use Rattle.answer_check.specs.Checking.{SheetChecked, CheckAnswered}
-use Rattle.demands.specs.RefusalTable.{FirstBad, FirstThatApplies, SomeApplies}
+use Rattle.demands.specs.RefusalTable.{FirstBad, HasStops, FirstThatApplies, SomeApplies}
 use Rattle.demands.specs.AnyHead.{RunAppliesAny, ListIsBadAny}
 use Rattle.demands.specs.Lines.{LineIsBad, linesDue, Ruled}
 use Rattle.promises.specs.Lengths.{priceRow, checkRow}
@@ -84,14 +85,21 @@ pub record AsPrinted (Asked : List ℕ → Type 0) (row : List ℕ) (w : Written
   pub unwritten : (w .refusal ≡ Accepted → ⊥) → (w .bytes ≡ 0) × (row′ ≡ row)
   pub behind : drop (w .bytes) row′ ≡ drop (w .bytes) row
 
--- In the same room, which is left alike.
+-- The room that is left: by any refusal but 8 as it was; else zero in the words that the plan takes, the later ones as they were.
+pub record RoomAfterwards (run : Run) (kind : Refusal) (room room′ : List ℕ) : Type 0 where
+  pub kept : (kind ≡ Accepted → ⊥) → (kind ≡ ShortRow → ⊥) → room′ ≡ room
+  pub cleared : (stops : ℕ) → HasStops run stops → (kind ≡ Accepted) ⊎ (kind ≡ ShortRow)
+      → room′ ≡ replicate (stops * stops * (total (run .counts) + 1)) 0 ++ drop (stops * stops * (total (run .counts) + 1)) room
+
+-- In the same room, which both leave alike.
 abbrev pub CallerIsTold : Type 0
 CallerIsTold =
     (sheet plan row room out : List ℕ) (w : Written) (row′ room′ : List ℕ) (n : ℕ) (out′ room″ : List ℕ)
     → CheckAnswered sheet plan row room w row′ room′
     → SheetChecked sheet plan out room n out′ room″
     → checkRow ≤ length out
-    → AsPrinted (VerdictText (sheetName sheet) (sheetRun sheet) plan (planFroms plan) (planTos plan)) row w row′ (take n out′) × (room′ ≡ room″)
+    → AsPrinted (VerdictText (sheetName sheet) (sheetRun sheet) plan (planFroms plan) (planTos plan)) row w row′ (take n out′)
+    × (RoomAfterwards (sheetRun sheet) (w .refusal) room room′ × (room′ ≡ room″))
 
 -- The sheet of document 01 with a list whose second line has one number.
 abbrev pub PrintsTheListsLine : Type 0
