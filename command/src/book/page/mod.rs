@@ -48,7 +48,7 @@ fn moment(made: &str) -> String {
 }
 
 fn name_of(by: &str) -> String {
-    format!("<bdi>{}</bdi>", escaped(&shown(by)))
+    format!("<b><bdi>{}</bdi></b>", escaped(&shown(by)))
 }
 
 impl<'a> Page<'a> {
@@ -84,7 +84,7 @@ impl<'a> Page<'a> {
             writeln!(out, "<article id=\"e{number}\"><h3>Entry {number}: tape {}, {}</h3>", wants.tape, count(wants.wants.len(), "file", "files"));
         let _ = writeln!(
             out,
-            "<p>On {} {} asked for {} of tape {}, for which {} waited. The head stood at {}, and every turn of it costs {}.</p>",
+            "<p>On {}, {} asked for {} of tape {}, for which {} waited. The head stood at {}, and every turn of it costs {}.</p>",
             moment(&seen.entry.made),
             name_of(&seen.entry.by),
             count(wants.wants.len(), "file", "files"),
@@ -110,7 +110,7 @@ impl<'a> Page<'a> {
         let _ = writeln!(out, "<article id=\"e{number}\"><h3>Entry {number}: refused ({refused})</h3>");
         let _ = writeln!(
             out,
-            "<p>On {} {} asked by a run sheet that was refused, for reason {refused}: {}. Nothing was planned, and nothing was read by it.</p>",
+            "<p>On {}, {} asked by a run sheet that was refused, for reason {refused}: {}. Nothing was planned, and nothing was read by it.</p>",
             moment(&seen.entry.made),
             name_of(&seen.entry.by),
             escaped(words)
@@ -287,6 +287,6 @@ mod tests {
     fn nothing_from_outside_is_markup() {
         assert_eq!(escaped("<b a='1'>&\""), "&lt;b a=&#39;1&#39;&gt;&amp;&quot;");
         assert_eq!(sheet(b"a<\x00\n&\n"), "a&lt;\\x00\n&amp;");
-        assert_eq!(name_of("a\u{202e}b"), "<bdi>a?b</bdi>");
+        assert_eq!(name_of("a\u{202e}b"), "<b><bdi>a?b</bdi></b>");
     }
 }

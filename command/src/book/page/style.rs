@@ -11,7 +11,7 @@ html { background: var(--paper); color: var(--ink); font: 1rem/1.5 system-ui, -a
 body { margin: 0 auto; max-width: 60rem; padding: 1rem; overflow-wrap: anywhere; }
 h1 { font-size: 1.7rem; line-height: 1.2; margin: 0.5rem 0 1rem; } h2 { font-size: 1.3rem; margin: 2rem 0 0.5rem; } h3 { font-size: 1.1rem; margin: 0 0 0.5rem; }
 p, ul { margin: 0.5rem 0; max-width: 46rem; } li { margin: 0.25rem 0; }
-a { color: var(--link); } a:focus-visible, summary:focus-visible { outline: 3px solid var(--link); outline-offset: 2px; }
+b { font-weight: 600; } .index b { font-weight: normal; } a { color: var(--link); } a:focus-visible, summary:focus-visible { outline: 3px solid var(--link); outline-offset: 2px; }
 .skip { position: absolute; left: -100rem; } .skip:focus { left: 1rem; background: var(--paper); padding: 0.5rem; }
 .state { border-left: 0.4rem solid; padding: 0.75rem 1rem; font-size: 1.1rem; max-width: none; }
 .good { color: var(--good); background: var(--goodpaper); border-color: var(--good); } .bad { color: var(--bad); background: var(--badpaper); border-color: var(--bad); }
@@ -25,7 +25,7 @@ thead th { color: var(--soft); vertical-align: bottom; } .index th, .index td { 
 article { border-top: 1px solid var(--line); padding: 1.25rem 0; content-visibility: auto; contain-intrinsic-size: auto 44rem; }
 figure { margin: 0.75rem 0; overflow-x: auto; } svg { display: block; width: 100%; min-width: 32rem; max-width: 44rem; } figcaption, .small { color: var(--soft); font-size: 0.875rem; }
 svg text { font: 13px system-ui, 'Liberation Sans', sans-serif; fill: var(--ink); } svg .st { fill: var(--soft); } svg .sn { font-weight: 600; paint-order: stroke; stroke: var(--paper); stroke-width: 3px; }
-.sf { fill: var(--band); } .sw { fill: var(--wanted); } .sa { fill: none; stroke: var(--soft); } .sh { fill: none; stroke: var(--head); stroke-width: 1.75; stroke-linejoin: round; }
+.sf { fill: var(--band); } .sw { fill: var(--wanted); stroke: var(--paper); } .sa { fill: none; stroke: var(--soft); } .sh { fill: none; stroke: var(--head); stroke-width: 1.75; stroke-linejoin: round; }
 .sr { fill: none; stroke: var(--read); stroke-width: 4; stroke-linecap: round; } .sd { fill: none; stroke: var(--read); stroke-width: 10; stroke-linecap: round; }
 @media (max-width: 40rem) { svg { min-width: 0; } svg text { font-size: 19px; } svg .sm { display: none; } }
 .checked { color: var(--good); } summary { cursor: pointer; color: var(--link); }
