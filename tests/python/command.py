@@ -781,7 +781,7 @@ def waits(call):
 
 def interrupted(at):
     """A call that is ended from outside, alone or with its group, ends at once, and so do its programs. It leaves nothing behind."""
-    for words in (["plan"], ["plan", "--any"], ["month"], ["desk", "examples/day.run"]):
+    for words in (["plan"], ["plan", "--any"], ["month"], ["record", "vault", "-"], ["desk", "examples/day.run"]):
         for number in (signal.SIGINT, signal.SIGTERM, signal.SIGHUP, signal.SIGKILL):
             for end in (os.kill, os.killpg):
                 call = subprocess.Popen([at.path(BUILT), *words], cwd=at.root, stdin=subprocess.PIPE, stdout=subprocess.PIPE, stderr=subprocess.PIPE,
@@ -990,7 +990,7 @@ def limits(at):
     at.write("deep.xml", b"<ltfsindex>" + b"<a>" * 31 + b"</a>" * 31 + b"<directory><contents/></directory>" + b"<a/>" * 120000 + b"</ltfsindex>")
     at.write("many.run", sheet_of(64, 159))
     at.write("many.plan", at.shell("./violstream plan --any many.run")[0])
-    for enough, words in [(6144, f"{words} {run}") for words in ("plan --any", "buys --any", "explain") for run in ("large.run", "many.run")] + [(6144, words) for words in ("check examples/VX0041.run examples/VX0041.plan", "check many.run many.plan")] + [(1024, words) for words in ("plan large.run", "buys large.run", "price large.run /dev/null", "rewrite large.run", "mend large.run", "month large.month", "field examples/VX0041.run",
+    for enough, words in [(6144, f"{words} {run}") for words in ("plan --any", "buys --any", "explain") for run in ("large.run", "many.run")] + [(6144, words) for words in ("check examples/VX0041.run examples/VX0041.plan", "check many.run many.plan", "record book many.run")] + [(1024, words) for words in ("plan large.run", "buys large.run", "price large.run /dev/null", "rewrite large.run", "mend large.run", "month large.month", "field examples/VX0041.run",
                   "desk examples/day.run examples/day.events", f"ltfs VX0041 {LABEL} deep.xml")]:
         must = at.shell(f"./violstream {words}")
         if must[2] != 0 or at.shell(f"ulimit -s {enough} && ./violstream {words}") != must:

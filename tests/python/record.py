@@ -199,6 +199,9 @@ def misused(at):
     at.must("./violstream record vault long.run", 3, refusal(12), ["refused (12)"])
     at.must("printf x >> long.run; ./violstream record vault long.run", 1, b"", ["long.run has over 67108864 bytes"])
     at.must("./violstream audit vault | head -n 1", 0, b"entries=2\n")
+    at.must("touch vault/18446744073709551615.record && ./violstream record vault example.run", 1, b"", ["the book vault has no number left"])
+    at.must("mkfifo vault/000003.record && rm vault/1844* && ./violstream record vault example.run", 1, b"", ["entry 000003 of the book vault is no entry, so none can follow it"])
+    at.must("./violstream audit vault", 3, b"wrong=000003\nentry 000003 is not a file of its own\n")
 
 
 def audited(at):

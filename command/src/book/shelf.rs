@@ -85,9 +85,9 @@ pub fn add(folder: &OsStr, entry_at: impl Fn(u64, &str) -> Vec<u8>) -> Result<u6
             (_, Some(Taken::Text(text))) => digest(&text),
             _ => return Err(format!("entry {} of the book {} is no entry, so none can follow it", written(last), quoted(folder))),
         };
-        let aside = Aside::write(folder, &entry_at(last + 1, &previous))?;
-        if aside.link(folder, last + 1)? {
-            return Ok(last + 1);
+        let next = last.checked_add(1).ok_or_else(|| format!("the book {} has no number left", quoted(folder)))?;
+        if Aside::write(folder, &entry_at(next, &previous))?.link(folder, next)? {
+            return Ok(next);
         }
         // Somebody else was quicker: the next number, behind theirs.
     }
