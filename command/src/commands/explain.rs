@@ -24,8 +24,8 @@ pub fn answer(run: &OsStr, picture_file: Option<&OsStr>, call: &Call) -> Result<
             Ok(printed) => printed.answer,
             Err(sentence) => return Ok(told(&sentence)),
         };
-        // What the plan takes, the figures take; where the empty list has no price, nothing is said of it.
-        if let (Some(refused), true) = (refusal(&answer), answers.is_empty()) {
+        // What the plan takes, the figures and the price of the empty list take.
+        if let Some(refused) = refusal(&answer) {
             put(&answer)?;
             say_refused(&shown(run), &refused, &words::of_plan(&refused, &sheet, By::Explain));
             return Ok(Status::Refused);

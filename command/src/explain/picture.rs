@@ -106,8 +106,7 @@ impl Picture<'_> {
         self.out.push_str(STYLE);
         let _ = writeln!(self.out, "<rect width=\"{width:.0}\" height=\"{height:.0}\" fill=\"#fff\"/>");
         self.text((LEFT_EDGE, 24.0), "start", "title", &format!("Tape {}: the head's path", plan.tape));
-        let without = if plan.sum_of_sweep.is_empty() { String::new() } else { format!("; without detours {}", plan.sum_of_sweep) };
-        let sums = format!("The head starts at {}. Sum {}{without}.", grouped(plan.head), plan.sum);
+        let sums = format!("The head starts at {}. Sum {}; without detours {}.", grouped(plan.head), plan.sum, plan.sum_of_sweep);
         self.text((LEFT_EDGE, 44.0), "start", "tick", &sums);
         let key = "Bands are files, the darker ones wanted. The line is the head, thick where it reads; a dot: read, with file, time and the reads that waited.";
         self.text((LEFT_EDGE, 60.0), "start", "tick", key);

@@ -29,9 +29,7 @@ pub fn draw(plan: &Plan) -> String {
     draw_figures(plan, &mut out);
     let width = widest(&plan.sum, &plan.sum_of_sweep);
     let _ = writeln!(out, "sum of this plan      {:>width$}", plan.sum);
-    if !plan.sum_of_sweep.is_empty() {
-        let _ = writeln!(out, "sum without detours   {:>width$}", plan.sum_of_sweep);
-    }
+    let _ = writeln!(out, "sum without detours   {:>width$}", plan.sum_of_sweep);
     out
 }
 

@@ -8,7 +8,7 @@ use lib.IntN.{ℤ, pos, negsuc}
 use Rattle.runs.specs.Run.{Run, stopsOf}
 use Rattle.runs.specs.Lists.{Detour, WellFormed}
 use Rattle.walk.specs.Price.{pricedAnswer}
-use Rattle.figures.specs.Figures.{figureOf, figuresFrom, figuresOf}
+use Rattle.figures.specs.Figures.{figureOf, figuresBy, figuresOf}
 use Rattle.engine_stops.proofs.Halves.{list-of-halves}
 use Rattle.sheet_figures.specs.FigureSheet.{signed, figureLines, figurePage, figureText}
 use Rattle.answer_buys.specs.Buys.{BuysText}
@@ -20,8 +20,8 @@ written-as (pos n) = WrittenAs.plain
 written-as (negsuc n) = WrittenAs.minus
 
 figures-said : (r : Run) (list : List Detour) → WellFormed (stopsOf r) list → (rest : List Detour) (i : ℕ) → i + length rest ≡ length list
-    → FiguresSaid r list i rest (figureLines (map (λ d. d .from) rest) (map (λ d. d .to) rest) (figuresFrom r list (length rest) i))
-unfolding figureLines figuresFrom
+    → FiguresSaid r list i rest (figureLines (map (λ d. d .from) rest) (map (λ d. d .to) rest) (figuresBy (figureOf r list) (length rest) i))
+unfolding figureLines figuresBy
 figures-said r list formed [] i e = FiguresSaid.none-left
 figures-said r list formed (d ∷ rest) i e =
     FiguresSaid.one-more (bought-at r list i (omega (arith, e)) formed) (written-as (figureOf r list i)) (figures-said r list formed rest (suc i) (omega (arith, e)))
