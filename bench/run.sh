@@ -1,5 +1,5 @@
 #!/bin/sh
-# Builds and runs the benchmark against ARCHIVE (default target/staticlib/libboundary.a) and prints its table.
+# Builds and runs the benchmark against ARCHIVE (default target/staticlib/libviolstream.a) and prints its table.
 #
 #   bench/run.sh [--quick | --slow SECONDS] [--native] [ARCHIVE]
 #
@@ -12,7 +12,7 @@ set -eu
 
 here=$(cd "$(dirname "$0")/.." && pwd)
 . "$here/tools/machine.sh"
-archive=$here/target/staticlib/libboundary.a
+archive=$here/target/staticlib/libviolstream.a
 usage='usage: bench/run.sh [--quick | --slow SECONDS] [--native] [ARCHIVE]'
 quick='' seconds=''
 while [ $# -gt 0 ]; do
@@ -38,7 +38,7 @@ packages='make gcc'
 for tool in make "$cc" $emulator; do
     command -v "$tool" > /dev/null || { printf 'bench/run.sh: no %s (Debian: apt-get install %s)\n' "$tool" "$packages" >&2; exit 1; }
 done
-[ -f "$archive" ] || { printf "bench/run.sh: no archive at %s; 'rt staticlib boundary' makes it\n" "$archive" >&2; exit 1; }
+[ -f "$archive" ] || { printf "bench/run.sh: no archive at %s; 'tools/build.sh library violstream' makes it\n" "$archive" >&2; exit 1; }
 
 out=$(mktemp -d)
 trap 'rm -rf "$out"' EXIT

@@ -4,7 +4,7 @@
 #include <ucontext.h>
 #include "stack.h"
 
-enum { STACK_WORDS = 32768 };
+enum { STACK_WORDS = 131072 };
 static uint64_t stack[STACK_WORDS];
 static ucontext_t outside, inside;
 

@@ -11,7 +11,7 @@
  *   unreadable: word 4: a number was expected, not 'x'
  *
  * Against an installed library:  cc examples/daemon.c $(pkg-config --cflags --libs violstream) -o daemon
- * Against the build itself:      cc -I include examples/daemon.c target/staticlib/libboundary.a -o daemon
+ * Against the build itself:      cc -I include examples/daemon.c target/staticlib/libviolstream.a -o daemon
  * ./daemon < examples/daemon.requests, or ./daemon --example for one request that is built in. */
 #define _POSIX_C_SOURCE 200809L
 #include <errno.h>

@@ -1,14 +1,24 @@
 /*
- * violstream.h - plan and price the recall of files from tape
+ * violstream.h - plan and price the recall of files from tape, and keep the waiting tickets of two offices
  *
- * Four calls. violstream_price says what a list of detours costs; violstream_plan finds the best list. Both ask for a
- * head at or right of everything wanted. violstream_price_any and violstream_plan_any are the same two for a head anywhere:
- * a tape just mounted, or a second run from where the first ended. Where the first two accept, they give the same.
+ * THE CALLS, in the order in which a daemon meets them
+ *
+ *   violstream_plan       the best list of detours for a run, and what it costs; asks for a head at or right of everything wanted
+ *   violstream_plan_any   the same for a head anywhere: a tape just mounted, or a second run from where the first ended
+ *   violstream_price      what a list of detours costs; violstream_price_any: for a head anywhere
+ *   violstream_file       a ticket filed at one of two offices; violstream_withdraw: one withdrawn
+ *   violstream_board      up to eight tickets leave on one run, which is planned
+ *   violstream_event      one of these three by a line of text, answered by the text that `violstream desk` prints
+ *   violstream_waiting    who waits, as text
+ *   violstream_version    the version of the library that is linked
+ *
+ * Where violstream_plan and violstream_price accept, the calls for a head anywhere give the same.
  *
  * All work on 64-bit numbers and on rows that the caller lends. They allocate nothing and keep nothing between calls, so
  * several threads can call at once, each with rows of its own. Whatever the run, a price takes at most 1,024 bytes of stack
- * beside its arguments and a plan at most 6,144; a plan at the limits takes a few milliseconds, at most some tens. C99 or
- * later, or C++. Link with libviolstream.a (x86-64), which needs the C library and nothing else:
+ * beside its arguments and a plan at most 6,144; a plan at the limits takes a few milliseconds, at most some tens. The calls for
+ * tickets take at most 16,384 bytes, but for violstream_event, which takes up to 557,056 (544 KiB): mind it where a thread has
+ * a small stack. C99 or later, or C++. Link with libviolstream.a (x86-64), which needs the C library and nothing else:
  *
  *   cc example.c $(pkg-config --cflags --libs violstream)
  *
@@ -56,13 +66,26 @@
  *   there or in where that detour starts: the list with no detour ending there comes first, else the one whose
  *   detour starts further right. So there is one best list.
  *
+ * TICKETS
+ *
+ *   Two offices ask for files of one tape by tickets. The waiting table is a row of 32 records, which the caller keeps from
+ *   call to call: 16 places of office 1, then 16 of office 2. In each office's places its tickets stand in order of filing,
+ *   their numbers rising, and then empty places, whose four words are 0. Beside it the caller keeps a row of two words, the
+ *   last number given to each office, 0 for none. A table of zeros with two zeros beside it is the morning of a day.
+ *   A boarding takes four tickets of each office, or all it has, in order of filing, and gives places that one office
+ *   does not need to the other: at most eight. Their files are the wants of a run, counts of one file added. The
+ *   tickets leave only if its plan is accepted. So a ticket with j tickets of its own office ahead leaves by accepted
+ *   boarding number j / 4 + 1 from then, whatever the other office files, unless it is withdrawn.
+ *   A record that could not have come about so is refused (26) by every call before it does anything else.
+ *   Records past the 32nd are neither read nor written.
+ *
  * ROWS
  *
- *   A row is a pointer to 64-bit words and, right after it, its length in words. The caller owns every row
- *   before, during and after a call. A row of length 0 may have a null pointer. Rows may be longer than needed.
+ *   A row is a pointer and, right after it, its length: in words of 64 bits, for texts in bytes, for tickets in records. The caller
+ *   owns every row before, during and after a call. A row of length 0 may have a null pointer. Rows may be longer than needed.
  *
  *   Accepted (result 0): the rows for the answer hold it in their first entries. Later entries are unchanged.
- *   Refused (any other result): no word of any row has changed.
+ *   Refused (any other result): nothing in any row has changed.
  *   Rows that are lent to be read never change.
  *
  *   Outside the promise, as for any C function: a length greater than the memory behind the pointer, a pointer
@@ -120,6 +143,68 @@
  *
  * The detour is to stop 2, which is aggregate 7: the head reads it from 10 to 20 for the three who wait for file 3. Were
  * all four numbers 0, the sum would be 349, and the detour 3,3.
+ *
+ * ANOTHER, with tickets
+ *
+ * ---- tickets.c ----
+ *     #include <inttypes.h>
+ *     #include <stdio.h>
+ *     #include <string.h>
+ *     #include <violstream.h>
+ *
+ *     int main(void)
+ *     {
+ *         const uint64_t starts[] = {0, 10, 16, 20}, lengths[] = {10, 4, 4, 30}, aggregates[] = {0, 7, 7, 0};
+ *         static struct violstream_desk desk;                        // zeros: nobody waits
+ *         static uint64_t room[VIOLSTREAM_ROOM_WORDS(8, 1024)];
+ *         uint64_t from[7], to[7], times[8], legs[8], number;
+ *         uint8_t bytes[VIOLSTREAM_TEXT_MOST];
+ *         struct violstream_text text;
+ *         struct violstream_run run;
+ *         struct violstream_rows rows;
+ *
+ *         run.starts = starts, run.lengths = lengths, run.aggregates = aggregates, run.files = 4;
+ *         run.numbers = NULL, run.counts = NULL, run.wants = 0;     // the tickets' wants
+ *         run.head = 60, run.turn = 1;
+ *         rows.detour_starts = from, rows.detour_ends = to, rows.detours = 7;
+ *         rows.times = times, rows.times_len = 8;
+ *         rows.legs = legs, rows.legs_len = 8;
+ *         rows.room = room, rows.room_len = VIOLSTREAM_ROOM_WORDS(8, 1024);
+ *         text.bytes = bytes, text.room = sizeof bytes;
+ *         if (violstream_file_rows(&desk, 1, 3, 3, run.files, &number) != 0
+ *             || violstream_file_rows(&desk, 2, 1, 1, run.files, &number) != 0
+ *             || violstream_file_rows(&desk, 2, 4, 1, run.files, &number) != 0)
+ *             return 1;
+ *         printf("the last is office 2's number %" PRIu64 "\n", number);
+ *         if (violstream_withdraw_rows(&desk, 2, 1) != 0 || violstream_waiting_rows(&desk, &text) != 0)
+ *             return 1;
+ *         printf("%.*s", VIOLSTREAM_AS(int, text.size), VIOLSTREAM_AS(const char *, VIOLSTREAM_AS(const void *, bytes)));
+ *         if (violstream_board_rows(&desk, &run, &rows) != 0)
+ *             return 1;
+ *         printf("%" PRIu64 " and %" PRIu64 " left, sum %" PRIu64 "\n", desk.taken[0], desk.taken[1], rows.sums[VIOLSTREAM_SUM]);
+ *         for (uint64_t i = 0; i < desk.taken[0] + desk.taken[1]; i++) {
+ *             uint64_t want = desk.taken[2 + i] - 1;                 // among the run's wants
+ *             printf("ticket at %" PRIu64 " in leg %" PRIu64 "\n", times[want], legs[want]);
+ *         }
+ *         const char *line = "withdraw=2,1\n";                       // as typed at the desk
+ *         uint64_t result = violstream_event_rows(&desk, &run, line, strlen(line), &rows, &text);
+ *         printf("refused: %s\n", violstream_reason(result));
+ *         return 0;
+ *     }
+ * ---- end of tickets.c ----
+ *
+ * It prints
+ *
+ * ---- tickets ----
+ *     the last is office 2's number 2
+ *     waits=1,1,3,3,0,1
+ *     waits=2,2,4,1,0,1
+ *     waiting=1,1
+ *     1 and 1 left, sum 274
+ *     ticket at 61 in leg 1
+ *     ticket at 91 in leg 1
+ *     refused: no such ticket waits
+ * ---- end of tickets ----
  */
 #ifndef VIOLSTREAM_H
 #define VIOLSTREAM_H
@@ -127,7 +212,8 @@
 #include <stddef.h>
 #include <stdint.h>
 
-#define VIOLSTREAM_VERSION "3.0.0"
+#define VIOLSTREAM_VERSION "4.0.0"
+#define VIOLSTREAM_VERSION_NUMBER 40000                 /* what violstream_version gives of the same version */
 
 /* A value as another type, in the words of either language. */
 #ifdef __cplusplus
@@ -143,6 +229,15 @@
 #define VIOLSTREAM_MAX_READS 1024                       /* of all wants together */
 #define VIOLSTREAM_MAX_POSITION (UINT64_C(1) << 40)     /* of the head and of every file's end */
 #define VIOLSTREAM_MAX_TURN (UINT64_C(1) << 32)
+#define VIOLSTREAM_MAX_COUNT 128                        /* of one ticket */
+#define VIOLSTREAM_MAX_NUMBER 65535                     /* of an office's tickets */
+
+/* What the calls for tickets ask for. */
+#define VIOLSTREAM_OFFICES 2
+#define VIOLSTREAM_PLACES 32                            /* records of the waiting table, 16 of each office */
+#define VIOLSTREAM_BOARDERS 8                           /* the most tickets that leave at once */
+#define VIOLSTREAM_TAKEN 10                             /* the words of `taken` */
+#define VIOLSTREAM_TEXT_MOST 2677                       /* no text of violstream_event or violstream_waiting is longer */
 
 /*
  * The words of room that violstream_plan needs for that many stops and that many reads of all wants together. There are
@@ -198,7 +293,18 @@ enum violstream_refusal {
     VIOLSTREAM_SHORT_ROW = 8,      /* times or legs shorter than the wants, or sums below 4 words; violstream_plan: also
                                       a row for starts or ends of detours shorter than the stops less one (0 for
                                       none); place 0 */
-    VIOLSTREAM_SHORT_ROOM = 9      /* violstream_plan: room below VIOLSTREAM_ROOM_WORDS of the stops and the reads; place 0 */
+    VIOLSTREAM_SHORT_ROOM = 9,     /* violstream_plan: room below VIOLSTREAM_ROOM_WORDS of the stops and the reads; place 0 */
+
+    /* Of the calls for tickets. Each says below in which order it checks. */
+    VIOLSTREAM_BAD_LINE = 11,      /* violstream_event: not one line that is an event, with its LF; place 0 */
+    VIOLSTREAM_BAD_TICKET = 15,    /* office other than 1 and 2, file not in the table or above 4,096, count 0 or above 128;
+                                      place 0 */
+    VIOLSTREAM_OFFICE_FULL = 16,   /* that office has 16 waiting; place 0 */
+    VIOLSTREAM_NOT_WAITING = 17,   /* no ticket of that office and number waits; place 0 */
+    VIOLSTREAM_NUMBERS_SPENT = 18, /* that office has been given number 65,535; place 0 */
+    VIOLSTREAM_BAD_RECORD = 26     /* a record that is neither empty nor a ticket of its place's office with a number up to the
+                                      last given, or a ticket behind an empty place or a number not below its own;
+                                      place: the first such record */
 };
 
 /* The refusal's number in a result; VIOLSTREAM_ACCEPTED for 0. */
@@ -230,6 +336,12 @@ static inline const char *violstream_reason(uint64_t result)
     case VIOLSTREAM_BAD_ENTRY: return "list of detours not well formed";
     case VIOLSTREAM_SHORT_ROW: return "row for the answer too short";
     case VIOLSTREAM_SHORT_ROOM: return "working room too small";
+    case VIOLSTREAM_BAD_LINE: return "not a line that is an event";
+    case VIOLSTREAM_BAD_TICKET: return "office, file or count of a ticket out of range";
+    case VIOLSTREAM_OFFICE_FULL: return "that office has 16 tickets waiting";
+    case VIOLSTREAM_NOT_WAITING: return "no such ticket waits";
+    case VIOLSTREAM_NUMBERS_SPENT: return "that office has been given its last number";
+    case VIOLSTREAM_BAD_RECORD: return "record of the waiting table that no ticket can have left there";
     }
     return "no refusal of this library";
 }
@@ -313,8 +425,103 @@ uint64_t violstream_plan_any(const uint64_t *starts, size_t starts_len,
                              uint64_t *sums, size_t sums_len,
                              uint64_t *room, size_t room_len);
 
+/* A ticket: office 1 or 2, the file's number, how often it is to be read, the number given. An empty place is all 0. */
+struct violstream_ticket {
+    uint64_t office, file, count, number;
+};
+
 /*
- * The two calls of before with their parameters by name. They only call the functions above. A length that several rows share
+ * A ticket filed.
+ *
+ *   tickets              the waiting table, at least 32 records
+ *   lasts                the last number given to each office, at least 2 words
+ *   office, file, count  the ticket; files: the number of files of the tape
+ *   given                for the ticket's number, at least 1 word
+ *
+ * Checks: 8 (of tickets, lasts and given), 26, 15, 16, 18. On 0 the ticket stands behind its office's tickets, given[0] is its
+ * number, one more than the last, and lasts says so too.
+ */
+uint64_t violstream_file(struct violstream_ticket *tickets, size_t tickets_len,
+                         uint64_t *lasts, size_t lasts_len,
+                         uint64_t office, uint64_t file, uint64_t count, uint64_t files,
+                         uint64_t *given, size_t given_len);
+
+/*
+ * The ticket of an office with a number withdrawn: those behind it move up. Numbers are never given again.
+ *
+ * Checks: 8 (of tickets and lasts), 26, 17.
+ */
+uint64_t violstream_withdraw(struct violstream_ticket *tickets, size_t tickets_len,
+                             const uint64_t *lasts, size_t lasts_len,
+                             uint64_t office, uint64_t number);
+
+/*
+ * Up to eight tickets leave on one run.
+ *
+ *   tickets, lasts               as above; lasts is read alone
+ *   starts, lengths, aggregates, head, turn   the tape and the head, as for violstream_plan
+ *   detour_starts, detour_ends, times, legs, room   for the plan of the run of those who leave, as for violstream_plan. Seven
+ *                                words for each detour row, eight for times and legs, and VIOLSTREAM_ROOM_WORDS(8, 1024) of room
+ *                                do for every boarding
+ *   taken                        for who has left, at least 10 words
+ *   sums                         as for violstream_plan
+ *
+ * Checks: 8 (of tickets, lasts, taken and sums), 26, then those of violstream_plan. On 0 the tickets have left the table; taken[0]
+ * and taken[1] say how many of each office, and taken[2] on, for each of them, office 1's first, each office's in order of
+ * filing, the place of its want among the run's wants, counted from 1: its time is times[place - 1], its leg likewise. Words of
+ * taken behind the last ticket stay. Where nobody waits, the run without wants is planned and nobody leaves.
+ */
+uint64_t violstream_board(struct violstream_ticket *tickets, size_t tickets_len,
+                          const uint64_t *lasts, size_t lasts_len,
+                          const uint64_t *starts, size_t starts_len,
+                          const uint64_t *lengths, size_t lengths_len,
+                          const uint64_t *aggregates, size_t aggregates_len,
+                          uint64_t head, uint64_t turn,
+                          uint64_t *detour_starts, size_t detour_starts_len,
+                          uint64_t *detour_ends, size_t detour_ends_len,
+                          uint64_t *times, size_t times_len,
+                          uint64_t *legs, size_t legs_len,
+                          uint64_t *room, size_t room_len,
+                          uint64_t *taken, size_t taken_len,
+                          uint64_t *sums, size_t sums_len);
+
+/*
+ * One event of a day at the desk, and the text that is answered.
+ *
+ *   tickets, lasts, starts, lengths, aggregates, room   as above
+ *   line    file=OFFICE,FILE,COUNT or withdraw=OFFICE,NUMBER or board=HEAD,TURN, with its LF and nothing behind it
+ *   out     for the text, at least as many bytes as it has; VIOLSTREAM_TEXT_MOST do for every text
+ *   sizes   for the number of its bytes, at least 1 word
+ *
+ * Checks: 11, then 8 (of tickets, lasts and sizes), 26, those of the event, and last 8 for out. The number of files is that of
+ * starts. No 0 byte ends the text. With less than VIOLSTREAM_TEXT_MOST bytes in out a boarding is planned twice.
+ */
+uint64_t violstream_event(struct violstream_ticket *tickets, size_t tickets_len,
+                          uint64_t *lasts, size_t lasts_len,
+                          const uint64_t *starts, size_t starts_len,
+                          const uint64_t *lengths, size_t lengths_len,
+                          const uint64_t *aggregates, size_t aggregates_len,
+                          const uint8_t *line, size_t line_len,
+                          uint8_t *out, size_t out_len,
+                          uint64_t *room, size_t room_len,
+                          uint64_t *sizes, size_t sizes_len);
+
+/*
+ * Who waits: a line waits=OFFICE,NUMBER,FILE,COUNT,AHEAD,BOARDINGS for each ticket, office 1's first, each office's in order of
+ * filing; AHEAD is how many of its own office are ahead, BOARDINGS is AHEAD / 4 + 1, the accepted boarding by which it leaves. Then
+ * waiting=N1,N2, how many wait at each office.
+ *
+ * Checks: 8 (of tickets and sizes), 26 (with any number up to 65,535), and last 8 for out.
+ */
+uint64_t violstream_waiting(const struct violstream_ticket *tickets, size_t tickets_len,
+                            uint8_t *out, size_t out_len,
+                            uint64_t *sizes, size_t sizes_len);
+
+/* The version of the library that is linked: 10,000 times its first number, 100 times its second, and its third. */
+uint64_t violstream_version(void);
+
+/*
+ * The calls of before with their parameters by name. They only call the functions above. A length that several rows share
  * stands once in the struct. Set every member that a call takes, but for `sums`, which is filled by the call. Where no file
  * lies in an aggregate, `aggregates` is a row of zeros, as long as the others.
  */
@@ -352,6 +559,55 @@ static inline uint64_t violstream_plan_rows(const struct violstream_run *run, ui
                            run->wants, run->counts, run->wants, run->head, run->turn, rule, rows->detour_starts,
                            rows->detours, rows->detour_ends, rows->detours, rows->times, rows->times_len, rows->legs,
                            rows->legs_len, rows->sums, VIOLSTREAM_SUMS, rows->room, rows->room_len);
+}
+
+/* A waiting table with the last numbers given, all zeros at first; and who left with the last boarding that was accepted. */
+struct violstream_desk {
+    struct violstream_ticket tickets[VIOLSTREAM_PLACES];
+    uint64_t lasts[VIOLSTREAM_OFFICES], taken[VIOLSTREAM_TAKEN];
+};
+
+/* A row of `room` bytes for a text, of which a call has written `size`. */
+struct violstream_text {
+    uint8_t *bytes;
+    size_t room;
+    uint64_t size;
+};
+
+static inline uint64_t violstream_file_rows(struct violstream_desk *desk, uint64_t office, uint64_t file, uint64_t count,
+                                            uint64_t files, uint64_t *number)
+{
+    return violstream_file(desk->tickets, VIOLSTREAM_PLACES, desk->lasts, VIOLSTREAM_OFFICES, office, file, count, files, number, 1);
+}
+
+static inline uint64_t violstream_withdraw_rows(struct violstream_desk *desk, uint64_t office, uint64_t number)
+{
+    return violstream_withdraw(desk->tickets, VIOLSTREAM_PLACES, desk->lasts, VIOLSTREAM_OFFICES, office, number);
+}
+
+/* Of the run its tape, head and turn price; the wants are the tickets'. */
+static inline uint64_t violstream_board_rows(struct violstream_desk *desk, const struct violstream_run *run,
+                                             struct violstream_rows *rows)
+{
+    return violstream_board(desk->tickets, VIOLSTREAM_PLACES, desk->lasts, VIOLSTREAM_OFFICES, run->starts, run->files,
+                            run->lengths, run->files, run->aggregates, run->files, run->head, run->turn, rows->detour_starts,
+                            rows->detours, rows->detour_ends, rows->detours, rows->times, rows->times_len, rows->legs,
+                            rows->legs_len, rows->room, rows->room_len, desk->taken, VIOLSTREAM_TAKEN, rows->sums,
+                            VIOLSTREAM_SUMS);
+}
+
+/* Of the run its tape, of the rows the room. */
+static inline uint64_t violstream_event_rows(struct violstream_desk *desk, const struct violstream_run *run, const void *line,
+                                             size_t line_len, struct violstream_rows *rows, struct violstream_text *text)
+{
+    return violstream_event(desk->tickets, VIOLSTREAM_PLACES, desk->lasts, VIOLSTREAM_OFFICES, run->starts, run->files,
+                            run->lengths, run->files, run->aggregates, run->files, VIOLSTREAM_AS(const uint8_t *, line), line_len,
+                            text->bytes, text->room, rows->room, rows->room_len, &text->size, 1);
+}
+
+static inline uint64_t violstream_waiting_rows(const struct violstream_desk *desk, struct violstream_text *text)
+{
+    return violstream_waiting(desk->tickets, VIOLSTREAM_PLACES, text->bytes, text->room, &text->size, 1);
 }
 
 #ifdef __cplusplus

@@ -4,7 +4,7 @@
 #
 #   tests/run.sh [--install-tools] [--calls N] [--only TEST] [ARCHIVE]
 #
-# ARCHIVE: the library (default target/staticlib/libboundary.a, which `rt staticlib boundary` makes). The programs that
+# ARCHIVE: the library (default target/staticlib/libviolstream.a, which `tools/build.sh library violstream` makes). The programs that
 # the comparisons in Python run are those in target/bin, which `rt check` makes.
 # --install-tools: as root on Debian, what is missing is fetched by apt-get; tools.sh beside this file says what is needed.
 # --calls N: random calls of each comparison in C and Rust (by default what takes about 20 seconds each; emulated, 100,000).
@@ -14,7 +14,7 @@ set -u
 here=$(cd "$(dirname "$0")/.." && pwd)
 . "$here/tools/machine.sh"
 . "$here/tests/tools.sh"
-archive=$here/target/staticlib/libboundary.a
+archive=$here/target/staticlib/libviolstream.a
 calls=
 only=
 install_tools=no
@@ -84,19 +84,21 @@ make_rust() {
 # ---- Tests that are more than one program ----
 
 header_example() {
-    make_c example_c example_c++
-    if command -v clang > /dev/null; then
-        strictly="-fsyntax-only -Wall -Wextra -Wpedantic -Wconversion -Werror -I $here/include"
-        # shellcheck disable=SC2086  # words for the compiler
-        step "header example (clang)" clang -std=c99 $strictly -x c "$out/c/example.c"
-        # shellcheck disable=SC2086
-        step "header example (clang, C++)" clang -std=c++11 $strictly -Wold-style-cast -x c++ "$out/c/example.c"
-    else
-        printf 'header example (clang): left out, clang is not here\n'
-    fi
-    for language in c c++; do
-        step_built "header example ($language)" "$out/c/example_$language" > "$out/example.is"
-        same "header example ($language)" "$out/c/example.must" "$out/example.is"
+    for name in example tickets; do
+        make_c "${name}_c" "${name}_c++"
+        if command -v clang > /dev/null; then
+            strictly="-fsyntax-only -Wall -Wextra -Wpedantic -Wconversion -Werror -I $here/include"
+            # shellcheck disable=SC2086  # words for the compiler
+            step "header $name (clang)" clang -std=c99 $strictly -x c "$out/c/$name.c"
+            # shellcheck disable=SC2086
+            step "header $name (clang, C++)" clang -std=c++11 $strictly -Wold-style-cast -x c++ "$out/c/$name.c"
+        else
+            printf 'header %s (clang): left out, clang is not here\n' "$name"
+        fi
+        for language in c c++; do
+            step_built "header $name ($language)" "$out/c/${name}_$language" > "$out/example.is"
+            same "header $name ($language)" "$out/c/$name.must" "$out/example.is"
+        done
     done
 }
 
@@ -168,6 +170,7 @@ shared_installed() {
         printf 'the shared library from Python: left out, the library is not for this processor\n'
     else
         step "the shared library from Python" python3 "$here/tests/python/library.py" "$prefix/lib/libviolstream.so"
+        step "the calls for tickets against a model" python3 "$here/tests/python/desk_calls.py" "$prefix/lib/libviolstream.so" --calls 100000
     fi
 }
 
@@ -252,7 +255,7 @@ run() {
 
 out=$(mktemp -d) || fail "no temporary folder"
 trap 'rm -rf "$out"' EXIT
-[ -f "$archive" ] || fail "no archive at $archive; 'rt staticlib boundary' makes it"
+[ -f "$archive" ] || fail "no archive at $archive; 'tools/build.sh library violstream' makes it"
 library=$out/libviolstream.a
 cp "$archive" "$library" || fail "cannot copy $archive"
 find_tools
@@ -267,6 +270,7 @@ run daemon
 run installed
 run c/threads
 run c/stack
+run c/stack_desk
 run bench
 run c/rules
 run c/compare ${calls:+--calls "$calls"} --sheets "$out/c.sheets"
@@ -298,11 +302,7 @@ run python/rows
 run python/command
 run python/faults
 run python/record
-if grep -q violstream_waiting "$archive"; then
-    run python/serve
-else
-    printf 'python/serve: left out, the library has no violstream_event and no violstream_waiting\n'
-fi
+run python/serve
 
 [ "$tests_run" -gt 0 ] || fail "no test is called $only"
 printf 'tests/run.sh: all as it must be; tests run: %d\n' "$tests_run"

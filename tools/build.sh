@@ -1,5 +1,5 @@
 #!/usr/bin/env bash
-# Has rt make something: `tools/build.sh check CRATE`, a program, or `tools/build.sh staticlib boundary`, the library. The status is rt's.
+# Has rt make something: `tools/build.sh check CRATE`, a program, or `tools/build.sh library violstream`, the library for C. The status is rt's.
 #
 # rt by itself proves floor by floor, and begins a floor when the one below is done. For a program it is called here for one crate at a time first,
 # each as soon as what it names is proved, in as many lanes as there are processors, so that no core waits. A lane is a folder that is a checkout to
@@ -8,7 +8,7 @@
 #
 # Printed is what rt prints, behind a line `rooms=` with the folder of the lanes and of rt's temporary files. It goes when this ends, also by a signal.
 set -u
-unset -v CDPATH crate ended folder free here job lane lanes met name named names order rooms running state status unproved
+unset -v CDPATH ar crate ended folder free here job lane lanes met name named names order rooms running state status unproved
 here=$(cd "$(dirname "$0")/.." && pwd)
 rooms=
 
@@ -125,8 +125,22 @@ prove_below() {
     return "$status"
 }
 
+# The library for C: rt makes an archive for each crate that has functions marked for C, and their objects go into one archive.
+library() {
+    ar='ar'
+    [ "$(uname -m)" = x86_64 ] || ar=x86_64-linux-gnu-ar
+    cd "$here" || return
+    for crate in boundary boundary_desk; do
+        TMPDIR=$rooms rt staticlib "$crate" &
+        wait "$!" || return
+    done
+    { echo "create $rooms/all.a"; printf 'addlib target/staticlib/lib%s.a\n' boundary boundary_desk; echo save; echo end; } | "$ar" -M || return
+    mv -f "$rooms/all.a" "target/staticlib/lib$1.a"
+}
+
 case $1 in
     check) prove_below "$2" || exit ;;
+    library) library "$2"; exit ;;
 esac
 cd "$here" || exit
 TMPDIR=$rooms rt "$@" 8>&- &

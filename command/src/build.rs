@@ -50,7 +50,7 @@ pub fn program(name: &'static str, call: &Call) -> Result<(), Stop> {
 /// The library for C.
 fn library(call: &Call) -> Result<(), Stop> {
     let made = call.places.archive();
-    Build { places: &call.places, minutes: 3, made, stamp: None, words: ["staticlib", "boundary"] }.run()
+    Build { places: &call.places, minutes: 6, made, stamp: None, words: ["library", "violstream"] }.run()
 }
 
 /// All that any command needs.

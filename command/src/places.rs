@@ -50,8 +50,8 @@ impl Places {
         self.root.join("target/command/linked.a")
     }
 
-    /// The library for C, as rt makes it.
+    /// The library for C, from the archives that rt makes.
     pub fn archive(&self) -> PathBuf {
-        self.root.join("target/staticlib/libboundary.a")
+        self.root.join("target/staticlib/libviolstream.a")
     }
 }

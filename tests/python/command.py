@@ -887,7 +887,7 @@ def as_json(at):
 def installing(at):
     """What is installed works by itself; nothing foreign is overwritten or removed; what was cut off can be removed."""
     os.makedirs(at.path("target/staticlib"))
-    at.write("target/staticlib/libboundary.a", ARCHIVE)
+    at.write("target/staticlib/libviolstream.a", ARCHIVE)
     prefix = at.path("prefix")
     listed = os.path.join(prefix, "libexec/violstream/installed")
 
@@ -955,9 +955,9 @@ def packaged(at):
     """The Debian package has what install puts in place, and lintian finds no error in it."""
     if shutil.which("dpkg-deb") is None or os.uname().machine != "x86_64":
         return
-    archive = os.path.join(programs.ROOT, "target/staticlib/libboundary.a")
+    archive = os.path.join(programs.ROOT, "target/staticlib/libviolstream.a")
     os.makedirs(at.path("target/staticlib"))
-    for name in ("target/staticlib/libboundary.a", "target/command/linked.a"):
+    for name in ("target/staticlib/libviolstream.a", "target/command/linked.a"):
         at.write(name, contents(archive) if os.path.exists(archive) else ARCHIVE)
     number = at.shell("./violstream version")[0].decode().split()[1]
     at.must("umask 077 && ./violstream deb", 0, f"made {at.root}/target/command/deb/violstream_{number}-1_amd64.deb\n".encode(), silent=True)
@@ -1045,7 +1045,7 @@ mktemp -d > /dev/null
 case $1,$2 in
 check,cmd_*) [ -e "target/stamp/$2" ] || cp "kept/$2" "target/bin/$2"; echo > "target/stamp/$2" ;;
 check,*) echo > "target/stamp/$2" ;;
-staticlib,*) printf '!<arch>\\n' > target/staticlib/libboundary.a ;;
+staticlib,*) printf '!<arch>\\n' > "target/staticlib/lib$2.a" ;;
 esac
 """
 
@@ -1095,12 +1095,12 @@ def building(at):
     below(at, "cmd_plan")
     at.must(f"./violstream ltfs VX0041 {LABEL} {INDEX}", 0, SHEET, ["building cmd_ltfs"])
     at.must("rm target/bin/cmd_plan && ./violstream plan examples/VX0041.run", 0, PLAN, ["building cmd_plan"])
-    at.must("./violstream build", 0, b"", ["building cmd_plan_any", "building cmd_field", "building cmd_buys", "building cmd_buys_any", "building cmd_price", "building cmd_check", "building cmd_rewrite", "building cmd_mend", "building cmd_month", "building cmd_desk", "building libboundary.a"])
-    at.must("touch -d '+1 minute' crates/refusals/newer && ./violstream build", 0, b"", ["cmd_plan;", "cmd_plan_any", "cmd_field", "cmd_buys", "cmd_buys_any", "cmd_price", "cmd_check", "cmd_rewrite", "cmd_mend", "cmd_month", "cmd_ltfs", "cmd_desk", "libboundary.a"])
+    at.must("./violstream build", 0, b"", ["building cmd_plan_any", "building cmd_field", "building cmd_buys", "building cmd_buys_any", "building cmd_price", "building cmd_check", "building cmd_rewrite", "building cmd_mend", "building cmd_month", "building cmd_desk", "building libviolstream.a"])
+    at.must("touch -d '+1 minute' crates/refusals/newer && ./violstream build", 0, b"", ["cmd_plan;", "cmd_plan_any", "cmd_field", "cmd_buys", "cmd_buys_any", "cmd_price", "cmd_check", "cmd_rewrite", "cmd_mend", "cmd_month", "cmd_ltfs", "cmd_desk", "libviolstream.a"])
     at.must("rm crates/refusals/newer && ./violstream build", 0, b"", ["violstream: built"])
     at.must("./violstream build more", 2, b"")
-    every = ["check cmd_plan", "check cmd_plan_any", "check cmd_field", "check cmd_buys", "check cmd_buys_any", "check cmd_price", "check cmd_check", "check cmd_rewrite", "check cmd_mend", "check cmd_month", "check cmd_ltfs", "check cmd_desk", "staticlib boundary"]
-    if called(at) != ["check cmd_plan", "check cmd_ltfs", "check cmd_plan", "check cmd_plan_any", "check cmd_field", "check cmd_buys", "check cmd_buys_any", "check cmd_price", "check cmd_check", "check cmd_rewrite", "check cmd_mend", "check cmd_month", "check cmd_desk", "staticlib boundary"] + every:
+    every = ["check cmd_plan", "check cmd_plan_any", "check cmd_field", "check cmd_buys", "check cmd_buys_any", "check cmd_price", "check cmd_check", "check cmd_rewrite", "check cmd_mend", "check cmd_month", "check cmd_ltfs", "check cmd_desk", "staticlib boundary", "staticlib boundary_desk"]
+    if called(at) != ["check cmd_plan", "check cmd_ltfs", "check cmd_plan", "check cmd_plan_any", "check cmd_field", "check cmd_buys", "check cmd_buys_any", "check cmd_price", "check cmd_check", "check cmd_rewrite", "check cmd_mend", "check cmd_month", "check cmd_desk", "staticlib boundary", "staticlib boundary_desk"] + every:
         raise Wrong(f"rt was called so: {called(at)}")
 
 

@@ -115,7 +115,7 @@ def main():
         sheet, events = contents("examples/day.run"), contents("examples/day.events")
         at.write("day.journal", b"%d\n" % len(sheet) + sheet + b"# early\n" + events)
         os.makedirs(at.path("target/staticlib"))
-        at.write("target/staticlib/libboundary.a", ARCHIVE)
+        at.write("target/staticlib/libviolstream.a", ARCHIVE)
         tries = Tries(at, shim)
         tries.call(f"record ledger {RUN} examples/retired-rule.run examples/no-wants.run")
         for words in CALLS + MAKING:

@@ -10,7 +10,7 @@
 //! What differs from the other two calls: 7 is only a head above the limit; there is no rule number; a leg from a stop whose
 //! start lies right of the head's first place turns at that place; and no detour may start right of the head's own stop.
 //!
-//! rustc -O --edition 2021 tests/rust/any_head/any_head.rs -L native=DIR -l static=boundary     (DIR holds libboundary.a)
+//! rustc -O --edition 2021 tests/rust/any_head/any_head.rs -L native=DIR -l static=violstream     (DIR holds libviolstream.a)
 //! ./any_head [--runs N] [--calls N] [--seed S] [--from N]     exit status: 0 all agree, 1 a difference, 2 bad usage
 #![allow(dead_code)] // of the modules that compare.rs uses too
 

@@ -13,7 +13,7 @@
 //! Every row stands between guard words. After a call every word of every row, and every guard, is compared with what it
 //! must be: unchanged, but for the first entries of the rows for the answer of an accepted call.
 //!
-//! rustc -O --edition 2021 tests/rust/compare/compare.rs -L native=DIR -l static=boundary     (DIR holds libboundary.a)
+//! rustc -O --edition 2021 tests/rust/compare/compare.rs -L native=DIR -l static=violstream     (DIR holds libviolstream.a)
 //! ./compare [--calls N] [--seed S] [--from N] [--sheets FILE]     exit status: 0 all agree, 1 a difference, 2 bad usage
 //!
 //! --sheets writes down plans of at most 8 wants, as run sheets with the plan sheets that must come of them.

@@ -15,7 +15,7 @@
 //!
 //! And between runs: with more reads, of other files too, or a higher turn price, no movement from the same place is below the plan.
 //!
-//! rustc -O --edition 2021 tests/rust/movements/movements.rs -L native=DIR -l static=boundary     (DIR holds libboundary.a)
+//! rustc -O --edition 2021 tests/rust/movements/movements.rs -L native=DIR -l static=violstream     (DIR holds libviolstream.a)
 //! ./movements [--runs N] [--seed S] [--from N]     exit status: 0 all agree, 1 a difference, 2 bad usage
 #![allow(dead_code)] // of the modules that other programs use too
 

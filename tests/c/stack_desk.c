@@ -1,0 +1,87 @@
+/* How much of the stack the calls for tickets take, with all that they call: on an empty table, a full one, and each that an event goes on to. Fails where a call
+ * takes more bytes than violstream.h says, or does not give the result that its case is there for.
+ *
+ * A figure is what a call writes on a stack painted before (bench/stack.c), less what a function that does nothing writes. It holds the caller's frame too, with
+ * the arguments beyond the sixth.
+ *
+ * make -C tests/c stack_desk      (Makefile beside this file says against what)
+ * target/tests/stack_desk         exit status: 0 none above, 1 some, or a wrong result */
+#include <inttypes.h>
+#include <stdio.h>
+#include <string.h>
+#include <violstream.h>
+#include "stack.h"
+
+/* The bytes that violstream.h allows. */
+enum { CALL_MOST = 16384, EVENT_MOST = 557056, FILES = 8 };
+
+static const uint64_t starts[FILES] = {0, 10, 16, 20, 50, 60, 70, 80}, lengths[FILES] = {10, 4, 4, 30, 10, 10, 10, 10}, aggregates[FILES];
+static struct violstream_desk desk;
+static uint64_t room[VIOLSTREAM_ROOM_WORDS(8, 1024)], from[8], to[8], times[8], legs[8], number, result;
+static uint8_t bytes[VIOLSTREAM_TEXT_MOST];
+static struct violstream_text text;
+static struct violstream_run run;
+static struct violstream_rows rows;
+static const char *line;
+static int wrong;
+
+static void nothing(void) { }
+static void file(void) { result = violstream_file_rows(&desk, 1, 3, 3, FILES, &number); }
+static void withdraw(void) { result = violstream_withdraw_rows(&desk, 1, 1); }
+static void board(void) { result = violstream_board_rows(&desk, &run, &rows); }
+static void event(void) { result = violstream_event_rows(&desk, &run, line, strlen(line), &rows, &text); }
+static void waiting(void) { result = violstream_waiting_rows(&desk, &text); }
+
+/* Sixteen tickets of each office, with as many reads as they can ask for. */
+static void fill(void)
+{
+    memset(&desk, 0, sizeof desk);
+    for (uint64_t i = 0; i < 32; i++)
+        if (violstream_file_rows(&desk, 1 + i / 16, 1 + i % FILES, VIOLSTREAM_MAX_COUNT, FILES, &number) != 0)
+            wrong = 1;
+}
+
+static void hold(const char *what, void (*call)(void), uint64_t must, size_t most)
+{
+    size_t taken = stack_bytes(call) - stack_bytes(nothing);
+    printf("%-28s %7zu bytes of %d\n", what, taken, (int)most);
+    if (taken > most || result != must) {
+        fprintf(stderr, "stack_desk.c: %s takes %zu bytes and gives %" PRIu64 "; allowed are %zu, and it must give %" PRIu64 "\n", what, taken, result, most, must);
+        wrong = 1;
+    }
+}
+
+static void hold_event(const char *what, const char *of, uint64_t must)
+{
+    line = of;
+    hold(what, event, must, EVENT_MOST);
+}
+
+int main(void)
+{
+    run.starts = starts, run.lengths = lengths, run.aggregates = aggregates, run.files = FILES;
+    run.head = 100, run.turn = 1;
+    rows.detour_starts = from, rows.detour_ends = to, rows.detours = 8;
+    rows.times = times, rows.times_len = 8;
+    rows.legs = legs, rows.legs_len = 8;
+    rows.room = room, rows.room_len = VIOLSTREAM_ROOM_WORDS(8, 1024);
+    text.bytes = bytes, text.room = sizeof bytes;
+    hold("file", file, 0, CALL_MOST);
+    hold("withdraw", withdraw, 0, CALL_MOST);
+    hold("withdraw, not waiting", withdraw, VIOLSTREAM_NOT_WAITING, CALL_MOST);
+    hold("waiting, nobody", waiting, 0, CALL_MOST);
+    hold("board, nobody", board, 0, CALL_MOST);
+    fill();
+    hold("file, full", file, VIOLSTREAM_OFFICE_FULL, CALL_MOST);
+    hold("waiting, 32", waiting, 0, CALL_MOST);
+    hold("board, eight", board, 0, CALL_MOST);
+    run.head = 1;
+    hold("board, head too far left", board, VIOLSTREAM_HEAD_PLACE, CALL_MOST);
+    hold_event("event, file", "file=1,1,1\n", 0);
+    hold_event("event, withdraw", "withdraw=2,16\n", 0);
+    hold_event("event, none", "x\n", VIOLSTREAM_BAD_LINE);
+    hold_event("event, board", "board=100,1\n", 0);
+    text.room = 100;
+    hold_event("event, board, short row", "board=100,1\n", VIOLSTREAM_SHORT_ROW);
+    return wrong;
+}
