@@ -152,6 +152,26 @@ command_installed() {
     same "the installed command's version" "$out/version.must" "$out/version.is"
 }
 
+# The server as it was installed, without rt: a filing, and the next number when it starts again.
+server_installed() {
+    mkdir "$out/windows" || fail "no folder for windows"
+    for must in 'filed=1,1' 'filed=1,2'; do
+        env -u RATTLE_HOME PATH="${path%:}" "$prefix/bin/violstream" serve --journal "$out/journal" --windows "$out/windows" "$here/examples/day.run" 2> "$out/serve.said" &
+        server=$!
+        tries=0
+        while ! grep -q 'serving at' "$out/serve.said" && [ "$tries" -lt 600 ]; do
+            tries=$((tries + 1))
+            sleep 0.1
+        done
+        said=$("$prefix/bin/violstream" ask "$out/windows/office1" file=1,1)
+        kill "$server"
+        wait "$server"
+        status=$?
+        [ "$said,$status" = "$must,0" ] || { cat "$out/serve.said" >&2; fail "the installed server answers '$said' and ends with $status, and not $must and 0"; }
+    done
+    printf 'the installed server: as it must be\n'
+}
+
 # C, C++, Rust and Python against the shared library, by the name that it goes by.
 shared_installed() {
     readelf -d "$prefix/lib/libviolstream.so" | grep -q 'SONAME.*\[libviolstream\.so\.[0-9]*\]' || fail "libviolstream.so has no soname"
@@ -199,6 +219,11 @@ installed() {
         printf 'daemon by pkg-config: left out, pkg-config is not here\n'
     fi
     command_installed
+    if grep -q violstream_waiting "$archive"; then
+        server_installed
+    else
+        printf 'the installed server: left out, the library has no violstream_event and no violstream_waiting\n'
+    fi
     shared_installed
     uninstalled
 }

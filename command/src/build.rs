@@ -65,8 +65,12 @@ pub fn everything(call: &Call) -> Result<(), Stop> {
 /// call becomes that one.
 pub fn linked(call: &Call) -> Result<(), Stop> {
     library(call)?;
-    let same = |one: Vec<u8>| fs::read(call.places.linked()).map_or(false, |other| one == other);
-    if fs::read(call.places.archive()).map_or(true, same) || !cfg!(target_arch = "x86_64") {
+    let read = |path: PathBuf| match fs::read(&path) {
+        Err(error) if error.kind() == ErrorKind::NotFound => Ok(None),
+        Err(error) => failed(format!("cannot read {}: {}", quoted(path.as_os_str()), reason(&error))),
+        Ok(bytes) => Ok(Some(bytes)),
+    };
+    if !cfg!(target_arch = "x86_64") || read(call.places.archive())? == read(call.places.linked())? {
         return Ok(());
     }
     let (script, built) = (call.places.root.join("violstream"), call.places.root.join(BUILT));

@@ -14,7 +14,6 @@ import os
 import random
 import re
 import resource
-import select
 import shutil
 import signal
 import socket
@@ -300,22 +299,18 @@ def stalling(at):
     server.begin()
     half, deaf, flood = server.at("office1"), server.at("office1"), server.at("office1")
     half.send(b"file=1,")
-    for one, text in ((deaf, b"waiting\n" * 1000), (flood, b"x" * 65536)):
-        one.socket.setblocking(False)
-        try:
-            while one.socket.send(text):
-                pass
-        except BlockingIOError:
-            pass
-    flooding = threading.Event()
+    done, taken = threading.Event(), {deaf: 0, flood: 0}
 
     def go_on():
-        while not flooding.is_set():
-            select.select([], [flood.socket], [], 0.05)
-            try:
-                flood.socket.send(b"x" * 65536)
-            except BlockingIOError:
-                pass
+        """Sends whatever is taken, for at least a second."""
+        ends = time.monotonic() + 1
+        while not done.is_set() or time.monotonic() < ends:
+            for one, text in ((deaf, b"waiting\n" * 1000), (flood, b"x" * 65536)):
+                try:
+                    one.socket.setblocking(False)
+                    taken[one] += one.socket.send(text)
+                except BlockingIOError:
+                    time.sleep(0.001)
 
     thread = threading.Thread(target=go_on)
     thread.start()
@@ -331,8 +326,9 @@ def stalling(at):
             kilobytes = int(re.search(r"VmRSS:\s+(\d+)", handle.read())[1])
         must(kilobytes < 30000, f"the server has grown to {kilobytes} KB")
     finally:
-        flooding.set()
+        done.set()
         thread.join()
+    must(taken[flood] > 1000000 > 2 * taken[deaf], f"who takes no answers was asked for {taken[deaf]} bytes more, and one line without an end for {taken[flood]}")
     half.send(b"2\n")
     must(half.answer() == b"filed=1,9\n", "half a line is not waited for")
     deaf.socket.setblocking(True)
