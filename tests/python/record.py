@@ -535,7 +535,8 @@ def paged(at):
         shown = judged_part(part)
         must = [digest(entry_text), found["made"][:10], found["made"][11:19], found["by"], found["program"]]
         if found["plan"].startswith(b"tape="):
-            must += ["Checked anew", "the sum is the least", found["plan"].decode().strip()]
+            turn = re.search(rb"\nturn=(\d*)\n", found["run"])[1] or b"12000"
+            must += ["Checked anew", "the sum is the least", found["plan"].decode().strip(), f"every turn of it costs {int(turn):,}."]
             must += ["".join(row) for row in rows_of(found)]
         else:
             must += ["refused", "the proved program gives this refusal"]

@@ -5,6 +5,8 @@ use crate::explain::entries;
 pub struct Wants {
     pub tape: String,
     pub head: String,
+    /// The price of a turn; the drive's own, where the sheet leaves it out.
+    pub turn: String,
     pub sum: String,
     pub reads: String,
     pub finish: String,
@@ -23,6 +25,9 @@ pub struct Want {
     pub time: String,
     pub leg: String,
 }
+
+/// What an empty turn= stands for.
+const OWN_TURN: &str = "12000";
 
 fn number(text: Option<&String>) -> i64 {
     text.and_then(|text| text.parse().ok()).unwrap_or(0)
@@ -53,6 +58,7 @@ impl Wants {
         Wants {
             tape: first(&run, "tape"),
             head: first(&run, "head"),
+            turn: Some(first(&run, "turn")).filter(|turn| !turn.is_empty()).unwrap_or_else(|| OWN_TURN.to_string()),
             sum: first(&plan, "sum"),
             reads: first(&plan, "reads"),
             finish: first(&plan, "finish"),
@@ -75,6 +81,7 @@ mod tests {
         let rows: Vec<_> =
             wants.wants.iter().map(|want| (want.file, want.start, want.end, want.in_aggregate, &*want.reads, &*want.time, &*want.leg)).collect();
         assert_eq!(rows, [(2, 10, 14, false, "3", "55", "1"), (3, 20, 50, true, "1", "121", "2")]);
-        assert_eq!((&*wants.tape, &*wants.sum, wants.detours), ("VX0041", "9", 1));
+        assert_eq!((&*wants.tape, &*wants.turn, &*wants.sum, wants.detours), ("VX0041", "1", "9", 1));
+        assert_eq!(Wants::read(b"turn=\n", b"").turn, "12000");
     }
 }

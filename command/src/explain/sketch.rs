@@ -142,7 +142,8 @@ impl Sketch<'_> {
         let _ = write!(self.out, "<path class=\"sh\" d=\"M{x:.1} {:.1}v12\"/>", y - 6.0);
     }
 
-    /// The numbers of the wanted files above their bands, in up to two rows where they stand close; of few files the time beside the dot too.
+    /// The numbers of the wanted files above their bands, in up to two rows where they stand close; of few files the time beside the dot too, where
+    /// there is room for it.
     fn names(&mut self) {
         let mut taken = [-100.0; 2];
         for number in self.plan.wanted() {
@@ -160,8 +161,13 @@ impl Sketch<'_> {
         if self.plan.done.len() > NAMED || grouped(self.plan.finish).len() > LONG {
             return;
         }
+        let mut taken: Vec<(f64, f64)> = Vec::new();
         for read in &self.plan.done {
             let (x, y) = (self.x(self.plan.right_of(read.file)), self.y(read.time));
+            if taken.iter().any(|(other, above)| (x - other).abs() < 70.0 && (y - above).abs() < 15.0) {
+                continue;
+            }
+            taken.push((x, y));
             let name = format!("{} at {}", read.file, grouped(read.time));
             // Beside the dot, or where that is over the edge below the line that comes to it.
             let fits = x + 9.0 + 7.5 * name.len() as f64 <= 640.0;

@@ -91,7 +91,7 @@ impl<'a> Page<'a> {
             wants.tape,
             count(wants.reads.parse().unwrap_or(0), "read", "reads"),
             digits(&wants.head),
-            grouped(plan.turn)
+            digits(&wants.turn)
         );
         put_table(out, wants);
         put_sums(out, wants, sweep.as_deref());
