@@ -1,0 +1,76 @@
+-- Demand 1 at the calls for tickets: the code is the number and 256 times the place of the first refusal that applies, each by its own condition; 8 for every
+-- short row at one place in the order; and refused, a call leaves everything that was lent as it was.
+use Prim.Native.Nat.{ℕ, _+_, _*_, _<_}
+use mathlib.Core.Path.{_≡_}
+use mathlib.Core.Logic.{_⊎_}
+use mathlib.Core.List.{List}
+use lib.ListN.{length}
+use Rattle.refusals.specs.declared.Refusal.{Refusal}
+use Rattle.refusals.specs.declared.Refusal.the-variants.{Accepted}
+use Rattle.refusals.specs.Refusals.{numberOf}
+use Rattle.planner.specs.Rows.{Rows}
+use Rattle.desk_tickets.specs.declared.Filing.{Filing}
+use Rattle.desk_tickets.specs.declared.Withdrawal.{Withdrawal}
+use Rattle.desk_boardings.specs.Boardings.{Tape}
+use Rattle.boundary_desk.specs.Records.{tableAt, placesIf}
+use Rattle.boundary_desk.specs.Calls.{FileCalled, WithdrawCalled, boardingOf, boardPlaces, BoardCalled, EventCalled}
+use Rattle.demands.specs.RefusalTable.{FirstThatApplies}
+use Rattle.promises.specs.DeskRefusals.{FilingApplies, filingOrder, WithdrawalApplies, withdrawalOrder, BoardAnswers}
+
+-- The places that a row of records counts for are too few exactly where the row beside it is too short, or the records themselves are.
+abbrev pub ShortCounts : Type 0
+ShortCounts =
+    (least : ℕ) (words : List ℕ) (len : ℕ)
+    → (placesIf least words len < 32 → (length words < least) ⊎ (len < 32)) × ((length words < least) ⊎ (len < 32) → placesIf least words len < 32)
+
+-- A code, as a refusal and its place.
+pub record CodeSays (Applies : Refusal → ℕ → Type 0) (order : List Refusal) (code : ℕ) : Type 0 where
+  pub kind : Refusal
+  pub place : ℕ
+  pub is : code ≡ numberOf kind + 256 * place
+  pub first : FirstThatApplies Applies order kind place
+
+abbrev pub FileCallAnswers : Type 0
+FileCallAnswers =
+    (rows rows′ : List (List ℕ)) (lasts lasts′ given given′ : List ℕ) (f : Filing) (code : ℕ)
+    → FileCalled rows lasts f given code rows′ lasts′ given′
+    → CodeSays (FilingApplies (placesIf 1 given (placesIf 2 lasts (length rows))) (tableAt rows) f) filingOrder code
+
+abbrev pub WithdrawCallAnswers : Type 0
+WithdrawCallAnswers =
+    (rows rows′ : List (List ℕ)) (lasts : List ℕ) (w : Withdrawal) (code : ℕ)
+    → WithdrawCalled rows lasts w code rows′
+    → CodeSays (WithdrawalApplies (placesIf 2 lasts (length rows)) (tableAt rows) w) withdrawalOrder code
+
+abbrev pub BoardCallAnswers : Type 0
+BoardCallAnswers =
+    (rows rows′ : List (List ℕ)) (lasts taken taken′ sums sums′ : List ℕ) (tape : Tape) (head turn code : ℕ) (lent after : Rows)
+    → (called : BoardCalled rows lasts tape head turn lent taken sums code rows′ after taken′ sums′)
+    → BoardAnswers (boardPlaces rows lasts taken sums) tape (tableAt rows) (boardingOf lasts head turn) lent (called .done)
+    × (code ≡ numberOf (called .done .boarded .answer .refusal) + 256 * (called .done .boarded .answer .place))
+
+-- Refused, nothing that was lent has changed.
+abbrev pub RefusedFileKeeps : Type 0
+RefusedFileKeeps =
+    (rows rows′ : List (List ℕ)) (lasts lasts′ given given′ : List ℕ) (f : Filing) (code : ℕ)
+    → FileCalled rows lasts f given code rows′ lasts′ given′
+    → (code ≡ 0 → ⊥)
+    → (rows′ ≡ rows) × ((lasts′ ≡ lasts) × (given′ ≡ given))
+
+abbrev pub RefusedWithdrawKeeps : Type 0
+RefusedWithdrawKeeps =
+    (rows rows′ : List (List ℕ)) (lasts : List ℕ) (w : Withdrawal) (code : ℕ) → WithdrawCalled rows lasts w code rows′ → (code ≡ 0 → ⊥) → rows′ ≡ rows
+
+abbrev pub RefusedBoardKeeps : Type 0
+RefusedBoardKeeps =
+    (rows rows′ : List (List ℕ)) (lasts taken taken′ sums sums′ : List ℕ) (tape : Tape) (head turn code : ℕ) (lent after : Rows)
+    → (called : BoardCalled rows lasts tape head turn lent taken sums code rows′ after taken′ sums′)
+    → (called .done .boarded .answer .refusal ≡ Accepted → ⊥)
+    → (rows′ ≡ rows) × ((after ≡ lent) × ((taken′ ≡ taken) × (sums′ ≡ sums)))
+
+abbrev pub RefusedEventKeeps : Type 0
+RefusedEventKeeps =
+    (rows rows′ : List (List ℕ)) (lasts lasts′ line out out′ room room′ sizes sizes′ : List ℕ) (tape : Tape) (code : ℕ)
+    → (called : EventCalled rows lasts tape line out room sizes code rows′ lasts′ out′ room′ sizes′)
+    → (called .done .verdict .refusal ≡ Accepted → ⊥)
+    → (rows′ ≡ rows) × ((lasts′ ≡ lasts) × ((out′ ≡ out) × ((room′ ≡ room) × (sizes′ ≡ sizes))))
