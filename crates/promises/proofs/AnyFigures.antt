@@ -33,6 +33,7 @@ use Rattle.answer_any.specs.AnyRun.{anyChecks, anyVerdict}
 use Rattle.answer_buys_any.specs.AnyBuys.{BuysAnyOf}
 use Rattle.answer_buys_any.proofs.Determined.{buys-any-once}
 use Rattle.answer_buys_any.proofs.Same.{bought-same}
+use Rattle.sheet_lists.proofs.AnyTrip.{any-small}
 use Rattle.demands.specs.AnyHead.{RunAppliesAny}
 use Rattle.promises.specs.Lengths.{buysRow}
 use Rattle.promises.specs.Answers.{WordsApply, roomOrder, twoLines, PrintedByTheTable}
@@ -41,7 +42,7 @@ use Rattle.promises.specs.AnyFigures.{BuysAnyByTheTable, BuysAnyIsWhole,
 use Rattle.promises.proofs.Checks.{put-whole}
 use Rattle.promises.proofs.Lengths.{some-begun, refusal-short, refusal-begins, verdict-near, takes-all, page-short, less-fits, buys-held}
 use Rattle.promises.proofs.Answers.{lines-are, by-the-table, sheet-accepts, room-all}
-use Rattle.promises.proofs.AnyLengths.{any-small, any-near, any-passes}
+use Rattle.promises.proofs.AnyLengths.{any-near, any-passes}
 use Rattle.promises.proofs.AnswersAny.{any-few, words-own, any-finds}
 
 -- The least list of an accepted run, in two rows.
@@ -73,7 +74,7 @@ module _ (r : Run) (run : refuses (judgeAnyOf r) ≡ false) (list : List Detour)
   figures-short : (name : List ℕ) → isName name ≡ true → length (figureAnyText name r froms tos) ≤ buysRow
   unfolding figureAnyText
   figures-short name named =
-      let small = any-small r run list least in
+      let small = any-small r froms tos run (priceable .list) in
       page-short name named (pricedAnyAnswer r (listOf froms tos)) (small .sum) (omega (arith, small .detours, small .few)) froms tos (omega (arith, small .few)) (small .froms) (small .tos)
       (figuresAnyOf r (listOf froms tos)) figures-fit
 
