@@ -9,6 +9,7 @@ answered may be missing, and no number may have been given twice. --long does wh
 connections.
 """
 import argparse
+import errno
 import grp
 import os
 import random
@@ -415,6 +416,78 @@ def starting(at):
         must(called("serve", *words).returncode == 2, f"serve {words} is taken for right")
 
 
+def groups(at):
+    """Who is not in a window's group may not speak there; who is, stands in the journal with his own number. As root alone can be tried."""
+    if os.getuid() != 0:
+        return
+    os.chmod(at.folder, 0o755)
+    server, (one, two) = Server(at.folder), [group for group in grp.getgrall() if group.gr_gid not in (0, 65534)][:2]
+    server.begin("--group1", one.gr_name, "--group2", two.gr_name)
+
+    def speak(window, group):
+        """What nobody, in that group, is answered there; in a process of his own."""
+        mine, theirs = os.pipe()
+        child = os.fork()
+        if child == 0:
+            try:
+                os.chdir(server.windows)
+                os.setgroups([group])
+                os.setgid(65534)
+                os.setuid(65534)
+                os.write(theirs, Asker(window).ask(b"file=1,1"))
+            except OSError as error:
+                os.write(theirs, type(error).__name__.encode())
+            os._exit(0)
+        os.close(theirs)
+        os.waitpid(child, 0)
+        with os.fdopen(mine, "rb") as told:
+            return told.read()
+
+    must(speak("office1", one.gr_gid) == b"filed=1,1\n", "one of its group is not answered at office1")
+    for window, group in (("office2", one.gr_gid), ("office1", two.gr_gid), ("operator", one.gr_gid), ("operator", two.gr_gid)):
+        must(speak(window, group) == b"PermissionError", f"one of another group is answered at {window}")
+    must(speak("office2", two.gr_gid) == b"filed=2,1\n", "one of its group is not answered at office2")
+    found = [ABOVE.fullmatch(above) for above, _ in server.entries()]
+    must([(one[1], one[2]) for one in found] == [(b"office1", b"65534"), (b"office2", b"65534")], f"the journal has {found}")
+    server.end()
+
+
+def faults(at):
+    """Each call of the system fails in turn while the server starts and files a ticket: it serves all the same, or says why and ends with 1."""
+    shim = os.path.join(at.folder, "faults.so")
+    source = os.path.join(programs.ROOT, "tests/c/faults.c")
+    subprocess.run([os.environ.get("CC", "cc"), "-O1", "-shared", "-fPIC", source, "-o", shim, "-ldl"], check=True)
+    tried = 0
+    for kind, error in (("open", errno.EMFILE), ("read", errno.EIO), ("fcntl", errno.EBADF), ("flock", errno.ENOLCK), ("fsync", errno.EIO), ("poll", errno.ENOMEM), ("unlink", errno.EACCES)):
+        for number in range(1, 60):
+            server = Server(os.path.join(at.folder, f"{kind}{number}"))
+            counted = os.path.join(server.folder, "counted")
+            surroundings = dict(os.environ, LD_PRELOAD=shim, VIOLSTREAM_FAULT=f"{kind}:{number}:{error}", VIOLSTREAM_FAULT_COUNT=counted)
+            call = subprocess.Popen(server.words(), stdin=subprocess.DEVNULL, stdout=subprocess.DEVNULL, stderr=subprocess.PIPE, env=surroundings)
+            said, told = call.stderr.readline(), b""
+            if b"serving at" in said:
+                try:
+                    told = server.at("office1").ask(b"file=1,1")
+                except (EOFError, OSError):
+                    pass
+                call.send_signal(signal.SIGTERM)
+            said += call.stderr.read()
+            call.stderr.close()
+            status = call.wait(LIMIT)
+            tell = f"with {kind} number {number} failing the server said {said!r}, answered {told!r} and ended with {status}"
+            must(status == 0 and told == b"filed=1,1\n" or status == 1 and b"violstream: " in said, f"{tell}; it must serve, or say why and end with 1")
+            tried += 1
+            met = int(contents(counted)) if os.path.exists(counted) else 0
+            # What was answered is there.
+            server.begin()
+            waiting = server.at("operator").ask(b"waiting")
+            server.end()
+            must(told != b"filed=1,1\n" or waiting.endswith(b"waiting=1,0\n"), f"{tell}; then {waiting!r}")
+            if met < number:
+                break
+    print(f"serve.py: {tried} faults of the system")
+
+
 def refused(server, says):
     """It does not start, says so, ends with 1, and writes nothing."""
     before = contents(server.journal) if os.path.exists(server.journal) else b""
@@ -768,7 +841,7 @@ def until(true, otherwise):
     raise Wrong(otherwise())
 
 
-TESTS = (protocol, days, asking, stalling, crowds, starting, damage, full, failing, kills, numbers, fuzz)
+TESTS = (protocol, days, asking, stalling, crowds, starting, groups, faults, damage, full, failing, kills, numbers, fuzz)
 
 
 class At:

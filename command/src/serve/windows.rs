@@ -14,6 +14,7 @@ use nix::sys::stat::{umask, Mode};
 use nix::unistd::{chown, Gid};
 use std::fs::{self, File, Permissions};
 use std::io::{self, ErrorKind, Read, Write};
+use std::net::Shutdown;
 use std::os::unix::fs::{FileTypeExt, PermissionsExt};
 use std::os::unix::io::{AsRawFd, RawFd};
 use std::os::unix::net::{UnixListener, UnixStream};
@@ -264,6 +265,8 @@ impl Asker {
                 Err(error) if error.kind() == ErrorKind::Interrupted => {}
                 Err(error) if error.kind() == ErrorKind::WouldBlock => return,
                 _ => {
+                    // Should he be there after all, he sees that no answer comes.
+                    let _ = self.stream.shutdown(Shutdown::Write);
                     self.is_deaf = true;
                     self.held.clear();
                 }
