@@ -10,6 +10,15 @@ pub fn utc(time: SystemTime) -> String {
     format!("{year:04}-{month:02}-{day:02}T{:02}:{:02}:{:02}Z", of_day / 3600, of_day / 60 % 60, of_day % 60)
 }
 
+/// This moment, where the machine's clock can tell it.
+pub fn now() -> Result<String, String> {
+    let time = SystemTime::now();
+    if time < UNIX_EPOCH {
+        return Err("the clock of this machine stands before 1970".to_string());
+    }
+    Ok(utc(time))
+}
+
 /// Of a day, counted from 1970-01-01. The year is taken to begin in March, so that a leap day is its last.
 fn date(days: u64) -> (u64, u64, u64) {
     let days = days + 719_468;
@@ -26,6 +35,25 @@ fn date(days: u64) -> (u64, u64, u64) {
 pub fn is_utc(text: &str) -> bool {
     let form = "dddd-dd-ddTdd:dd:ddZ";
     text.len() == form.len() && text.chars().zip(form.chars()).all(|(c, must)| if must == 'd' { c.is_ascii_digit() } else { c == must })
+}
+
+/// Whether it has that form and is a time: a day that there is, and an hour, a minute and a second of it.
+pub fn is_time(text: &str) -> bool {
+    let at = |from: usize, to: usize| text[from..to].parse::<u64>().unwrap_or(u64::MAX);
+    is_utc(text)
+        && (1..=12).contains(&at(5, 7))
+        && (1..=days_of(at(0, 4), at(5, 7))).contains(&at(8, 10))
+        && at(11, 13) < 24
+        && at(14, 16) < 60
+        && at(17, 19) < 60
+}
+
+fn days_of(year: u64, month: u64) -> u64 {
+    match month {
+        2 => 28 + u64::from(year % 4 == 0 && (year % 100 != 0 || year % 400 == 0)),
+        4 | 6 | 9 | 11 => 30,
+        _ => 31,
+    }
 }
 
 #[cfg(test)]
@@ -45,8 +73,12 @@ mod tests {
             (1_735_689_599, "2024-12-31T23:59:59Z"),
         ] {
             assert_eq!(utc(UNIX_EPOCH + Duration::from_secs(seconds)), text);
-            assert!(is_utc(text));
+            assert!(is_utc(text) && is_time(text));
         }
+        for day in ["2026-02-29", "1900-02-29", "2026-04-31", "2026-13-01", "2026-00-01", "2026-01-00"] {
+            assert!(!is_time(&format!("{day}T00:00:00Z")), "{day}");
+        }
+        assert!(!is_time("2026-01-01T24:00:00Z") && !is_time("2026-01-01T00:60:00Z") && !is_time("\u{e4}026-01-01T00:00:0Z"));
         assert!(!is_utc("2026-11-16T08:00:00") && !is_utc("2026-11-16 08:00:00Z") && !is_utc(""));
     }
 }

@@ -1,6 +1,7 @@
 //! The text of an entry: seven lines, with the bytes of a run sheet behind the sixth and those of the answer behind the seventh.
 
-use super::{clock, is_name};
+use super::is_name;
+use crate::clock;
 
 pub struct Entry<'a> {
     pub number: u64,

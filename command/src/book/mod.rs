@@ -1,12 +1,12 @@
 //! The record book: a folder of entries, one file each, chained by SHA-256. Entries are added and never changed.
 
 pub mod audit;
-mod clock;
 pub mod entry;
 pub mod page;
 mod shelf;
 pub mod wants;
 
+use crate::clock;
 use crate::commands::Call;
 use crate::help;
 use crate::say::is_plain;

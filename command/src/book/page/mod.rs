@@ -5,8 +5,9 @@ mod texts;
 
 use super::audit::{Audit, Seen};
 use super::entry::written;
+use super::shown;
 use super::wants::{Want, Wants};
-use super::{clock, shown};
+use crate::clock;
 use crate::commands::{frame_pair, Call};
 use crate::explain::picture::grouped;
 use crate::explain::{sketch, Plan, Texts};
