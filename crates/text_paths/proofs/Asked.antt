@@ -80,7 +80,7 @@ module _ (text : List ℕ) (at end : ℕ) (ordered : at ≤ end) (within : end �
   no-slash n e = rw (part-cons n, ne-eqb (getD text at 0) slash e) (omega arith)
 
 -- The end of a part is a part of the end.
-drop-take : (n m : ℕ) (xs : List ℕ) → drop n (take m xs) ≡ take (m - n) (drop n xs)
+pub drop-take : (n m : ℕ) (xs : List ℕ) → drop n (take m xs) ≡ take (m - n) (drop n xs)
 drop-take n m [] = rw (take-nil m, drop-nil n, take-nil (m - n))
 drop-take zero m (x ∷ xs) = rw (native.Mathlib.Nat.sub-zero m)
 drop-take (suc n) zero (x ∷ xs) = let e : 0 - suc n ≡ 0 = omega arith in rw e
