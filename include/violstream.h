@@ -6,6 +6,7 @@
  *   violstream_plan       the best list of detours for a run, and what it costs; asks for a head at or right of everything wanted
  *   violstream_plan_any   the same for a head anywhere: a tape just mounted, or a second run from where the first ended
  *   violstream_price      what a list of detours costs; violstream_price_any: for a head anywhere
+ *   violstream_answer     a run sheet's bytes to the plan sheet's, for a head anywhere: what `violstream plan --any` prints
  *   violstream_file       a ticket filed at one of two offices; violstream_withdraw: one withdrawn
  *   violstream_board      up to eight tickets leave on one run, which is planned
  *   violstream_event      one of these three by a line of text, answered by the text that `violstream desk` prints
@@ -17,8 +18,8 @@
  * All work on 64-bit numbers and on rows that the caller lends. They allocate nothing and keep nothing between calls, so
  * several threads can call at once, each with rows of its own. Whatever the run, a price takes at most 1,024 bytes of stack
  * beside its arguments and a plan at most 6,144; a plan at the limits takes a few milliseconds, at most some tens. The calls for
- * tickets take at most 16,384 bytes, but for violstream_event, which takes up to 557,056 (544 KiB): mind it where a thread has
- * a small stack. C99 or later, or C++. Link with libviolstream.a (x86-64), which needs the C library and nothing else:
+ * tickets take at most 16,384 bytes and violstream_answer 32,768, but violstream_event takes up to 557,056 (544 KiB): mind it
+ * where a thread has a small stack. C99 or later, or C++. Link with libviolstream.a (x86-64), which needs the C library and nothing else:
  *
  *   cc example.c $(pkg-config --cflags --libs violstream)
  *
@@ -144,6 +145,46 @@
  * The detour is to stop 2, which is aggregate 7: the head reads it from 10 to 20 for the three who wait for file 3. Were
  * all four numbers 0, the sum would be 349, and the detour 3,3.
  *
+ * ANOTHER, from a run sheet to its plan sheet
+ *
+ * ---- sheet.c ----
+ *     #include <stdio.h>
+ *     #include <string.h>
+ *     #include <violstream.h>
+ *
+ *     int main(void)
+ *     {
+ *         const char *sheet = "tape=VX0041\nhead=60\nturn=1\nrule=least\n"
+ *                             "files=2\nfile=0,10,0\nfile=10,4,0\nwants=1\nwant=2,3\n";
+ *         static uint64_t room[VIOLSTREAM_ROOM_MOST];
+ *         static uint8_t bytes[VIOLSTREAM_PLAN_MOST];
+ *         struct violstream_rows rows;
+ *         struct violstream_text text;
+ *
+ *         rows.room = room, rows.room_len = VIOLSTREAM_ROOM_MOST;
+ *         text.bytes = bytes, text.room = sizeof bytes;
+ *         uint64_t result = violstream_answer_rows(sheet, strlen(sheet), &rows, &text);
+ *         if (result != 0) {
+ *             fprintf(stderr, "refused: %s\n", violstream_reason(result));
+ *             return 1;
+ *         }
+ *         fwrite(bytes, 1, VIOLSTREAM_AS(size_t, text.size), stdout);
+ *         return 0;
+ *     }
+ * ---- end of sheet.c ----
+ *
+ * It prints
+ *
+ * ---- sheet ----
+ *     tape=VX0041
+ *     sum=165
+ *     reads=3
+ *     finish=55
+ *     end=14
+ *     detours=0
+ *     time=2,55,1
+ * ---- end of sheet ----
+ *
  * ANOTHER, with tickets
  *
  * ---- tickets.c ----
@@ -237,6 +278,7 @@
 #define VIOLSTREAM_PLACES 32                            /* records of the waiting table, 16 of each office */
 #define VIOLSTREAM_BOARDERS 8                           /* the most tickets that leave at once */
 #define VIOLSTREAM_TAKEN 10                             /* the words of `taken` */
+#define VIOLSTREAM_PLAN_MOST 7644                       /* no plan sheet is longer */
 #define VIOLSTREAM_TEXT_MOST 2677                       /* no text of violstream_event or violstream_waiting is longer */
 
 /*
@@ -296,7 +338,10 @@ enum violstream_refusal {
     VIOLSTREAM_SHORT_ROOM = 9,     /* violstream_plan: room below VIOLSTREAM_ROOM_WORDS of the stops and the reads; place 0 */
 
     /* Of the calls for tickets. Each says below in which order it checks. */
-    VIOLSTREAM_BAD_LINE = 11,      /* violstream_event: not one line that is an event, with its LF; place 0 */
+    VIOLSTREAM_BAD_LINE = 11,      /* violstream_event: not one line that is an event, with its LF; place 0.
+                                      violstream_answer: a line of the sheet that is not as described; place: the line */
+    VIOLSTREAM_LONG_SHEET = 12,    /* violstream_answer: a sheet of over 16,384 bytes; place 0 */
+    VIOLSTREAM_RETIRED_RULE = 19,  /* violstream_answer: a sheet with rule=sweep; place: its line, 4 */
     VIOLSTREAM_BAD_TICKET = 15,    /* office other than 1 and 2, file not in the table or above 4,096, count 0 or above 128;
                                       place 0 */
     VIOLSTREAM_OFFICE_FULL = 16,   /* that office has 16 waiting; place 0 */
@@ -336,7 +381,9 @@ static inline const char *violstream_reason(uint64_t result)
     case VIOLSTREAM_BAD_ENTRY: return "list of detours not well formed";
     case VIOLSTREAM_SHORT_ROW: return "row for the answer too short";
     case VIOLSTREAM_SHORT_ROOM: return "working room too small";
-    case VIOLSTREAM_BAD_LINE: return "not a line that is an event";
+    case VIOLSTREAM_BAD_LINE: return "line that is not as described";
+    case VIOLSTREAM_LONG_SHEET: return "sheet of over 16,384 bytes";
+    case VIOLSTREAM_RETIRED_RULE: return "the sheet names the retired rule sweep";
     case VIOLSTREAM_BAD_TICKET: return "office, file or count of a ticket out of range";
     case VIOLSTREAM_OFFICE_FULL: return "that office has 16 tickets waiting";
     case VIOLSTREAM_NOT_WAITING: return "no such ticket waits";
@@ -424,6 +471,22 @@ uint64_t violstream_plan_any(const uint64_t *starts, size_t starts_len,
                              uint64_t *legs, size_t legs_len,
                              uint64_t *sums, size_t sums_len,
                              uint64_t *room, size_t room_len);
+
+/*
+ * A run sheet to its plan sheet, for a head anywhere.
+ *
+ *   sheet   the run sheet's bytes
+ *   out     for the plan sheet, at least as many bytes as it has; VIOLSTREAM_PLAN_MOST do for every plan sheet
+ *   room    working room, as for violstream_plan_any
+ *   sizes   for the number of its bytes, at least 1 word
+ *
+ * Checks: 12, 11, 19, 1 to 7 and 9, each as for the sheet's run, and last 8 for out and sizes. A plan that is made leaves the room cleared, by 8 too. No 0 byte
+ * ends the text.
+ */
+uint64_t violstream_answer(const uint8_t *sheet, size_t sheet_len,
+                           uint8_t *out, size_t out_len,
+                           uint64_t *room, size_t room_len,
+                           uint64_t *sizes, size_t sizes_len);
 
 /* A ticket: office 1 or 2, the file's number, how often it is to be read, the number given. An empty place is all 0. */
 struct violstream_ticket {
@@ -573,6 +636,14 @@ struct violstream_text {
     size_t room;
     uint64_t size;
 };
+
+/* Of the rows the room. */
+static inline uint64_t violstream_answer_rows(const void *sheet, size_t sheet_len, struct violstream_rows *rows,
+                                              struct violstream_text *text)
+{
+    return violstream_answer(VIOLSTREAM_AS(const uint8_t *, sheet), sheet_len, text->bytes, text->room, rows->room, rows->room_len,
+                             &text->size, 1);
+}
 
 static inline uint64_t violstream_file_rows(struct violstream_desk *desk, uint64_t office, uint64_t file, uint64_t count,
                                             uint64_t files, uint64_t *number)

@@ -84,7 +84,7 @@ make_rust() {
 # ---- Tests that are more than one program ----
 
 header_example() {
-    for name in example tickets; do
+    for name in example sheet tickets; do
         make_c "${name}_c" "${name}_c++"
         if command -v clang > /dev/null; then
             strictly="-fsyntax-only -Wall -Wextra -Wpedantic -Wconversion -Werror -I $here/include"
@@ -191,6 +191,7 @@ shared_installed() {
     else
         step "the shared library from Python" python3 "$here/tests/python/library.py" "$prefix/lib/libviolstream.so"
         step "the calls for tickets against a model" python3 "$here/tests/python/desk_calls.py" "$prefix/lib/libviolstream.so" --calls 100000
+        step "the call for sheets against a model" python3 "$here/tests/python/answer_calls.py" "$prefix/lib/libviolstream.so"
     fi
 }
 

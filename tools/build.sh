@@ -130,11 +130,11 @@ library() {
     ar='ar'
     [ "$(uname -m)" = x86_64 ] || ar=x86_64-linux-gnu-ar
     cd "$here" || return
-    for crate in boundary boundary_desk; do
+    for crate in boundary boundary_desk boundary_texts; do
         TMPDIR=$rooms rt staticlib "$crate" &
         wait "$!" || return
     done
-    { echo "create $rooms/all.a"; printf 'addlib target/staticlib/lib%s.a\n' boundary boundary_desk; echo save; echo end; } | "$ar" -M || return
+    { echo "create $rooms/all.a"; printf 'addlib target/staticlib/lib%s.a\n' boundary boundary_desk boundary_texts; echo save; echo end; } | "$ar" -M || return
     mv -f "$rooms/all.a" "target/staticlib/lib$1.a"
 }
 

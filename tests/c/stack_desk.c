@@ -1,4 +1,4 @@
-/* How much of the stack the calls for tickets take, with all that they call: on an empty table, a full one, and each that an event goes on to. Fails where a call
+/* How much of the stack the calls for tickets and for sheets take, with all that they call: on an empty table, a full one, and each that an event goes on to. Fails where a call
  * takes more bytes than violstream.h says, or does not give the result that its case is there for.
  *
  * A figure is what a call writes on a stack painted before (bench/stack.c), less what a function that does nothing writes. It holds the caller's frame too, with
@@ -13,13 +13,13 @@
 #include "stack.h"
 
 /* The bytes that violstream.h allows. */
-enum { CALL_MOST = 16384, EVENT_MOST = 557056, FILES = 8 };
+enum { CALL_MOST = 16384, SHEET_MOST = 32768, EVENT_MOST = 557056, FILES = 8 };
 
 static const uint64_t starts[FILES] = {0, 10, 16, 20, 50, 60, 70, 80}, lengths[FILES] = {10, 4, 4, 30, 10, 10, 10, 10}, aggregates[FILES];
 static struct violstream_desk desk;
 static uint64_t room[VIOLSTREAM_ROOM_WORDS(8, 1024)], from[8], to[8], times[8], legs[8], number, result;
-static uint8_t bytes[VIOLSTREAM_TEXT_MOST];
-static struct violstream_text text;
+static uint8_t bytes[VIOLSTREAM_TEXT_MOST], sheet_bytes[VIOLSTREAM_PLAN_MOST];
+static struct violstream_text text, sheet_text;
 static struct violstream_run run;
 static struct violstream_rows rows;
 static const char *line;
@@ -31,6 +31,8 @@ static void withdraw(void) { result = violstream_withdraw_rows(&desk, 1, 1); }
 static void board(void) { result = violstream_board_rows(&desk, &run, &rows); }
 static void event(void) { result = violstream_event_rows(&desk, &run, line, strlen(line), &rows, &text); }
 static void waiting(void) { result = violstream_waiting_rows(&desk, &text); }
+
+static void answer(void) { result = violstream_answer_rows(line, strlen(line), &rows, &sheet_text); }
 
 /* Sixteen tickets of each office, with as many reads as they can ask for. */
 static void fill(void)
@@ -81,6 +83,11 @@ int main(void)
     hold_event("event, withdraw", "withdraw=2,16\n", 0);
     hold_event("event, none", "x\n", VIOLSTREAM_BAD_LINE);
     hold_event("event, board", "board=100,1\n", 0);
+    sheet_text.bytes = sheet_bytes, sheet_text.room = sizeof sheet_bytes;
+    line = "tape=VX0041\nhead=0\nturn=1\nrule=least\nfiles=2\nfile=0,10,0\nfile=10,4,0\nwants=2\nwant=1,1\nwant=2,3\n";
+    hold("answer", answer, 0, SHEET_MOST);
+    line = "x\n";
+    hold("answer, no sheet", answer, VIOLSTREAM_BAD_LINE + 256 * 1, SHEET_MOST);
     text.room = 100;
     hold_event("event, board, short row", "board=100,1\n", VIOLSTREAM_SHORT_ROW);
     return wrong;
