@@ -77,7 +77,8 @@ def together(work, paths, seconds):
 def by_server(folder, askers, seconds):
     with tempfile.TemporaryDirectory(dir=folder) as within:
         call = subprocess.Popen([COMMAND, "serve", "--journal", os.path.join(within, "journal"), "--windows", within, SHEET], stderr=subprocess.PIPE)
-        if b"serving at" not in call.stderr.readline():
+        # Before that, where another library was made, the command is compiled anew.
+        if not any(b"serving at" in line for line in call.stderr):
             sys.exit("bench/serve.py: the server does not start")
         paths = [os.path.join(within, ("office1", "office2")[number % 2]) for number in range(askers)]
         rate = together(ask, paths, seconds)

@@ -70,11 +70,13 @@ class Server:
         if self.shim:
             surroundings.update(LD_PRELOAD=self.shim, VIOLSTREAM_DISK=self.disk, VIOLSTREAM_SYNCED=self.synced)
         self.call = subprocess.Popen(self.words(*more), stdin=subprocess.DEVNULL, stdout=subprocess.PIPE, stderr=subprocess.PIPE, env=surroundings, **how)
-        said = self.call.stderr.readline().decode()
-        if ": serving at " in said:
-            return said
-        rest = self.call.stderr.read().decode()
-        return said + rest + self.call.stdout.read().decode(), self.call.wait(LIMIT)
+        said = ""
+        for line in self.call.stderr:
+            if b": serving at " in line:
+                return line.decode()
+            # Also that the command is compiled anew, where another library was made.
+            said += line.decode()
+        return said + self.call.stdout.read().decode(), self.call.wait(LIMIT)
 
     def begin(self, *more, **how):
         said = self.start(*more, **how)
