@@ -54,6 +54,7 @@ def contents(name):
 
 class Server:
     """A server in a folder of its own, with its journal and its windows."""
+    calls = []
 
     def __init__(self, folder, shim=None, sheet=SHEET, journal=None):
         self.folder, self.sheet, self.shim, self.call = folder, sheet, shim, None
@@ -70,6 +71,7 @@ class Server:
         if self.shim:
             surroundings.update(LD_PRELOAD=self.shim, VIOLSTREAM_DISK=self.disk, VIOLSTREAM_SYNCED=self.synced)
         self.call = subprocess.Popen(self.words(*more), stdin=subprocess.DEVNULL, stdout=subprocess.PIPE, stderr=subprocess.PIPE, env=surroundings, **how)
+        Server.calls.append(self.call)
         said = ""
         for line in self.call.stderr:
             if b": serving at " in line:
@@ -881,6 +883,10 @@ def main():
                 one(At(words, within, shim))
             except Wrong as wrong:
                 sys.exit(f"serve.py: {one.__name__}: {wrong}")
+            finally:
+                # Also where a test has failed, no server stays.
+                [call.kill() for call in Server.calls if call.poll() is None]
+                Server.calls.clear()
             if words.long:
                 print(f"serve.py: {one.__name__}: {time.monotonic() - began:.0f} s", flush=True)
     print(f"serve.py: the server does what it must; tests: {', '.join(one.__name__ for one in tried)}")
