@@ -41,7 +41,7 @@ use Rattle.desk_rows.specs.declared.ToldRow.{ToldRow}
 use Rattle.desk_rows.specs.Desk.{tableIn}
 use Rattle.desk_rows.specs.Events.{dayOf}
 use Rattle.desk_rows.specs.Journal.{isRemark}
-use Rattle.promises.specs.DeskDays.{Exchange, Turned, Held}
+use Rattle.promises.specs.DeskDays.{RefusedEventChangesNothing, Exchange, Turned, Held}
 use Rattle.promises.specs.DeskHeld.{HeldByTheProgram}
 use Rattle.promises.specs.DeskReplay.{Replayed, RemarkChangesNothing, eventsOf, RemarksPassedOver, acceptedOf, linesOf, JournalGivesTheTable}
 use Rattle.promises.proofs.DeskDays.{accepts, refused-event-changes-nothing, desk-on-a-lent-row}
@@ -216,10 +216,10 @@ later-lines x y xs ys e = ap tail-of e
     tail-of [] = []
     tail-of (l ∷ ls) = ls
 
-kept-by-refusal : {tape : Tape} {day next : desk.Day} {x : Exchange} → Turned tape day x next → isRefusal (x .answer) ≡ true → next ≡ day
-kept-by-refusal {tape} {day} {next} {x} t refused =
+kept-by-refusal : RefusedEventChangesNothing → {tape : Tape} {day next : desk.Day} {x : Exchange} → Turned tape day x next → isRefusal (x .answer) ≡ true → next ≡ day
+kept-by-refusal keeps {tape} {day} {next} {x} t refused =
     t .leaves
-    ∙ refused-event-changes-nothing (t .len) tape day (t .room) (t .out) (eventOf (lineOf (x .line))) (t .result) (t .room′) (t .out′) (t .fits)
+    ∙ keeps (t .len) tape day (t .room) (t .out) (eventOf (lineOf (x .line))) (t .result) (t .room′) (t .out′) (t .fits)
     (λ is. true≢false (sym refused ∙ ap isRefusal (t .says ∙ is))) .0
 
 -- The first call was accepted, and what follows it is known of any journal of the rest.
@@ -244,25 +244,28 @@ with-accepted : (x : Exchange) (xs : List Exchange) → isRefusal (x .answer) �
 unfolding acceptedOf
 with-accepted x xs e = rw e refl
 
-replayed-so : {tape : Tape} {day last last₂ : desk.Day} {calls events : List Exchange} → Held tape day calls last → Held tape day events last₂
+replayed-so : RefusedEventChangesNothing → {tape : Tape} {day last last₂ : desk.Day} {calls events : List Exchange} → Held tape day calls last → Held tape day events last₂
     → linesOf events ≡ linesOf (acceptedOf calls) → (last₂ ≡ last) × (events ≡ acceptedOf calls)
 unfolding acceptedOf
-replayed-so Held.ends Held.ends same = (refl, refl)
-replayed-so Held.ends (Held.goes-on u rest₂) same = absurd (omega (arith, ap length same))
-replayed-so {tape} {day} {last} {last₂} {events = events} (Held.goes-on {next = next} {x = x} {xs = xs} t rest) held same =
+replayed-so keeps Held.ends Held.ends same = (refl, refl)
+replayed-so keeps Held.ends (Held.goes-on u rest₂) same = absurd (omega (arith, ap length same))
+replayed-so keeps {tape} {day} {last} {last₂} {events = events} (Held.goes-on {next = next} {x = x} {xs = xs} t rest) held same =
     ⊎-elim
     (λ (y : isRefusal (x .answer) ≡ true).
-    let moved = subst (λ (d : desk.Day). Held tape d events last₂) (sym (kept-by-refusal t y)) held in
-    let h = replayed-so rest moved (same ∙ ap linesOf (without-refused x xs y)) in
+    let moved = subst (λ (d : desk.Day). Held tape d events last₂) (sym (kept-by-refusal keeps t y)) held in
+    let h = replayed-so keeps rest moved (same ∙ ap linesOf (without-refused x xs y)) in
     (h .0, h .1 ∙ sym (without-refused x xs y)))
     (λ (n : isRefusal (x .answer) ≡ false).
-    let h = served-so t (λ es more lines. replayed-so rest more lines) held (same ∙ ap linesOf (with-accepted x xs n)) in
+    let h = served-so t (λ es more lines. replayed-so keeps rest more lines) held (same ∙ ap linesOf (with-accepted x xs n)) in
     (h .0, h .1 ∙ sym (with-accepted x xs n)))
     (true-or-false (isRefusal (x .answer)))
 
-pub journal-gives-the-table : JournalGivesTheTable
-journal-gives-the-table tape ts end l m calls last n journal long held replayed same =
+journal-by : RefusedEventChangesNothing → JournalGivesTheTable
+journal-by keeps tape ts end l m calls last n journal long held replayed same =
     let a = desk-on-a-lent-row tape ts end l m calls long held .0 in
     let b = program-holds-a-day tape (tableIn ts) last l n (eventsOf journal) (passed-over replayed) in
-    let h = replayed-so a b same in
+    let h = replayed-so keeps a b same in
     (ap (λ (d : desk.Day). d .row) (h .0), ap (λ (d : desk.Day). d .lasts) (h .0), h .1)
+
+pub journal-gives-the-table : JournalGivesTheTable
+journal-gives-the-table = journal-by refused-event-changes-nothing

@@ -15,6 +15,9 @@ pub mod DeskTells
 pub mod DeskHeld
 pub mod DeskWorked
 pub mod DeskReplay
+pub mod DeskTaken
+pub mod DeskVerdicts
+pub mod DeskBeside
 pub mod DeskDayCases
 pub mod DeskCases
 pub mod Gathered

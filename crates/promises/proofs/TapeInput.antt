@@ -25,7 +25,7 @@ use Rattle.sheet_writer.proofs.Reread.{line-behind, key-value}
 use Rattle.tape_markup.specs.Tree.{treeOf}
 use Rattle.answer_ltfs.specs.Index.{some, indexFiles}
 use Rattle.answer_ltfs.specs.TapeTable.{inSeveral, areFar, someOverlap, rangesIn, tapeTable, areGoodTexts, ltfsSheet, ltfsVerdict, ltfsReport, ltfsRow, tapeVerdict}
-use Rattle.answer_ltfs.specs.Input.{mostTapeInput, labelKey, indexKey, isCounted, countedText, afterCounted, isFramed, framedLabel, framedIndex, badFrame, tapeInputVerdict, answerText}
+use Rattle.answer_ltfs.specs.Input.{mostTapeInput, labelKey, indexKey, isCounted, countedText, afterCounted, isFramed, framedLabel, framedIndex, badFrame, tapeInputVerdict, answerText, leftOutText, reportText}
 use Rattle.answer_ltfs.specs.Framed.{inputText}
 use Rattle.answer_ltfs.proofs.Apart.{input-taken-apart}
 use Rattle.answer_ltfs.proofs.Promise.{sheet-within}
@@ -35,7 +35,7 @@ use Rattle.demands.proofs.Checks.{first-of-joined}
 use Rattle.demands.proofs.Lines.{tells-tape, tells-number, number-flat, line-read}
 use Rattle.demands.proofs.Tapes.{demand1-tape}
 use Rattle.promises.specs.Lengths.{sheetRow}
-use Rattle.promises.specs.TapeInput.{TapePrinted, TapeByItsTable, OtherTapesRefused}
+use Rattle.promises.specs.TapeInput.{leftOutLines, TapePrinted, TapeByItsTable, OtherTapesRefused}
 use Rattle.promises.proofs.Canonical.{number-text}
 use Rattle.promises.proofs.Answers.{lines-are}
 use Rattle.promises.proofs.TapeLengths.{tape-is-whole}
@@ -208,9 +208,9 @@ module _ (name label index out : List ℕ) (n : isName name ≡ true) (few : len
   by-table : TapeAnswers name label index out (ltfsReport w name label index) (ltfsRow w name label index out)
   by-table = demand1-tape name label index out (ltfsReport w name label index) (ltfsRow w name label index out) refl refl
 
-  module _ (printed : List ℕ) (is : printed ≡ answerText input) (wide : sheetRow ≤ length out) where
-    refused-so : refuses v ≡ true → TapePrinted name label index out printed
-    unfolding ltfsReport
+  module _ (printed noted : List ℕ) (is : printed ≡ answerText input) (notes : noted ≡ reportText input) (wide : sheetRow ≤ length out) where
+    refused-so : refuses v ≡ true → TapePrinted name label index out printed noted
+    unfolding ltfsReport reportText
     refused-so e =
         let same : w ≡ v = sym joined-is ∙ sym (first-refuses v (rowVerdict (ltfsSheet name label index) out ∷ []) e) in
         record {
@@ -219,19 +219,32 @@ module _ (name label index out : List ℕ) (n : isName name ≡ true) (few : len
           first = rw e at (rw same at (by-table .first));
           refused = λ r. is ∙ answer-refused input v verdict-is e ∙ lines-are v;
           asked = λ a. absurd (true≢false (sym e ∙ ap isRefusal a));
+          silent = λ r. notes ∙ rw (verdict-is, e);
+          left-out = λ a. absurd (true≢false (sym e ∙ ap isRefusal a));
         }
 
-    asked-so : refuses v ≡ false → TapePrinted name label index out printed
-    unfolding ltfsReport rowVerdict answerText
+    asked-so : refuses v ≡ false → TapePrinted name label index out printed noted
+    unfolding ltfsReport rowVerdict answerText reportText leftOutText
     asked-so e =
         let fits = sheet-within name label index e in
         let row : rowVerdict (ltfsSheet name label index) out ≡ accepted = rw (le-ltb (length out) (length (ltfsSheet name label index)) (omega (arith, fits))) in
         let same : w ≡ accepted = sym joined-is ∙ first-passes v (rowVerdict (ltfsSheet name label index) out ∷ []) e ∙ rw row in
         let t = input-taken-apart name label index n (omega (arith, parts-few .0)) (omega (arith, parts-few .1)) in
         let sheet : answerText input ≡ ltfsSheet name label index = rw (verdict-is, e, t .same-name, t .same-label, t .same-index) in
-        record { kind = Accepted; place = 0; first = rw same at (by-table .first); refused = λ r. absurd (r refl); asked = λ a. is ∙ sheet }
+        let report : reportText input ≡ leftOutLines (ltfsReport accepted name label index) = rw (verdict-is, e, t .same-label, t .same-index) in
+        record {
+          kind = Accepted;
+          place = 0;
+          first = rw same at (by-table .first);
+          refused = λ r. absurd (r refl);
+          asked = λ a. is ∙ sheet;
+          silent = λ r. absurd (r refl);
+          left-out = λ a. notes ∙ report;
+        }
 
 pub tape-by-its-table : TapeByItsTable
 tape-by-its-table name label index out notes r out′ notes′ n few h wide room =
-    let text = tape-is-whole (inputText name label index) out notes r out′ notes′ h wide room .text in
-    ⊎-elim (refused-so name label index out n few (take (r .bytes) out′) text wide) (asked-so name label index out n few (take (r .bytes) out′) text wide) (true-or-false (refuses (tapeVerdict name label index)))
+    let whole = tape-is-whole (inputText name label index) out notes r out′ notes′ h wide room in
+    ⊎-elim (refused-so name label index out n few (take (r .bytes) out′) (take (r .noted) notes′) (whole .text) (whole .report) wide)
+    (asked-so name label index out n few (take (r .bytes) out′) (take (r .noted) notes′) (whole .text) (whole .report) wide)
+    (true-or-false (refuses (tapeVerdict name label index)))

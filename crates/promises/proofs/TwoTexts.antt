@@ -270,7 +270,7 @@ module _ (sheet plan row room out : List ℕ) (w : Written) (row′ room′ : Li
         let stays : row′ ≡ row = asked .handed .left ∙ rw t in
         record {
           text = λ is. absurd (apart (sym (ap (λ x. x .refusal) says) ∙ is));
-          short = λ is. (ap (λ x. x .place) says, subst (λ x. length row < length x) one-text (ltb-true (length row) (length (asked .text)) t));
+          short = λ is. (ap (λ x. x .place) says, subst (λ x. length row < length x) one-text (ltb-true (length row) (length (asked .text)) t), check-prints-all sheet plan out room n out′ room″ d wide e);
           lines = λ a b. absurd (b (ap (λ x. x .refusal) says));
           unwritten = λ a. (ap (λ x. x .bytes) says, stays);
           behind = ap (drop (w .bytes)) stays;

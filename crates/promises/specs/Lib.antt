@@ -14,6 +14,9 @@ pub mod DeskTells
 pub mod DeskHeld
 pub mod DeskWorked
 pub mod DeskReplay
+pub mod DeskTaken
+pub mod DeskVerdicts
+pub mod DeskBeside
 pub mod Mends
 pub mod Mender
 pub mod Months

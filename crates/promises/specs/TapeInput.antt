@@ -1,16 +1,18 @@
 -- The input of `ltfs`. Put together as described, and of at most 524,288 bytes, it is answered by the tape's own table: the run sheet, or the two lines of the
--- first refusal that applies. Any other is refused by 13, where its first line is no tape line, else by 20.
+-- first refusal that applies; beside a sheet the report has two lines, beside a refusal none. Any other is refused by 13, where its first line is no tape line, else by 20.
 use Prim.Native.Nat.{ℕ, _≤_, _<_}
 use mathlib.Core.Path.{_≡_}
 use mathlib.Core.Bool.{true}
-use mathlib.Core.List.{List}
+use mathlib.Core.List.{List, [], _++_}
 use lib.ListN.{length, take}
 use Rattle.refusals.specs.declared.Refusal.{Refusal}
 use Rattle.refusals.specs.declared.Refusal.the-variants.{Accepted}
-use Rattle.text_bytes.specs.Text.{bytes, isName}
+use Rattle.refusals.specs.Refusals.{accepted}
+use Rattle.text_bytes.specs.Text.{bytes, isName, decimal}
 use Rattle.sheet_reader.specs.Lines.{tapeKey}
+use Rattle.answer_ltfs.specs.declared.Report.{Report}
 use Rattle.answer_ltfs.specs.declared.Told.{Told}
-use Rattle.answer_ltfs.specs.TapeTable.{ltfsSheet}
+use Rattle.answer_ltfs.specs.TapeTable.{ltfsSheet, ltfsReport}
 use Rattle.answer_ltfs.specs.Input.{InputAnswered}
 use Rattle.answer_ltfs.specs.Framed.{inputText}
 use Rattle.demands.specs.RefusalTable.{FirstThatApplies}
@@ -19,14 +21,20 @@ use Rattle.demands.specs.Tapes.{TapeApplies, tapeOrder}
 use Rattle.promises.specs.Lengths.{sheetRow, reportRow}
 use Rattle.promises.specs.Answers.{twoLines}
 
-pub record TapePrinted (name label index row printed : List ℕ) : Type 0 where
+-- The two lines of the report: how many files were left out, empty or in the other partition, as `ltfsReport` counts them.
+abbrev pub leftOutLines : Report → List ℕ
+leftOutLines r = (bytes "empty=" ++ decimal (r .empty) ++ bytes "\n") ++ (bytes "other=" ++ decimal (r .other) ++ bytes "\n")
+
+pub record TapePrinted (name label index row printed noted : List ℕ) : Type 0 where
   pub kind : Refusal
   pub place : ℕ
   pub first : FirstThatApplies (TapeApplies name label index row) tapeOrder kind place
   pub refused : (kind ≡ Accepted → ⊥) → printed ≡ twoLines kind place
   pub asked : kind ≡ Accepted → printed ≡ ltfsSheet name label index
+  pub silent : (kind ≡ Accepted → ⊥) → noted ≡ []
+  pub left-out : kind ≡ Accepted → noted ≡ leftOutLines (ltfsReport accepted name label index)
 
--- The first bytes of a row as long as the program's are printed.
+-- The first bytes of rows as long as the program's are printed.
 abbrev pub TapeByItsTable : Type 0
 TapeByItsTable =
     (name label index out notes : List ℕ) (r : Told) (out′ notes′ : List ℕ)
@@ -35,7 +43,7 @@ TapeByItsTable =
     → InputAnswered (inputText name label index) out notes r out′ notes′
     → sheetRow ≤ length out
     → reportRow ≤ length notes
-    → TapePrinted name label index out (take (r .bytes) out′)
+    → TapePrinted name label index out (take (r .bytes) out′) (take (r .noted) notes′)
 
 -- No tape line first; a longer input; one that is put together from no name, label and index.
 pub record OthersRefused (input printed : List ℕ) : Type 0 where

@@ -77,10 +77,10 @@ CheckByTheTable =
     (VerdictText (sheetName sheet) (sheetRun sheet) plan (planFroms plan) (planTos plan)) (take n row′)
 
 -- `check` for a caller, beside what is printed of the same sheets: the verdict in the first bytes of its row, the later ones as they were; 8 where the row is
--- shorter than that; or the refusal whose two lines are printed. By any refusal the row is as it was. A `no` is no refusal.
+-- shorter than that, and then nothing else is refused; or the refusal whose two lines are printed. By any refusal the row is as it was. A `no` is no refusal.
 pub record AsPrinted (Asked : List ℕ → Type 0) (row : List ℕ) (w : Written) (row′ printed : List ℕ) : Type 0 where
   pub text : w .refusal ≡ Accepted → (take (w .bytes) row′ ≡ printed) × Asked printed
-  pub short : w .refusal ≡ ShortRow → (w .place ≡ 0) × (length row < length printed)
+  pub short : w .refusal ≡ ShortRow → (w .place ≡ 0) × (length row < length printed) × Asked printed
   pub lines : (w .refusal ≡ Accepted → ⊥) → (w .refusal ≡ ShortRow → ⊥) → printed ≡ twoLines (w .refusal) (w .place)
   pub unwritten : (w .refusal ≡ Accepted → ⊥) → (w .bytes ≡ 0) × (row′ ≡ row)
   pub behind : drop (w .bytes) row′ ≡ drop (w .bytes) row
