@@ -37,14 +37,18 @@ use Rattle.answer_desk.specs.Days.{EventAnswered}
 use Rattle.desk_rows.specs.declared.Told.{Told}
 use Rattle.desk_rows.specs.Desk.{tableIn, boardedRow}
 use Rattle.desk_rows.specs.Events.{dayOf}
+use Rattle.desk_rows.proofs.Kept.{table-comes-back}
 use Rattle.demands.specs.Demand1.{OnlyPlace}
 use Rattle.demands.proofs.Demand1.{demand1-plan}
 use Rattle.promises.specs.Desk.{Kept, Call, filing, withdrawal, boarding, Fits, answered}
 use Rattle.promises.specs.DeskRows.{LentFits, keptIn}
+use Rattle.promises.specs.DeskTells.{TextStands, AcceptedEventTells}
 use Rattle.promises.specs.DeskVerdicts.{filingAt, withdrawalAt}
-use Rattle.promises.specs.DeskBeside.{verdictOfCall, ShortRowsRefused, ShortRowsAnswered, NothingBoards, SaysNoMore, RefusedSaysNoMore, RefusedRowSaysNoMore, WantsHandedOut, BoardingHandsOutWants, RowHandsOutWants}
+use Rattle.promises.specs.DeskBeside.{verdictOfCall, ShortRowsRefused, ShortRowsAnswered, NothingBoards, SaysNoMore, RefusedSaysNoMore, RefusedRowSaysNoMore, WantsHandedOut, BoardingHandsOutWants, RowHandsOutWants, AcceptedAnswerTells}
 use Rattle.promises.proofs.DeskSteps.{not-accepted, accepted-is, refused-is}
 use Rattle.promises.proofs.Desk.{refusal-keeps}
+use Rattle.promises.proofs.DeskDays.{day-so}
+use Rattle.promises.proofs.DeskTells.{accepted-event-tells}
 
 abbrev eightAt0 : Verdict
 eightAt0 = record { refusal = ShortRow; place = 0 }
@@ -173,3 +177,17 @@ row-wants table ts tape b before r after exit lent accepts = table (length ts) t
 
 pub row-hands-out-wants : RowHandsOutWants
 row-hands-out-wants = row-wants boarding-hands-out-wants
+
+-- An accepted event: the table afterwards is found again in the row.
+lent-tells : AcceptedEventTells → AcceptedAnswerTells
+lent-tells tells ts l tape room out e r exit room′ out′ f long served =
+    let a = f .answered in
+    let day = dayOf (tableIn ts) l in
+    let found : tableIn exit ≡ a .day .row = ap tableIn (f .row) ∙ table-comes-back (a .day .row) ts (f .whole) long in
+    let same = day-so (a .day) (tableIn exit) (r .lasts) found (ap (λ (y : Told). y .lasts) (f .says)) in
+    let text = tells (length ts) tape day room out e a room′ out′ (f .answers) (ap (λ (y : Told). y .verdict .refusal) (sym (f .says)) ∙ served) in
+    subst (λ (d : desk.Day). TextStands (length ts) tape day room out e d (r .bytes) out′) (sym same)
+    (subst (λ (y : Told). TextStands (length ts) tape day room out e (a .day) (y .bytes) out′) (sym (f .says)) text)
+
+pub accepted-answer-tells : AcceptedAnswerTells
+accepted-answer-tells = lent-tells accepted-event-tells

@@ -1,6 +1,6 @@
 -- What stands beside a verdict at the desk. A row of fewer than 32 records is refused by 8 with place 0, whatever is called on it. A refused call says its refusal and
--- place and nothing else, and leaves the rows lent beside the table. An accepted boarding hands out the wants of those who board.
-use Prim.Native.Nat.{ℕ, _-_, _<_}
+-- place and nothing else, and leaves the rows lent beside the table. An accepted boarding hands out the wants of those who board; an accepted event is told.
+use Prim.Native.Nat.{ℕ, _-_, _≤_, _<_}
 use mathlib.Core.Path.{_≡_}
 use mathlib.Core.List.{List}
 use lib.ListN.{length, take, drop}
@@ -19,10 +19,11 @@ use Rattle.desk_boardings.specs.Boardings.{Tape, boardRun, Boards}
 use Rattle.answer_desk.specs.declared.Event.{Event}
 use Rattle.desk_rows.specs.declared.Told.{Told}
 use Rattle.desk_rows.specs.Desk.{tableIn, BoardsLent}
-use Rattle.desk_rows.specs.Events.{LentAnswered}
+use Rattle.desk_rows.specs.Events.{dayOf, LentAnswered}
 use Rattle.demands.specs.Demand1.{OnlyPlace}
 use Rattle.promises.specs.Desk.{Kept, Call, filing, withdrawal, boarding, Fits, answered}
 use Rattle.promises.specs.DeskRows.{LentFits}
+use Rattle.promises.specs.DeskTells.{TextStands}
 
 -- What a call answers, with the place.
 abbrev pub verdictOfCall : Call → Verdict
@@ -87,3 +88,12 @@ RowHandsOutWants =
     → BoardsLent ts tape b before r after exit
     → r .answer .refusal ≡ Accepted
     → WantsHandedOut (boardRun tape (tableIn ts) b) (r .wants)
+
+-- An event accepted on a lent row: what it tells stands in the row for the text, and the table told of is the one in the row afterwards.
+abbrev pub AcceptedAnswerTells : Type 0
+AcceptedAnswerTells =
+    (ts : List Ticket) (l : Lasts) (tape : Tape) (room out : List ℕ) (e : Event) (r : Told) (exit : List Ticket) (room′ out′ : List ℕ)
+    → LentAnswered ts l tape room out e r exit room′ out′
+    → 32 ≤ length ts
+    → r .verdict .refusal ≡ Accepted
+    → TextStands (length ts) tape (dayOf (tableIn ts) l) room out e (dayOf (tableIn exit) (r .lasts)) (r .bytes) out′
