@@ -115,9 +115,9 @@ module _ (r : Run) (froms tos : List ℕ) (p : PriceableAny r froms tos) where
   walked-as : (list : List Detour) → WellFormedAny (r .head) (stopsOf r) list → (gs : List Leg) → AreLegsOf r list gs → sumOf (r .turn) (headAt (r .head)) gs (stopsOf r) ≡ listSumAny (r .turn) (r .head) (stopsOf r) list
   walked-as list w gs are = ap (λ hs. sumOf (r .turn) (headAt (r .head)) hs (stopsOf r)) (legs-one r good list w gs are)
 
-  bought : (i : ℕ) → i < length froms → IsBoughtAny r (listOf froms tos) i (figureAnyOf r (listOf froms tos) i)
+  pub bought-any : (i : ℕ) → i < length froms → IsBoughtAny r (listOf froms tos) i (figureAnyOf r (listOf froms tos) i)
   unfolding figureAnyOf pricedAnyAnswer
-  bought i l =
+  bought-any i l =
       let e = without-is (listOf froms tos) i in
       let w = without-formed-any (r .head) (stopsOf r) (listOf froms tos) i (omega (arith, count)) well in
       record {
@@ -134,7 +134,7 @@ module _ (r : Run) (froms tos : List ℕ) (p : PriceableAny r froms tos) where
         formed = is-formed-any r good (listOf froms tos) well;
         sum = λ gs are. rw says (sym (walked-as (listOf froms tos) well gs are));
         number = rw says count;
-        each = λ i l. rw (is, figure-in (drop (length froms) row) i l) (bought i l);
+        each = λ i l. rw (is, figure-in (drop (length froms) row) i l) (bought-any i l);
         long = rw is (omega (arith, length-append (figuresAnyOf r (listOf froms tos)) (drop (length froms) row), length-drop (length froms) row, size, fits));
         later = rw is (drop-at (figuresAnyOf r (listOf froms tos)) (drop (length froms) row) (length froms) size);
       }

@@ -81,9 +81,9 @@ module _ (r : Run) (froms tos : List ℕ) (rows : ReadRows) (sums : List ℕ) wh
   unfolding priceAnyCall
   price-call-accepted e = none-refuses (priceAnyVerdict r froms tos rows ∷ refuseIf (shortSums sums) ShortRow ∷ []) e
 
-  price-passes : refuses (priceAnyCall r froms tos rows sums) ≡ false → refuses (priceAnyVerdict r froms tos rows) ≡ false
+  pub price-any-passes : refuses (priceAnyCall r froms tos rows sums) ≡ false → refuses (priceAnyVerdict r froms tos rows) ≡ false
   unfolding priceAnyCall
-  price-passes e = all-accept (priceAnyVerdict r froms tos rows ∷ refuseIf (shortSums sums) ShortRow ∷ []) e .0
+  price-any-passes e = all-accept (priceAnyVerdict r froms tos rows ∷ refuseIf (shortSums sums) ShortRow ∷ []) e .0
 
   module _ (code : ℕ) (rowsOut : ReadRows) (sumsOut : List ℕ) (called : PriceAnyCalled r froms tos rows sums code rowsOut sumsOut) where
     price-call-kept : (b : Bool) → refuses (priceAnyCall r froms tos rows sums) ≡ b → ((priceAnyCall r froms tos rows sums) .refusal ≡ Accepted → ⊥)
@@ -114,7 +114,7 @@ unfolding priceAnyReads priceAnySums pricedAnyAnswer
 demand2-price-any-call r froms tos rows sums code rowsOut sumsOut called zero-code =
     let e = code-accepts (priceAnyCall r froms tos rows sums) (sym (called .says) ∙ zero-code) in
     let fills : sumsOut ≡ sumsWith (pricedAnyAnswer r (listOf froms tos)) sums = rw e at (called .sumsAre) in
-    let both = price-of-list-any r froms tos rows (price-passes r froms tos rows sums e) (pricedAnyAnswer r (listOf froms tos)) rowsOut refl (rw e at (called .readsAre)) in
+    let both = price-of-list-any r froms tos rows (price-any-passes r froms tos rows sums e) (pricedAnyAnswer r (listOf froms tos)) rowsOut refl (rw e at (called .readsAre)) in
     record {
       four = rw fills (omega arith);
       even = both .0;
@@ -184,8 +184,8 @@ module _ (r : Run) (before : Rows) (sums : List ℕ) (code : ℕ) (after : Rows)
   call-accepted true e = code-accepts (planAnyCall r before sums) (sym (called .refused e .says) ∙ zero-code)
   call-accepted false e = e
 
-  call : CallAnyPlanned r before sums code after out
-  call = called .planned (call-accepted (refuses (planAnyCall r before sums)) refl)
+  pub any-call : CallAnyPlanned r before sums code after out
+  any-call = called .planned (call-accepted (refuses (planAnyCall r before sums)) refl)
 
   plan-passes : refuses (planAnyVerdict r before) ≡ false
   unfolding planAnyVerdict planAnyCall
@@ -202,20 +202,20 @@ module _ (r : Run) (before : Rows) (sums : List ℕ) (code : ℕ) (after : Rows)
         accepts-if room ShortRoom refl (all .1 .1 .0),
       )
 
-  in-sums : call .answer ≡ inSums out
-  in-sums = sums-hold r (call .planned .list) (call .answer) sums out (call .planned .says) (call .sumsAre)
+  in-sums : any-call .answer ≡ inSums out
+  in-sums = sums-hold r (any-call .planned .list) (any-call .answer) sums out (any-call .planned .says) (any-call .sumsAre)
 
-  answered : PlansAny r before (inSums out) after
-  answered =
+  pub any-answered : PlansAny r before (inSums out) after
+  any-answered =
       subst (λ a. PlansAny r before a after) in-sums
-      (record { refused = λ e. absurd (true≢false (sym e ∙ plan-passes)); planned = λ e. call .planned })
+      (record { refused = λ e. absurd (true≢false (sym e ∙ plan-passes)); planned = λ e. any-call .planned })
 
   call-walks : PlanAnyCallWalks r after out
   call-walks =
       record {
-        four = rw (call .sumsAre) (omega arith);
-        walk = demand2-walk-any r before (inSums out) after answered refl;
-        least = demand2-least-any r before (inSums out) after answered refl;
+        four = rw (any-call .sumsAre) (omega arith);
+        walk = demand2-walk-any r before (inSums out) after any-answered refl;
+        least = demand2-least-any r before (inSums out) after any-answered refl;
       }
 
 pub demand2-plan-any-call : Demand2PlanAnyCall
@@ -223,4 +223,4 @@ demand2-plan-any-call r before sums code after out called e = call-walks r befor
 
 pub demand3-plan-any-call : Demand3PlanAnyCall
 demand3-plan-any-call first second before sums code after out accepted called e asks gs moves serves =
-    demand3-any first second before (inSums out) after accepted (answered second before sums code after out called e) refl asks gs moves serves
+    demand3-any first second before (inSums out) after accepted (any-answered second before sums code after out called e) refl asks gs moves serves

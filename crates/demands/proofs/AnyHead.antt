@@ -290,10 +290,10 @@ well-walked : (r : Run) (list : List Detour) (rows before : ReadRows) (answer : 
 well-walked r list rows before answer good says fills w = priced-walk r list rows before answer good says fills w (is-formed-any r good list w) (legs-made r good list w)
 
 -- An answer of the pricer that is no refusal comes of a verdict that is none.
-price-accepts : (r : Run) (froms tos : List ℕ) (rows : ReadRows) (answer : Answer) → answer ≡ priceAnyAnswer r froms tos rows → answer .refusal ≡ Accepted
+pub price-any-accepts : (r : Run) (froms tos : List ℕ) (rows : ReadRows) (answer : Answer) → answer ≡ priceAnyAnswer r froms tos rows → answer .refusal ≡ Accepted
     → refuses (priceAnyVerdict r froms tos rows) ≡ false
 unfolding priceAnyAnswer
-price-accepts r froms tos rows answer says accepts =
+price-any-accepts r froms tos rows answer says accepts =
     ⊎-elim
     (λ e. absurd (true≢false (sym e ∙ ap isRefusal (sym (ap (λ (a : Answer). a .refusal) (rw e at says)) ∙ accepts))))
     (λ e. e)
@@ -303,7 +303,7 @@ pub price-any-good : (r : Run) (froms tos : List ℕ) (rows : ReadRows) (answer 
 unfolding priceAnyVerdict
 price-any-good r froms tos rows answer says accepts =
     accepted-any r
-    (all-accept (judgeAnyOf r ∷ listVerdictAny (r .head) (stopsOf r) froms tos ∷ refuseIf (shortReadRows (length (r .numbers)) rows) ShortRow ∷ []) (price-accepts r froms tos rows answer says accepts) .0)
+    (all-accept (judgeAnyOf r ∷ listVerdictAny (r .head) (stopsOf r) froms tos ∷ refuseIf (shortReadRows (length (r .numbers)) rows) ShortRow ∷ []) (price-any-accepts r froms tos rows answer says accepts) .0)
 
 -- What the pricer says of a list that it accepts.
 pub price-of-list-any : (r : Run) (froms tos : List ℕ) (rows : ReadRows) → refuses (priceAnyVerdict r froms tos rows) ≡ false → (answer : Answer) (out : ReadRows)
@@ -318,7 +318,7 @@ price-of-list-any r froms tos rows e answer out says fills =
 pub demand2-price-any : Demand2PriceAny
 unfolding priceAnyAnswer priceAnyRows
 demand2-price-any r froms tos rows answer out says fills accepts =
-    let e = price-accepts r froms tos rows answer says accepts in
+    let e = price-any-accepts r froms tos rows answer says accepts in
     price-of-list-any r froms tos rows e answer out (rw e at says) (rw e at fills)
 
 pub demand2-walk-any : Demand2WalkAny

@@ -30,7 +30,7 @@ sums-hold : (r : Run) (list : List Detour) (answer : Answer) (sums out : List �
 unfolding pricedAnswer
 sums-hold r list answer sums out says fills = rw (fills, says)
 
-price-passes : (r : Run) (froms tos : List ℕ) (rows : ReadRows) (sums : List ℕ) → refuses (priceCall r froms tos rows sums) ≡ false → refuses (priceVerdict r froms tos rows) ≡ false
+pub price-passes : (r : Run) (froms tos : List ℕ) (rows : ReadRows) (sums : List ℕ) → refuses (priceCall r froms tos rows sums) ≡ false → refuses (priceVerdict r froms tos rows) ≡ false
 unfolding priceCall
 price-passes r froms tos rows sums e = all-accept (priceVerdict r froms tos rows ∷ refuseIf (shortSums sums) ShortRow ∷ []) e .0
 
@@ -51,7 +51,7 @@ module _ (r : Run) (rule : ℕ) (before : Rows) (sums : List ℕ) (code : ℕ) (
   call-accepted true e = code-accepts (planCall r rule before sums) (sym (called .refused e .says) ∙ zero-code)
   call-accepted false e = e
 
-  call : CallPlanned r before sums code after out
+  pub call : CallPlanned r before sums code after out
   call = called .planned (call-accepted (refuses (planCall r rule before sums)) refl)
 
   plan-passes : refuses (planVerdict r before) ≡ false
@@ -72,7 +72,7 @@ module _ (r : Run) (rule : ℕ) (before : Rows) (sums : List ℕ) (code : ℕ) (
   in-sums : call .answer ≡ inSums out
   in-sums = sums-hold r (call .planned .list) (call .answer) sums out (call .planned .says) (call .sumsAre)
 
-  answered : Plans r before (inSums out) after
+  pub answered : Plans r before (inSums out) after
   answered =
       subst (λ a. Plans r before a after) in-sums
       (record { refused = λ e. absurd (true≢false (sym e ∙ plan-passes)); planned = λ e. call .planned })

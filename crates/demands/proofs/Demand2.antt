@@ -105,7 +105,7 @@ module _ (r : Run) (list : List Detour) (before : Rows) (answer : Answer) (after
 
 -- What an accepted verdict of the pricer says of the run and the list.
 module _ (r : Run) (froms tos : List ℕ) (rows : ReadRows) (e : refuses (priceVerdict r froms tos rows) ≡ false) where
-  checks-pass : AllAccept (judgeOf r ∷ listVerdict (stopsOf r) froms tos ∷ refuseIf (shortReadRows (length (r .numbers)) rows) ShortRow ∷ [])
+  pub checks-pass : AllAccept (judgeOf r ∷ listVerdict (stopsOf r) froms tos ∷ refuseIf (shortReadRows (length (r .numbers)) rows) ShortRow ∷ [])
   unfolding priceVerdict
   checks-pass = all-accept (judgeOf r ∷ listVerdict (stopsOf r) froms tos ∷ refuseIf (shortReadRows (length (r .numbers)) rows) ShortRow ∷ []) e
 
@@ -121,7 +121,7 @@ module _ (r : Run) (froms tos : List ℕ) (rows : ReadRows) (e : refuses (priceV
       }
 
 -- An answer that is no refusal comes of a verdict that is none.
-price-accepts : (r : Run) (froms tos : List ℕ) (rows : ReadRows) (answer : Answer) → answer ≡ priceAnswer r froms tos rows → answer .refusal ≡ Accepted
+pub price-accepts : (r : Run) (froms tos : List ℕ) (rows : ReadRows) (answer : Answer) → answer ≡ priceAnswer r froms tos rows → answer .refusal ≡ Accepted
     → refuses (priceVerdict r froms tos rows) ≡ false
 unfolding priceAnswer
 price-accepts r froms tos rows answer says accepts =

@@ -5,6 +5,7 @@ pub mod Conditions
 pub mod Judged
 pub mod Counted
 pub mod Listed
+pub mod Numbers
 pub mod Formed
 pub mod Demand1
 pub mod Calls
@@ -16,6 +17,7 @@ pub mod AnyLifted
 pub mod AnyJudged
 pub mod AnyLegs
 pub mod AnyHead
+pub mod AnySums
 pub mod AnyCalls
 pub mod Offices
 pub mod Plain
@@ -26,6 +28,7 @@ pub mod AnyChain
 pub mod Legs
 pub mod Aggregates
 pub mod Called
+pub mod Behind
 pub mod Cases
 pub mod Alone
 pub mod Buys
@@ -34,6 +37,7 @@ pub mod Lines
 pub mod FirstLine
 pub mod Sheets
 pub mod WriteRead
+pub mod Writers
 pub mod Turns
 pub mod Tapes
 pub mod Fits

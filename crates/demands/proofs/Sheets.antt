@@ -191,7 +191,7 @@ module _ (name : List ℕ) (r : Run) (row : List ℕ) where
   write-row p (WriteApplies.run h) = absurd (omega (arith, run-small r h))
   write-row p (WriteApplies.short-row h) = (refl, h)
 
-  write-finds : Finds (WriteApplies name r row) writeOrder (writeVerdict name r row)
+  pub write-finds : Finds (WriteApplies name r row) writeOrder (writeVerdict name r row)
   unfolding writeVerdict rowVerdict
   write-finds =
       let named = refuseIf (ltb mostSheetFiles (length (r .starts)) || not (isName name)) BadName in
@@ -242,7 +242,7 @@ module _ (name : List ℕ) (r : Run) (froms tos text row : List ℕ) where
   abbrev sheet-verdict : Verdict
   sheet-verdict = firstOf (judgeOf r ∷ refuseIf (not (isName name)) BadName ∷ listVerdict (stopsOf r) froms tos ∷ rowVerdict text row ∷ [])
 
-  sheet-finds : Finds ListSheet listSheetOrder sheet-verdict
+  pub sheet-finds : Finds ListSheet listSheetOrder sheet-verdict
   unfolding rowVerdict
   sheet-finds =
       let named = refuseIf (not (isName name)) BadName in

@@ -1,6 +1,7 @@
 -- The three demands, in document 01's order, the table of worked cases, and the promises of requests but for those in the crate `promises`. Each
 -- statement is a type; proofs/ has its proof.
 pub mod RefusalTable
+pub mod Numbers
 pub mod Formed
 pub mod Demand1
 pub mod Demand2
@@ -9,10 +10,12 @@ pub mod Movements
 pub mod Legs
 pub mod AnyLegs
 pub mod AnyHead
+pub mod AnySums
 pub mod Ends
 pub mod Offices
 pub mod Calls
 pub mod AnyCalls
+pub mod Behind
 pub mod Cases
 pub mod Aggregates
 pub mod Alone
@@ -20,6 +23,7 @@ pub mod Lines
 pub mod Sheets
 pub mod Buys
 pub mod AnyBuys
+pub mod Writers
 pub mod Tapes
 pub mod Turns
 pub mod Plain
