@@ -24,7 +24,7 @@ use Rattle.sheet_reader.specs.Sheet.{longestSheet, saysSweep, firstBadLine, she
 use Rattle.sheet_reader.specs.Reading.{sheetVerdict, ruleVerdict}
 use Rattle.text_bytes.specs.Text.{lineFeed, decimal}
 use Rattle.sheet_writer.specs.RefusalLines.{refusedKey, placeKey, refusalText}
-use Rattle.answer_plan.specs.Recall.{runChecks, roomWords, verdictBy, recallVerdict, PlanOf}
+use Rattle.answer_plan.specs.Recall.{runChecks, roomWords, verdictBy, recallVerdict}
 use Rattle.answer_plan.proofs.Planned.{handed-bytes, handed-row}
 use Rattle.answer_field.specs.Field.{fieldChecks}
 use Rattle.demands.specs.RefusalTable.{FirstBad, RunApplies, FirstThatApplies, here, later}
@@ -38,9 +38,11 @@ use Rattle.demands.proofs.Lines.{tells-sweep}
 use Rattle.demands.proofs.FirstLine.{decides-line}
 use Rattle.promises.specs.Answers.{SheetRunApplies, AnswerApplies, too-long, bad-line, retired-rule, run, engine, RoomApplies, short-room, EightApplies, over-eight, roomOrder, eightOrder, twoLines, RefusalByItsLines, PrintedByTheTable, PlanByTheTable, FieldByTheTable, BuysByTheTable}
 use Rattle.promises.specs.BuysLines.{FiguresOf}
+use Rattle.promises.specs.PlanLines.{PlanPrinted}
 use Rattle.promises.proofs.BuysLines.{figures-of}
+use Rattle.promises.proofs.PlanLines.{plan-printed}
 use Rattle.promises.proofs.Checks.{put-whole}
-use Rattle.promises.proofs.Lengths.{refusal-short, plan-begins, run-judges, field-judges, run-checks-near, field-checks-near, plan-held, buys-held}
+use Rattle.promises.proofs.Lengths.{refusal-short, run-judges, field-judges, run-checks-near, field-checks-near, plan-held, buys-held}
 
 -- The lines of a refusal.
 regrouped : (a n f b p : List ℕ) → (a ++ n ++ f) ++ (b ++ p ++ f) ≡ a ++ n ++ (f ++ b) ++ p ++ f
@@ -199,8 +201,8 @@ room-all = (refl, (refl, (refl, (refl, (refl, (refl, (refl, (refl, (refl, (refl,
 eight-all : AllRefuse eightOrder
 eight-all = (refl, (refl, (refl, (refl, (refl, (refl, (refl, (refl, (refl, (refl, (refl, tt)))))))))))
 
-plan-begun : (name : List ℕ) (r : Run) (text : List ℕ) → PlanOf name r text → getD text 0 0 ≡ 116
-plan-begun name r text p = ap (λ t. getD t 0 0) (p .says) ∙ plan-begins name r _ _
+plan-begun : (name : List ℕ) (r : Run) (text : List ℕ) → PlanPrinted name r text → getD text 0 0 ≡ 116
+plan-begun name r text p = ap (λ t. getD t 0 0) (p .whole)
 
 figures-begun : (name : List ℕ) (r : Run) (text : List ℕ) → FiguresOf name r text → getD text 0 0 ≡ 116
 figures-begun name r text p = ap (λ t. getD t 0 0) (p .whole)
@@ -208,18 +210,20 @@ figures-begun name r text p = ap (λ t. getD t 0 0) (p .whole)
 pub plan-by-the-table : PlanByTheTable
 plan-by-the-table sheet row n row′ c wide =
     let h = plan-held runChecks run-judges run-checks-near sheet (c .text) (c .answers) in
-    subst (PrintedByTheTable (AnswerApplies RoomApplies sheet) roomOrder (PlanOf (sheetName sheet) (sheetRun sheet)))
+    subst (PrintedByTheTable (AnswerApplies RoomApplies sheet) roomOrder (PlanPrinted (sheetName sheet) (sheetRun sheet)))
     (sym (put-whole (c .text) row n row′ (c .bytes) (c .left) (omega (arith, h .0))))
     (by-the-table (AnswerApplies RoomApplies sheet) roomOrder room-all (recallVerdict sheet) (room-finds sheet) (sheet-accepts RunApplies run-few RoomApplies room-own sheet runChecks)
-    (PlanOf (sheetName sheet) (sheetRun sheet)) (c .text) (plan-begun (sheetName sheet) (sheetRun sheet) (c .text)) (c .answers .refused) (c .answers .planned))
+    (PlanPrinted (sheetName sheet) (sheetRun sheet)) (c .text) (plan-begun (sheetName sheet) (sheetRun sheet) (c .text)) (c .answers .refused)
+    (λ e. plan-printed (sheetName sheet) (sheetRun sheet) (c .text) (c .answers .planned e)))
 
 pub field-by-the-table : FieldByTheTable
 field-by-the-table sheet row n row′ c wide =
     let h = plan-held fieldChecks field-judges field-checks-near sheet (c .text) (c .answers) in
-    subst (PrintedByTheTable (AnswerApplies EightApplies sheet) eightOrder (PlanOf (sheetName sheet) (sheetRun sheet)))
+    subst (PrintedByTheTable (AnswerApplies EightApplies sheet) eightOrder (PlanPrinted (sheetName sheet) (sheetRun sheet)))
     (sym (put-whole (c .text) row n row′ (c .bytes) (c .left) (omega (arith, h .0))))
     (by-the-table (AnswerApplies EightApplies sheet) eightOrder eight-all (verdictBy fieldChecks sheet) (eight-finds sheet) (sheet-accepts RunApplies run-few EightApplies eight-own sheet fieldChecks)
-    (PlanOf (sheetName sheet) (sheetRun sheet)) (c .text) (plan-begun (sheetName sheet) (sheetRun sheet) (c .text)) (c .answers .refused) (c .answers .planned))
+    (PlanPrinted (sheetName sheet) (sheetRun sheet)) (c .text) (plan-begun (sheetName sheet) (sheetRun sheet) (c .text)) (c .answers .refused)
+    (λ e. plan-printed (sheetName sheet) (sheetRun sheet) (c .text) (c .answers .planned e)))
 
 pub buys-by-the-table : BuysByTheTable
 buys-by-the-table sheet row n row′ c wide =

@@ -17,7 +17,7 @@ use Rattle.runs.proofs.AnyHead.{accepted-any}
 use Rattle.planner.specs.Plan.{roomFor}
 use Rattle.sheet_reader.specs.Sheet.{sheetRun, sheetName}
 use Rattle.answer_plan.specs.Recall.{runChecks, recallVerdict}
-use Rattle.answer_any.specs.AnyRun.{anyChecks, anyVerdict, PlanAnyOf}
+use Rattle.answer_any.specs.AnyRun.{anyChecks, anyVerdict}
 use Rattle.answer_any.proofs.Same.{answer-same}
 use Rattle.demands.specs.RefusalTable.{HasStops}
 use Rattle.demands.specs.AnyHead.{RunAppliesAny}
@@ -28,10 +28,12 @@ use Rattle.demands.proofs.AnyLifted.{stops-down, stops-up}
 use Rattle.demands.proofs.AnyJudged.{any-small, run-any-finds}
 use Rattle.promises.specs.Answers.{run, engine, WordsApply, short-room, roomOrder, twoLines, PrintedByTheTable}
 use Rattle.promises.specs.AnswersAny.{AnyApplies, AnyByTheTable, AnyPrintsAsPlan}
+use Rattle.promises.specs.PlanLines.{PlanAnyPrinted}
+use Rattle.promises.proofs.PlanLines.{plan-any-printed}
 use Rattle.promises.proofs.Checks.{put-whole}
 use Rattle.promises.proofs.Lengths.{run-judges, run-checks-near, plan-held}
 use Rattle.promises.proofs.Answers.{lines-are, by-the-table, of-run, sheet-finds, sheet-accepts, room-all}
-use Rattle.promises.proofs.AnyLengths.{any-begins, any-held}
+use Rattle.promises.proofs.AnyLengths.{any-passes, any-held}
 
 pub any-few : (r : Run) (k : Refusal) (p : ℕ) → RunAppliesAny r k p → numberOf k ≤ 7
 any-few r k p h = any-small r h
@@ -63,18 +65,19 @@ module _ (words : ℕ) (sheet : List ℕ) where
       (decides-reworded (λ p h. rw (h .0) (engine (short-room (stops-down r (has-stops (lifted r) (accepted-any r a .run))) (h .1)))) (room-back a) (decides-if _ ShortRoom (tells-below words (roomFor r))))
       (λ b. finds-none Applies)))
 
-any-begun : (name : List ℕ) (r : Run) (text : List ℕ) → PlanAnyOf name r text → getD text 0 0 ≡ 116
-any-begun name r text p = ap (λ t. getD t 0 0) (p .says) ∙ any-begins name r _ _
+any-begun : (name : List ℕ) (r : Run) (text : List ℕ) → PlanAnyPrinted name r text → getD text 0 0 ≡ 116
+any-begun name r text p = ap (λ t. getD t 0 0) (p .whole)
 
 pub any-by-the-table : AnyByTheTable
 any-by-the-table sheet row room n row′ room′ c wide =
     let g = c .given in
     let h = any-held (length room) sheet (g .text) (g .answers) in
-    subst (PrintedByTheTable (AnyApplies (length room) sheet) roomOrder (PlanAnyOf (sheetName sheet) (sheetRun sheet)))
+    subst (PrintedByTheTable (AnyApplies (length room) sheet) roomOrder (PlanAnyPrinted (sheetName sheet) (sheetRun sheet)))
     (sym (put-whole (g .text) row n row′ (g .bytes) (g .left) (omega (arith, h .0))))
     (by-the-table (AnyApplies (length room) sheet) roomOrder room-all (anyVerdict (length room) sheet) (any-finds (length room) sheet)
     (sheet-accepts RunAppliesAny any-few (WordsApply (length room)) (words-own (length room)) sheet (anyChecks (length room)))
-    (PlanAnyOf (sheetName sheet) (sheetRun sheet)) (g .text) (any-begun (sheetName sheet) (sheetRun sheet) (g .text)) (g .answers .refused) (g .answers .planned))
+    (PlanAnyPrinted (sheetName sheet) (sheetRun sheet)) (g .text) (any-begun (sheetName sheet) (sheetRun sheet) (g .text)) (g .answers .refused)
+    (λ e. plan-any-printed (sheetName sheet) (sheetRun sheet) (any-passes (length room) sheet e .1) (g .text) (g .answers .planned e)))
 
 -- What `plan` prints other than 7 and 9.
 pub any-prints-as-plan : AnyPrintsAsPlan

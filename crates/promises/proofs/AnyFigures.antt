@@ -4,7 +4,7 @@ use mathlib.Core.Path.{_≡_, refl, ap, sym, _∙_, subst}
 use mathlib.Core.Bool.{Bool, true, false}
 use mathlib.Core.List.{List, [], _∷_, map}
 use native.Mathlib.Omega.{arith}
-use lib.ListN.{length, getD, take}
+use lib.ListN.{length, getD, take, length-map}
 use lib.IntN.{pos}
 use mir.Syntax.{w64}
 use mir.Val.{SFits}
@@ -15,8 +15,9 @@ use Rattle.refusals.proofs.Verdicts.{refuses}
 use Rattle.runs.specs.Run.{Run, stopsOf}
 use Rattle.runs.specs.Lists.{Detour, listOf}
 use Rattle.runs.specs.AnyHead.{judgeAnyOf}
+use Rattle.runs.proofs.AnyHead.{accepted-any}
 use Rattle.runs.proofs.Entries.{length-list}
-use Rattle.walk.specs.AnyHead.{pricedAnyAnswer}
+use Rattle.walk.specs.AnyHead.{runLegs, pricedAnyAnswer}
 use Rattle.least.specs.AnyHead.{LeastAny}
 use Rattle.engine_stops.proofs.Halves.{list-of-halves, halves-even}
 use Rattle.figures.specs.Figures.{without}
@@ -25,7 +26,7 @@ use Rattle.figures.specs.Private.{PriceableAny}
 use Rattle.figures.proofs.AnyHead.{list-any-accepted, sum-small, sum-without-small, figure-is, figure-at, figures-length}
 use Rattle.text_bytes.specs.Text.{isName}
 use Rattle.sheet_reader.specs.Sheet.{sheetRun, sheetName}
-use Rattle.sheet_figures.specs.FigureSheet.{figurePage}
+use Rattle.sheet_figures.specs.FigureSheet.{figureLines, figurePage}
 use Rattle.sheet_figures.specs.AnyHead.{figureAnyText}
 use Rattle.answer_plan.specs.Recall.{recallVerdict, Answers}
 use Rattle.answer_plan.proofs.Determined.{answers-once}
@@ -35,10 +36,17 @@ use Rattle.answer_buys_any.proofs.Determined.{buys-any-once}
 use Rattle.answer_buys_any.proofs.Same.{bought-same}
 use Rattle.sheet_lists.proofs.AnyTrip.{any-small}
 use Rattle.demands.specs.AnyHead.{RunAppliesAny}
+use Rattle.demands.specs.AnyBuys.{IsBoughtAny}
+use Rattle.demands.proofs.AnyJudged.{judged-nothing-any}
+use Rattle.demands.proofs.AnyLegs.{legs-made}
+use Rattle.demands.proofs.AnyHead.{least-any-means}
+use Rattle.demands.proofs.AnyBuys.{bought-any}
 use Rattle.promises.specs.Lengths.{buysRow}
 use Rattle.promises.specs.Answers.{WordsApply, roomOrder, twoLines, PrintedByTheTable}
 use Rattle.promises.specs.AnswersAny.{AnyApplies}
 use Rattle.promises.specs.AnyFigures.{BuysAnyByTheTable, BuysAnyIsWhole, AnyPrintsAsBuys}
+use Rattle.promises.specs.PlanLines.{FiguresAnyPrinted}
+use Rattle.promises.proofs.BuysLines.{figures-said}
 use Rattle.promises.proofs.Checks.{put-whole}
 use Rattle.promises.proofs.Lengths.{some-begun, refusal-short, refusal-begins, verdict-near, takes-all, page-short, less-fits, buys-held}
 use Rattle.promises.proofs.Answers.{lines-are, by-the-table, sheet-accepts, room-all}
@@ -78,6 +86,28 @@ module _ (r : Run) (run : refuses (judgeAnyOf r) ≡ false) (list : List Detour)
       page-short name named (pricedAnyAnswer r (listOf froms tos)) (small .sum) (omega (arith, small .detours, small .few)) froms tos (omega (arith, small .few)) (small .froms) (small .tos)
       (figuresAnyOf r (listOf froms tos)) figures-fit
 
+  each-bought : (i : ℕ) → i < length list → IsBoughtAny r list i (figureAnyOf r list i)
+  each-bought i l = rw (list-of-halves list) at (bought-any r froms tos priceable i (omega (arith, length-map list (λ d. d .from), l)))
+
+  figures-text-is : (name : List ℕ) → figureAnyText name r froms tos ≡ figurePage name (pricedAnyAnswer r list) froms tos (figuresAnyOf r list)
+  unfolding figureAnyText
+  figures-text-is name = ap (λ (l : List Detour). figurePage name (pricedAnyAnswer r l) froms tos (figuresAnyOf r l)) (list-of-halves list)
+
+  -- Its figure sheet, line by line.
+  pub figures-printed : (name text : List ℕ) → text ≡ figureAnyText name r froms tos → FiguresAnyPrinted name r text
+  unfolding figurePage pricedAnyAnswer
+  figures-printed name text says =
+      let made = legs-made r (accepted-any r run) list (least .formed) in
+      record {
+        list = list;
+        legs = runLegs r list;
+        made = made;
+        least = least-any-means r (judged-nothing-any r run) list least (runLegs r list) made;
+        figures = figureLines froms tos (figuresAnyOf r list);
+        each = figures-said (IsBoughtAny r list) (figureAnyOf r list) (length list) each-bought list 0 (omega arith);
+        whole = says ∙ figures-text-is name;
+      }
+
 figures-begin : (name : List ℕ) (run : Run) (froms tos : List ℕ) → getD (figureAnyText name run froms tos) 0 0 ≡ 116
 unfolding figureAnyText figurePage
 figures-begin name run froms tos = refl
@@ -102,18 +132,19 @@ buys-any-is-whole sheet room =
     (λ row n row′ c. let g = c .1 .given in let h = figures-held (length room) sheet (g .text) (g .answers) in record { text = g .text; bytes = g .bytes; left = g .left; short = h .0; some = h .1 })
     (λ row n row′ other m other′ c d. answers-once BuysAnyOf buys-any-once _ _ _ (c .1 .given .text) (d .1 .given .text) (c .1 .given .answers) (d .1 .given .answers))
 
-figures-begun : (name : List ℕ) (r : Run) (text : List ℕ) → BuysAnyOf name r text → getD text 0 0 ≡ 116
-figures-begun name r text p = ap (λ t. getD t 0 0) (p .says) ∙ figures-begin name r _ _
+figures-begun : (name : List ℕ) (r : Run) (text : List ℕ) → FiguresAnyPrinted name r text → getD text 0 0 ≡ 116
+figures-begun name r text p = ap (λ t. getD t 0 0) (p .whole)
 
 pub buys-any-by-the-table : BuysAnyByTheTable
 buys-any-by-the-table sheet row room n row′ room′ c wide =
     let g = c .given in
     let h = figures-held (length room) sheet (g .text) (g .answers) in
-    subst (PrintedByTheTable (AnyApplies (length room) sheet) roomOrder (BuysAnyOf (sheetName sheet) (sheetRun sheet)))
+    subst (PrintedByTheTable (AnyApplies (length room) sheet) roomOrder (FiguresAnyPrinted (sheetName sheet) (sheetRun sheet)))
     (sym (put-whole (g .text) row n row′ (g .bytes) (g .left) (omega (arith, h .0))))
     (by-the-table (AnyApplies (length room) sheet) roomOrder room-all (anyVerdict (length room) sheet) (any-finds (length room) sheet)
     (sheet-accepts RunAppliesAny any-few (WordsApply (length room)) (words-own (length room)) sheet (anyChecks (length room)))
-    (BuysAnyOf (sheetName sheet) (sheetRun sheet)) (g .text) (figures-begun (sheetName sheet) (sheetRun sheet) (g .text)) (g .answers .refused) (g .answers .planned))
+    (FiguresAnyPrinted (sheetName sheet) (sheetRun sheet)) (g .text) (figures-begun (sheetName sheet) (sheetRun sheet) (g .text)) (g .answers .refused)
+    (λ e. let p = g .answers .planned e in figures-printed (sheetRun sheet) (any-passes (length room) sheet e .1) (p .list) (p .least) (sheetName sheet) (g .text) (p .says)))
 
 -- What `buys` prints other than 7 and 9.
 pub any-prints-as-buys : AnyPrintsAsBuys

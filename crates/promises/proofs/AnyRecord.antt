@@ -16,6 +16,7 @@ use Rattle.refusals.specs.Refusals.{numberOf, isRefusal}
 use Rattle.refusals.proofs.Verdicts.{refuses}
 use Rattle.runs.proofs.Search.{true-or-false}
 use Rattle.runs.specs.Run.{total}
+use Rattle.runs.specs.AnyHead.{judgeAnyOf}
 use Rattle.sheet_reader.specs.Sheet.{sheetRun, sheetName}
 use Rattle.sheet_writer.specs.declared.Written.{Written}
 use Rattle.sheet_writer.specs.Writing.{rowVerdict, writtenAnswer, writtenRow}
@@ -29,6 +30,8 @@ use Rattle.demands.proofs.Checks.{AllRefuse}
 use Rattle.demands.proofs.AnyJudged.{any-small}
 use Rattle.promises.specs.Answers.{run, engine, WordsApply, roomOrder}
 use Rattle.promises.specs.AnswersAny.{AnyApplies, RecordApplies, of-sheet, short-row, RecordByTheTable, AnswerByTheTable}
+use Rattle.promises.specs.PlanLines.{PlanAnyPrinted}
+use Rattle.promises.proofs.PlanLines.{plan-any-printed, plan-any-back}
 use Rattle.promises.proofs.Answers.{room-all, sheet-accepts}
 use Rattle.promises.proofs.AnyLengths.{any-passes}
 use Rattle.promises.proofs.AnswersAny.{any-few, words-own, one, any-finds}
@@ -98,6 +101,12 @@ module _ (sheet row room : List ℕ) (w : Written) (row′ room′ : List ℕ) (
     abbrev plan : TextHanded (PlanAnyOf (sheetName sheet) (sheetRun sheet)) row w row′
     plan = c .planned e
 
+    judged : refuses (judgeAnyOf (sheetRun sheet)) ≡ false
+    judged = any-passes (length room) sheet e .1
+
+    printed : PlanAnyPrinted (sheetName sheet) (sheetRun sheet) (plan .text)
+    printed = plan-any-printed (sheetName sheet) (sheetRun sheet) judged (plan .text) (plan .asked)
+
     left : (stops : ℕ) → HasStops (sheetRun sheet) stops → room′ ≡ replicate (stops * stops * (total (sheetRun sheet .counts) + 1)) 0 ++ drop (stops * stops * (total (sheetRun sheet .counts) + 1)) room
     left stops s =
         c .cleared ∙ room-cleared v (sheetRun sheet) room e
@@ -112,7 +121,7 @@ module _ (sheet row room : List ℕ) (w : Written) (row′ room′ : List ℕ) (
         let says : w ≡ record { refusal = ShortRow; place = 0; bytes = 0 } = plan .handed .answer ∙ rw t in
         let stays : row′ ≡ row = plan .handed .left ∙ rw t in
         record {
-          first = rw says (passed (length room) sheet row roomOrder (ShortRow ∷ []) no-eight room-all none-before (here (short-row (plan .text) (plan .asked) (ltb-true (length row) (length (plan .text)) t))));
+          first = rw says (passed (length room) sheet row roomOrder (ShortRow ∷ []) no-eight room-all none-before (here (short-row (plan .text) printed (ltb-true (length row) (length (plan .text)) t))));
           unwritten = λ n. (ap (λ x. x .bytes) says, stays);
           text = λ is. absurd (apart (sym (ap (λ x. x .refusal) says) ∙ is));
           behind = rw stays;
@@ -132,8 +141,8 @@ module _ (sheet row room : List ℕ) (w : Written) (row′ room′ : List ℕ) (
           first = rw says (passed (length room) sheet row roomOrder (ShortRow ∷ []) no-eight room-all none-before (later long-enough none));
           unwritten = λ n. absurd (n (ap (λ x. x .refusal) says));
           text = λ is.
-              subst (PlanAnyOf (sheetName sheet) (sheetRun sheet))
-              (sym (ap (λ x. take (x .bytes) row′) says ∙ ap (take (length (plan .text))) holds ∙ take-append-seam (plan .text) (drop (length (plan .text)) row))) (plan .asked);
+              subst (PlanAnyPrinted (sheetName sheet) (sheetRun sheet))
+              (sym (ap (λ x. take (x .bytes) row′) says ∙ ap (take (length (plan .text))) holds ∙ take-append-seam (plan .text) (drop (length (plan .text)) row))) printed;
           behind =
               ap (λ x. drop (x .bytes) row′) says ∙ ap (drop (length (plan .text))) holds ∙ drop-append-seam (plan .text) (drop (length (plan .text)) row)
               ∙ sym (ap (λ x. drop (x .bytes) row) says);
@@ -144,7 +153,7 @@ module _ (sheet row room : List ℕ) (w : Written) (row′ room′ : List ℕ) (
         long-enough : (p : ℕ) → RecordApplies (length room) sheet row ShortRow p → ⊥
         long-enough p (of-sheet h) = no-short-row (length room) sheet row p h
         long-enough p (short-row text a l) =
-            omega (arith, l, ltb-false (length row) (length (plan .text)) t, ap length (plan-any-once (sheetName sheet) (sheetRun sheet) text (plan .text) a (plan .asked)))
+            omega (arith, l, ltb-false (length row) (length (plan .text)) t, ap length (plan-any-once (sheetName sheet) (sheetRun sheet) text (plan .text) (plan-any-back (sheetName sheet) (sheetRun sheet) judged text a) (plan .asked)))
 
 pub answer-by-the-table : AnswerByTheTable
 answer-by-the-table sheet row room w row′ room′ c = go (refuses (anyVerdict (length room) sheet)) refl

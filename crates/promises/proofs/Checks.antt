@@ -54,7 +54,7 @@ use Rattle.answer_check.specs.Pricing.{priceChecks, pricingVerdict, priceText, 
 use Rattle.answer_check.specs.Checking.{formedYes, formedNo, walkYes, walkNo, leastYes, leastNo, firstDifference, walkLine, differenceLines, sameList, leastLine, verdictLines, checkText, verdictOn, SheetChecked}
 use Rattle.answer_check.proofs.Same.{priced-as-01, checked-as-01}
 use Rattle.promises.proofs.Differs.{first-differs}
-use Rattle.promises.specs.Checks.{Larger, FirstDiffers, FormedFor, Told, CheckTells, CheckPrinted, ChecksAsAll, PlanChecks, PlanAnyChecks, PriceTells, PriceStays, CheckStays}
+use Rattle.promises.specs.Checks.{Larger, FirstDiffers, FormedFor, Told, CheckTells, CheckPrinted, ChecksAsAll, PriceTells, PriceStays, CheckStays}
 
 -- Two texts are the same exactly where the test says so.
 pub text-same : (a b : List ℕ) → isText a b ≡ true → b ≡ a
@@ -331,8 +331,9 @@ module _ (sheet : List ℕ) (words : ℕ) (e : refuses (anyVerdict words sheet) 
         ∙ ap (λ x. checkText headAnywhere (sheetName sheet) run x starts ends list) is
         ∙ all-yes (sheetName sheet) run list least
 
-pub plan-any-checks : PlanAnyChecks
-plan-any-checks sheet row lent n row′ lent′ r e some =
+pub recalled-any-checks : (sheet row lent : List ℕ) (n : ℕ) (row′ lent′ : List ℕ) → SheetRecalledAny sheet row lent n row′ lent′ → refuses (anyVerdict (length lent) sheet) ≡ false → 0 < n
+    → ChecksAsAll sheet (take n row′) (length lent)
+recalled-any-checks sheet row lent n row′ lent′ r e some =
     let g = r .given in
     let p = g .answers .planned e in
     let fits = put-some (g .text) row n (g .bytes) some in
@@ -346,9 +347,9 @@ least-any-back run judged list least =
     let other = subst (λ ss. LeastAnyFor (run .turn) (run .head) (stopsOf run) (leastList (run .turn) ss)) (pulled-same (run .head) (stopsOf run) (sound-right (stopsOf run) (run .head) ok)) (least-any (run .turn) (run .head) (run .head) (stopsOf run) ok) in
     subst (LeastAny run) (sym is) other
 
-pub plan-checks : PlanChecks
+pub recalled-checks : (sheet row : List ℕ) (n : ℕ) (row′ : List ℕ) → SheetRecalled sheet row n row′ → refuses (recallVerdict sheet) ≡ false → 0 < n → ChecksAsAll sheet (take n row′) 5120
 unfolding verdictBy
-plan-checks sheet row n row′ r e some =
+recalled-checks sheet row n row′ r e some =
     let p = r .answers .planned e in
     let fits = put-some (r .text) row n (r .bytes) some in
     let all = all-accept (sheetVerdict sheet ∷ ruleVerdict sheet ∷ runChecks (sheetRun sheet)) e in

@@ -71,14 +71,14 @@ unfolding withWants
 all-kept f [] ws h = h
 all-kept f (t ∷ ts) ws h = all-kept f ts (addWant (wantOf t) ws) (kept f (wantOf t) ws h)
 
-each-added : (ts : List Ticket) (ws : List Want) (i : ℕ) → i < length ts → Among (getD ts i noTicket .file) (fileNumbers (withWants ws ts))
+pub each-added : (ts : List Ticket) (ws : List Want) (i : ℕ) → i < length ts → Among (getD ts i noTicket .file) (fileNumbers (withWants ws ts))
 unfolding withWants
 each-added [] ws i l = absurd (omega arith)
 each-added (t ∷ ts) ws zero l = all-kept (t .file) ts (addWant (wantOf t) ws) (added (wantOf t) ws)
 each-added (t ∷ ts) ws (suc i) l = each-added ts (addWant (wantOf t) ws) i (omega arith)
 
 -- What stands at the place of a file, and that further numbers do not move it.
-there : (f : ℕ) (ns : List ℕ) → Among f ns → getD ns (placeIn f ns) 0 ≡ f
+pub there : (f : ℕ) (ns : List ℕ) → Among f ns → getD ns (placeIn f ns) 0 ≡ f
 unfolding placeIn
 there f [] h = absurd (omega arith)
 there f (n ∷ ns) h =
@@ -87,7 +87,7 @@ there f (n ∷ ns) h =
     (λ (e : eqb n f ≡ false). rw e (there f ns (let z = rw e at h in omega (arith, z))))
     (true-or-false (eqb n f))
 
-not-moved : (f : ℕ) (ns ms : List ℕ) → Among f ns → placeIn f (ns ++ ms) ≡ placeIn f ns
+pub not-moved : (f : ℕ) (ns ms : List ℕ) → Among f ns → placeIn f (ns ++ ms) ≡ placeIn f ns
 unfolding placeIn
 not-moved f [] ms h = absurd (omega arith)
 not-moved f (n ∷ ns) ms h =
@@ -98,7 +98,7 @@ not-moved f (n ∷ ns) ms h =
 
 -- The numbers that an accepted boarding tells: those of the wants, and zeros.
 module _ (len : ℕ) (tape : Tape) (row : List Ticket) (b : Boarding) (before after : Rows) (r : BoardedRow) (boards : Boards len tape row b before r after) (e : isRefusal (r .boarded .answer .refusal) ≡ false) where
-  numbers-told : r .boarded .wants .numbers ≡ eight (fileNumbers (wantsOf row))
+  pub numbers-told : r .boarded .wants .numbers ≡ eight (fileNumbers (wantsOf row))
   numbers-told = ap (λ (x : BoardedRow). x .boarded .wants .numbers) (boards .planned (board-accepted len tape row b before after r boards e) .says) ∙ rw e
 
 pub tickets-have-wants : TicketsHaveWants

@@ -55,11 +55,13 @@ pub mod ListEntries
 pub mod InputTexts
 pub mod TapeInput
 pub mod BuysLines
+pub mod PlanLines
 pub mod Answers
 pub mod MonthRuns
 pub mod MonthPage
 pub mod AnswersCases
 pub mod AnswersAny
 pub mod AnyFigures
+pub mod PlanChecked
 pub mod AnyRecord
 pub mod TwoTexts

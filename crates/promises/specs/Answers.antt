@@ -15,13 +15,14 @@ use Rattle.sheet_writer.specs.declared.Written.{Written}
 use Rattle.sheet_writer.specs.RefusalLines.{RefusalWritten}
 use Rattle.sheet_reader.specs.Lines.{sweepText}
 use Rattle.sheet_reader.specs.Sheet.{sheetRun, sheetName}
-use Rattle.answer_plan.specs.Recall.{PlanOf, SheetRecalled}
+use Rattle.answer_plan.specs.Recall.{SheetRecalled}
 use Rattle.answer_field.specs.Field.{SheetFielded}
 use Rattle.answer_buys.specs.Buys.{SheetBought}
 use Rattle.demands.specs.RefusalTable.{FirstBad, HasStops, RunApplies, FirstThatApplies, SomeApplies}
 use Rattle.demands.specs.Lines.{LineIsBad, linesDue, Ruled}
 use Rattle.promises.specs.Lengths.{planRow, buysRow, refusalRow}
 use Rattle.promises.specs.BuysLines.{FiguresOf}
+use Rattle.promises.specs.PlanLines.{PlanPrinted}
 
 -- What a sheet is refused for: itself, its run, as that is judged, and what the engine asks of a run. 01's judging is the table of 1 to 7.
 pub data SheetRunApplies (Judged Engine : Run → Refusal → ℕ → Type 0) (sheet : List ℕ) : Refusal → ℕ → Type 0 where
@@ -79,14 +80,14 @@ PlanByTheTable =
     (sheet row : List ℕ) (n : ℕ) (row′ : List ℕ)
     → SheetRecalled sheet row n row′
     → planRow ≤ length row
-    → PrintedByTheTable (AnswerApplies RoomApplies sheet) roomOrder (PlanOf (sheetName sheet) (sheetRun sheet)) (take n row′)
+    → PrintedByTheTable (AnswerApplies RoomApplies sheet) roomOrder (PlanPrinted (sheetName sheet) (sheetRun sheet)) (take n row′)
 
 abbrev pub FieldByTheTable : Type 0
 FieldByTheTable =
     (sheet row : List ℕ) (n : ℕ) (row′ : List ℕ)
     → SheetFielded sheet row n row′
     → planRow ≤ length row
-    → PrintedByTheTable (AnswerApplies EightApplies sheet) eightOrder (PlanOf (sheetName sheet) (sheetRun sheet)) (take n row′)
+    → PrintedByTheTable (AnswerApplies EightApplies sheet) eightOrder (PlanPrinted (sheetName sheet) (sheetRun sheet)) (take n row′)
 
 abbrev pub BuysByTheTable : Type 0
 BuysByTheTable =

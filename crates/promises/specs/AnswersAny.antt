@@ -11,10 +11,11 @@ use Rattle.runs.specs.Run.{total}
 use Rattle.sheet_reader.specs.Sheet.{sheetRun, sheetName}
 use Rattle.sheet_writer.specs.declared.Written.{Written}
 use Rattle.answer_plan.specs.Recall.{SheetRecalled}
-use Rattle.answer_any.specs.AnyRun.{PlanAnyOf, SheetRecalledAny, SheetAnswered}
+use Rattle.answer_any.specs.AnyRun.{SheetRecalledAny, SheetAnswered}
 use Rattle.demands.specs.RefusalTable.{HasStops, FirstThatApplies}
 use Rattle.demands.specs.AnyHead.{RunAppliesAny}
 use Rattle.promises.specs.Lengths.{TakesAll, planRow}
+use Rattle.promises.specs.PlanLines.{PlanAnyPrinted}
 use Rattle.promises.specs.Answers.{SheetRunApplies, WordsApply, roomOrder, twoLines, PrintedByTheTable}
 
 abbrev pub AnyApplies : ℕ → List ℕ → Refusal → ℕ → Type 0
@@ -26,7 +27,7 @@ AnyByTheTable =
     (sheet row room : List ℕ) (n : ℕ) (row′ room′ : List ℕ)
     → SheetRecalledAny sheet row room n row′ room′
     → planRow ≤ length row
-    → PrintedByTheTable (AnyApplies (length room) sheet) roomOrder (PlanAnyOf (sheetName sheet) (sheetRun sheet)) (take n row′)
+    → PrintedByTheTable (AnyApplies (length room) sheet) roomOrder (PlanAnyPrinted (sheetName sheet) (sheetRun sheet)) (take n row′)
 
 -- The program's row takes every answer whole.
 abbrev pub AnyIsWhole : Type 0
@@ -47,7 +48,7 @@ AnyPrintsAsPlan =
 -- For a caller: behind these 8, a row shorter than the plan sheet.
 pub data RecordApplies (words : ℕ) (sheet row : List ℕ) : Refusal → ℕ → Type 0 where
   of-sheet : {kind : Refusal} {place : ℕ} → AnyApplies words sheet kind place → RecordApplies words sheet row kind place
-  short-row : (text : List ℕ) → PlanAnyOf (sheetName sheet) (sheetRun sheet) text → length row < length text → RecordApplies words sheet row ShortRow 0
+  short-row : (text : List ℕ) → PlanAnyPrinted (sheetName sheet) (sheetRun sheet) text → length row < length text → RecordApplies words sheet row ShortRow 0
 
 abbrev pub recordOrder : List Refusal
 recordOrder =
@@ -58,7 +59,7 @@ recordOrder =
 pub record RecordByTheTable (sheet row room : List ℕ) (w : Written) (row′ room′ : List ℕ) : Type 0 where
   pub first : FirstThatApplies (RecordApplies (length room) sheet row) recordOrder (w .refusal) (w .place)
   pub unwritten : (w .refusal ≡ Accepted → ⊥) → (w .bytes ≡ 0) × (row′ ≡ row)
-  pub text : w .refusal ≡ Accepted → PlanAnyOf (sheetName sheet) (sheetRun sheet) (take (w .bytes) row′)
+  pub text : w .refusal ≡ Accepted → PlanAnyPrinted (sheetName sheet) (sheetRun sheet) (take (w .bytes) row′)
   pub behind : drop (w .bytes) row′ ≡ drop (w .bytes) row
   pub kept : (w .refusal ≡ Accepted → ⊥) → (w .refusal ≡ ShortRow → ⊥) → room′ ≡ room
   pub cleared : (stops : ℕ) → HasStops (sheetRun sheet) stops → (w .refusal ≡ Accepted) ⊎ (w .refusal ≡ ShortRow)

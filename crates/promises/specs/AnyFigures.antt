@@ -7,8 +7,9 @@ use lib.ListN.{length, take}
 use Rattle.refusals.specs.declared.Refusal.the-variants.{HeadPlace, ShortRoom}
 use Rattle.sheet_reader.specs.Sheet.{sheetRun, sheetName}
 use Rattle.answer_buys.specs.Buys.{SheetBought}
-use Rattle.answer_buys_any.specs.AnyBuys.{BuysAnyOf, SheetBoughtAny}
+use Rattle.answer_buys_any.specs.AnyBuys.{SheetBoughtAny}
 use Rattle.promises.specs.Lengths.{TakesAll, buysRow}
+use Rattle.promises.specs.PlanLines.{FiguresAnyPrinted}
 use Rattle.promises.specs.Answers.{roomOrder, twoLines, PrintedByTheTable}
 use Rattle.promises.specs.AnswersAny.{AnyApplies}
 
@@ -18,7 +19,7 @@ BuysAnyByTheTable =
     (sheet row room : List ℕ) (n : ℕ) (row′ room′ : List ℕ)
     → SheetBoughtAny sheet row room n row′ room′
     → buysRow ≤ length row
-    → PrintedByTheTable (AnyApplies (length room) sheet) roomOrder (BuysAnyOf (sheetName sheet) (sheetRun sheet)) (take n row′)
+    → PrintedByTheTable (AnyApplies (length room) sheet) roomOrder (FiguresAnyPrinted (sheetName sheet) (sheetRun sheet)) (take n row′)
 
 -- The program's row takes every answer whole.
 abbrev pub BuysAnyIsWhole : Type 0

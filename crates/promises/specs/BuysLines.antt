@@ -16,21 +16,21 @@ pub data WrittenAs : ℤ → List ℕ → Type 0 where
   plain : {n : ℕ} → WrittenAs (pos n) (decimal n)
   minus : {n : ℕ} → WrittenAs (negsuc n) (bytes "-" ++ decimal (suc n))
 
--- A line for each entry of a list, from entry i on: its two files, and what it buys by the demand on figures.
-pub data FiguresSaid (r : Run) (list : List Detour) : ℕ → List Detour → List ℕ → Type 0 where
-  none-left : {i : ℕ} → FiguresSaid r list i [] []
+-- A line for each entry of a list, from entry i on: its two files, and what it buys, by what the demands on figures say of each entry.
+pub data FiguresSaid (Bought : ℕ → ℤ → Type 0) : ℕ → List Detour → List ℕ → Type 0 where
+  none-left : {i : ℕ} → FiguresSaid Bought i [] []
   one-more : {i : ℕ} {d : Detour} {rest : List Detour} {figure : ℤ} {digits text : List ℕ}
-      → IsBought r list i figure
+      → Bought i figure
       → WrittenAs figure digits
-      → FiguresSaid r list (suc i) rest text
-      → FiguresSaid r list i (d ∷ rest) ((bytes "buys=" ++ (pair (d .from) (d .to) ++ bytes "," ++ digits) ++ bytes "\n") ++ text)
+      → FiguresSaid Bought (suc i) rest text
+      → FiguresSaid Bought i (d ∷ rest) ((bytes "buys=" ++ (pair (d .from) (d .to) ++ bytes "," ++ digits) ++ bytes "\n") ++ text)
 
 -- The figure sheet of the least list.
 pub record FiguresOf (name : List ℕ) (r : Run) (printed : List ℕ) : Type 0 where
   pub list : List Detour
   pub least : LeastForRun r list
   pub figures : List ℕ
-  pub each : FiguresSaid r list 0 list figures
+  pub each : FiguresSaid (IsBought r list) 0 list figures
   pub whole : printed
       ≡ (bytes "tape=" ++ name ++ bytes "\n")
       ++ (bytes "sum=" ++ decimal (listSum (r .turn) (r .head) (stopsOf r) list) ++ bytes "\n")

@@ -1,8 +1,7 @@
 -- Pricing a list and checking a plan sheet, with the head anywhere. `check` says `walk=yes` exactly when the sheet handed in is the plan sheet of its list,
--- and else names the first line that differs; and `least=yes` exactly when that list is the least one, and else by how much its sum is larger; what `plan`
--- and `plan --any` print for a run checks as both. `price` answers with the plan sheet of the list handed in. Where 01 refuses by neither 7 nor 9, both answer
--- as by its rules.
-use Prim.Native.Nat.{ℕ, suc, _+_, _-_, _≤_, _<_}
+-- and else names the first line that differs; and `least=yes` exactly when that list is the least one, and else by how much its sum is larger.
+-- `price` answers with the plan sheet of the list handed in. Where 01 refuses by neither 7 nor 9, both answer as by its rules.
+use Prim.Native.Nat.{ℕ, suc, _+_, _-_, _≤_}
 use mathlib.Core.Path.{_≡_}
 use mathlib.Core.Logic.{_↔_}
 use mathlib.Core.Bool.{false, cond}
@@ -19,8 +18,6 @@ use Rattle.text_bytes.specs.Text.{bytes, decimal, lineFeed}
 use Rattle.text_lines.specs.Lines.{lineAfter}
 use Rattle.sheet_reader.specs.Sheet.{sheetRun, sheetName}
 use Rattle.sheet_writer.specs.AnyHead.{planAnyText}
-use Rattle.answer_plan.specs.Recall.{recallVerdict, SheetRecalled}
-use Rattle.answer_any.specs.AnyRun.{anyVerdict, SheetRecalledAny}
 use Rattle.sheet_lists.specs.Form.{planFroms, planTos, listFroms, listTos}
 use Rattle.answer_check.specs.RunRules.{headAnywhere, headAtTheRight}
 use Rattle.answer_check.specs.Pricing.{pricingVerdict, PriceGiven, SheetPriced}
@@ -70,29 +67,12 @@ CheckPrinted =
     → length (c .given .text) ≤ length row
     → take n row′ ≡ c .given .text
 
--- The sheet that `plan` prints for a run sheet, in a row with room for it, checks as well formed, the walk's and the least; and so does what `plan --any`
--- prints, in no less working room.
+-- A plan sheet checks as well formed, the walk's and the least, in so many words of working room or more. So does what `plan` and `plan --any` print (PlanChecked).
 abbrev pub ChecksAsAll : List ℕ → List ℕ → ℕ → Type 0
 ChecksAsAll sheet plan words =
     (out room : List ℕ) (m : ℕ) (out′ room′ : List ℕ) (c : SheetChecked sheet plan out room m out′ room′)
     → words ≤ length room
     → c .given .text ≡ bytes "formed=yes\nwalk=yes\nleast=yes\n"
-
-abbrev pub PlanChecks : Type 0
-PlanChecks =
-    (sheet row : List ℕ) (n : ℕ) (row′ : List ℕ)
-    → SheetRecalled sheet row n row′
-    → isRefusal (recallVerdict sheet .refusal) ≡ false
-    → 0 < n
-    → ChecksAsAll sheet (take n row′) 5120
-
-abbrev pub PlanAnyChecks : Type 0
-PlanAnyChecks =
-    (sheet row lent : List ℕ) (n : ℕ) (row′ lent′ : List ℕ)
-    → SheetRecalledAny sheet row lent n row′ lent′
-    → isRefusal (anyVerdict (length lent) sheet .refusal) ≡ false
-    → 0 < n
-    → ChecksAsAll sheet (take n row′) (length lent)
 
 -- The price of a list that is not refused: it is well formed, and a row with room for it begins with its plan sheet.
 abbrev pub PriceTells : Type 0

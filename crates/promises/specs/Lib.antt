@@ -24,11 +24,13 @@ pub mod MonthLongest
 pub mod Checks
 pub mod Lengths
 pub mod BuysLines
+pub mod PlanLines
 pub mod Answers
 pub mod MonthRuns
 pub mod MonthPage
 pub mod AnswersAny
 pub mod AnyFigures
+pub mod PlanChecked
 pub mod CheckWhole
 pub mod ListLines
 pub mod ListEntries

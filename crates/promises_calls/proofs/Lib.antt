@@ -5,3 +5,4 @@ pub mod DeskCalls
 pub mod CallRefusals
 pub mod Determined
 pub mod WaitingTells
+pub mod CallsTell

@@ -1,0 +1,71 @@
+-- What an accepted call for tickets tells, beside the records that it leaves: the number that a filing is given; of a boarding how many left of each office and the want of each, and
+-- the plan's four numbers; the text of an event at the desk; and who waits. Later words of each row stay as they were.
+use Prim.Native.Nat.{ℕ, suc, _<_}
+use mathlib.Core.Path.{_≡_}
+use mathlib.Core.List.{List, [], _∷_, _++_}
+use lib.ListN.{length, getD, take, drop}
+use Rattle.runs.specs.Run.{Run}
+use Rattle.text_lines.specs.Lines.{lineOf}
+use Rattle.planner.specs.Rows.{Rows}
+use Rattle.desk_tickets.specs.declared.Ticket.{Ticket}
+use Rattle.desk_tickets.specs.declared.Filing.{Filing}
+use Rattle.desk_tickets.specs.WaitingTable.{lastOf}
+use Rattle.desk_boardings.specs.declared.BoardedRow.{BoardedRow}
+use Rattle.desk_boardings.specs.Boarders.{boarders}
+use Rattle.desk_boardings.specs.Boardings.{Tape, boardRun}
+use Rattle.answer_desk.specs.Events.{eventOf}
+use Rattle.desk_waits.specs.Waits.{waitingText}
+use Rattle.boundary_desk.specs.Records.{tableAt, lastsIn, placesIf}
+use Rattle.boundary_desk.specs.Calls.{FileCalled, boardingOf, BoardCalled, oneLine, dayAt, EventCalled, WaitingCalled}
+use Rattle.promises.specs.DeskTells.{TextStands}
+
+-- A filing is given the last number of its office, as the row of last numbers then has it.
+abbrev pub FileCallTells : Type 0
+FileCallTells =
+    (rows rows′ : List (List ℕ)) (lasts lasts′ given given′ : List ℕ) (f : Filing) (code : ℕ)
+    → FileCalled rows lasts f given code rows′ lasts′ given′
+    → code ≡ 0
+    → given′ ≡ lastOf (f .office) (lastsIn lasts′) ∷ drop 1 given
+
+-- For each of some tickets the place of its file among a run's wants, counted from 1.
+pub data AtTheirWants (run : Run) : List Ticket → List ℕ → Type 0 where
+  no-more : AtTheirWants run [] []
+  one-more : {t : Ticket} {ts : List Ticket} {want : ℕ} {places : List ℕ}
+      → want < length (run .numbers)
+      → getD (run .numbers) want 0 ≡ t .file
+      → AtTheirWants run ts places
+      → AtTheirWants run (t ∷ ts) (suc want ∷ places)
+
+pub record BoardTells (run : Run) (row : List Ticket) (done : BoardedRow) (taken sums taken′ sums′ : List ℕ) : Type 0 where
+  pub places : List ℕ
+  pub wants : AtTheirWants run (boarders row) places
+  pub left : taken′ ≡ (done .boarded .taken .one ∷ done .boarded .taken .two ∷ places) ++ drop (suc (suc (length places))) taken
+  pub four : sums′ ≡ done .boarded .answer .sum ∷ done .boarded .answer .finish ∷ done .boarded .answer .end ∷ done .boarded .answer .detours ∷ drop 4 sums
+
+abbrev pub BoardCallTells : Type 0
+BoardCallTells =
+    (rows rows′ : List (List ℕ)) (lasts taken taken′ sums sums′ : List ℕ) (tape : Tape) (head turn code : ℕ) (lent after : Rows)
+    → (called : BoardCalled rows lasts tape head turn lent taken sums code rows′ after taken′ sums′)
+    → code ≡ 0
+    → BoardTells (boardRun tape (tableAt rows) (boardingOf lasts head turn)) (tableAt rows) (called .done) taken sums taken′ sums′
+
+-- An event: its text stands in the row, and its bytes are counted in the first word of the row of sizes.
+abbrev pub EventCallTells : Type 0
+EventCallTells =
+    (rows rows′ : List (List ℕ)) (lasts lasts′ line out out′ room room′ sizes sizes′ : List ℕ) (tape : Tape) (code : ℕ)
+    → (called : EventCalled rows lasts tape line out room sizes code rows′ lasts′ out′ room′ sizes′)
+    → code ≡ 0
+    → TextStands (placesIf 1 sizes (placesIf 2 lasts (length rows))) tape (dayAt rows lasts) room out (eventOf (lineOf (oneLine line))) (called .done .day) (getD sizes′ 0 0) out′
+    × (drop 1 sizes′ ≡ drop 1 sizes)
+
+-- Who waits: the text of the table in the row's first bytes, and how long it is; refused, both rows as they were.
+pub record WaitingTells (row : List Ticket) (out sizes out′ sizes′ : List ℕ) : Type 0 where
+  pub text : take (getD sizes′ 0 0) out′ ≡ waitingText row
+  pub behind : drop (getD sizes′ 0 0) out′ ≡ drop (getD sizes′ 0 0) out
+  pub later : drop 1 sizes′ ≡ drop 1 sizes
+
+abbrev pub WaitingCallTells : Type 0
+WaitingCallTells =
+    (rows : List (List ℕ)) (out out′ sizes sizes′ : List ℕ) (code : ℕ)
+    → WaitingCalled rows out sizes code out′ sizes′
+    → (code ≡ 0 → WaitingTells (tableAt rows) out sizes out′ sizes′) × ((code ≡ 0 → ⊥) → (out′ ≡ out) × (sizes′ ≡ sizes))
