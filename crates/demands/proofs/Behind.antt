@@ -1,7 +1,7 @@
 -- Behind the entries that are filled: each row is a list of known length and then the later entries of the row that was lent.
 use Prim.Native.Nat.{ℕ, _+_, _*_}
 use mathlib.Core.Path.{_≡_, refl, sym, ap, _∙_}
-use mathlib.Core.Bool.{Bool, true, false}
+use mathlib.Core.Bool.{false}
 use mathlib.Core.List.{List, [], _∷_, _++_, map}
 use lib.ListN.{length, drop, replicate, length-map}
 use lib.Seq.{drop-at}
@@ -10,10 +10,9 @@ use Rattle.refusals.specs.Refusals.{refuseIf}
 use Rattle.refusals.proofs.Verdicts.{refuses, all-accept}
 use Rattle.runs.specs.Run.{Run, Stop, total, stopsOf, wantStopsOf}
 use Rattle.runs.specs.Lists.{Detour, listOf}
-use Rattle.runs.specs.Judging.{judgeOf}
 use Rattle.runs.specs.AnyHead.{judgeAnyOf, listVerdictAny, lifted}
 use Rattle.runs.proofs.Judged.{accepted-run}
-use Rattle.runs.proofs.AnyHead.{GoodAnyRun, accepted-any}
+use Rattle.runs.proofs.AnyHead.{accepted-any}
 use Rattle.runs.proofs.Stops.{wants-length}
 use Rattle.walk.specs.declared.Answer.{Answer}
 use Rattle.walk.specs.Walk.{headAt, timesOf, legsFor}
@@ -21,8 +20,7 @@ use Rattle.walk.specs.Price.{pricedAnswer, pricedTimes, pricedLegs, readRowsWit
 use Rattle.walk.specs.AnyHead.{runLegs, pricedAnyAnswer, readAnyRowsWith, priceAnyVerdict, priceAnyRows}
 use Rattle.walk.specs.Rows.{ReadRows}
 use Rattle.walk.proofs.Filling.{one-each}
-use Rattle.planner.specs.Plan.{roomFor, rowsWith}
-use Rattle.planner.specs.AnyHead.{rowsAnyWith}
+use Rattle.planner.specs.Plan.{roomFor}
 use Rattle.planner.specs.Rows.{Rows, readsIn}
 use Rattle.boundary.specs.Boundary.{priceCall, priceReads, priceSums, priceAnyCall, priceAnyReads, priceAnySums}
 use Rattle.boundary.proofs.Calls.{code-accepts}

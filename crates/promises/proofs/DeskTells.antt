@@ -40,7 +40,7 @@ use Rattle.promises.proofs.DeskDays.{accepts}
 
 -- An accepted answer, whatever the event: its text fits the row, and was told.
 module _ (day : desk.Day) (o : Outcome) (room out : List ℕ) (r : Answered) (room′ out′ : List ℕ) (a : AnswersEvent day o room out r room′ out′) (served : r .verdict .refusal ≡ Accepted) where
-  told-so : (isRefusal (o .verdict .refusal) ≡ false) × (length (o .text) ≤ length out) × Tells o out r room′ out′
+  pub told-so : (isRefusal (o .verdict .refusal) ≡ false) × (length (o .text) ≤ length out) × Tells o out r room′ out′
   told-so =
       ⊎-elim
       (λ (y : isRefusal (o .verdict .refusal) ≡ true).
@@ -52,7 +52,7 @@ module _ (day : desk.Day) (o : Outcome) (room out : List ℕ) (r : Answered) (ro
       ])
       (true-or-false (isRefusal (o .verdict .refusal)))
 
-  day-is : r .day ≡ o .next
+  pub day-is : r .day ≡ o .next
   day-is = ap (λ (x : Answered). x .day) (told-so .2 .says)
 
   bytes-are : r .bytes ≡ length (o .text)

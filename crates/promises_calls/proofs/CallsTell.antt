@@ -1,16 +1,15 @@
 -- What accepted calls tell: each from its contract, by the code that is 0.
 use Prim.Native.Nat.{ℕ, suc, _<_}
-use mathlib.Core.Path.{_≡_, refl, sym, ap, _∙_, subst}
-use mathlib.Core.Bool.{Bool, true, false, cond, true≢false}
+use mathlib.Core.Path.{_≡_, sym, ap, _∙_, subst}
+use mathlib.Core.Bool.{true, false, cond}
 use mathlib.Core.Logic.{⊎-elim}
 use mathlib.Core.List.{List, [], _∷_, _++_, map}
 use native.Mathlib.Omega.{arith}
-use lib.ListN.{length, getD, take, drop, length-map}
+use lib.ListN.{length, getD, drop, length-map}
 use lib.Seq.{take-append-seam, drop-append-seam}
 use lib.Dec.{eqb}
-use Rattle.refusals.specs.declared.Refusal.the-variants.{Accepted}
 use Rattle.refusals.specs.declared.Verdict.{Verdict}
-use Rattle.refusals.specs.Refusals.{isRefusal, accepted}
+use Rattle.refusals.specs.Refusals.{isRefusal}
 use Rattle.refusals.proofs.Verdicts.{refuses, none-refuses}
 use Rattle.runs.specs.Run.{Run}
 use Rattle.runs.proofs.Search.{true-or-false}
@@ -39,9 +38,11 @@ use Rattle.boundary_desk.specs.Calls.{fileCall, wantPlace, takenWith, boardingO
 use Rattle.boundary_desk.proofs.Calling.{filing-verdict}
 use Rattle.promises.specs.DeskTells.{TextStands}
 use Rattle.promises.proofs.DeskDays.{accepts}
+use Rattle.demands.proofs.Behind.{plan-behind}
+use Rattle.promises.proofs.DeskSteps.{board-accepted}
 use Rattle.promises.proofs.DeskLines.{there, not-moved, each-added, numbers-told}
 use Rattle.promises.proofs.DeskTells.{accepted-event-tells}
-use Rattle.promises_calls.specs.CallsTell.{FileCallTells, AtTheirWants, BoardTells, BoardCallTells, EventCallTells, WaitingTells, WaitingCallTells}
+use Rattle.promises_calls.specs.CallsTell.{FileCallTells, AtTheirWants, BoardCallTells, BoardBehind, EventCallTells, WaitingTells, WaitingCallTells}
 
 -- A filing.
 last-of : (office n : ℕ) (l : Lasts) → lastOf office (lastsWith office n l) ≡ n
@@ -100,6 +101,10 @@ board-call-tells rows rows′ lasts taken taken′ sums sums′ tape head turn c
       left = now-taken ∙ ap (λ n. (done .boarded .taken .one ∷ done .boarded .taken .two ∷ map (wantPlace (done .boarded)) (boarders row)) ++ drop (suc (suc n)) taken) (sym many);
       four = called .sumsAre ∙ rw e;
     }
+
+pub board-behind : BoardBehind
+board-behind len tape row b before after r boards accepted =
+    plan-behind (boardRun tape row b) before (r .boarded .answer) after (boards .planned (board-accepted len tape row b before after r boards (ap isRefusal accepted)) .plans) accepted
 
 -- An event.
 pub event-call-tells : EventCallTells

@@ -43,7 +43,7 @@ sound-whole k s =
     let twos = waiting 2 (k .row) in
     ap length (s .is) ∙ length-append (placed ones) (placed twos) ∙ omega (arith, placed-long ones (s .one .few), placed-long twos (s .two .few))
 
-whole-after : (k next : Kept) (c : Call) → IsTable k → Fits k c next → length (next .row) ≡ 32
+pub whole-after : (k next : Kept) (c : Call) → IsTable k → Fits k c next → length (next .row) ≡ 32
 whole-after k next c s f = sound-whole next (table-stays k next (c ∷ []) s (Day.then f Day.over))
 
 -- What one call leaves: the next table and last numbers in the rows, and later entries as they were.
@@ -53,7 +53,7 @@ record Left (rows : List (List ℕ)) (lasts : List ℕ) (row : List Ticket) (l :
   later : drop 32 rows′ ≡ drop 32 rows
   words : drop 2 lasts′ ≡ drop 2 lasts
 
-kept-so : {row row′ : List Ticket} {l l′ : Lasts} → row ≡ row′ → l ≡ l′ → _≡_ {A = Kept} (record { row = row; lasts = l }) (record { row = row′; lasts = l′ })
+pub kept-so : {row row′ : List Ticket} {l l′ : Lasts} → row ≡ row′ → l ≡ l′ → _≡_ {A = Kept} (record { row = row; lasts = l }) (record { row = row′; lasts = l′ })
 kept-so p q = cc
 
 module _ (rows rows′ : List (List ℕ)) (lasts : List ℕ) where
@@ -62,7 +62,7 @@ module _ (rows rows′ : List (List ℕ)) (lasts : List ℕ) where
       record { table = row-is ∙ ap tableAt (sym same); numbers = l-is ∙ ap lastsIn (sym kept); later = ap (drop 32) same; words = ap (drop 2) kept }
 
   -- The table afterwards, from a sound one.
-  sound-at : (len : ℕ) → refuses (recordsVerdict len (tableAt rows) (lastsIn lasts)) ≡ false → IsTable (keptInC rows lasts)
+  pub sound-at : (len : ℕ) → refuses (recordsVerdict len (tableAt rows) (lastsIn lasts)) ≡ false → IsTable (keptInC rows lasts)
   sound-at len e = accepted-sound len (tableAt rows) (lastsIn lasts) (table-long rows) e
 
 -- A filing.

@@ -6,3 +6,4 @@ pub mod CallRefusals
 pub mod Determined
 pub mod WaitingTells
 pub mod CallsTell
+pub mod EventCalls

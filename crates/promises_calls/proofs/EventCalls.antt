@@ -1,0 +1,89 @@
+-- An accepted event at C's rows is a call on the table in them.
+use Prim.Native.Nat.{ℕ}
+use mathlib.Core.Path.{_≡_, refl, sym, ap, _∙_, subst}
+use mathlib.Core.Bool.{false, true≢false}
+use mathlib.Core.List.{List}
+use lib.ListN.{length, drop}
+use Rattle.refusals.specs.declared.Refusal.the-variants.{Accepted}
+use Rattle.refusals.specs.declared.Verdict.{Verdict}
+use Rattle.refusals.specs.Refusals.{isRefusal}
+use Rattle.refusals.proofs.Verdicts.{refuses}
+use Rattle.desk_tickets.specs.declared.Ticket.{Ticket}
+use Rattle.desk_tickets.specs.declared.Lasts.{Lasts}
+use Rattle.desk_tickets.specs.declared.Filing.{Filing}
+use Rattle.desk_tickets.specs.declared.Withdrawal.{Withdrawal}
+use Rattle.desk_tickets.specs.Filings.{fileVerdict, fileRow}
+use Rattle.desk_tickets.specs.Withdrawals.{withdrawVerdict, withdrawRow}
+use Rattle.desk_tickets.proofs.Storing.{file-accepted}
+use Rattle.desk_tickets.proofs.Leaving.{withdraw-accepted}
+use Rattle.desk_boardings.specs.declared.Boarding.{Boarding}
+use Rattle.desk_boardings.specs.Boardings.{Tape}
+use Rattle.answer_desk.specs.declared.Day as desk
+use Rattle.answer_desk.specs.declared.Answered.{Answered}
+use Rattle.answer_desk.specs.declared.Event.{Event}
+use Rattle.answer_desk.specs.Events.{eventOf}
+use Rattle.answer_desk.specs.Days.{EventAnswered, rowsLent}
+use Rattle.text_lines.specs.Lines.{lineOf}
+use Rattle.boundary.proofs.Calls.{code-accepts}
+use Rattle.boundary_desk.specs.Records.{tableAt, recordsWith, lastsIn, withLasts, placesIf}
+use Rattle.boundary_desk.specs.Calls.{oneLine, dayAt}
+use Rattle.boundary_desk.proofs.Calling.{filing-verdict, withdrawal-verdict}
+use Rattle.promises.specs.Desk.{Kept, IsTable, Call, Fits}
+use Rattle.promises.specs.DeskDays.{IsCall}
+use Rattle.promises.proofs.DeskDays.{accepts}
+use Rattle.promises.proofs.DeskSteps.{board-accepted}
+use Rattle.promises.proofs.DeskTells.{told-so, day-is}
+use Rattle.promises_calls.specs.DeskCalls.{keptInC}
+use Rattle.promises_calls.specs.CallsTell.{CallAccepts, EventIsACall, EventCallIsACall}
+use Rattle.promises_calls.proofs.Found.{table-found, later-found}
+use Rattle.promises_calls.proofs.DeskCalls.{kept-so, whole-after, sound-at}
+
+-- What a call on a sound table leaves, written into the rows.
+module _ (tape : Tape) (rows rows′ : List (List ℕ)) (lasts lasts′ : List ℕ) (r : Answered) (rows-are : rows′ ≡ recordsWith (r .day .row) rows) (lasts-are : lasts′ ≡ withLasts (r .day .lasts) lasts) where
+  landed : (e : Event) (c : Call) → IsCall tape e c → CallAccepts c → IsTable (keptInC rows lasts) → (row : List Ticket) (l : Lasts) → Fits (keptInC rows lasts) c (record { row = row; lasts = l })
+      → r .day .row ≡ row → r .day .lasts ≡ l → EventIsACall tape e rows rows′ lasts lasts′
+  landed e c is taken sound row l fits row-is l-is =
+      let whole : length row ≡ 32 = whole-after (keptInC rows lasts) (record { row = row; lasts = l }) c sound fits in
+      let now : rows′ ≡ recordsWith row rows = rows-are ∙ ap (λ (x : List Ticket). recordsWith x rows) row-is in
+      record {
+        call = c;
+        is = is;
+        accepts = taken;
+        fits = subst (λ (k : Kept). Fits (keptInC rows lasts) c k) (kept-so (sym (ap tableAt now ∙ table-found row rows whole)) (sym (ap lastsIn lasts-are ∙ l-is))) fits;
+        later = ap (drop 32) now ∙ later-found row rows whole;
+        words = ap (drop 2) lasts-are;
+      }
+
+  by-event : (e : Event) (len : ℕ) (room out room′ out′ : List ℕ) → EventAnswered len tape (dayAt rows lasts) room out e r room′ out′ → r .verdict .refusal ≡ Accepted → EventIsACall tape e rows rows′ lasts lasts′
+  by-event (Event.File o f c) len room out room′ out′ p served =
+      let g : Filing = record { office = o; file = f; count = c; files = length (tape .starts); lasts = lastsIn lasts } in
+      let done = fileRow len (tableAt rows) g in
+      let day = day-is (dayAt rows lasts) _ room out r room out′ (p .0 room) served in
+      let passes = told-so (dayAt rows lasts) _ room out r room out′ (p .0 room) served .0 in
+      let h : refuses (fileVerdict len (tableAt rows) g) ≡ false = sym (ap (λ (v : Verdict). isRefusal (v .refusal)) (filing-verdict len (tableAt rows) g)) ∙ passes in
+      landed (Event.File o f c) (Call.filing len g done) IsCall.a-filing (accepts (done .filed .verdict .refusal) passes) (sound-at rows rows′ lasts len (file-accepted len (tableAt rows) g h .table)) (done .row) (done .filed .lasts)
+      (Fits.files {len = len} {k = keptInC rows lasts} {f = g} {r = done} refl refl) (ap (λ (d : desk.Day). d .row) day) (ap (λ (d : desk.Day). d .lasts) day)
+  by-event (Event.Withdraw o n) len room out room′ out′ p served =
+      let w : Withdrawal = record { office = o; number = n; lasts = lastsIn lasts } in
+      let done = withdrawRow len (tableAt rows) w in
+      let day = day-is (dayAt rows lasts) _ room out r room out′ (p .0 room) served in
+      let passes = told-so (dayAt rows lasts) _ room out r room out′ (p .0 room) served .0 in
+      let h : refuses (withdrawVerdict len (tableAt rows) w) ≡ false = sym (ap (λ (v : Verdict). isRefusal (v .refusal)) (withdrawal-verdict len (tableAt rows) w)) ∙ passes in
+      landed (Event.Withdraw o n) (Call.withdrawal len w done) IsCall.a-withdrawal (accepts (done .withdrawn .verdict .refusal) passes) (sound-at rows rows′ lasts len (withdraw-accepted len (tableAt rows) w h .table)) (done .row) (done .withdrawn .lasts)
+      (Fits.withdraws {len = len} {k = keptInC rows lasts} {w = w} {r = done} refl refl) (ap (λ (d : desk.Day). d .row) day) (ap (λ (d : desk.Day). d .lasts) day)
+  by-event (Event.Board head turn) len room out room′ out′ p served =
+      let b : Boarding = record { head = head; turn = turn; lasts = lastsIn lasts } in
+      let done = p .done in
+      let day = day-is (dayAt rows lasts) _ room out r room′ out′ (p .answers) served in
+      let passes = told-so (dayAt rows lasts) _ room out r room′ out′ (p .answers) served .0 in
+      landed (Event.Board head turn) (Call.boarding len tape b (rowsLent room) (p .rows) done) IsCall.a-boarding (accepts (done .boarded .answer .refusal) passes)
+      (sound-at rows rows′ lasts len (board-accepted len tape (tableAt rows) b (rowsLent room) (p .rows) done (p .boards) passes)) (done .row) (done .boarded .lasts)
+      (Fits.boards {len = len} {tape = tape} {k = keptInC rows lasts} {b = b} {before = rowsLent room} {after = p .rows} {r = done} refl (p .boards)) (ap (λ (d : desk.Day). d .row) day) (ap (λ (d : desk.Day). d .lasts) day)
+  by-event Event.Bad len room out room′ out′ p served = absurd (true≢false (ap isRefusal (ap (λ (x : Answered). x .verdict .refusal) (sym (p .says)) ∙ served)))
+
+pub event-call-is-a-call : EventCallIsACall
+event-call-is-a-call rows rows′ lasts lasts′ line out out′ room room′ sizes sizes′ tape code called zero-code =
+    let done = called .done in
+    let e : isRefusal (done .verdict .refusal) ≡ false = code-accepts (done .verdict) (sym (called .says) ∙ zero-code) in
+    by-event tape rows rows′ lasts lasts′ done (rw e at (called .rowsAre)) (rw e at (called .lastsAre)) (eventOf (lineOf (oneLine line))) (placesIf 1 sizes (placesIf 2 lasts (length rows))) room out room′ out′
+    (called .answers) (accepts (done .verdict .refusal) e)
