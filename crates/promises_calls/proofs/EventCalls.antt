@@ -24,6 +24,7 @@ use Rattle.answer_desk.specs.declared.Event.{Event}
 use Rattle.answer_desk.specs.Events.{eventOf}
 use Rattle.answer_desk.specs.Days.{EventAnswered, rowsLent}
 use Rattle.text_lines.specs.Lines.{lineOf}
+use Rattle.boundary.specs.Boundary.{codeOf}
 use Rattle.boundary.proofs.Calls.{code-accepts}
 use Rattle.boundary_desk.specs.Records.{tableAt, recordsWith, lastsIn, withLasts, placesIf}
 use Rattle.boundary_desk.specs.Calls.{oneLine, dayAt}
@@ -34,7 +35,7 @@ use Rattle.promises.proofs.DeskDays.{accepts}
 use Rattle.promises.proofs.DeskSteps.{board-accepted}
 use Rattle.promises.proofs.DeskTells.{told-so, day-is}
 use Rattle.promises_calls.specs.DeskCalls.{keptInC}
-use Rattle.promises_calls.specs.CallsTell.{CallAccepts, EventIsACall, EventCallIsACall}
+use Rattle.promises_calls.specs.CallsTell.{CallAccepts, EventIsACall, EventCallIsACall, NoEventCalled}
 use Rattle.promises_calls.proofs.Found.{table-found, later-found}
 use Rattle.promises_calls.proofs.DeskCalls.{kept-so, whole-after, sound-at}
 
@@ -87,3 +88,9 @@ event-call-is-a-call rows rows′ lasts lasts′ line out out′ room room′ si
     let e : isRefusal (done .verdict .refusal) ≡ false = code-accepts (done .verdict) (sym (called .says) ∙ zero-code) in
     by-event tape rows rows′ lasts lasts′ done (rw e at (called .rowsAre)) (rw e at (called .lastsAre)) (eventOf (lineOf (oneLine line))) (placesIf 1 sizes (placesIf 2 lasts (length rows))) room out room′ out′
     (called .answers) (accepts (done .verdict .refusal) e)
+
+pub no-event-called : NoEventCalled
+no-event-called rows rows′ lasts lasts′ line out out′ room room′ sizes sizes′ tape code called is =
+    let none : EventAnswered (placesIf 1 sizes (placesIf 2 lasts (length rows))) tape (dayAt rows lasts) room out Event.Bad (called .done) room′ out′
+    = subst (λ e. EventAnswered (placesIf 1 sizes (placesIf 2 lasts (length rows))) tape (dayAt rows lasts) room out e (called .done) room′ out′) is (called .answers) in
+    called .says ∙ ap (λ (x : Answered). codeOf (x .verdict)) (none .says)

@@ -94,6 +94,14 @@ EventCallIsACall =
     → code ≡ 0
     → EventIsACall tape (eventOf (lineOf (oneLine line))) rows rows′ lasts lasts′
 
+-- Bytes that are no event are refused by 11, without a place, whatever rows were lent.
+abbrev pub NoEventCalled : Type 0
+NoEventCalled =
+    (rows rows′ : List (List ℕ)) (lasts lasts′ line out out′ room room′ sizes sizes′ : List ℕ) (tape : Tape) (code : ℕ)
+    → EventCalled rows lasts tape line out room sizes code rows′ lasts′ out′ room′ sizes′
+    → eventOf (lineOf (oneLine line)) ≡ Event.Bad
+    → code ≡ 11
+
 -- Who waits: the text of the table in the row's first bytes, and how long it is; refused, both rows as they were.
 pub record WaitingTells (row : List Ticket) (out sizes out′ sizes′ : List ℕ) : Type 0 where
   pub text : take (getD sizes′ 0 0) out′ ≡ waitingText row
