@@ -220,10 +220,10 @@ installed() {
         printf 'daemon by pkg-config: left out, pkg-config is not here\n'
     fi
     command_installed
-    if grep -q violstream_waiting "$archive"; then
+    if [ "$emulated" = no ]; then
         server_installed
     else
-        printf 'the installed server: left out, the library has no violstream_event and no violstream_waiting\n'
+        printf 'the installed server: left out, the library that it needs is not for this processor\n'
     fi
     shared_installed
     uninstalled

@@ -127,8 +127,10 @@ prove_below() {
 
 # The library for C: rt makes an archive for each crate that has functions marked for C, and their objects go into one archive.
 library() {
-    ar='ar'
-    [ "$(uname -m)" = x86_64 ] || ar=x86_64-linux-gnu-ar
+    # shellcheck source=tools/machine.sh
+    . "$here/tools/machine.sh"
+    ar=$(kit)/on/$machine/toolchain/bin/llvm-ar # the kit's own, which knows x86-64 on every machine
+    [ -x "$ar" ] || ar='ar'
     cd "$here" || return
     for crate in boundary boundary_desk boundary_texts; do
         TMPDIR=$rooms rt staticlib "$crate" &
