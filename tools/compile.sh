@@ -27,7 +27,7 @@ compile() {
     # What would have cargo build something else, or write elsewhere.
     unset -v CARGO_BUILD_RUSTFLAGS CARGO_BUILD_TARGET CARGO_ENCODED_RUSTFLAGS RUSTC RUSTC_WRAPPER RUSTFLAGS
     [ ! -s "$made/crate/.cargo/config.toml" ] || export CARGO_HOME="$made/home"
-    (cd "$made/crate" && exec $ending nice -n 5 "$cargo" rustc --release --target-dir "$made/target" "$@") > "$made/log" 2>&1 || { grep -m 5 -E '^error' "$made/log" >&2; rm -f "$library"; return 1; }
+    (cd "$made/crate" && exec $ending nice -n 19 "$cargo" rustc --release --target-dir "$made/target" "$@") > "$made/log" 2>&1 || { grep -m 5 -E '^error' "$made/log" >&2; rm -f "$library"; return 1; }
     rm -f "$built".[0-9]*
     # At once, and whole.
     cp "$made/target/release/violstream" "$built.$$" && mv -f "$built.$$" "$built" && mv -f "$library" "${built%/*}/linked.a"
