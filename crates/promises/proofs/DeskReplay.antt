@@ -55,6 +55,7 @@ remark-changes-nothing row l tape room out line r room′ out′ taken is =
       ap (λ (y : ToldRow). y .told .bytes) (p .says),
       p .same-room,
       p .same-row,
+      ap (λ (y : ToldRow). y .told .verdict) (p .says),
     )
 
 -- A journal is the day of its events.

@@ -34,7 +34,7 @@ use Rattle.demands.specs.RefusalTable.{FirstThatApplies}
 use Rattle.demands.proofs.Checks.{AllRefuse}
 use Rattle.demands.proofs.Demand1.{demand1-plan}
 use Rattle.promises.specs.DeskTells.{boardingAt, AcceptedEventTells}
-use Rattle.promises.specs.DeskVerdicts.{filingAt, withdrawalAt, OwnVerdict, RowTooShort, EventVerdicts, ProgramVerdicts, LentVerdicts}
+use Rattle.promises.specs.DeskVerdicts.{filingAt, withdrawalAt, OwnVerdict, RowTooShort, EventVerdicts, ProgramVerdicts, LentVerdicts, OnlyAcceptancePasses}
 use Rattle.promises.proofs.DeskRefusals.{filing-answers, withdrawal-answers, boarding-answers}
 use Rattle.promises.proofs.DeskDays.{accepts}
 use Rattle.promises.proofs.DeskTells.{accepted-event-tells}
@@ -146,3 +146,6 @@ program-verdicts = held-by-events event-verdicts
 
 pub lent-verdicts : LentVerdicts
 lent-verdicts = lent-by-events event-verdicts
+
+pub only-acceptance-passes : OnlyAcceptancePasses
+only-acceptance-passes = (refl, accepts)

@@ -26,12 +26,12 @@ use Rattle.answer_mend.specs.Mending.{sheetRemaining, mendedText, changesText, 
 use Rattle.demands.specs.RefusalTable.{FirstBad, FirstThatApplies, here, later, SomeApplies}
 use Rattle.demands.proofs.Tests.{tells-below, tells-either}
 use Rattle.demands.proofs.Checks.{decides-if, decides-reworded, Finds, finds-none, finds-first, first-of-joined, refused-iff}
-use Rattle.promises.specs.Mender.{FileLine, NotMended, WantsRemain, CountsFrom, SheetApplies, long-sheet, bad-line, many-wants, many-reads, sheetOrder, TextsApply, long-text, short-row, textsOrder, MenderRefuses, TopStands, OneFileTooMany, LongTextIsMended}
+use Rattle.promises.specs.Mender.{FileLine, NotMended, WantsRemain, CountsFrom, SheetApplies, long-sheet, bad-line, many-wants, many-reads, sheetOrder, TextsApply, long-text, short-row, textsOrder, MenderRefuses, TopStands, OneFileTooMany, OldPartsAreRead, LongTextIsMended}
 use Rattle.promises.proofs.DeskSteps.{not-accepted}
 use Rattle.promises.proofs.MenderLines.{decides-line}
 use Rattle.promises.proofs.Mends.{Facts, same-reads, in-order}
 use Rattle.promises.proofs.MenderKept.{left-alone}
-use Rattle.promises.proofs.MenderWants.{tells-remain, tells-reads}
+use Rattle.promises.proofs.MenderWants.{tells-remain, tells-reads, parts-are-read}
 
 -- The sheet's refusals.
 module _ (sheet : List ℕ) where
@@ -226,6 +226,9 @@ nothing-applies sheet none =
       few = ltb-false mostWants (length (sheetRemaining sheet)) (accepts-if (ltb mostWants (length (sheetRemaining sheet))) WantRows refl (all .1 .1 .0));
       reads = ltb-false mostReads (readsInAll (wantedCounts sheet)) (accepts-if (ltb mostReads (readsInAll (wantedCounts sheet))) TooManyReads refl (all .1 .1 .1 .0));
     }
+
+pub old-parts-are-read : OldPartsAreRead
+old-parts-are-read sheet none = parts-are-read sheet (nothing-applies sheet none .good)
 
 pub long-text-is-mended : LongTextIsMended
 long-text-is-mended sheet none =

@@ -7,7 +7,7 @@ use mathlib.Core.List.{List, [], _∷_, map}
 use lib.ListN.{length}
 use Rattle.refusals.specs.declared.Refusal.{Refusal}
 use Rattle.refusals.specs.declared.Refusal.the-variants.{Accepted}
-use Rattle.refusals.specs.Refusals.{isRefusal}
+use Rattle.refusals.specs.Refusals.{isRefusal, accepted}
 use Rattle.desk_tickets.specs.declared.Ticket.{Ticket}
 use Rattle.desk_tickets.specs.declared.Lasts.{Lasts}
 use Rattle.desk_boardings.specs.Boardings.{Tape}
@@ -36,13 +36,13 @@ pub data Replayed (tape : Tape) : List Ticket → Lasts → List Exchange → Li
   journal-goes-on : {row next last : List Ticket} {l m n : Lasts} {x : Exchange} {xs : List Exchange}
       → TurnedLine tape row l x next m → Replayed tape next m xs last n → Replayed tape row l (x ∷ xs) last n
 
--- A remark changes nothing: neither the table, nor the last numbers, nor what is lent.
+-- A remark changes nothing, neither the table, nor the last numbers, nor what is lent, and is not refused: the day goes on.
 abbrev pub RemarkChangesNothing : Type 0
 RemarkChangesNothing =
     (row : List Ticket) (l : Lasts) (tape : Tape) (room out line : List ℕ) (r : ToldRow) (room′ out′ : List ℕ)
     → LineTaken row l tape room out line r room′ out′
     → isRemark line ≡ true
-    → (r .row ≡ row) × (r .told .lasts ≡ l) × (r .told .bytes ≡ 0) × (room′ ≡ room) × (out′ ≡ out)
+    → (r .row ≡ row) × (r .told .lasts ≡ l) × (r .told .bytes ≡ 0) × (room′ ≡ room) × (out′ ≡ out) × (r .told .verdict ≡ accepted)
 
 -- The lines that are no remarks, and what was answered to them.
 unfoldable pub eventsOf : List Exchange → List Exchange

@@ -2,12 +2,14 @@
 -- that is no event; and 8 only where no refusal of the event applies and its text is longer than the row.
 use Prim.Native.Nat.{ℕ, _≤_, _<_}
 use mathlib.Core.Path.{_≡_}
+use mathlib.Core.Bool.{false}
 use mathlib.Core.Logic.{_⊎_}
 use mathlib.Core.List.{List}
 use lib.ListN.{length}
-use Rattle.refusals.specs.declared.Refusal.the-variants.{ShortRow, BadLine}
+use Rattle.refusals.specs.declared.Refusal.{Refusal}
+use Rattle.refusals.specs.declared.Refusal.the-variants.{Accepted, ShortRow, BadLine}
 use Rattle.refusals.specs.declared.Verdict.{Verdict}
-use Rattle.refusals.specs.Refusals.{accepted}
+use Rattle.refusals.specs.Refusals.{isRefusal, accepted}
 use Rattle.runs.specs.Alone.{zeros}
 use Rattle.planner.specs.Rows.{Rows, rowsOf}
 use Rattle.desk_tickets.specs.declared.Ticket.{Ticket}
@@ -80,3 +82,7 @@ LentVerdicts =
     (ts : List Ticket) (l : Lasts) (tape : Tape) (room out : List ℕ) (e : Event) (r : Told) (exit : List Ticket) (room′ out′ : List ℕ)
     → LentAnswered ts l tape room out e r exit room′ out′
     → OwnVerdict (length ts) tape (dayOf (tableIn ts) l) room e (r .verdict) ⊎ RowTooShort (length ts) tape (dayOf (tableIn ts) l) room out e (r .verdict)
+
+-- Every kind but acceptance refuses, for whatever counts refusals.
+abbrev pub OnlyAcceptancePasses : Type 0
+OnlyAcceptancePasses = (isRefusal Accepted ≡ false) × ((kind : Refusal) → isRefusal kind ≡ false → kind ≡ Accepted)

@@ -148,6 +148,10 @@ pub record PartsRead (sheet : List ℕ) : Type 0 where
 abbrev pub PartsAreRead : Type 0
 PartsAreRead = (sheet : List ℕ) → firstBadLoose sheet ≡ 0 → PartsRead sheet
 
+-- So of every old sheet to which 12, 11, 3 and 5 do not apply, whatever the mended one has.
+abbrev pub OldPartsAreRead : Type 0
+OldPartsAreRead = (sheet : List ℕ) → (SomeApplies (SheetApplies sheet) sheetOrder → ⊥) → PartsRead sheet
+
 -- The text whose length the last 12 goes by is the mended sheet also where it is too long: of every sheet to which 12, 11, 3 and 5 do not apply, the same holds.
 pub record TextIsMended (sheet text : List ℕ) : Type 0 where
   pub order : SheetInOrder text

@@ -5,7 +5,7 @@ use mathlib.Core.Path.{_≡_}
 use mathlib.Core.Bool.{Bool, true, false, cond, not, _&&_}
 use mathlib.Core.Logic.{_⊎_}
 use mathlib.Core.List.{List, [], _∷_, _++_}
-use lib.ListN.{length, take, drop}
+use lib.ListN.{length, getD, take, drop}
 use lib.Dec.{eqb, leb}
 use Rattle.refusals.specs.declared.Refusal.the-variants.{Accepted, BadSheetCount}
 use Rattle.refusals.specs.declared.Verdict.{Verdict}
@@ -17,7 +17,7 @@ use Rattle.answer_month.specs.declared.Month.{Month}
 use Rattle.answer_month.specs.declared.Mean.{Mean}
 use Rattle.answer_month.specs.declared.Part.the-variants.{End, Sheet, Bad}
 use Rattle.answer_month.specs.declared.Added.{Added}
-use Rattle.answer_month.specs.Month.{emptyMonth, refusedWith, addedAll}
+use Rattle.answer_month.specs.Month.{emptyMonth, addedAll}
 use Rattle.answer_month.specs.Parts.{partOf, SheetAdded, inputVerdict}
 use Rattle.answer_month.specs.Page.{meanOf, pageText, PagePut}
 
@@ -84,7 +84,7 @@ pub record FirstLongest (runs : List Outcome) (m : Month) : Type 0 where
 pub record MonthFigures (runs : List Outcome) (m : Month) : Type 0 where
   pub sheets : m .sheets ≡ length runs
   pub accepted : m .accepted ≡ howManyRuns isAcceptedRun runs
-  pub refused : (n : ℕ) → refusedWith m n ≡ howManyRuns (isRefusedBy n) runs
+  pub refused : (n : ℕ) → getD (m .refused) n 0 ≡ howManyRuns (isRefusedBy n) runs
   pub reads : m .reads ≡ inAll (λ r. r .reads) runs
   pub sum : m .sum ≡ inAll (λ r. r .sum) runs
   pub saved : m .saved ≡ inAll (λ r. r .saved) runs
@@ -195,7 +195,7 @@ pub data Reordered {A : Type 0} : List A → List A → Type 0 where
 pub record SameTotals (m m′ : Month) : Type 0 where
   pub sheets : m .sheets ≡ m′ .sheets
   pub accepted : m .accepted ≡ m′ .accepted
-  pub refused : (n : ℕ) → refusedWith m n ≡ refusedWith m′ n
+  pub refused : (n : ℕ) → getD (m .refused) n 0 ≡ getD (m′ .refused) n 0
   pub reads : m .reads ≡ m′ .reads
   pub sum : m .sum ≡ m′ .sum
   pub saved : m .saved ≡ m′ .saved
