@@ -86,6 +86,18 @@ fn index(text: Option<&String>) -> usize {
 }
 
 impl Plan {
+    /// Where the head is when: left, a turn, right, and a turn before the next leg.
+    fn way(&self) -> Vec<(i64, i64)> {
+        let mut points = vec![(self.head, 0)];
+        let mut before = None;
+        for leg in &self.legs {
+            points.extend(before.map(|ended| (leg.comes_from, ended + self.turn)));
+            points.extend([(leg.turns_at, leg.sets_off - self.turn), (leg.turns_at, leg.sets_off), (leg.runs_to, leg.ends_at)]);
+            before = Some(leg.ends_at);
+        }
+        points
+    }
+
     pub fn read(texts: &Texts) -> Plan {
         let mut plan = Plan::default();
         plan.read_run(texts.run);

@@ -180,14 +180,7 @@ impl Picture<'_> {
     /// The head's path: left, a turn, right, and a turn before the next leg.
     fn path(&mut self) {
         let plan = self.plan;
-        let mut points = vec![(plan.head, 0)];
-        let mut before = None;
-        for leg in &plan.legs {
-            points.extend(before.map(|ended| (leg.comes_from, ended + plan.turn)));
-            points.extend([(leg.turns_at, leg.sets_off - plan.turn), (leg.turns_at, leg.sets_off), (leg.runs_to, leg.ends_at)]);
-            before = Some(leg.ends_at);
-        }
-        let points: Vec<String> = points.into_iter().map(|(place, clock)| format!("{:.1},{:.1}", self.x_of(place), self.y_of(clock))).collect();
+        let points: Vec<String> = plan.way().into_iter().map(|(place, clock)| format!("{:.1},{:.1}", self.x_of(place), self.y_of(clock))).collect();
         let _ = writeln!(self.out, "<polyline class=\"head\" points=\"{}\"/>", points.join(" "));
         let (x, y) = (self.x_of(plan.head), self.y_of(0));
         self.line((x, y - 5.0), (x, y + 5.0), "mark");

@@ -121,14 +121,7 @@ impl Sketch<'_> {
     /// The head's path, the stretches on which it reads, and a dot where a file has been read.
     fn path(&mut self) {
         let plan = self.plan;
-        let mut points = vec![(plan.head, 0)];
-        let mut before = None;
-        for leg in &plan.legs {
-            points.extend(before.map(|ended| (leg.comes_from, ended + plan.turn)));
-            points.extend([(leg.turns_at, leg.sets_off - plan.turn), (leg.turns_at, leg.sets_off), (leg.runs_to, leg.ends_at)]);
-            before = Some(leg.ends_at);
-        }
-        let way: Vec<String> = points.into_iter().map(|(place, clock)| format!("{:.1} {:.1}", self.x(place), self.y(clock))).collect();
+        let way: Vec<String> = plan.way().into_iter().map(|(place, clock)| format!("{:.1} {:.1}", self.x(place), self.y(clock))).collect();
         let (mut reading, mut dots) = (String::new(), String::new());
         for read in &plan.done {
             let (left, right) = (plan.left_of(read.file), plan.right_of(read.file));
