@@ -4,7 +4,8 @@ use mathlib.Core.Bool.{Bool, true, false, cond, not, _&&_, _||_}
 use mathlib.Core.List.{List, [], _∷_, _++_, map}
 use lib.ListN.{length}
 use lib.Dec.{eqb, ltb}
-use Rattle.refusals.specs.Refusals.{firstWhere, numberOf}
+use Rattle.refusals.specs.declared.OwnRefusal.the-variants.{UnknownPath, NoBytes, OtherVolume}
+use Rattle.refusals.specs.Refusals.{firstWhere, numberOf, ownNumberOf}
 use Rattle.runs.specs.Run.{lastPlace}
 use Rattle.text_bytes.specs.Text.{bytes, comma, isText, isName, decimal}
 use Rattle.text_pages.specs.Printing.{line, pairText}
@@ -77,10 +78,10 @@ unfoldable pub pickChecks : ℕ → List ℕ → List ℕ → List ℕ → List 
 pickChecks unit name label index list =
     refusedIf (not (isName name)) 13
     ∷ refusedIf (not (areGoodTexts label index) || (not (eqb unit 0) && eqb (blockSizeOf (treeOf label)) 0)) 20
-    ∷ refusedIf (otherVolume (treeOf label) (treeOf index)) 44
+    ∷ refusedIf (otherVolume (treeOf label) (treeOf index)) (ownNumberOf OtherVolume)
     ∷ record { number = numberOf (pathsVerdict list .refusal); place = pathsVerdict list .place }
-    ∷ refusedAt (firstLine (isUnknown index list) list) 41
-    ∷ refusedAt (firstLine (λ i. hasNoBytes (askedSpan unit label index list i)) list) 42
+    ∷ refusedAt (firstLine (isUnknown index list) list) (ownNumberOf UnknownPath)
+    ∷ refusedAt (firstLine (λ i. hasNoBytes (askedSpan unit label index list i)) list) (ownNumberOf NoBytes)
     ∷ refusedAt (firstLine (λ i. isTooFar (askedSpan unit label index list i)) list) 23
     ∷ []
 

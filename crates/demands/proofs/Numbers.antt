@@ -1,6 +1,6 @@
 -- Each number of the table, by reading it off.
 use mathlib.Core.Path.{refl}
-use Rattle.demands.specs.Numbers.{NumbersOfTheTable}
+use Rattle.demands.specs.Numbers.{NumbersOfTheTable, NumbersOfOurOwn}
 
 pub numbers-of-the-table : NumbersOfTheTable
 numbers-of-the-table =
@@ -33,3 +33,6 @@ numbers-of-the-table =
       sheet-count = refl;
       bad-record = refl;
     }
+
+pub numbers-of-our-own : NumbersOfOurOwn
+numbers-of-our-own = record { unknown-path = refl; no-bytes = refl; other-window = refl; other-volume = refl }

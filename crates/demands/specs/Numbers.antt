@@ -1,7 +1,8 @@
 -- The numbers of the refusal table, one by one: 1 to 14 and 0 of document 01, the others of the requests after it.
 use mathlib.Core.Path.{_≡_}
 use Rattle.refusals.specs.declared.Refusal.the-variants.{Accepted, FileRows, BadFile, WantRows, BadWant, TooManyReads, TurnPrice, HeadPlace, ShortRow, ShortRoom, BadEntry, BadLine, LongSheet, BadName, BadRule, BadTicket, OfficeFull, NotWaiting, NumbersSpent, RetiredRule, BadText, ManyExtents, Overlap, FarFile, OverEightWants, BadSheetCount, BadRecord}
-use Rattle.refusals.specs.Refusals.{numberOf}
+use Rattle.refusals.specs.declared.OwnRefusal.the-variants.{UnknownPath, NoBytes, OtherWindow, OtherVolume}
+use Rattle.refusals.specs.Refusals.{numberOf, ownNumberOf}
 
 -- By its condition: no refusal; the rows of files, a file, the rows of wants, a want, the reads in all, the turn price, the head; a short row, short room, an entry of a
 -- list, a line, a long sheet, a name, a rule number; a ticket, an office that is full, one that does not wait, numbers that are spent; the retired rule; a tape's text,
@@ -34,3 +35,10 @@ pub record NumbersOfTheTable : Type 0 where
   pub over-eight : numberOf OverEightWants ≡ 24
   pub sheet-count : numberOf BadSheetCount ≡ 25
   pub bad-record : numberOf BadRecord ≡ 26
+
+-- Our own part, from 41 on: a path of no file or of several, a file without bytes, an event for another window, label and index of different volumes.
+pub record NumbersOfOurOwn : Type 0 where
+  pub unknown-path : ownNumberOf UnknownPath ≡ 41
+  pub no-bytes : ownNumberOf NoBytes ≡ 42
+  pub other-window : ownNumberOf OtherWindow ≡ 43
+  pub other-volume : ownNumberOf OtherVolume ≡ 44

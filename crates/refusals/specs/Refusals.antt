@@ -5,6 +5,8 @@ use mathlib.Core.List.{List, [], _∷_}
 use lib.Dec.{eqb}
 use Rattle.refusals.specs.declared.Refusal.{Refusal}
 use Rattle.refusals.specs.declared.Refusal.the-variants.{Accepted, FileRows, BadFile, WantRows, BadWant, TooManyReads, TurnPrice, HeadPlace, ShortRow, ShortRoom, BadEntry, BadLine, LongSheet, BadName, BadRule, BadTicket, OfficeFull, NotWaiting, NumbersSpent, RetiredRule, BadText, ManyExtents, Overlap, FarFile, OverEightWants, BadSheetCount, BadRecord}
+use Rattle.refusals.specs.declared.OwnRefusal.{OwnRefusal}
+use Rattle.refusals.specs.declared.OwnRefusal.the-variants.{UnknownPath, NoBytes, OtherWindow, OtherVolume}
 use Rattle.refusals.specs.declared.Verdict.{Verdict}
 
 -- The number that the paper gives each kind; 0 where nothing is refused.
@@ -36,6 +38,14 @@ numberOf FarFile = 23
 numberOf OverEightWants = 24
 numberOf BadSheetCount = 25
 numberOf BadRecord = 26
+
+-- The part of the table that is our own: a path of a list that is that of no file or of several; a file without bytes, or with some in the other partition; an event that
+-- is not for this window; label and index of different volumes.
+abbrev pub ownNumberOf : OwnRefusal → ℕ
+ownNumberOf UnknownPath = 41
+ownNumberOf NoBytes = 42
+ownNumberOf OtherWindow = 43
+ownNumberOf OtherVolume = 44
 
 abbrev pub isRefusal : Refusal → Bool
 isRefusal kind = not (eqb (numberOf kind) 0)

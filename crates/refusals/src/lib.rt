@@ -1,7 +1,7 @@
 // refusals: the numbered table of what is refused, and verdicts: what a check finds. For every crate that judges something.
 // What the words mean stands in specs/; each public function answers every input, and its contract is an equation with a definition there.
 ghost use mathlib.Core.Path.{_≡_};
-ghost use Rattle.refusals.specs.Refusals.{numberOf, isRefusal, refuseIf, refuseAt};
+ghost use Rattle.refusals.specs.Refusals.{numberOf, ownNumberOf, isRefusal, refuseIf, refuseAt};
 
 // The kinds of document 01's refusal table and of the requests after it, in the order of their numbers.
 pub enum Refusal {
@@ -32,6 +32,15 @@ pub enum Refusal {
     OverEightWants,
     BadSheetCount,
     BadRecord,
+}
+
+// The kinds of our own part of the table, which begins at 41: they occur in our own commands and calls alone. Kept apart, so that nothing that 01 or a request
+// orders can answer by one of them.
+pub enum OwnRefusal {
+    UnknownPath,
+    NoBytes,
+    OtherWindow,
+    OtherVolume,
 }
 
 // What a check finds: a kind, and the file, want, entry or line it speaks of, counted from 1 (0: none).
@@ -72,6 +81,18 @@ pub fn number(kind: Refusal) -> u64
         Refusal::OverEightWants => 24,
         Refusal::BadSheetCount => 25,
         Refusal::BadRecord => 26,
+    }
+}
+
+// The number of a kind of our own part.
+pub fn own_number(kind: OwnRefusal) -> u64
+    ensures { λ r. ⌜ r ≡ ownNumberOf kind ⌝ }
+{
+    match kind {
+        OwnRefusal::UnknownPath => 41,
+        OwnRefusal::NoBytes => 42,
+        OwnRefusal::OtherWindow => 43,
+        OwnRefusal::OtherVolume => 44,
     }
 }
 
