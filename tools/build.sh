@@ -8,7 +8,7 @@
 #
 # Printed is what rt prints, behind a line `rooms=` with the folder of the lanes and of rt's temporary files. It goes when this ends, also by a signal.
 set -u
-unset -v CDPATH ar crate ended folder free here job lane lanes met name named names order rooms running state status unproved
+unset -v CDPATH ar at crate ended first folder free here height job lane lanes met name named names order rooms running state status unproved
 here=$(cd "$(dirname "$0")/.." && pwd)
 rooms=
 
@@ -25,12 +25,14 @@ trap end_all EXIT
 trap 'trap "" HUP INT TERM; exit 129' HUP
 trap 'trap "" HUP INT TERM; exit 130' INT
 trap 'trap "" HUP INT TERM; exit 143' TERM
-folder=${TMPDIR:-/tmp}
+# shellcheck source=tools/memory.sh
+. "$here/tools/memory.sh"
+folder=$(room_folder)
 rooms=$(mktemp -d "$folder/violstream.XXXXXX" 2> /dev/null) || { printf 'error: cannot make a temporary folder in %s\n' "$folder"; exit 1; }
 chmod 711 "$rooms" # rt runs programs as nobody
 printf 'rooms=%s\n' "$rooms"
 
-declare -A met=() names=() state=()
+declare -A height=() met=() names=() state=()
 order=() free=() running=0 unproved=0 status=0
 
 # visit CRATE: it, and before it what it names, into the order; names and state have every crate by then.
@@ -44,13 +46,19 @@ visit() {
     order+=("$1")
 }
 
-# The crates below one, each behind those that it names.
+# The crates below one, each behind those that it names; and of each how many stand above it, one on the other, since those wait for it.
 below() {
-    local crate
+    local at crate
     while IFS=: read -r name named; do
         names[${name// /}]=$named
     done < <(sed -e 's/#.*//' -e '/:/!d' "$here/crates.txt")
     visit "$1"
+    for ((at = ${#order[@]} - 1; at >= 0; at--)); do
+        crate=${order[at]}
+        for name in ${names[$crate]}; do
+            [ "${height[$name]:-0}" -gt "${height[$crate]:-0}" ] || height[$name]=$((${height[$crate]:-0} + 1))
+        done
+    done
     unset 'order[-1]'
     for crate in "${order[@]}"; do
         state[$crate]=waits
@@ -78,15 +86,19 @@ start() {
     state[$1]=begun running=$((running + 1))
 }
 
-# Starts what can be started, as long as a lane is free.
+# Starts what can be started, as long as a lane is free: first what most stand above.
 start_some() {
-    local crate
-    for crate in "${order[@]}"; do
-        [ "${#free[@]}" -gt 0 ] || return 0
-        if [ "${state[$crate]}" = waits ] && can_start "$crate"; then
-            start "$crate" "${free[0]}"
-            free=("${free[@]:1}")
-        fi
+    local crate first
+    while [ "${#free[@]}" -gt 0 ]; do
+        first=
+        for crate in "${order[@]}"; do
+            if [ "${state[$crate]}" = waits ] && [ "${height[$crate]}" -gt "${height[${first:-none}]:-0}" ] && can_start "$crate"; then
+                first=$crate
+            fi
+        done
+        [ -n "$first" ] || return 0
+        start "$first" "${free[0]}"
+        free=("${free[@]:1}")
     done
 }
 
