@@ -14,9 +14,9 @@ use Rattle.tape_markup.specs.Tree.{Forest, treeOf}
 use Rattle.tape_spans.specs.declared.Extent.{Extent}
 use Rattle.tape_spans.specs.declared.Span.{Span}
 use Rattle.tape_spans.specs.Spans.{spanOf, noSpan}
-use Rattle.answer_ltfs.specs.Index.{labelName, indexName, valuesAt, firstValue, isNone, blockSizeOf, dataPartitionOf, partitionOf, startBlockOf, byteOffsetOf, byteCountOf}
+use Rattle.tape_files.specs.Index.{labelName, indexName, valuesAt, firstValue, isNone, blockSizeOf, dataPartitionOf, partitionOf, startBlockOf, byteOffsetOf, byteCountOf}
 use Rattle.answer_ltfs.specs.TapeTable.{areGoodTexts, only}
-use Rattle.answer_pick.specs.NamedFiles.{NamedFile, namedFiles}
+use Rattle.tape_files.specs.NamedFiles.{NamedFile, namedFiles}
 
 -- 44: both texts say their volume directly in `ltfslabel` and `ltfsindex`, and what they say first differs, as it is written.
 abbrev pub volumesIn : List ℕ → Forest → List (List ℕ)

@@ -1,0 +1,152 @@
+-- What is left of the elements around a place: the next element in the one around it, and past the end of that one.
+use Prim.Native.Nat.{ℕ, zero, suc, _+_, _-_, _≤_, _<_}
+use mathlib.Core.Path.{_≡_, refl, ap, sym, _∙_}
+use mathlib.Core.List.{List, [], _∷_}
+use native.Mathlib.Omega.{arith}
+use native.Mathlib.Numerals.{add-one}
+use lib.ListN.{length}
+use Rattle.tape_markup.specs.declared.Place.{Place}
+use Rattle.tape_markup.specs.Markup.{Token, Open, Close, Char, Broken}
+use Rattle.tape_markup.specs.Tree.{Forest, innermost, enclosing, frame, frames}
+use Rattle.tape_markup.proofs.Meets.{begins-fewer}
+use Rattle.tape_markup.specs.Places.{part, NameIn, PlaceIn, placeAt, tokensAt, Begins, Passes}
+use Rattle.tape_files.specs.Elements.{framesAt, inside, Left, bare, ElementMet, NoElement}
+
+-- What is left, by the tokens from a place on.
+pub frames-none : (text : List ℕ) (here : Place) → tokensAt text here ≡ [] → framesAt text here ≡ []
+unfolding framesAt frames
+frames-none text here e = ap frames e
+
+pub frames-broken : (text : List ℕ) (here : Place) → tokensAt text here ≡ Broken ∷ [] → framesAt text here ≡ []
+unfolding framesAt frames
+frames-broken text here e = ap frames e
+
+pub frames-first : (text : List ℕ) (here next : Place) (token : Token) → Begins (tokensAt text here) text token next → framesAt text here ≡ frame token (framesAt text next)
+unfolding framesAt frames
+frames-first text here next token p = ap frames (p .first)
+
+pub frames-past : (text : List ℕ) (here next : Place) → Passes (tokensAt text here) text (placeAt here) next → framesAt text here ≡ framesAt text next
+unfolding framesAt
+frames-past text here next p = ap frames (p .same)
+
+-- Looking for the next element: the bytes passed are not of it.
+pub record Seeking (text : List ℕ) (place here : Place) : Type 0 where
+  pub within : PlaceIn text here
+  pub held : bare (inside text place) ≡ bare (inside text here)
+  pub outer : enclosing (framesAt text place) ≡ enclosing (framesAt text here)
+  pub fewer : length (tokensAt text here) ≤ length (tokensAt text place)
+
+pub seeking-none : (text : List ℕ) (place : Place) → PlaceIn text place → Seeking text place place
+seeking-none text place p = record { within = p; held = refl; outer = refl; fewer = omega arith }
+
+module _ (text : List ℕ) (place here : Place) (p : Seeking text place here) where
+  nothing-left : framesAt text here ≡ [] → NoElement text place here
+  unfolding bare
+  nothing-left e =
+      let f = p .fewer in
+      record {
+        none = p .held ∙ ap (λ (l : List Forest). bare (innermost l)) e;
+        left = record { outer = e ∙ sym (ap enclosing e) ∙ sym (p .outer); within = p .within; fewer = f };
+      }
+
+  pub seek-end : tokensAt text here ≡ [] → NoElement text place here
+  seek-end e = nothing-left (frames-none text here e)
+
+  pub seek-broken : tokensAt text here ≡ Broken ∷ [] → NoElement text place here
+  seek-broken e = nothing-left (frames-broken text here e)
+
+  pub seek-past : (next : Place) → Passes (tokensAt text here) text (placeAt here) next → Seeking text place next
+  seek-past next q =
+      let e = frames-past text here next q in
+      record {
+        within = q .within;
+        held = p .held ∙ ap (λ (l : List Forest). bare (innermost l)) e;
+        outer = p .outer ∙ ap enclosing e;
+        fewer = omega (arith, ap length (q .same), p .fewer);
+      }
+
+  pub seek-byte : (b : ℕ) (next : Place) → Begins (tokensAt text here) text (Char b) next → Seeking text place next
+  unfolding bare
+  seek-byte b next q =
+      let e = frames-first text here next (Char b) q in
+      record {
+        within = q .within;
+        held = p .held ∙ ap (λ (l : List Forest). bare (innermost l)) e;
+        outer = p .outer ∙ ap enclosing e;
+        fewer = omega (arith, begins-fewer text here next (Char b) q, p .fewer);
+      }
+
+  pub seek-start : (from to : ℕ) (next : Place) → Begins (tokensAt text here) text (Open (part from to text)) next → NameIn text from to → ElementMet text place from to next
+  unfolding bare
+  seek-start from to next q n =
+      let e = frames-first text here next (Open (part from to text)) q in
+      record {
+        name = n;
+        within = q .within;
+        here = p .held ∙ ap (λ (l : List Forest). bare (innermost l)) e;
+        outer = p .outer ∙ ap enclosing e;
+        fewer = omega (arith, begins-fewer text here next (Open (part from to text)) q, p .fewer);
+      }
+
+  pub seek-finish : (name : List ℕ) (next : Place) → Begins (tokensAt text here) text (Close name) next → NoElement text place next
+  unfolding bare
+  seek-finish name next q =
+      let e = frames-first text here next (Close name) q in
+      record {
+        none = p .held ∙ ap (λ (l : List Forest). bare (innermost l)) e;
+        left = record {
+          outer = sym (p .outer ∙ ap enclosing e);
+          within = q .within;
+          fewer = omega (arith, begins-fewer text here next (Close name) q, p .fewer);
+        };
+      }
+
+-- So many elements outwards.
+unfoldable pub outwards : ℕ → List Forest → List Forest
+outwards zero left = left
+outwards (suc n) left = outwards n (enclosing left)
+
+-- Leaving an element, so many elements inside of it.
+pub record Leaving (text : List ℕ) (place here : Place) (depth : ℕ) : Type 0 where
+  pub within : PlaceIn text here
+  pub outer : outwards depth (enclosing (framesAt text here)) ≡ enclosing (framesAt text place)
+  pub deep : depth + length (tokensAt text here) ≤ length (tokensAt text place)
+
+pub leaving-none : (text : List ℕ) (place : Place) → PlaceIn text place → Leaving text place place 0
+unfolding outwards
+leaving-none text place p = record { within = p; outer = refl; deep = omega arith }
+
+module _ (text : List ℕ) (place here : Place) (depth : ℕ) (p : Leaving text place here depth) where
+  pub leave-deeper : (from to : ℕ) (next : Place) → ElementMet text here from to next → Leaving text place next (depth + 1)
+  unfolding outwards
+  leave-deeper from to next q =
+      record {
+        within = q .within;
+        outer = rw (add-one depth) (ap (outwards depth) (sym (q .outer)) ∙ p .outer);
+        deep = omega (arith, q .fewer, p .deep);
+      }
+
+  pub leave-out : (next : Place) → NoElement text here next → (depth ≡ 0 → ⊥) → Leaving text place next (depth - 1)
+  unfolding outwards
+  leave-out next q n =
+      record {
+        within = q .left .within;
+        outer = by-depth depth n (p .outer);
+        deep = omega (arith, q .left .fewer, p .deep);
+      }
+    where
+      step : (d : ℕ) → suc d - 1 ≡ d
+      step d = omega arith
+
+      by-depth : (d : ℕ) → (d ≡ 0 → ⊥) → outwards d (enclosing (framesAt text here)) ≡ enclosing (framesAt text place) → outwards (d - 1) (enclosing (framesAt text next)) ≡ enclosing (framesAt text place)
+      by-depth zero m e = absurd (omega arith)
+      by-depth (suc d) m e = rw (step d) (ap (λ (l : List Forest). outwards d (enclosing l)) (q .left .outer) ∙ e)
+
+  pub leave-done : (next : Place) → NoElement text here next → depth ≡ 0 → Left text place next
+  unfolding outwards
+  leave-done next q z =
+      record {
+        outer = q .left .outer ∙ ap (λ (d : ℕ). outwards d (enclosing (framesAt text here))) (sym z) ∙ p .outer;
+        within = q .left .within;
+        fewer = omega (arith, q .left .fewer, p .deep);
+      }

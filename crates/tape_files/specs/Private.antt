@@ -1,0 +1,47 @@
+-- For the contracts of private functions alone: the bytes of a value, one by one. No public contract cites this file.
+use Prim.Native.Nat.{ℕ, _+_, _-_, _*_, _^_}
+use Prim.Native.Char.{code}
+use mathlib.Core.Path.{_≡_}
+use mathlib.Core.Bool.{Bool, true, false, cond, _&&_}
+use mathlib.Core.List.{List, [], _∷_}
+use lib.Dec.{eqb, ltb}
+use Rattle.text_bytes.specs.Text.{isDigit}
+use Rattle.tape_files.specs.declared.Use.{Use}
+use Rattle.tape_files.specs.declared.values.Chars.{Chars}
+use Rattle.tape_files.specs.declared.values.Grown.{Grown}
+
+-- What is known before the first byte.
+abbrev pub noChars : Chars
+noChars = record { some = false; more = false; first = 0; good = false; value = 0 }
+
+abbrev pub mayFollow : Chars → Bool
+mayFollow chars = cond (chars .some) (cond (eqb (chars .first) (code "0")) false (chars .good)) true
+
+-- The value of a byte that is a digit.
+abbrev pub digitOf : ℕ → ℕ
+digitOf byte = byte - code "0"
+
+abbrev pub grows : ℕ → ℕ → Bool
+grows value byte = isDigit byte && ltb (value * 10 + digitOf byte) (2 ^ 64)
+
+abbrev pub GrownTo : Bool → ℕ → Grown → Type 0
+GrownTo good number (Grown.To n) = (good ≡ true) × (n ≡ number)
+GrownTo good number Grown.No = good ≡ false
+
+unfoldable pub withByte : Chars → ℕ → Chars
+withByte chars byte =
+    record {
+      some = true;
+      more = chars .some;
+      first = cond (chars .some) (chars .first) byte;
+      good = mayFollow chars && grows (chars .value) byte;
+      value = cond (mayFollow chars && grows (chars .value) byte) (chars .value * 10 + digitOf byte) 0;
+    }
+
+unfoldable pub charsFrom : Chars → List ℕ → Chars
+charsFrom chars [] = chars
+charsFrom chars (b ∷ bytes) = charsFrom (withByte chars b) bytes
+
+abbrev pub enterIf : Bool → Use
+enterIf true = Use.Enter
+enterIf false = Use.Skip
