@@ -4,5 +4,6 @@ pub mod Pieces
 pub mod Meets
 pub mod Counts
 pub mod Names
+pub mod Texts
 pub mod Spelled
 pub mod Balanced

@@ -2,7 +2,7 @@
 -- attributes, comments, declarations and processing instructions are passed over, and `<x/>` is a start tag and its end tag.
 use Prim.Native.Nat.{ℕ, suc, zero, _+_, _-_}
 use Prim.Native.Char.{code}
-use mathlib.Core.Bool.{Bool, cond, _&&_, _||_}
+use mathlib.Core.Bool.{Bool, cond, not, _&&_, _||_}
 use mathlib.Core.List.{List, [], _∷_, _++_, map}
 use lib.ListN.{length, take, drop, getD}
 use lib.Dec.{eqb, ltb}
@@ -56,6 +56,10 @@ declarationEnd quote depth (b ∷ text) =
 unfoldable pub frontOf : (ℕ → Bool) → List ℕ → ℕ
 frontOf kind [] = 0
 frontOf kind (b ∷ text) = cond (kind b) (suc (frontOf kind text)) 0
+
+-- A byte that begins no markup.
+abbrev pub isChar : ℕ → Bool
+isChar b = not (eqb b (code "<"))
 
 abbrev pub isBlank : ℕ → Bool
 isBlank b = eqb b (code " ") || eqb b (code "\t") || eqb b (code "\n") || eqb b (code "\r")

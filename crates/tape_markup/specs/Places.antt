@@ -42,6 +42,12 @@ pub record Passes (tokens : List Token) (text : List ℕ) (at : ℕ) (next : Pla
   pub within : PlaceIn text next
   pub beyond : at < placeAt next
 
+-- Bytes of text, and the tokens from the next place on.
+pub record Told (tokens : List Token) (text : List ℕ) (next : Place) : Type 0 where
+  pub bytes : List ℕ
+  pub same : tokens ≡ map Char bytes ++ tokensAt text next
+  pub within : PlaceIn text next
+
 -- What a step from a position on meets of some tokens.
 abbrev pub StepMet : List Token → List ℕ → ℕ → Step → Type 0
 StepMet tokens text at Step.End = tokens ≡ []

@@ -1,4 +1,4 @@
--- What is promised of steps, trees and balance, beyond the contracts. All is proved: proofs/Meets.antt, proofs/Spelled.antt and
+-- What is promised of steps, trees and balance, beyond the contracts. All is proved: proofs/Meets.antt, proofs/Texts.antt, proofs/Spelled.antt and
 -- proofs/Balanced.antt.
 use mathlib.Core.Path.{_≡_}
 use mathlib.Core.Logic.{_↔_}
@@ -8,12 +8,16 @@ use Prim.Native.Nat.{ℕ, suc, _≤_, max}
 use Rattle.tape_markup.specs.declared.Place.{Place}
 use Rattle.tape_markup.specs.Markup.{Token, Open, Close, Char, tokensOf}
 use Rattle.tape_markup.specs.Tree.{Forest, none, char, element, mostOpen, isBalanced, treeOf}
-use Rattle.tape_markup.specs.Steps.{stepAt}
-use Rattle.tape_markup.specs.Places.{PlaceIn, placeAt, tokensAt, StepMet}
+use Rattle.tape_markup.specs.Steps.{stepAt, behindText}
+use Rattle.tape_markup.specs.Places.{PlaceIn, placeAt, tokensAt, Told, StepMet}
 
 -- A step from a place in a text meets the first of the tokens from there on, or stands further on before the same tokens.
 abbrev pub StepsSayTokens : Type 0
 StepsSayTokens = (text : List ℕ) (place : Place) → PlaceIn text place → StepMet (tokensAt text place) text (placeAt place) (stepAt text place)
+
+-- Behind the bytes of text at a place stand the same tokens, but for those bytes.
+abbrev pub TextIsPassed : Type 0
+TextIsPassed = (text : List ℕ) (place : Place) → PlaceIn text place → Told (tokensAt text place) text (behindText text place)
 
 -- The tree of a balanced text says all that the text says, and nothing else: spelled out, it is the text's tokens.
 unfoldable pub spelled : Forest → List Token

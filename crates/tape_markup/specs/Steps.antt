@@ -7,7 +7,7 @@ use lib.ListN.{length, drop, getD}
 use lib.Dec.{eqb, ltb}
 use Rattle.tape_markup.specs.declared.Place.{Place}
 use Rattle.tape_markup.specs.declared.Step.{Step}
-use Rattle.tape_markup.specs.Markup.{Piece, opens, alone, closes, plain, passed, broken, pieceOf}
+use Rattle.tape_markup.specs.Markup.{Piece, opens, alone, closes, plain, passed, broken, pieceOf, frontOf, isChar}
 
 -- What a `<` at a position begins.
 abbrev pub pieceStep : ℕ → Piece → Step
@@ -29,3 +29,9 @@ stepAt text (Place.Text at) = textStep at (drop at text)
 stepAt text (Place.Plain at end) =
     cond (ltb (at + 3) end && ltb at (length text)) (Step.Byte (getD text at 0) (Place.Plain (at + 1) end)) (Step.Past (Place.Text end))
 stepAt text (Place.Shut from to at) = Step.Finish from to (Place.Text at)
+
+-- The place behind the bytes of text at another: before the next `<`, or at the text's end. A place in a CDATA section, or before an end tag, stays.
+unfoldable pub behindText : List ℕ → Place → Place
+behindText text (Place.Text at) = Place.Text (at + frontOf isChar (drop at text))
+behindText text (Place.Plain at end) = Place.Plain at end
+behindText text (Place.Shut from to at) = Place.Shut from to at

@@ -8,6 +8,7 @@ ghost use Rattle.tape_markup.specs.Places.{part};
 use crate::MOST_OPEN;
 use crate::Place;
 use crate::Step;
+use crate::tokens::behind_text;
 use crate::tokens::step_from;
 
 // Whether two parts of a text are the same.
@@ -32,7 +33,7 @@ pub fn is_balanced(text: &[u8]) -> bool
         match step {
             Step::End => return open == 0,
             Step::Broken => return false,
-            Step::Byte { byte: _, next } => place = next,
+            Step::Byte { byte: _, next } => place = behind_text(text, next),
             Step::Start { from, to, next } => {
                 if open == MOST_OPEN {
                     return false;
@@ -40,7 +41,7 @@ pub fn is_balanced(text: &[u8]) -> bool
                 froms[open] = from;
                 tos[open] = to;
                 open += 1;
-                place = next;
+                place = behind_text(text, next);
             }
             Step::Finish { from, to, next } => {
                 if open == 0 {
@@ -50,9 +51,9 @@ pub fn is_balanced(text: &[u8]) -> bool
                 if !same_names(text, froms[open], tos[open], from, to) {
                     return false;
                 }
-                place = next;
+                place = behind_text(text, next);
             }
-            Step::Past(next) => place = next,
+            Step::Past(next) => place = behind_text(text, next),
         }
     }
 }

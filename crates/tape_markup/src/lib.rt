@@ -6,6 +6,7 @@ mod scan;
 mod tokens;
 
 pub use balance::is_balanced;
+pub use tokens::behind_text;
 pub use tokens::step_from;
 
 // The elements that may be open at once, the outermost among them.

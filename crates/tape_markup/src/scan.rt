@@ -4,7 +4,7 @@ ghost use Prim.Native.Nat.{_+_, _≤_, _<_};
 ghost use mathlib.Core.Bool.{_&&_};
 ghost use lib.ListN.{length, drop};
 ghost use lib.Dec.{eqb};
-ghost use Rattle.tape_markup.specs.Markup.{endBehind, tagEnd, declarationEnd, quoteAfter, depthAfter, frontOf, isBlank, beginsName, inName, nameSize};
+ghost use Rattle.tape_markup.specs.Markup.{endBehind, tagEnd, declarationEnd, quoteAfter, depthAfter, frontOf, isChar, isBlank, beginsName, inName, nameSize};
 ghost use Rattle.tape_markup.specs.Private.{EndFound, endsDeclaration};
 
 // The position behind what was looked for, or that it never ends.
@@ -129,6 +129,21 @@ pub(crate) fn declaration_end(text: &[u8], at: usize) -> Ending
         i += 1;
     }
     Ending::Never
+}
+
+// The first position, from one on, that holds a `<`, or the text's end.
+pub(crate) fn behind_chars(text: &[u8], at: usize) -> usize
+    requires { ⌜ at ≤ length (now text) ⌝ }
+    ensures { λ r. ⌜ (r ≡ at + frontOf isChar (drop at (now (text .entry)))) × (r ≤ length (now (text .entry))) ⌝ }
+{
+    let mut i = at;
+    while i < text.len() {
+        if text[i] == b'<' {
+            return i;
+        }
+        i += 1;
+    }
+    i
 }
 
 fn is_blank(byte: u8) -> bool

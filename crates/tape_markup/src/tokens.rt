@@ -5,12 +5,13 @@ ghost use Prim.Native.Nat.{_+_, _≤_, _<_};
 ghost use lib.ListN.{length, drop};
 ghost use lib.Dec.{ltb};
 ghost use Rattle.tape_markup.specs.Markup.{startTag, endTag, plainTo, plainEnd, endBehind, nameSize, pieceOf};
-ghost use Rattle.tape_markup.specs.Steps.{pieceStep, stepAt};
+ghost use Rattle.tape_markup.specs.Steps.{pieceStep, stepAt, behindText};
 ghost use Rattle.tape_markup.specs.Private.{OpeningMet, isAlone, pastTo};
 use crate::Place;
 use crate::Step;
 use crate::scan::Ending;
 use crate::scan::behind_blanks;
+use crate::scan::behind_chars;
 use crate::scan::behind_name;
 use crate::scan::declaration_end;
 use crate::scan::end_behind;
@@ -203,5 +204,22 @@ pub fn step_from(text: &[u8], place: Place) -> Step
             to,
             next: Place::Text(at),
         },
+    }
+}
+
+// Behind the bytes of text at a place.
+pub fn behind_text(text: &[u8], place: Place) -> Place
+    ensures { λ r. ⌜ r ≡ behindText (now (text .entry)) place ⌝ }
+{
+    match place {
+        Place::Text(at) => {
+            if text.len() <= at {
+                return Place::Text(at);
+            }
+            let next = behind_chars(text, at);
+            Place::Text(next)
+        }
+        Place::Plain { at, end } => Place::Plain { at, end },
+        Place::Shut { from, to, at } => Place::Shut { from, to, at },
     }
 }

@@ -3,6 +3,7 @@
 use mathlib.Core.Path.{refl, sym, _∙_}
 use borrow.Author.Tests.{not-true, not-false}
 use Rattle.tape_markup.proofs.Meets.{step-told, begins-fewer, unread, unread-token, unread-past}
+use Rattle.tape_markup.proofs.Texts.{text-less, balance-text}
 use Rattle.tape_markup.proofs.Names.{Balancing, balancing-none, balance-end, balance-broken, balance-past, balance-byte, balance-full, balance-open, balance-outside, balance-name, balance-other, balance-close}
 use borrow.Author.Needs.{needs}
 use native.Mathlib.Omega.{arith}
@@ -36,12 +37,17 @@ returns-2 c = balance-broken _ _ _ _ _ (c .before .before .before .loop .inv) (r
 enum-known-step : tie.Need-enum-known-step Inv-loop μ-loop
 enum-known-step c = search needs
 
+behind-text-requires : tie.Need-behind-text-requires Inv-loop μ-loop
+behind-text-requires c κs = search needs
+
 loop-less : tie.Need-loop-less Inv-loop μ-loop
-loop-less c = unread-token _ _ _ (begins-fewer _ _ _ _ (rw (c .before .step .given .1) at (step-told _ _ _ (c .before .before .before .before .loop .inv .within) (c .before .before .before .step-from .ensures))))
+loop-less c =
+    let m = rw (c .before .before .step .given .1) at (step-told _ _ _ (c .before .before .before .before .before .loop .inv .within) (c .before .before .before .before .step-from .ensures)) in
+    text-less _ _ _ _ (m .within) (c .behind-text .ensures) (unread-token _ _ _ (begins-fewer _ _ _ _ m))
 
 loop-again : tie.Need-loop-again Inv-loop μ-loop
 loop-again c =
-    balance-byte _ _ _ _ _ (c .before .before .before .before .loop .inv) _ _ (rw (c .before .step .given .1) at (step-told _ _ _ (c .before .before .before .before .loop .inv .within) (c .before .before .before .step-from .ensures)))
+    balance-text _ _ _ _ _ _ (balance-byte _ _ _ _ _ (c .before .before .before .before .before .loop .inv) _ _ (rw (c .before .before .step .given .1) at (step-told _ _ _ (c .before .before .before .before .before .loop .inv .within) (c .before .before .before .before .step-from .ensures)))) (c .behind-text .ensures)
 
 enum-known-step-2 : tie.Need-enum-known-step-2 Inv-loop μ-loop
 enum-known-step-2 c = search needs
@@ -66,13 +72,18 @@ array-write-tos c = let i = c .before .before .before .before .before .loop .inv
 add-open : tie.Need-add-open Inv-loop μ-loop
 add-open c = let i = c .before .before .before .before .before .loop .inv in let f = i .few in let b = i .begins in let e = i .ends in search needs
 
+behind-text-requires-2 : tie.Need-behind-text-requires-2 Inv-loop μ-loop
+behind-text-requires-2 c κs = search needs
+
 loop-less-2 : tie.Need-loop-less-2 Inv-loop μ-loop
-loop-less-2 c = let m = rw (c .before .before .step2 .given .1) at (step-told _ _ _ (c .before .before .before .before .before .loop .inv .within) (c .before .before .before .before .step-from .ensures)) in unread-token _ _ _ (begins-fewer _ _ _ _ (m .0))
+loop-less-2 c =
+    let m = rw (c .before .before .before .step2 .given .1) at (step-told _ _ _ (c .before .before .before .before .before .before .loop .inv .within) (c .before .before .before .before .before .step-from .ensures)) in
+    text-less _ _ _ _ (m .0 .within) (c .behind-text2 .ensures) (unread-token _ _ _ (begins-fewer _ _ _ _ (m .0)))
 
 loop-again-2 : tie.Need-loop-again-2 Inv-loop μ-loop
 loop-again-2 c =
-    let m = rw (c .before .before .step2 .given .1) at (step-told _ _ _ (c .before .before .before .before .before .loop .inv .within) (c .before .before .before .before .step-from .ensures)) in
-    balance-open _ _ _ _ _ (c .before .before .before .before .before .loop .inv) _ _ _ (m .0) (m .1) (c .if1 .left)
+    let m = rw (c .before .before .before .step2 .given .1) at (step-told _ _ _ (c .before .before .before .before .before .before .loop .inv .within) (c .before .before .before .before .before .step-from .ensures)) in
+    balance-text _ _ _ _ _ _ (balance-open _ _ _ _ _ (c .before .before .before .before .before .before .loop .inv) _ _ _ (m .0) (m .1) (c .before .if1 .left)) (c .behind-text2 .ensures)
 
 enum-known-step-3 : tie.Need-enum-known-step-3 Inv-loop μ-loop
 enum-known-step-3 c = search needs
@@ -110,29 +121,35 @@ returns-5 c =
     balance-other _ _ _ _ _ (c .before .before .before .before .before .before .before .loop .inv) _ _ (m .0) (c .before .before .if2 .left)
     (sym (c .before .same-names .ensures) ∙ not-true _ (c .if3 .taken))
 
+behind-text-requires-3 : tie.Need-behind-text-requires-3 Inv-loop μ-loop
+behind-text-requires-3 c κs = search needs
+
 loop-less-3 : tie.Need-loop-less-3 Inv-loop μ-loop
 loop-less-3 c =
-    let m = rw (c .before .before .before .before .step3 .given .1) at (step-told _ _ _ (c .before .before .before .before .before .before .before .loop .inv .within) (c .before .before .before .before .before .before .step-from .ensures)) in
-    unread-token _ _ _ (begins-fewer _ _ _ _ (m .0))
+    let m = rw (c .before .before .before .before .before .step3 .given .1) at (step-told _ _ _ (c .before .before .before .before .before .before .before .before .loop .inv .within) (c .before .before .before .before .before .before .before .step-from .ensures)) in
+    text-less _ _ _ _ (m .0 .within) (c .behind-text3 .ensures) (unread-token _ _ _ (begins-fewer _ _ _ _ (m .0)))
 
 loop-again-3 : tie.Need-loop-again-3 Inv-loop μ-loop
 loop-again-3 c =
-    let m = rw (c .before .before .before .before .step3 .given .1) at (step-told _ _ _ (c .before .before .before .before .before .before .before .loop .inv .within) (c .before .before .before .before .before .before .step-from .ensures)) in
-    balance-close _ _ _ _ _ (c .before .before .before .before .before .before .before .loop .inv) _ _ (m .0) (c .before .before .if2 .left)
-    (sym (c .before .same-names .ensures) ∙ not-false _ (c .if3 .left))
+    let m = rw (c .before .before .before .before .before .step3 .given .1) at (step-told _ _ _ (c .before .before .before .before .before .before .before .before .loop .inv .within) (c .before .before .before .before .before .before .before .step-from .ensures)) in
+    balance-text _ _ _ _ _ _ (balance-close _ _ _ _ _ (c .before .before .before .before .before .before .before .before .loop .inv) _ _ (m .0) (c .before .before .before .if2 .left)
+    (sym (c .before .before .same-names .ensures) ∙ not-false _ (c .before .if3 .left))) (c .behind-text3 .ensures)
 
 enum-known-step-4 : tie.Need-enum-known-step-4 Inv-loop μ-loop
 enum-known-step-4 c = search needs
 
+behind-text-requires-4 : tie.Need-behind-text-requires-4 Inv-loop μ-loop
+behind-text-requires-4 c κs = search needs
+
 loop-less-4 : tie.Need-loop-less-4 Inv-loop μ-loop
 loop-less-4 c =
-    let m = rw (c .before .step4 .given .1) at (step-told _ _ _ (c .before .before .before .before .loop .inv .within) (c .before .before .before .step-from .ensures)) in
-    unread-past _ _ _ m
+    let m = rw (c .before .before .step4 .given .1) at (step-told _ _ _ (c .before .before .before .before .before .loop .inv .within) (c .before .before .before .before .step-from .ensures)) in
+    text-less _ _ _ _ (m .within) (c .behind-text4 .ensures) (unread-past _ _ _ m)
 
 loop-again-4 : tie.Need-loop-again-4 Inv-loop μ-loop
 loop-again-4 c =
-    let m = rw (c .before .step4 .given .1) at (step-told _ _ _ (c .before .before .before .before .loop .inv .within) (c .before .before .before .step-from .ensures)) in
-    balance-past _ _ _ _ _ (c .before .before .before .before .loop .inv) _ m
+    let m = rw (c .before .before .step4 .given .1) at (step-told _ _ _ (c .before .before .before .before .before .loop .inv .within) (c .before .before .before .before .step-from .ensures)) in
+    balance-text _ _ _ _ _ _ (balance-past _ _ _ _ _ (c .before .before .before .before .before .loop .inv) _ m) (c .behind-text4 .ensures)
 
 pub is-balanced-spec : {M : Type 1} → statement M
 is-balanced-spec =
@@ -147,6 +164,7 @@ is-balanced-spec =
     enum-told-2
     returns-2
     enum-known-step
+    behind-text-requires
     loop-less
     loop-again
     enum-known-step-2
@@ -156,6 +174,7 @@ is-balanced-spec =
     mul-tos
     array-write-tos
     add-open
+    behind-text-requires-2
     loop-less-2
     loop-again-2
     enum-known-step-3
@@ -167,8 +186,10 @@ is-balanced-spec =
     array-read-same-names-2
     same-names-requires
     returns-5
+    behind-text-requires-3
     loop-less-3
     loop-again-3
     enum-known-step-4
+    behind-text-requires-4
     loop-less-4
     loop-again-4)
