@@ -10,8 +10,8 @@ use borrow.Author.Tests.{eqb-true, eq-eqb, ltb-true, le-ltb}
 use Rattle.text_bytes.specs.Text.{startsWith}
 use Rattle.text_bytes.proofs.Bytes.{and-true-both}
 use Rattle.text_order.specs.declared.Range.{Range}
-use Rattle.text_order.specs.Order.{keyAt, keyOf, Rises, Narrowed}
-use Rattle.text_order.specs.Promises.{noLater, PathsInOrder, RangeOf, RangeGoesOn, RangesHoldBeginnings}
+use Rattle.text_order.specs.Order.{keyAt, keyOf, noLater, Rises, Narrowed}
+use Rattle.text_order.specs.Promises.{PathsInOrder, RangeOf, RangeGoesOn, RangesHoldBeginnings}
 
 or-true-rest : (a b : Bool) → (a || b) ≡ true → a ≡ false → b ≡ true
 or-true-rest true b e f = absurd (true≢false f)
