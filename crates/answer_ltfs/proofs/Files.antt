@@ -1,24 +1,21 @@
 -- The index, element by element: extents, files, and the files left from a place on.
-use Prim.Native.Nat.{ℕ, zero, suc, _+_, _-_, _%_, _≤_}
+use Prim.Native.Nat.{ℕ, zero, suc, _+_, _-_, _≤_}
 use mathlib.Core.Path.{_≡_, refl, ap, sym, _∙_}
-use mathlib.Core.Bool.{Bool, true, false, cond, not}
 use mathlib.Core.List.{List, [], _∷_, _++_, map, append-assoc, append-nil}
 use native.Mathlib.Omega.{arith}
 use native.Mathlib.Numerals.{add-one}
 use lib.ListN.{length}
-use borrow.Author.Tests.{eq-eqb, ne-eqb}
-use Rattle.text_bytes.specs.Text.{isText}
 use Rattle.tape_markup.specs.declared.Place.{Place}
 use Rattle.tape_ranges.specs.declared.File.{File}
 use Rattle.answer_ltfs.specs.declared.index.Walk.{Walk}
-use Rattle.answer_ltfs.specs.declared.index.Use.{Use}
-use Rattle.tape_markup.specs.Tree.{Forest, none, element, innermost, enclosing, treeOf}
-use Rattle.answer_ltfs.specs.Index.{flattened, isNone, insides, under, indexName, directoryName, contentsName, extentInfoName, extentName}
-use Rattle.answer_ltfs.specs.Index.{Level, outside, inDirectory, inContents, Role, holds, file, other, roleOf, extentsOf, filesOfRole, filesIn}
+use Rattle.tape_markup.specs.Tree.{Forest, innermost, enclosing}
+use Rattle.tape_files.specs.Index.{flattened, insides, under, extentInfoName, extentName}
+use Rattle.tape_files.specs.Index.{Level, outside, Role, holds, file, other, roleOf, extentsOf, filesOfRole, filesIn}
 use Rattle.tape_markup.specs.Places.{part, PlaceIn, tokensAt}
-use Rattle.answer_ltfs.specs.Private.Parts.{framesAt, inside, Left, ElementMet, NoElement, NamedAt, NoneNamed, extentOf, withExtent, withExtents, fileOf}
-use Rattle.answer_ltfs.specs.Private.Parts.{levelAt, enterIf, RoleFound, filesUnder, filesLeft, WalkIn, FileMet}
-use Rattle.answer_ltfs.proofs.Bare.{files-bare, folded}
+use Rattle.tape_files.specs.Elements.{framesAt, inside, Left, ElementMet, NoElement, levelAt}
+use Rattle.tape_files.specs.Values.{extentOf}
+use Rattle.answer_ltfs.specs.Private.Parts.{withExtent, withExtents, fileOf, filesUnder, filesLeft, WalkIn, FileMet}
+use Rattle.tape_files.proofs.Bare.{files-bare, folded}
 
 -- The extents in an `extentinfo` element, and in a file.
 abbrev pub extentStep : File → Forest → File

@@ -23,16 +23,17 @@ use Rattle.sheet_writer.specs.Writing.{topText, sheetText, rowVerdict, writeVer
 use Rattle.sheet_writer.proofs.Sheets.{first-row}
 use Rattle.answer_ltfs.specs.declared.Report.{Report}
 use Rattle.tape_ranges.specs.declared.Tally.{Tally}
-use Rattle.answer_ltfs.specs.declared.label.Label.{Label}
+use Rattle.tape_files.specs.declared.Label.{Label}
 use Rattle.tape_markup.specs.Tree.{Forest, isBalanced, treeOf}
-use Rattle.answer_ltfs.specs.Index.{every, some, isNone, insides, areGood, isPartition, letterOf, indexName, blockSizes, dataPartitions, isGoodLabel, blockSizeOf, dataPartitionOf, isGoodExtent, indexFiles, isGoodIndex}
+use Rattle.tape_files.specs.Index.{every, some, isNone, insides, areGood, isPartition, letterOf, indexName, blockSizes, dataPartitions, isGoodLabel, blockSizeOf, dataPartitionOf, isGoodExtent, indexFiles, isGoodIndex}
 use Rattle.tape_ranges.specs.Ranges.{Range}
 use Rattle.answer_ltfs.specs.TapeTable.{inSeveral, rangesOf, inTapeOrder, areFar, someOverlap, lastEnd, runOfTable, rangesIn, tapeTable, areGoodTexts, ltfsSheet, ltfsVerdict, refusedReport, ltfsReport, ltfsRow}
 use Rattle.tape_ranges.specs.Ranges.{rangesFrom, neighbourOverlap}
-use Rattle.answer_ltfs.specs.Private.Parts.{isValue, valueIn, numberField, letterField, labelOf}
+use Rattle.tape_files.specs.Values.{isValue, valueIn, numberField, letterField, labelOf}
 use Rattle.answer_ltfs.specs.Private.Tallies.{TableRows, RowsHold, EndsFit, TallyHolds, textsRead, textChecks, fileChecks, reportOf, tableSheet, tableVerdict, tableReport, tableRow}
 use Rattle.answer_ltfs.proofs.Order.{some-kept, length-kept, tape-order-ascends, held-ranges}
-use Rattle.answer_ltfs.proofs.Tallies.{field-good, field-value, number-form, letter-form, held-length}
+use Rattle.answer_ltfs.proofs.Tallies.{held-length}
+use Rattle.tape_files.proofs.Said.{field-good, field-value, number-form, letter-form}
 use Rattle.answer_ltfs.proofs.Neighbours.{isVoid, isBeyond, same-overlap, none-void, ends-fit, passes}
 
 -- A sheet has bytes.

@@ -1,8 +1,4 @@
 -- Laws that this crate's proofs share, and those that other crates cite.
-pub mod Frames
-pub mod Digits
-pub mod Bare
-pub mod Labels
 pub mod Files
 pub mod Order
 pub mod Tallies

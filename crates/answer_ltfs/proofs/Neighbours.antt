@@ -19,7 +19,7 @@ use Rattle.runs.proofs.Search.{or-false-both, first-all}
 use Rattle.runs.proofs.Alone.{all-zero, alone-judged}
 use Rattle.text_bytes.proofs.Bytes.{and-true-both}
 use Rattle.tape_markup.specs.Tree.{Forest}
-use Rattle.answer_ltfs.specs.Index.{every, some, isNone, byteCountOf, partitionOf}
+use Rattle.tape_files.specs.Index.{every, some, isNone, byteCountOf, partitionOf}
 use Rattle.tape_ranges.specs.Ranges.{Range, endOfRange}
 use Rattle.answer_ltfs.specs.TapeTable.{firstExtent, isEmptyFile, isAccepted, only, rangeOf, rangesOf, overlap, someOverlap, lastEnd, runOfTable}
 use Rattle.tape_ranges.specs.Ranges.{rangesFrom, neighbourOverlap}

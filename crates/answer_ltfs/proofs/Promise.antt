@@ -21,7 +21,7 @@ use Rattle.sheet_writer.specs.Writing.{rowVerdict}
 use Rattle.sheet_writer.proofs.RoundTrip.{round-trip}
 use Rattle.sheet_writer.proofs.Sheets.{front-refuses, front-passes}
 use Rattle.tape_markup.specs.Tree.{Forest, treeOf}
-use Rattle.answer_ltfs.specs.Index.{some, blockSizeOf, dataPartitionOf, partitionOf, indexFiles}
+use Rattle.tape_files.specs.Index.{some, blockSizeOf, dataPartitionOf, partitionOf, indexFiles}
 use Rattle.answer_ltfs.specs.TapeTable.{firstExtent, inSeveral, isEmptyFile, liesElsewhere, isAccepted, howMany, only, rangeOf, rangesOf, areFar, someOverlap, runOfTable, rangesIn, tapeTable, areGoodTexts, ltfsSheet, ltfsVerdict, tapeVerdict, ltfsReport}
 use Rattle.answer_ltfs.specs.Promises.{NoFileIsLost, AnswerCountsAll, SheetReadsBack, RowSuffices}
 use Rattle.answer_ltfs.proofs.Order.{oneIf, counted-cons, counted-none, length-kept}

@@ -16,7 +16,7 @@ use Rattle.sheet_reader.specs.Lines.{tapeKey, isTapeLine}
 use Rattle.sheet_writer.specs.RefusalLines.{refusalText}
 use Rattle.tape_markup.specs.Tree.{treeOf}
 use Rattle.answer_ltfs.specs.declared.Told.{Told}
-use Rattle.answer_ltfs.specs.Index.{dataPartitionOf, indexFiles}
+use Rattle.tape_files.specs.Index.{dataPartitionOf, indexFiles}
 use Rattle.answer_ltfs.specs.TapeTable.{isEmptyFile, liesElsewhere, howMany, ltfsSheet, tapeVerdict}
 
 -- No input has more bytes.

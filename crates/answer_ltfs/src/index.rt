@@ -1,35 +1,22 @@
 // The index: its files one by one, in the order met, each by its extents.
 ghost use mathlib.Core.Path.{_≡_};
-ghost use mathlib.Core.Bool.{not};
-ghost use Prim.Native.Nat.{suc};
-ghost use Rattle.tape_markup.specs.Tree.{treeOf};
-ghost use Rattle.answer_ltfs.specs.Index.{isNone, insides, indexName, extentName, extentsOf, roleOf, inContents, inDirectory};
-ghost use Rattle.tape_markup.specs.Places.{part, PlaceIn, NameIn};
-ghost use Rattle.answer_ltfs.specs.Private.Parts.{Left, inside, extentOf, withExtent, withExtents, fileOf, extentIsGood, levelAt, enterIf, RoleFound, NextFound, WalkIn};
-use crate::elements::Child;
-use crate::elements::Named;
-use crate::elements::is_named;
-use crate::elements::leave;
-use crate::elements::next_child;
-use crate::elements::next_named;
-use crate::values::Field;
-use crate::values::is_value;
-use crate::values::read_field;
-use crate::values::value_in;
+ghost use Rattle.tape_markup.specs.Places.{PlaceIn};
+ghost use Rattle.tape_files.specs.Index.{insides, extentName, extentsOf};
+ghost use Rattle.tape_files.specs.Elements.{Left, inside};
+ghost use Rattle.answer_ltfs.specs.Private.Parts.{withExtent, withExtents, fileOf, NextFound, WalkIn};
+use tape_files::Child;
+use tape_files::ExtentSaid;
+use tape_files::Named;
+use tape_files::Use;
+use tape_files::extent_is_good;
+use tape_files::leave;
+use tape_files::next_child;
+use tape_files::next_named;
+use tape_files::read_extent;
+use tape_files::role_at;
+use tape_files::value_in;
 use tape_markup::Place;
 use tape_ranges::File;
-
-pub(crate) struct Extent {
-    pub partition: Field,
-    pub block: Field,
-    pub offset: Field,
-    pub count: Field,
-}
-
-pub(crate) struct ExtentRead {
-    pub extent: Extent,
-    pub next: Place,
-}
 
 pub(crate) struct FileRead {
     pub file: File,
@@ -47,48 +34,8 @@ pub(crate) enum NextFile {
     Done,
 }
 
-// What an element is to the reader: one whose elements are looked at, a file, or none of these.
-enum Use {
-    Enter,
-    Read,
-    Skip,
-}
-
-// The extent that an `extent` element says.
-fn read_extent(text: &[u8], place: Place) -> ExtentRead
-    requires { ⌜ PlaceIn (now text) place ⌝ }
-    ensures { λ r. ⌜ (r .extent ≡ extentOf (inside (now (text .entry)) place)) × Left (now (text .entry)) place (r .next) ⌝ }
-{
-    let partitions = read_field(text, place, b"partition");
-    let blocks = read_field(text, place, b"startblock");
-    let offsets = read_field(text, place, b"byteoffset");
-    let counts = read_field(text, place, b"bytecount");
-    let partition = partitions.letter;
-    let block = blocks.number;
-    let offset = offsets.number;
-    let count = counts.number;
-    let next = counts.next;
-    let extent = Extent {
-        partition,
-        block,
-        offset,
-        count,
-    };
-    ExtentRead { extent, next }
-}
-
-fn extent_is_good(extent: Extent) -> bool
-    ensures { λ r. ⌜ r ≡ extentIsGood extent ⌝ }
-{
-    let partition = extent.partition;
-    let block = extent.block;
-    let offset = extent.offset;
-    let count = extent.count;
-    is_value(partition) & is_value(block) & is_value(offset) & is_value(count)
-}
-
 // A file with one more extent.
-fn with_extent(file: File, extent: Extent) -> File
+fn with_extent(file: File, extent: ExtentSaid) -> File
     ensures { λ r. ⌜ r ≡ withExtent file extent ⌝ }
 {
     let good = file.good & extent_is_good(extent);
@@ -166,46 +113,6 @@ fn read_file(text: &[u8], place: Place) -> FileRead
     }
 }
 
-fn enter_if(named: bool) -> Use
-    ensures { λ r. ⌜ r ≡ enterIf named ⌝ }
-{
-    if named {
-        return Use::Enter;
-    }
-    Use::Skip
-}
-
-// What a name means in the contents of a directory.
-fn use_in_contents(text: &[u8], from: usize, to: usize) -> Use
-    requires { ⌜ NameIn (now text) from to ⌝ }
-    ensures { λ r. ⌜ RoleFound (roleOf inContents (part from to (now (text .entry)))) inDirectory r ⌝ }
-{
-    if is_named(text, from, to, b"directory") {
-        return Use::Enter;
-    }
-    if is_named(text, from, to, b"file") {
-        return Use::Read;
-    }
-    Use::Skip
-}
-
-// What a name means so deep: 0 is outside of all, 1 in the index, then directories at even depths and their contents at odd ones.
-fn use_at(text: &[u8], from: usize, to: usize, depth: usize) -> Use
-    requires { ⌜ NameIn (now text) from to ⌝ }
-    ensures { λ r. ⌜ RoleFound (roleOf (levelAt depth) (part from to (now (text .entry)))) (levelAt (suc depth)) r ⌝ }
-{
-    if depth == 0 {
-        return enter_if(is_named(text, from, to, b"ltfsindex"));
-    }
-    if depth == 1 {
-        return enter_if(is_named(text, from, to, b"directory"));
-    }
-    if depth % 2 == 0 {
-        return enter_if(is_named(text, from, to, b"contents"));
-    }
-    use_in_contents(text, from, to)
-}
-
 // The next file of the index.
 pub(crate) fn next_file(text: &[u8], walk: Walk) -> NextFile
     requires { ⌜ WalkIn (now text) walk ⌝ }
@@ -224,7 +131,7 @@ pub(crate) fn next_file(text: &[u8], walk: Walk) -> NextFile
                 here = next;
             }
             Child::Element { from, to, next } => {
-                let role = use_at(text, from, to, depth);
+                let role = role_at(text, from, to, depth);
                 match role {
                     Use::Enter => {
                         depth += 1;
@@ -241,16 +148,5 @@ pub(crate) fn next_file(text: &[u8], walk: Walk) -> NextFile
                 }
             }
         }
-    }
-}
-
-// Whether a text has an outermost `ltfsindex`.
-pub(crate) fn has_index(text: &[u8]) -> bool
-    ensures { λ r. ⌜ r ≡ not (isNone (insides indexName (treeOf (now (text .entry))))) ⌝ }
-{
-    let met = next_named(text, Place::Text(0), b"ltfsindex");
-    match met {
-        Named::At(_) => true,
-        Named::Done(_) => false,
     }
 }

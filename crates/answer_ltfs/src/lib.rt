@@ -1,13 +1,10 @@
 // answer_ltfs: tape tables from LTFS labels and indexes, as run sheets; and from the bytes of an input to the bytes of its answer.
 // For the program and the tools, which see only these contracts. What the words mean stands in specs/; each public function
 // answers every input, and its contract gives the answer and the lent rows by a definition there.
-mod elements;
 mod index;
 mod input;
-mod label;
 mod sheet;
 mod table;
-mod values;
 
 pub use input::answer;
 pub use sheet::table_sheet;

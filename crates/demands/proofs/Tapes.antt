@@ -18,7 +18,7 @@ use Rattle.sheet_writer.specs.Writing.{rowVerdict, writtenRow}
 use Rattle.tape_markup.specs.Tree.{isBalanced, treeOf}
 use Rattle.tape_markup.specs.Promises.{SaysForest}
 use Rattle.tape_markup.proofs.Balanced.{balanced-exactly}
-use Rattle.answer_ltfs.specs.Index.{some, isGoodLabel, isGoodIndex, indexFiles}
+use Rattle.tape_files.specs.Index.{some, isGoodLabel, isGoodIndex, indexFiles}
 use Rattle.tape_ranges.specs.Ranges.{endOfRange}
 use Rattle.answer_ltfs.specs.TapeTable.{inSeveral, areFar, someOverlap, rangesIn, tapeTable, areGoodTexts, ltfsSheet, ltfsVerdict, ltfsReport, ltfsRow}
 use Rattle.demands.specs.Tapes.{TapeApplies, tapeOrder, TapeAnswers, Demand1Tape}

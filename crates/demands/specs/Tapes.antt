@@ -14,7 +14,7 @@ use Rattle.sheet_reader.specs.Sheet.{mostSheetFiles}
 use Rattle.answer_ltfs.specs.declared.Report.{Report}
 use Rattle.tape_markup.specs.Tree.{treeOf}
 use Rattle.tape_markup.specs.Promises.{SaysForest}
-use Rattle.answer_ltfs.specs.Index.{some, isGoodLabel, isGoodIndex, indexFiles}
+use Rattle.tape_files.specs.Index.{some, isGoodLabel, isGoodIndex, indexFiles}
 use Rattle.tape_ranges.specs.Ranges.{endOfRange}
 use Rattle.answer_ltfs.specs.TapeTable.{inSeveral, someOverlap, rangesIn, tapeTable, ltfsSheet, ltfsVerdict, ltfsReport, ltfsRow}
 use Rattle.demands.specs.RefusalTable.{FirstThatApplies}

@@ -23,7 +23,7 @@ use Rattle.sheet_writer.specs.RefusalLines.{refusalText}
 use Rattle.sheet_writer.specs.Writing.{rowVerdict}
 use Rattle.sheet_writer.proofs.Reread.{line-behind, key-value}
 use Rattle.tape_markup.specs.Tree.{treeOf}
-use Rattle.answer_ltfs.specs.Index.{some, indexFiles}
+use Rattle.tape_files.specs.Index.{some, indexFiles}
 use Rattle.answer_ltfs.specs.TapeTable.{inSeveral, areFar, someOverlap, rangesIn, tapeTable, areGoodTexts, ltfsSheet, ltfsVerdict, ltfsReport, ltfsRow, tapeVerdict}
 use Rattle.answer_ltfs.specs.Input.{mostTapeInput, labelKey, indexKey, isCounted, countedText, afterCounted, isFramed, framedLabel, framedIndex, badFrame, tapeInputVerdict, answerText, leftOutText, reportText}
 use Rattle.answer_ltfs.specs.Framed.{inputText}

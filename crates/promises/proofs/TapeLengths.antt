@@ -23,7 +23,7 @@ use Rattle.sheet_writer.specs.RefusalLines.{refusalText}
 use Rattle.tape_markup.specs.Markup.{Token, Open, Close, Char, Broken, tokensOf}
 use Rattle.tape_markup.specs.Tree.{Forest, none, char, element, innermost, frame, frames, treeOf}
 use Rattle.tape_markup.proofs.Counts.{few-from}
-use Rattle.answer_ltfs.specs.Index.{some, Level, Role, holds, file, other, roleOf, filesOfRole, filesIn, indexFiles, dataPartitionOf}
+use Rattle.tape_files.specs.Index.{some, Level, Role, holds, file, other, roleOf, filesOfRole, filesIn, indexFiles, dataPartitionOf}
 use Rattle.answer_ltfs.specs.TapeTable.{inSeveral, isEmptyFile, liesElsewhere, howMany, areFar, someOverlap, rangesIn, tapeTable, areGoodTexts, ltfsSheet, tapeVerdict}
 use Rattle.answer_ltfs.specs.Input.{mostTapeInput, labelKey, indexKey, emptyKey, otherKey, isFramed, countedText, afterCounted, inputName, inputLabel, inputIndex, badFrame, tapeInputVerdict, answerText, leftOutText, reportText, rowsShort}
 use Rattle.answer_ltfs.proofs.Promise.{sheet-within}

@@ -1,6 +1,6 @@
 -- A place that lies in a text is taken for itself, and whatever a place is taken for lies in it. A part of a text is the part of it that is there.
 use Prim.Native.Nat.{ℕ, _+_, _-_, _≤_, min}
-use mathlib.Core.Path.{_≡_, refl, ap, sym, _∙_}
+use mathlib.Core.Path.{_≡_, refl, ap, sym, _∙_, subst}
 use mathlib.Core.Bool.{Bool, true, false, cond}
 use mathlib.Core.List.{List, []}
 use native.Mathlib.Omega.{arith}
@@ -11,7 +11,9 @@ use borrow.Author.Tests.{le-leb, lt-ltb, leb-true, ltb-true}
 use Rattle.text_bytes.proofs.Bytes.{and-true-both}
 use Rattle.tape_markup.specs.declared.Place.{Place}
 use Rattle.tape_markup.specs.Places.{part, NameIn, PlaceIn}
-use Rattle.tape_files.specs.Elements.{liesIn, placed}
+use Rattle.tape_files.specs.declared.ExtentSaid.{ExtentSaid}
+use Rattle.tape_files.specs.Elements.{liesIn, placed, inside, Left, ElementMet, NoElement, NamedAt, NoneNamed}
+use Rattle.tape_files.specs.Values.{extentOf}
 
 pub placed-in : (text : List ℕ) (place : Place) → PlaceIn text place → placed text place ≡ place
 unfolding placed
@@ -38,6 +40,29 @@ placed-within text place = by-test (liesIn text place) refl
     by-test : (b : Bool) → liesIn text place ≡ b → PlaceIn text (cond b place (Place.Text (length text)))
     by-test true e = lies-within text place e
     by-test false e = omega arith
+
+-- What is met from a place in a text on, where it is told of what the place is taken for.
+module _ (text : List ℕ) (place : Place) (p : PlaceIn text place) where
+  same-place : placed text place ≡ place
+  same-place = placed-in text place p
+
+  pub element-here : (from to : ℕ) (next : Place) → ElementMet text (placed text place) from to next → ElementMet text place from to next
+  element-here from to next = subst (λ (x : Place). ElementMet text x from to next) same-place
+
+  pub nothing-here : (next : Place) → NoElement text (placed text place) next → NoElement text place next
+  nothing-here next = subst (λ (x : Place). NoElement text x next) same-place
+
+  pub named-here : (name : List ℕ) (next : Place) → NamedAt text (placed text place) name next → NamedAt text place name next
+  named-here name next = subst (λ (x : Place). NamedAt text x name next) same-place
+
+  pub unnamed-here : (name : List ℕ) (next : Place) → NoneNamed text (placed text place) name next → NoneNamed text place name next
+  unnamed-here name next = subst (λ (x : Place). NoneNamed text x name next) same-place
+
+  pub left-here : (next : Place) → Left text (placed text place) next → Left text place next
+  left-here next = subst (λ (x : Place). Left text x next) same-place
+
+  pub extent-here : (next : Place) → Left text (placed text place) next → (e : ExtentSaid) → e ≡ extentOf (inside text (placed text place)) → e ≡ extentOf (inside text place)
+  extent-here next l e = subst (λ (x : Place). e ≡ extentOf (inside text x)) same-place
 
 nothing-taken : (n : ℕ) (l : List ℕ) → n ≡ 0 → take n l ≡ []
 nothing-taken n l e = rw e

@@ -13,14 +13,15 @@ use Rattle.text_bytes.specs.Text.{isName}
 use Rattle.sheet_writer.specs.declared.Written.{Written}
 use Rattle.sheet_writer.specs.Writing.{sheetText, rowVerdict, writtenRow}
 use Rattle.answer_ltfs.specs.declared.Report.{Report}
-use Rattle.answer_ltfs.specs.declared.label.Label.{Label}
+use Rattle.tape_files.specs.declared.Label.{Label}
 use Rattle.tape_ranges.specs.declared.File.{File}
 use Rattle.tape_ranges.specs.declared.Tally.{Tally}
 use Rattle.tape_markup.specs.Tree.{Forest, isBalanced, treeOf}
-use Rattle.answer_ltfs.specs.Index.{every, some, isNone, insides, indexName, isGoodExtent}
+use Rattle.tape_files.specs.Index.{every, some, isNone, insides, indexName, isGoodExtent}
 use Rattle.tape_ranges.specs.Ranges.{Range, rangesFrom, neighbourOverlap}
 use Rattle.answer_ltfs.specs.TapeTable.{inSeveral, isEmptyFile, liesElsewhere, howMany, rangesOf, inTapeOrder, areFar, someOverlap, runOfTable, refusedReport}
-use Rattle.answer_ltfs.specs.Private.Parts.{isValue, fileOf}
+use Rattle.tape_files.specs.Values.{isValue}
+use Rattle.answer_ltfs.specs.Private.Parts.{fileOf}
 
 -- The rows of a table have its size.
 pub record TableRows (starts lengths : List ℕ) : Type 0 where

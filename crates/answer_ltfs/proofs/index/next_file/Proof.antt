@@ -4,6 +4,7 @@ use Prim.Native.Nat.{_+_}
 use lib.ListN.{length}
 use Rattle.tape_markup.specs.Places.{tokensAt}
 use Rattle.answer_ltfs.specs.Private.Parts.{filesLeft}
+use Rattle.tape_files.proofs.Placing.{element-here, nothing-here, left-here}
 use Rattle.answer_ltfs.proofs.Files.{WalkLeft, walk-start, walk-done, walk-out, walk-in, walk-past, walk-file}
 use borrow.Author.Needs.{needs}
 use native.Mathlib.Omega.{arith}
@@ -22,7 +23,7 @@ loop-holds c =
     walk-start _ _ (c1 .pre)
 
 next-child-requires : tie.Need-next-child-requires Inv-loop μ-loop
-next-child-requires c κs = c .loop .inv .within
+next-child-requires c κs = search needs
 
 enum-known-child : tie.Need-enum-known-child Inv-loop μ-loop
 enum-known-child c = search needs
@@ -33,7 +34,7 @@ returns c =
     let c2 = c .before .before in
     let c4 = c2 .before .before in
     let c5 = c4 .before in
-    let m = rw (c2 .child .given .1) at (c4 .next-child .ensures) in
+    let m = nothing-here _ _ (c4 .before .loop .inv .within) _ (rw (c2 .child .given .1) at (c4 .next-child .ensures)) in
     walk-done _ _ _ _ _ _ (c5 .loop .inv) (c .if1 .taken) m
 
 sub-depth : tie.Need-sub-depth Inv-loop μ-loop
@@ -43,7 +44,7 @@ loop-less : tie.Need-loop-less Inv-loop μ-loop
 loop-less c =
     let c2 = c .before .before in
     let c4 = c2 .before .before in
-    let m = rw (c2 .child .given .1) at (c4 .next-child .ensures) in
+    let m = nothing-here _ _ (c4 .before .loop .inv .within) _ (rw (c2 .child .given .1) at (c4 .next-child .ensures)) in
     let f = m .left .fewer in omega arith
 
 loop-again : tie.Need-loop-again Inv-loop μ-loop
@@ -51,18 +52,14 @@ loop-again c =
     let c2 = c .before .before in
     let c4 = c2 .before .before in
     let c5 = c4 .before in
-    let m = rw (c2 .child .given .1) at (c4 .next-child .ensures) in
+    let m = nothing-here _ _ (c4 .before .loop .inv .within) _ (rw (c2 .child .given .1) at (c4 .next-child .ensures)) in
     walk-out _ _ _ _ _ _ (c5 .loop .inv) (c .if1 .left) m
 
 enum-known-child-2 : tie.Need-enum-known-child-2 Inv-loop μ-loop
 enum-known-child-2 c = search needs
 
-use-at-requires : tie.Need-use-at-requires Inv-loop μ-loop
-use-at-requires c κs =
-    let c1 = c .before in
-    let c3 = c1 .before .before in
-    let m = rw (c1 .child2 .given .1) at (c3 .next-child .ensures) in
-    m .name
+role-at-requires : tie.Need-role-at-requires Inv-loop μ-loop
+role-at-requires c κs = search needs
 
 enum-told : tie.Need-enum-told Inv-loop μ-loop
 enum-told c = search needs
@@ -72,14 +69,14 @@ add-depth c =
     let c4 = c .before .before .before .before in
     let c6 = c4 .before .before in
     let c7 = c6 .before in
-    let m = rw (c4 .child2 .given .1) at (c6 .next-child .ensures) in
+    let m = element-here _ _ (c6 .before .loop .inv .within) _ _ _ (rw (c4 .child2 .given .1) at (c6 .next-child .ensures)) in
     let f = m .fewer in let d = c7 .loop .inv .deep in omega arith
 
 loop-less-2 : tie.Need-loop-less-2 Inv-loop μ-loop
 loop-less-2 c =
     let c4 = c .before .before .before .before in
     let c6 = c4 .before .before in
-    let m = rw (c4 .child2 .given .1) at (c6 .next-child .ensures) in
+    let m = element-here _ _ (c6 .before .loop .inv .within) _ _ _ (rw (c4 .child2 .given .1) at (c6 .next-child .ensures)) in
     let f = m .fewer in omega arith
 
 loop-again-2 : tie.Need-loop-again-2 Inv-loop μ-loop
@@ -88,8 +85,8 @@ loop-again-2 c =
     let c4 = c2 .before .before in
     let c6 = c4 .before .before in
     let c7 = c6 .before in
-    let m = rw (c4 .child2 .given .1) at (c6 .next-child .ensures) in
-    let u = rw (c .enum-told .given .1) at (c2 .use-at .ensures) in
+    let m = element-here _ _ (c6 .before .loop .inv .within) _ _ _ (rw (c4 .child2 .given .1) at (c6 .next-child .ensures)) in
+    let u = rw (c .enum-told .given .1) at (c2 .role-at .ensures) in
     walk-in _ _ _ _ _ (c7 .loop .inv) _ _ _ m u
 
 enum-told-2 : tie.Need-enum-told-2 Inv-loop μ-loop
@@ -99,7 +96,7 @@ read-file-requires : tie.Need-read-file-requires Inv-loop μ-loop
 read-file-requires c κs =
     let c4 = c .before .before .before .before in
     let c6 = c4 .before .before in
-    let m = rw (c4 .child2 .given .1) at (c6 .next-child .ensures) in
+    let m = element-here _ _ (c6 .before .loop .inv .within) _ _ _ (rw (c4 .child2 .given .1) at (c6 .next-child .ensures)) in
     m .within
 
 returns-2 : tie.Need-returns-2 Inv-loop μ-loop
@@ -110,26 +107,22 @@ returns-2 c =
     let c6 = c4 .before .before in
     let c8 = c6 .before .before in
     let c9 = c8 .before in
-    let m = rw (c6 .child2 .given .1) at (c8 .next-child .ensures) in
-    let u = rw (c2 .enum-told2 .given .1) at (c4 .use-at .ensures) in
+    let m = element-here _ _ (c8 .before .loop .inv .within) _ _ _ (rw (c6 .child2 .given .1) at (c8 .next-child .ensures)) in
+    let u = rw (c2 .enum-told2 .given .1) at (c4 .role-at .ensures) in
     walk-file _ _ _ _ _ (c9 .loop .inv) _ _ _ m _ _ (c1 .read-file .ensures .1) u (c1 .read-file .ensures .0)
 
 enum-told-3 : tie.Need-enum-told-3 Inv-loop μ-loop
 enum-told-3 c = search needs
 
 leave-requires : tie.Need-leave-requires Inv-loop μ-loop
-leave-requires c κs =
-    let c4 = c .before .before .before .before in
-    let c6 = c4 .before .before in
-    let m = rw (c4 .child2 .given .1) at (c6 .next-child .ensures) in
-    m .within
+leave-requires c κs = search needs
 
 loop-less-3 : tie.Need-loop-less-3 Inv-loop μ-loop
 loop-less-3 c =
     let c5 = c .before .before .before .before .before in
     let c7 = c5 .before .before in
-    let m = rw (c5 .child2 .given .1) at (c7 .next-child .ensures) in
-    let f = m .fewer in let l = c .leave .ensures .fewer in omega arith
+    let m = element-here _ _ (c7 .before .loop .inv .within) _ _ _ (rw (c5 .child2 .given .1) at (c7 .next-child .ensures)) in
+    let f = m .fewer in let l = left-here _ _ (m .within) _ (c .leave .ensures) .fewer in omega arith
 
 loop-again-3 : tie.Need-loop-again-3 Inv-loop μ-loop
 loop-again-3 c =
@@ -138,9 +131,9 @@ loop-again-3 c =
     let c5 = c3 .before .before in
     let c7 = c5 .before .before in
     let c8 = c7 .before in
-    let m = rw (c5 .child2 .given .1) at (c7 .next-child .ensures) in
-    let u = rw (c1 .enum-told3 .given .1) at (c3 .use-at .ensures) in
-    walk-past _ _ _ _ _ (c8 .loop .inv) _ _ _ m _ (c .leave .ensures) u
+    let m = element-here _ _ (c7 .before .loop .inv .within) _ _ _ (rw (c5 .child2 .given .1) at (c7 .next-child .ensures)) in
+    let u = rw (c1 .enum-told3 .given .1) at (c3 .role-at .ensures) in
+    walk-past _ _ _ _ _ (c8 .loop .inv) _ _ _ m _ (left-here _ _ (m .within) _ (c .leave .ensures)) u
 
 pub next-file-spec : {M : Type 1} → statement M
 next-file-spec =
@@ -156,7 +149,7 @@ next-file-spec =
     loop-less
     loop-again
     enum-known-child-2
-    use-at-requires
+    role-at-requires
     enum-told
     add-depth
     loop-less-2
