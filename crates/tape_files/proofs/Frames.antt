@@ -1,14 +1,16 @@
 -- What is left of the elements around a place: the next element in the one around it, and past the end of that one.
 use Prim.Native.Nat.{ℕ, zero, suc, _+_, _-_, _≤_, _<_}
 use mathlib.Core.Path.{_≡_, refl, ap, sym, _∙_}
-use mathlib.Core.List.{List, [], _∷_}
+use mathlib.Core.List.{List, [], _∷_, _++_, map}
 use native.Mathlib.Omega.{arith}
 use native.Mathlib.Numerals.{add-one}
 use lib.ListN.{length}
 use Rattle.tape_markup.specs.declared.Place.{Place}
 use Rattle.tape_markup.specs.Markup.{Token, Open, Close, Char, Broken}
 use Rattle.tape_markup.specs.Tree.{Forest, innermost, enclosing, frame, frames}
+use Rattle.tape_markup.specs.Steps.{behindText}
 use Rattle.tape_markup.proofs.Meets.{begins-fewer}
+use Rattle.tape_markup.proofs.Texts.{text-told, told-fewer, frames-chars}
 use Rattle.tape_markup.specs.Places.{part, NameIn, PlaceIn, placeAt, tokensAt, Begins, Passes}
 use Rattle.tape_files.specs.Elements.{framesAt, inside, Left, bare, ElementMet, NoElement}
 
@@ -28,6 +30,12 @@ frames-first text here next token p = ap frames (p .first)
 pub frames-past : (text : List ℕ) (here next : Place) → Passes (tokensAt text here) text (placeAt here) next → framesAt text here ≡ framesAt text next
 unfolding framesAt
 frames-past text here next p = ap frames (p .same)
+
+-- Bytes before an element do not matter where it is looked for.
+bare-chars : (bytes : List ℕ) (tokens : List Token) → bare (innermost (frames (map Char bytes ++ tokens))) ≡ bare (innermost (frames tokens))
+unfolding bare frames
+bare-chars [] tokens = refl
+bare-chars (b ∷ bytes) tokens = bare-chars bytes tokens
 
 -- Looking for the next element: the bytes passed are not of it.
 pub record Seeking (text : List ℕ) (place here : Place) : Type 0 where
@@ -63,6 +71,17 @@ module _ (text : List ℕ) (place here : Place) (p : Seeking text place here) wh
         held = p .held ∙ ap (λ (l : List Forest). bare (innermost l)) e;
         outer = p .outer ∙ ap enclosing e;
         fewer = omega (arith, ap length (q .same), p .fewer);
+      }
+
+  pub seek-text : (next : Place) → next ≡ behindText text here → Seeking text place next
+  unfolding framesAt
+  seek-text next e =
+      let t = text-told text here next (p .within) e in
+      record {
+        within = t .within;
+        held = p .held ∙ ap (λ (l : List Token). bare (innermost (frames l))) (t .same) ∙ bare-chars (t .bytes) (tokensAt text next);
+        outer = p .outer ∙ ap (λ (l : List Token). enclosing (frames l)) (t .same) ∙ frames-chars (t .bytes) (tokensAt text next);
+        fewer = omega (arith, told-fewer text here next t, p .fewer);
       }
 
   pub seek-byte : (b : ℕ) (next : Place) → Begins (tokensAt text here) text (Char b) next → Seeking text place next

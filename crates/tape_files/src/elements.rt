@@ -9,6 +9,7 @@ use crate::Child;
 use crate::Named;
 use tape_markup::Place;
 use tape_markup::Step;
+use tape_markup::behind_text;
 use tape_markup::step_from;
 
 fn least(one: usize, other: usize) -> usize
@@ -39,14 +40,14 @@ pub(crate) fn child_from(text: &[u8], place: Place) -> Child
         match step {
             Step::End => return Child::Done(here),
             Step::Broken => return Child::Done(here),
-            Step::Byte { byte: _, next } => here = next,
+            Step::Byte { byte: _, next } => here = behind_text(text, next),
             Step::Start { from, to, next } => return Child::Element { from, to, next },
             Step::Finish {
                 from: _,
                 to: _,
                 next,
             } => return Child::Done(next),
-            Step::Past(next) => here = next,
+            Step::Past(next) => here = behind_text(text, next),
         }
     }
 }

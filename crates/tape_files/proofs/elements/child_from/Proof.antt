@@ -1,7 +1,8 @@
 -- `tape_files::elements::child_from` meets its contract: bytes are passed, and the first tag decides.
 -- Assumes nothing.
 use Rattle.tape_markup.proofs.Meets.{step-told, begins-fewer, unread, unread-token, unread-past}
-use Rattle.tape_files.proofs.Frames.{Seeking, seeking-none, seek-end, seek-broken, seek-past, seek-byte, seek-start, seek-finish}
+use Rattle.tape_markup.proofs.Texts.{text-less}
+use Rattle.tape_files.proofs.Frames.{Seeking, seeking-none, seek-text, seek-end, seek-broken, seek-past, seek-byte, seek-start, seek-finish}
 use borrow.Author.Needs.{needs}
 use Rattle.tape_files.proofs.elements.child_from.Statement.{statement}
 use Rattle.tape_files.proofs.elements.child_from.Tie as tie
@@ -33,12 +34,18 @@ returns-2 c = seek-broken _ _ _ (c .before .before .before .loop .inv) (rw (c .e
 enum-known-step : tie.Need-enum-known-step Inv-loop μ-loop
 enum-known-step c = search needs
 
+behind-text-requires : tie.Need-behind-text-requires Inv-loop μ-loop
+behind-text-requires c κs = search needs
+
 loop-less : tie.Need-loop-less Inv-loop μ-loop
-loop-less c = unread-token _ _ _ (begins-fewer _ _ _ _ (rw (c .before .step .given .1) at (step-told _ _ _ (c .before .before .before .before .loop .inv .within) (c .before .before .before .step-from .ensures))))
+loop-less c =
+    let m = rw (c .before .before .step .given .1) at (step-told _ _ _ (c .before .before .before .before .before .loop .inv .within) (c .before .before .before .before .step-from .ensures)) in
+    text-less _ _ _ _ (m .within) (c .behind-text .ensures) (unread-token _ _ _ (begins-fewer _ _ _ _ m))
 
 loop-again : tie.Need-loop-again Inv-loop μ-loop
 loop-again c =
-    seek-byte _ _ _ (c .before .before .before .before .loop .inv) _ _ (rw (c .before .step .given .1) at (step-told _ _ _ (c .before .before .before .before .loop .inv .within) (c .before .before .before .step-from .ensures)))
+    let m = rw (c .before .before .step .given .1) at (step-told _ _ _ (c .before .before .before .before .before .loop .inv .within) (c .before .before .before .before .step-from .ensures)) in
+    seek-text _ _ _ (seek-byte _ _ _ (c .before .before .before .before .before .loop .inv) _ _ m) _ (c .behind-text .ensures)
 
 enum-known-step-2 : tie.Need-enum-known-step-2 Inv-loop μ-loop
 enum-known-step-2 c = search needs
@@ -59,15 +66,18 @@ returns-4 c =
 enum-known-step-4 : tie.Need-enum-known-step-4 Inv-loop μ-loop
 enum-known-step-4 c = search needs
 
+behind-text-requires-2 : tie.Need-behind-text-requires-2 Inv-loop μ-loop
+behind-text-requires-2 c κs = search needs
+
 loop-less-2 : tie.Need-loop-less-2 Inv-loop μ-loop
 loop-less-2 c =
-    let m = rw (c .before .step4 .given .1) at (step-told _ _ _ (c .before .before .before .before .loop .inv .within) (c .before .before .before .step-from .ensures)) in
-    unread-past _ _ _ m
+    let m = rw (c .before .before .step4 .given .1) at (step-told _ _ _ (c .before .before .before .before .before .loop .inv .within) (c .before .before .before .before .step-from .ensures)) in
+    text-less _ _ _ _ (m .within) (c .behind-text2 .ensures) (unread-past _ _ _ m)
 
 loop-again-2 : tie.Need-loop-again-2 Inv-loop μ-loop
 loop-again-2 c =
-    let m = rw (c .before .step4 .given .1) at (step-told _ _ _ (c .before .before .before .before .loop .inv .within) (c .before .before .before .step-from .ensures)) in
-    seek-past _ _ _ (c .before .before .before .before .loop .inv) _ m
+    let m = rw (c .before .before .step4 .given .1) at (step-told _ _ _ (c .before .before .before .before .before .loop .inv .within) (c .before .before .before .before .step-from .ensures)) in
+    seek-text _ _ _ (seek-past _ _ _ (c .before .before .before .before .before .loop .inv) _ m) _ (c .behind-text2 .ensures)
 
 pub child-from-spec : {M : Type 1} → statement M
 child-from-spec =
@@ -82,6 +92,7 @@ child-from-spec =
     enum-told-2
     returns-2
     enum-known-step
+    behind-text-requires
     loop-less
     loop-again
     enum-known-step-2
@@ -89,5 +100,6 @@ child-from-spec =
     enum-known-step-3
     returns-4
     enum-known-step-4
+    behind-text-requires-2
     loop-less-2
     loop-again-2)
