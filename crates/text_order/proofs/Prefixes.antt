@@ -2,16 +2,20 @@
 use Prim.Native.Nat.{ℕ, suc, _+_, _≤_, _<_}
 use mathlib.Core.Path.{_≡_, refl, ap, sym, _∙_}
 use mathlib.Core.Bool.{Bool, true, false, _&&_, _||_, true≢false, false≢true}
-use mathlib.Core.List.{List, [], _∷_, _++_}
+use mathlib.Core.Logic.{by-cases}
+use mathlib.Core.List.{List, [], _∷_, _++_, append-nil}
+use native.Mathlib.Decide.{decLe}
 use native.Mathlib.Omega.{arith}
 use lib.ListN.{length, drop, length-append}
+use lib.Seq.{append-snoc}
 use lib.Dec.{eqb, ltb}
 use borrow.Author.Tests.{eqb-true, eq-eqb, ltb-true, le-ltb}
 use Rattle.text_bytes.specs.Text.{startsWith}
-use Rattle.text_bytes.proofs.Bytes.{and-true-both}
+use Rattle.text_bytes.proofs.Bytes.{and-true-both, begun-long}
 use Rattle.text_order.specs.declared.Range.{Range}
-use Rattle.text_order.specs.Order.{keyAt, keyOf, noLater, Rises, Narrowed}
-use Rattle.text_order.specs.Promises.{PathsInOrder, RangeOf, RangeGoesOn, RangesHoldBeginnings}
+use Rattle.text_order.specs.Order.{keyAt, keyOf, pathAt, noLater, Rises, Narrowed, narrowedBy, narrowedIn, narrowedAll}
+use Rattle.text_order.specs.Promises.{PathsInOrder, RangeOf, RangeGoesOn, RangesHoldBeginnings, RangeHolds, NamesNarrow}
+use Rattle.text_order.proofs.Halving.{narrows-where-keys-rise, none-left}
 
 or-true-rest : (a b : Bool) → (a || b) ≡ true → a ≡ false → b ≡ true
 or-true-rest true b e f = absurd (true≢false f)
@@ -100,3 +104,58 @@ module _ (path : ℕ → List ℕ) (count : ℕ) (sorted : PathsInOrder path cou
 
 pub ranges-hold-beginnings : RangesHoldBeginnings
 ranges-hold-beginnings path count sorted read range p = record { rises = rise path count sorted read range p; next = on path count sorted read range p }
+
+-- Bytes one after the other.
+pub narrowed-append : (list starts ends order : List ℕ) (range : Range) (a b : List ℕ)
+    → narrowedAll list starts ends order range (a ++ b) ≡ narrowedAll list starts ends order (narrowedAll list starts ends order range a) b
+unfolding narrowedAll
+narrowed-append list starts ends order range [] b = refl
+narrowed-append list starts ends order range (byte ∷ a) b = narrowed-append list starts ends order (narrowedIn list starts ends order range byte) a b
+
+pub narrowed-one : (list starts ends order : List ℕ) (range : Range) (a : List ℕ) (byte : ℕ)
+    → narrowedAll list starts ends order range (a ++ byte ∷ []) ≡ narrowedIn list starts ends order (narrowedAll list starts ends order range a) byte
+unfolding narrowedAll
+narrowed-one list starts ends order range a byte = narrowed-append list starts ends order range a (byte ∷ [])
+
+-- Nothing read holds every path, also where lengths of ranges without paths do not count.
+pub holds-all : (path : ℕ → List ℕ) (count : ℕ) → RangeHolds path count [] (record { low = 0; high = count; length = 0 })
+holds-all path count =
+    let p = range-all path count in
+    record { long = λ l. refl; ordered = p .ordered; within = p .within; exactly = p .exactly }
+
+module _ (path : ℕ → List ℕ) (count : ℕ) (sorted : PathsInOrder path count) (short : (j : ℕ) → j < count → length (path j) < 18446744073709551615) (read : List ℕ) (range : Range)
+    (p : RangeHolds path count read range) (byte : ℕ) where
+  some-held : range .low < range .high → RangeHolds path count (read ++ byte ∷ []) (narrowedBy (λ j. keyOf (path j) (range .length)) range byte)
+  some-held l =
+      let whole : RangeOf path count read range = record { long = p .long l; ordered = p .ordered; within = p .within; exactly = p .exactly } in
+      let first : range .low < count = omega (arith, p .within) in
+      let begun = begun-long read (path (range .low)) (p .exactly (range .low) first .0 (omega arith, l)) in
+      let small = short (range .low) first in
+      let on = ranges-hold-beginnings path count sorted read range whole in
+      let next = on .next byte (narrowedBy (λ j. keyOf (path j) (range .length)) range byte)
+      (narrows-where-keys-rise (λ j. keyOf (path j) (range .length)) range byte (omega (arith, p .long l)) (p .ordered) (on .rises)) in
+      record { long = λ m. next .long; ordered = next .ordered; within = next .within; exactly = next .exactly }
+
+  none-held : range .high ≤ range .low → RangeHolds path count (read ++ byte ∷ []) (narrowedBy (λ j. keyOf (path j) (range .length)) range byte)
+  none-held l =
+      rw (← none-left (λ j. keyOf (path j) (range .length)) range byte _ refl l)
+      (record {
+        long = λ m. absurd (omega arith);
+        ordered = omega arith;
+        within = omega (arith, p .ordered, p .within);
+        exactly = λ j m. (
+          (λ h. absurd (omega (arith, h .0, h .1))),
+          (λ h. let lies = p .exactly j m .1 (next-read read (path j) byte h .0) in absurd (omega (arith, lies .0, lies .1))),
+        );
+      })
+
+  held-more : RangeHolds path count (read ++ byte ∷ []) (narrowedBy (λ j. keyOf (path j) (range .length)) range byte)
+  held-more = by-cases (decLe (range .high) (range .low)) none-held (λ l. some-held (omega arith))
+
+pub names-narrow : NamesNarrow
+unfolding narrowedAll
+names-narrow list starts ends order count sorted short [] read range p = rw (append-nil read) p
+names-narrow list starts ends order count sorted short (byte ∷ bytes) read range p =
+    rw (← append-snoc read byte bytes)
+    (names-narrow list starts ends order count sorted short bytes (read ++ byte ∷ []) (narrowedIn list starts ends order range byte)
+    (held-more (pathAt list starts ends order) count sorted short read range p byte))
