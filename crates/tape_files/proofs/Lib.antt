@@ -6,4 +6,5 @@ pub mod Bare
 pub mod Whole
 pub mod Roles
 pub mod Said
+pub mod Extents
 pub mod Same

@@ -1,14 +1,19 @@
--- For the contracts of private functions alone: the bytes of a value, one by one. No public contract cites this file.
+-- For the contracts of private functions alone: the bytes of a value, and the elements of an extent, one by one. No public contract cites this file.
 use Prim.Native.Nat.{ℕ, _+_, _-_, _*_, _^_}
 use Prim.Native.Char.{code}
 use mathlib.Core.Path.{_≡_}
 use mathlib.Core.Bool.{Bool, true, false, cond, _&&_}
 use mathlib.Core.List.{List, [], _∷_}
 use lib.Dec.{eqb, ltb}
-use Rattle.text_bytes.specs.Text.{isDigit}
+use Rattle.text_bytes.specs.Text.{isText, isDigit}
+use Rattle.tape_markup.specs.Tree.{Forest, none, char, element}
+use Rattle.tape_files.specs.declared.ExtentSaid.{ExtentSaid}
+use Rattle.tape_files.specs.declared.Field.{Field}
 use Rattle.tape_files.specs.declared.Use.{Use}
 use Rattle.tape_files.specs.declared.values.Chars.{Chars}
 use Rattle.tape_files.specs.declared.values.Grown.{Grown}
+use Rattle.tape_files.specs.Index.{charsOf, partitionName, startBlockName, byteOffsetName, byteCountName}
+use Rattle.tape_files.specs.Values.{numberField, letterField, firstField}
 
 -- What is known before the first byte.
 abbrev pub noChars : Chars
@@ -45,3 +50,24 @@ charsFrom chars (b ∷ bytes) = charsFrom (withByte chars b) bytes
 abbrev pub enterIf : Bool → Use
 enterIf true = Use.Enter
 enterIf false = Use.Skip
+
+-- What an extent says before its first element, with one element more, and with many.
+abbrev pub joinedIf : Bool → Field → Field → Field
+joinedIf named field later = cond named (firstField field later) field
+
+abbrev pub nothingSaid : ExtentSaid
+nothingSaid = record { partition = Field.Missing; block = Field.Missing; offset = Field.Missing; count = Field.Missing }
+
+abbrev pub saidWith : ExtentSaid → List ℕ → Field → Field → ExtentSaid
+saidWith said name letter number =
+    record {
+      partition = joinedIf (isText partitionName name) (said .partition) letter;
+      block = joinedIf (isText startBlockName name) (said .block) number;
+      offset = joinedIf (isText byteOffsetName name) (said .offset) number;
+      count = joinedIf (isText byteCountName name) (said .count) number;
+    }
+
+unfoldable pub saidFrom : ExtentSaid → Forest → ExtentSaid
+saidFrom said none = said
+saidFrom said (char b rest) = saidFrom said rest
+saidFrom said (element name held rest) = saidFrom (saidWith said name (letterField (charsOf held)) (numberField (charsOf held))) rest

@@ -7,38 +7,79 @@ ghost use Rattle.tape_markup.specs.Places.{part, PlaceIn};
 ghost use Rattle.tape_files.specs.Index.{isNone, insides, indexName, roleOf, inContents, inDirectory};
 ghost use Rattle.tape_files.specs.Elements.{Left, inside, levelAt, RoleFound};
 ghost use Rattle.tape_files.specs.Values.{extentOf, extentIsGood};
-ghost use Rattle.tape_files.specs.Private.{enterIf};
+ghost use Rattle.tape_files.specs.Private.{enterIf, joinedIf, saidWith};
+use crate::Child;
 use crate::ExtentRead;
 use crate::ExtentSaid;
+use crate::Field;
 use crate::Named;
 use crate::Use;
+use crate::elements::child_from;
 use crate::elements::is_named;
 use crate::elements::named_from;
+use crate::values::first_field;
 use crate::values::is_value;
-use crate::values::read_field;
+use crate::values::read_value;
 use tape_markup::Place;
 
-// The extent that an `extent` element says.
+// A field with what one element more says, where that has the field's name.
+fn joined_if(named: bool, field: Field, later: Field) -> Field
+    ensures { λ r. ⌜ r ≡ joinedIf named field later ⌝ }
+{
+    if named {
+        return first_field(field, later);
+    }
+    field
+}
+
+// An extent with what one element more says, as a letter and as a number.
+fn said_with(
+    said: ExtentSaid,
+    text: &[u8],
+    from: usize,
+    to: usize,
+    letter: Field,
+    number: Field,
+) -> ExtentSaid
+    ensures { λ r. ⌜ r ≡ saidWith said (part from to (now (text .entry))) letter number ⌝ }
+{
+    let partition = said.partition;
+    let block = said.block;
+    let offset = said.offset;
+    let count = said.count;
+    ExtentSaid {
+        partition: joined_if(is_named(text, from, to, b"partition"), partition, letter),
+        block: joined_if(is_named(text, from, to, b"startblock"), block, number),
+        offset: joined_if(is_named(text, from, to, b"byteoffset"), offset, number),
+        count: joined_if(is_named(text, from, to, b"bytecount"), count, number),
+    }
+}
+
+// The extent that an `extent` element says, by its elements one by one.
 pub(crate) fn extent_from(text: &[u8], place: Place) -> ExtentRead
     requires { ⌜ PlaceIn (now text) place ⌝ }
     ensures { λ r. ⌜ (r .extent ≡ extentOf (inside (now (text .entry)) place)) × Left (now (text .entry)) place (r .next) ⌝ }
 {
-    let partitions = read_field(text, place, b"partition");
-    let blocks = read_field(text, place, b"startblock");
-    let offsets = read_field(text, place, b"byteoffset");
-    let counts = read_field(text, place, b"bytecount");
-    let partition = partitions.letter;
-    let block = blocks.number;
-    let offset = offsets.number;
-    let count = counts.number;
-    let next = counts.next;
-    let extent = ExtentSaid {
-        partition,
-        block,
-        offset,
-        count,
+    let mut extent = ExtentSaid {
+        partition: Field::Missing,
+        block: Field::Missing,
+        offset: Field::Missing,
+        count: Field::Missing,
     };
-    ExtentRead { extent, next }
+    let mut here = place;
+    loop {
+        let child = child_from(text, here);
+        match child {
+            Child::Done(next) => return ExtentRead { extent, next },
+            Child::Element { from, to, next } => {
+                let read = read_value(text, next);
+                let letter = read.letter;
+                let number = read.number;
+                extent = said_with(extent, text, from, to, letter, number);
+                here = read.next;
+            }
+        }
+    }
 }
 
 // Whether all that an extent needs has its form.

@@ -221,7 +221,7 @@ fn letter_in(chars: Chars) -> Field
 }
 
 // The value of the element that the reader stands in.
-fn read_value(text: &[u8], place: Place) -> ValueRead
+pub(crate) fn read_value(text: &[u8], place: Place) -> ValueRead
     requires { ⌜ PlaceIn (now text) place ⌝ }
     ensures { λ r. ⌜ (r .letter ≡ letterField (charsOf (inside (now (text .entry)) place))) × (r .number ≡ numberField (charsOf (inside (now (text .entry)) place))) × Left (now (text .entry)) place (r .next) ⌝ }
 {
