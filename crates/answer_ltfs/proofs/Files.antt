@@ -15,7 +15,7 @@ use Rattle.tape_markup.specs.Places.{part, PlaceIn, tokensAt}
 use Rattle.tape_files.specs.Elements.{framesAt, inside, Left, ElementMet, NoElement, levelAt}
 use Rattle.tape_files.specs.Values.{extentOf}
 use Rattle.answer_ltfs.specs.Private.Parts.{withExtent, withExtents, fileOf, filesUnder, filesLeft, WalkIn, FileMet}
-use Rattle.tape_files.proofs.Bare.{files-bare, folded}
+use Rattle.tape_files.proofs.Bare.{files-bare, under-last, folded}
 
 -- The extents in an `extentinfo` element, and in a file.
 abbrev pub extentStep : File → Forest → File
@@ -34,18 +34,13 @@ unfolding withExtents
 extents-append f [] b = refl
 extents-append f (extent ∷ a) b = extents-append (withExtent f (extentOf extent)) a b
 
-joined-ones : (l : List Forest) → flattened (map (under []) l) ≡ l
-unfolding flattened under
-joined-ones [] = refl
-joined-ones (f ∷ l) = ap (λ (k : List Forest). f ∷ k) (joined-ones l)
-
 infos-read : (f : File) (l : List Forest) → folded infoStep f l ≡ withExtents f (flattened (map (under (extentName ∷ [])) l))
 unfolding folded withExtents flattened under
 infos-read f [] = refl
 infos-read f (info ∷ l) =
     infos-read (infoStep f info) l
     ∙ sym (extents-append f (insides extentName info) (flattened (map (under (extentName ∷ [])) l)))
-    ∙ ap (λ (k : List Forest). withExtents f (k ++ flattened (map (under (extentName ∷ [])) l))) (sym (joined-ones (insides extentName info)))
+    ∙ ap (λ (k : List Forest). withExtents f (k ++ flattened (map (under (extentName ∷ [])) l))) (sym (under-last extentName info))
 
 pub file-read : (f : File) (held : Forest) → folded infoStep f (insides extentInfoName held) ≡ withExtents f (extentsOf held)
 unfolding extentsOf under

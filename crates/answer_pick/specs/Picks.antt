@@ -14,19 +14,10 @@ use Rattle.tape_markup.specs.Tree.{Forest, treeOf}
 use Rattle.tape_spans.specs.declared.Extent.{Extent}
 use Rattle.tape_spans.specs.declared.Span.{Span}
 use Rattle.tape_spans.specs.Spans.{spanOf, noSpan}
-use Rattle.tape_files.specs.Index.{labelName, indexName, valuesAt, firstValue, isNone, blockSizeOf, dataPartitionOf, partitionOf, startBlockOf, byteOffsetOf, byteCountOf}
+use Rattle.tape_files.specs.Index.{blockSizeOf, dataPartitionOf, partitionOf, startBlockOf, byteOffsetOf, byteCountOf}
 use Rattle.answer_ltfs.specs.TapeTable.{areGoodTexts, only}
+use Rattle.tape_files.specs.Volumes.{otherVolume}
 use Rattle.tape_files.specs.NamedFiles.{NamedFile, namedFiles}
-
--- 44: both texts say their volume directly in `ltfslabel` and `ltfsindex`, and what they say first differs, as it is written.
-abbrev pub volumesIn : List ℕ → Forest → List (List ℕ)
-volumesIn root forest = valuesAt (root ∷ bytes "volumeuuid" ∷ []) forest
-
-abbrev pub differ : List (List ℕ) → List (List ℕ) → Bool
-differ label index = not (isNone label) && not (isNone index) && not (isText (firstValue label) (firstValue index))
-
-unfoldable pub otherVolume : Forest → Forest → Bool
-otherVolume label index = differ (volumesIn labelName label) (volumesIn indexName index)
 
 -- The files of a path, and the range of the first of them.
 unfoldable pub filesNamed : List ℕ → List NamedFile → List NamedFile

@@ -15,7 +15,7 @@ use Rattle.tape_files.specs.Index.{flattened, charsOf, insides, under, v
 use Rattle.tape_markup.specs.Places.{part, PlaceIn, tokensAt, Begins, placeAt, Passes}
 use Rattle.tape_files.specs.Elements.{framesAt, inside, Left, bare, ElementMet, NoElement, NamedAt, NoneNamed}
 use Rattle.tape_files.specs.Values.{firstField, fieldFrom, fieldAt}
-use Rattle.tape_files.specs.Private.{noChars, withByte, charsFrom}
+use Rattle.tape_files.specs.Private.{ByteAt, NoByte, noChars, withByte, charsFrom}
 use Rattle.tape_markup.proofs.Meets.{begins-fewer}
 use Rattle.tape_files.proofs.Frames.{frames-first, frames-past}
 
@@ -31,6 +31,16 @@ unfolding filesIn bare
 files-bare none level = refl
 files-bare (char b rest) level = files-bare rest level
 files-bare (element name held rest) level = refl
+
+-- At the end of a path of one name stand the elements of that name.
+joined-ones : (l : List Forest) → flattened (map (under []) l) ≡ l
+unfolding flattened under
+joined-ones [] = refl
+joined-ones (f ∷ l) = ap (λ (k : List Forest). f ∷ k) (joined-ones l)
+
+pub under-last : (name : List ℕ) (f : Forest) → under (name ∷ []) f ≡ insides name f
+unfolding under
+under-last name f = joined-ones (insides name f)
 
 -- A reader somewhere in the element around a place.
 pub record Within (text : List ℕ) (place here : Place) : Type 0 where
@@ -93,6 +103,69 @@ module _ (name text : List ℕ) (place here : Place) (s : Sought name text place
           let h = l .fewer in
           omega arith
 
+-- Looking for the next byte of a value: what was passed over has none.
+pub record BytesLeft (text : List ℕ) (place here : Place) : Type 0 where
+  pub around : Within text place here
+  pub same : charsOf (inside text here) ≡ charsOf (inside text place)
+
+pub bytes-none : (text : List ℕ) (place : Place) → PlaceIn text place → BytesLeft text place place
+bytes-none text place p = record { around = within-none text place p; same = refl }
+
+module _ (text : List ℕ) (place here : Place) (p : BytesLeft text place here) where
+  pub byte-met : (b : ℕ) (next : Place) → Begins (tokensAt text here) text (Char b) next → ByteAt text place b next
+  unfolding charsOf
+  byte-met b next m =
+      let f = frames-first text here next (Char b) m in
+      let l = begins-fewer text here next (Char b) m in
+      let w = p .around .fewer in
+      record {
+        within = m .within;
+        here = sym (p .same) ∙ ap (λ (k : List Forest). charsOf (innermost k)) f;
+        outer = sym (ap enclosing f) ∙ p .around .outer;
+        fewer = omega arith;
+      }
+
+  pub bytes-past : (next : Place) → Passes (tokensAt text here) text (placeAt here) next → BytesLeft text place next
+  bytes-past next q =
+      let f = frames-past text here next q in
+      let w = p .around .fewer in
+      record {
+        around = record { within = q .within; outer = sym (ap enclosing f) ∙ p .around .outer; fewer = omega (arith, ap length (q .same)) };
+        same = sym (ap (λ (k : List Forest). charsOf (innermost k)) f) ∙ p .same;
+      }
+
+  pub bytes-start : (name : List ℕ) (next after : Place) → Begins (tokensAt text here) text (Open name) next → Left text next after → BytesLeft text place after
+  unfolding charsOf
+  bytes-start name next after m l =
+      let f = frames-first text here next (Open name) m in
+      let g = begins-fewer text here next (Open name) m in
+      let h = l .fewer in
+      let w = p .around .fewer in
+      record {
+        around = record { within = l .within; outer = ap enclosing (l .outer) ∙ sym (ap enclosing f) ∙ p .around .outer; fewer = omega arith };
+        same = ap (λ (k : List Forest). charsOf (innermost k)) (l .outer) ∙ sym (ap (λ (k : List Forest). charsOf (innermost k)) f) ∙ p .same;
+      }
+
+  -- The text ends, the markup goes wrong, or the element ends.
+  pub bytes-over : framesAt text here ≡ [] → NoByte text place here
+  unfolding charsOf
+  bytes-over f =
+      record {
+        none = sym (p .same) ∙ ap (λ (k : List Forest). charsOf (innermost k)) f;
+        left = record { outer = f ∙ sym (ap enclosing f) ∙ p .around .outer; within = p .around .within; fewer = p .around .fewer };
+      }
+
+  pub bytes-finish : (name : List ℕ) (next : Place) → Begins (tokensAt text here) text (Close name) next → NoByte text place next
+  unfolding charsOf
+  bytes-finish name next m =
+      let f = frames-first text here next (Close name) m in
+      let g = begins-fewer text here next (Close name) m in
+      let w = p .around .fewer in
+      record {
+        none = sym (p .same) ∙ ap (λ (k : List Forest). charsOf (innermost k)) f;
+        left = record { outer = sym (ap enclosing f) ∙ p .around .outer; within = m .within; fewer = omega arith };
+      }
+
 -- Reading the bytes of a value: those left make, with what is known, what the whole makes.
 pub record CharsLeft (text : List ℕ) (place : Place) (chars : Chars) (here : Place) : Type 0 where
   pub around : Within text place here
@@ -102,66 +175,23 @@ pub chars-none : (text : List ℕ) (place : Place) → PlaceIn text place → Ch
 chars-none text place p = record { around = within-none text place p; same = refl }
 
 module _ (text : List ℕ) (place : Place) (chars : Chars) (here : Place) (p : CharsLeft text place chars here) where
-  pub chars-byte : (b : ℕ) (next : Place) (later : Chars) → Begins (tokensAt text here) text (Char b) next → later ≡ withByte chars b → CharsLeft text place later next
-  unfolding charsFrom charsOf
+  pub chars-byte : (b : ℕ) (next : Place) (later : Chars) → ByteAt text here b next → later ≡ withByte chars b → CharsLeft text place later next
+  unfolding charsFrom
   chars-byte b next later m e =
-      let f = frames-first text here next (Char b) m in
-      let l = begins-fewer text here next (Char b) m in
-      let w = p .around .fewer in
+      let f = p .around .fewer in
+      let g = m .fewer in
       record {
-        around = record {
-          within = m .within;
-          outer = sym (ap enclosing f) ∙ p .around .outer;
-          fewer = omega arith;
-        };
-        same = ap (λ (s : Chars). charsFrom s (charsOf (inside text next))) e ∙ sym (ap (λ (l : List Forest). charsFrom chars (charsOf (innermost l))) f) ∙ p .same;
+        around = record { within = m .within; outer = m .outer ∙ p .around .outer; fewer = omega arith };
+        same = ap (λ (k : Chars). charsFrom k (charsOf (inside text next))) e ∙ sym (ap (charsFrom chars) (m .here)) ∙ p .same;
       }
 
-  pub chars-past : (next : Place) → Passes (tokensAt text here) text (placeAt here) next → CharsLeft text place chars next
-  chars-past next q =
-      let f = frames-past text here next q in
-      let w = p .around .fewer in
-      record {
-        around = record {
-          within = q .within;
-          outer = sym (ap enclosing f) ∙ p .around .outer;
-          fewer = omega (arith, ap length (q .same));
-        };
-        same = sym (ap (λ (l : List Forest). charsFrom chars (charsOf (innermost l))) f) ∙ p .same;
-      }
-
-  pub chars-start : (name : List ℕ) (next after : Place) → Begins (tokensAt text here) text (Open name) next → Left text next after → CharsLeft text place chars after
-  unfolding charsOf
-  chars-start name next after m l =
-      let f = frames-first text here next (Open name) m in
-      let g = begins-fewer text here next (Open name) m in
-      let h = l .fewer in
-      let w = p .around .fewer in
-      record {
-        around = record {
-          within = l .within;
-          outer = ap enclosing (l .outer) ∙ sym (ap enclosing f) ∙ p .around .outer;
-          fewer = omega arith;
-        };
-        same = ap (λ (l : List Forest). charsFrom chars (charsOf (innermost l))) (l .outer) ∙ sym (ap (λ (l : List Forest). charsFrom chars (charsOf (innermost l))) f) ∙ p .same;
-      }
-
-  -- The text ends, the markup goes wrong, or the element ends: what is known is what the whole makes.
-  pub chars-over : framesAt text here ≡ [] → (chars ≡ charsFrom noChars (charsOf (inside text place))) × Left text place here
-  unfolding charsFrom charsOf
-  chars-over f = (
-    sym (ap (λ (l : List Forest). charsFrom chars (charsOf (innermost l))) f) ∙ p .same,
-    record { outer = f ∙ sym (ap enclosing f) ∙ p .around .outer; within = p .around .within; fewer = p .around .fewer },
-  )
-
-  pub chars-finish : (name : List ℕ) (next : Place) → Begins (tokensAt text here) text (Close name) next → (chars ≡ charsFrom noChars (charsOf (inside text place))) × Left text place next
-  unfolding charsFrom charsOf
-  chars-finish name next m =
-      let f = frames-first text here next (Close name) m in
-      let g = begins-fewer text here next (Close name) m in
-      let w = p .around .fewer in (
-        sym (ap (λ (l : List Forest). charsFrom chars (charsOf (innermost l))) f) ∙ p .same,
-        record { outer = sym (ap enclosing f) ∙ p .around .outer; within = m .within; fewer = omega arith },
+  pub chars-over : (next : Place) → NoByte text here next → (chars ≡ charsFrom noChars (charsOf (inside text place))) × Left text place next
+  unfolding charsFrom
+  chars-over next n =
+      let f = p .around .fewer in
+      let g = n .left .fewer in (
+        sym (ap (charsFrom chars) (n .none)) ∙ p .same,
+        record { outer = n .left .outer ∙ p .around .outer; within = n .left .within; fewer = omega arith },
       )
 
 -- Reading the elements of a name one by one: each makes a step from what is known.

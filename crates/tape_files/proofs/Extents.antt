@@ -11,11 +11,11 @@ use Rattle.tape_markup.specs.Places.{part, PlaceIn, tokensAt}
 use Rattle.tape_markup.specs.Tree.{Forest, none, char, element, innermost, enclosing}
 use Rattle.tape_files.specs.declared.Field.{Field}
 use Rattle.tape_files.specs.declared.ExtentSaid.{ExtentSaid}
-use Rattle.tape_files.specs.Index.{charsOf, insides, under, flattened, valuesAt, partitionName, startBlockName, byteOffsetName, byteCountName}
+use Rattle.tape_files.specs.Index.{charsOf, insides, valuesAt, partitionName, startBlockName, byteOffsetName, byteCountName}
 use Rattle.tape_files.specs.Elements.{framesAt, inside, Left, bare, ElementMet, NoElement}
 use Rattle.tape_files.specs.Values.{numberField, letterField, firstField, fieldFrom, fieldAt, extentOf}
 use Rattle.tape_files.specs.Private.{joinedIf, nothingSaid, saidWith, saidFrom}
-use Rattle.tape_files.proofs.Bare.{Within, within-none}
+use Rattle.tape_files.proofs.Bare.{Within, within-none, under-last}
 
 -- One field: the values of its name alone.
 module _ (form : List ℕ → Field) (wanted : List ℕ) where
@@ -35,14 +35,9 @@ module _ (form : List ℕ → Field) (wanted : List ℕ) where
       by-test true later = later (firstField known (form (charsOf held)))
       by-test false later = later known
 
-  joined-ones : (l : List Forest) → flattened (map (under []) l) ≡ l
-  unfolding flattened under
-  joined-ones [] = refl
-  joined-ones (f ∷ l) = ap (λ (k : List Forest). f ∷ k) (joined-ones l)
-
   field-over : (f : Forest) → fieldOver Field.Missing f ≡ fieldAt form (wanted ∷ []) f
-  unfolding fieldAt valuesAt under
-  field-over f = over-named Field.Missing f ∙ ap (λ (l : List Forest). fieldFrom form Field.Missing (map charsOf l)) (sym (joined-ones (insides wanted f)))
+  unfolding fieldAt valuesAt
+  field-over f = over-named Field.Missing f ∙ ap (λ (l : List Forest). fieldFrom form Field.Missing (map charsOf l)) (sym (under-last wanted f))
 
 -- All four of them together.
 abbrev fieldsOver : ExtentSaid → Forest → ExtentSaid

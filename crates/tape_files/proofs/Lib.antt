@@ -7,4 +7,5 @@ pub mod Whole
 pub mod Roles
 pub mod Said
 pub mod Extents
+pub mod Uuids
 pub mod Same

@@ -3,5 +3,6 @@ pub mod Index
 pub mod NamedFiles
 pub mod Elements
 pub mod Values
+pub mod Volumes
 pub mod Promises
 pub mod Private

@@ -1,19 +1,41 @@
--- For the contracts of private functions alone: the bytes of a value, and the elements of an extent, one by one. No public contract cites this file.
-use Prim.Native.Nat.{ℕ, _+_, _-_, _*_, _^_}
+-- For the contracts of private functions alone: the bytes of a value, the elements of an extent, and volumes. No public contract cites this file.
+use Prim.Native.Nat.{ℕ, _+_, _-_, _*_, _^_, _<_}
 use Prim.Native.Char.{code}
 use mathlib.Core.Path.{_≡_}
 use mathlib.Core.Bool.{Bool, true, false, cond, _&&_}
 use mathlib.Core.List.{List, [], _∷_}
+use lib.ListN.{length}
 use lib.Dec.{eqb, ltb}
 use Rattle.text_bytes.specs.Text.{isText, isDigit}
-use Rattle.tape_markup.specs.Tree.{Forest, none, char, element}
+use Rattle.tape_markup.specs.declared.Place.{Place}
+use Rattle.tape_markup.specs.Places.{PlaceIn, tokensAt}
+use Rattle.tape_markup.specs.Tree.{Forest, none, char, element, enclosing, treeOf}
 use Rattle.tape_files.specs.declared.ExtentSaid.{ExtentSaid}
 use Rattle.tape_files.specs.declared.Field.{Field}
+use Rattle.tape_files.specs.declared.Named.{Named}
 use Rattle.tape_files.specs.declared.Use.{Use}
 use Rattle.tape_files.specs.declared.values.Chars.{Chars}
 use Rattle.tape_files.specs.declared.values.Grown.{Grown}
+use Rattle.tape_files.specs.declared.values.NextByte.{NextByte}
 use Rattle.tape_files.specs.Index.{charsOf, partitionName, startBlockName, byteOffsetName, byteCountName}
+use Rattle.tape_files.specs.Elements.{framesAt, inside, Left}
+use Rattle.tape_files.specs.Volumes.{volumesIn}
 use Rattle.tape_files.specs.Values.{numberField, letterField, firstField}
+
+-- The next byte directly in an element, behind others that were passed over; or there is none.
+pub record ByteAt (text : List ℕ) (place : Place) (byte : ℕ) (next : Place) : Type 0 where
+  pub within : PlaceIn text next
+  pub here : charsOf (inside text place) ≡ byte ∷ charsOf (inside text next)
+  pub outer : enclosing (framesAt text next) ≡ enclosing (framesAt text place)
+  pub fewer : length (tokensAt text next) < length (tokensAt text place)
+
+pub record NoByte (text : List ℕ) (place next : Place) : Type 0 where
+  pub none : charsOf (inside text place) ≡ []
+  pub left : Left text place next
+
+abbrev pub ByteMet : List ℕ → Place → NextByte → Type 0
+ByteMet text place (NextByte.Byte byte next) = ByteAt text place byte next
+ByteMet text place (NextByte.Over next) = NoByte text place next
 
 -- What is known before the first byte.
 abbrev pub noChars : Chars
@@ -71,3 +93,17 @@ unfoldable pub saidFrom : ExtentSaid → Forest → ExtentSaid
 saidFrom said none = said
 saidFrom said (char b rest) = saidFrom said rest
 saidFrom said (element name held rest) = saidFrom (saidWith said name (letterField (charsOf held)) (numberField (charsOf held))) rest
+
+-- Where the first volume that a text says begins; or it says none.
+pub record VolumeAt (root text : List ℕ) (next : Place) : Type 0 where
+  pub within : PlaceIn text next
+  pub others : List (List ℕ)
+  pub here : volumesIn root (treeOf text) ≡ charsOf (inside text next) ∷ others
+
+abbrev pub VolumeMet : List ℕ → List ℕ → Named → Type 0
+VolumeMet root text (Named.At next) = VolumeAt root text next
+VolumeMet root text (Named.Done next) = volumesIn root (treeOf text) ≡ []
+
+abbrev pub isOver : NextByte → Bool
+isOver (NextByte.Byte byte next) = false
+isOver (NextByte.Over next) = true

@@ -6,6 +6,7 @@ mod index;
 mod labels;
 mod places;
 mod values;
+mod volumes;
 
 pub use elements::is_named;
 pub use index::extent_is_good;
@@ -19,6 +20,7 @@ pub use places::read_extent;
 use tape_markup::Place;
 pub use values::is_value;
 pub use values::value_in;
+pub use volumes::other_volume;
 
 // An element with its name and where its inside begins; or none is left, and the reader is past the end.
 pub enum Child {

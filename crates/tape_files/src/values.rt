@@ -7,7 +7,7 @@ ghost use Rattle.tape_files.specs.Index.{charsOf};
 ghost use Rattle.tape_markup.specs.Places.{PlaceIn};
 ghost use Rattle.tape_files.specs.Elements.{Left, inside};
 ghost use Rattle.tape_files.specs.Values.{numberField, letterField, firstField, fieldAt, isValue, valueIn};
-ghost use Rattle.tape_files.specs.Private.{withByte, charsFrom, noChars, mayFollow, grows, digitOf, GrownTo};
+ghost use Rattle.tape_files.specs.Private.{withByte, charsFrom, noChars, mayFollow, grows, digitOf, GrownTo, ByteMet};
 use crate::Field;
 use crate::Named;
 use crate::elements::named_from;
@@ -29,6 +29,12 @@ pub(crate) struct Chars {
 enum Grown {
     To(u64),
     No,
+}
+
+// A byte and where the reader stands behind it; or none is left, and the reader is past the end.
+pub(crate) enum NextByte {
+    Byte { byte: u8, next: Place },
+    Over(Place),
 }
 
 struct CharsRead {
@@ -153,6 +159,33 @@ fn with_byte(chars: Chars, byte: u8) -> Chars
     }
 }
 
+// The next byte directly in the element that the reader stands in. Elements in it are passed over.
+pub(crate) fn byte_from(text: &[u8], place: Place) -> NextByte
+    requires { ⌜ PlaceIn (now text) place ⌝ }
+    ensures { λ r. ⌜ ByteMet (now (text .entry)) place r ⌝ }
+{
+    let mut here = place;
+    loop {
+        let step = step_from(text, here);
+        match step {
+            Step::End => return NextByte::Over(here),
+            Step::Broken => return NextByte::Over(here),
+            Step::Byte { byte, next } => return NextByte::Byte { byte, next },
+            Step::Start {
+                from: _,
+                to: _,
+                next,
+            } => here = past_end(text, next),
+            Step::Finish {
+                from: _,
+                to: _,
+                next,
+            } => return NextByte::Over(next),
+            Step::Past(next) => here = next,
+        }
+    }
+}
+
 // The bytes directly in the element that the reader stands in, to its end.
 fn read_chars(text: &[u8], place: Place) -> CharsRead
     requires { ⌜ PlaceIn (now text) place ⌝ }
@@ -167,27 +200,13 @@ fn read_chars(text: &[u8], place: Place) -> CharsRead
     };
     let mut here = place;
     loop {
-        let step = step_from(text, here);
-        match step {
-            Step::End => return CharsRead { chars, next: here },
-            Step::Broken => return CharsRead { chars, next: here },
-            Step::Byte { byte, next } => {
+        let met = byte_from(text, here);
+        match met {
+            NextByte::Over(next) => return CharsRead { chars, next },
+            NextByte::Byte { byte, next } => {
                 chars = with_byte(chars, byte);
                 here = next;
             }
-            Step::Start {
-                from: _,
-                to: _,
-                next,
-            } => {
-                here = past_end(text, next);
-            }
-            Step::Finish {
-                from: _,
-                to: _,
-                next,
-            } => return CharsRead { chars, next },
-            Step::Past(next) => here = next,
         }
     }
 }
