@@ -9,6 +9,7 @@
 #![deny(unsafe_code)]
 
 mod answers;
+mod boarding;
 mod book;
 mod build;
 mod clock;

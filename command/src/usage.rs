@@ -45,9 +45,9 @@ pub const COMMANDS: [Known; 23] = [
     known("desk", "SHEET [EVENTS] | --replay JOURNAL [--keep FOLDER]", "a day at the desk of two offices", &["replay", "keep"], Words::Files),
     known(
         "serve",
-        "--journal FILE --windows FOLDER [--group1 NAME] [--group2 NAME] [--group NAME] SHEET",
+        "--journal FILE --windows FOLDER [--book BOOK] [--group1 NAME] [--group2 NAME] [--group NAME] SHEET",
         "the desk for two offices in two rooms",
-        &["journal", "windows", "group1", "group2", "group"],
+        &["journal", "windows", "book", "group1", "group2", "group"],
         Words::Files,
     ),
     known("ask", "[--plain] WINDOW [EVENT...]", "events at a window of serve", &["plain"], Words::Files),
@@ -100,6 +100,7 @@ fn option(name: &str) -> Arg {
         "plain" => Arg::new("plain").long("plain").action(ArgAction::SetTrue).help("without keys for what was typed before"),
         "journal" => valued("journal", "FILE", ValueHint::FilePath, "where accepted events are written"),
         "windows" => valued("windows", "FOLDER", ValueHint::DirPath, "where the windows are"),
+        "book" => valued("book", "BOOK", ValueHint::DirPath, "a record book that takes each of them"),
         "group1" => valued("group1", "NAME", ValueHint::Other, "who may speak for office 1"),
         "group2" => valued("group2", "NAME", ValueHint::Other, "who may speak for office 2"),
         "group" => valued("group", "NAME", ValueHint::Other, "who may speak for the operator"),
@@ -364,10 +365,11 @@ impl Usage<'_> {
         let sheet = <[OsString; 1]>::try_from(words);
         match (value("journal"), value("windows"), sheet) {
             (Some(journal), Some(windows), Ok([sheet])) => {
-                if groups.iter().flatten().chain([&journal, &windows]).any(|name| name.is_empty()) {
+                let book = value("book");
+                if groups.iter().flatten().chain(&book).chain([&journal, &windows]).any(|name| name.is_empty()) {
                     return self.misused("an empty word is no name");
                 }
-                Ok(Asked::Serve(Serve { journal, windows, groups, sheet }))
+                Ok(Asked::Serve(Serve { journal, windows, book, groups, sheet }))
             }
             (None, _, _) => self.misused("serve needs --journal, the file that it writes accepted events to"),
             (_, None, _) => self.misused("serve needs --windows, the folder where it listens"),

@@ -28,6 +28,7 @@ import time
 import day
 import programs
 import sheets
+from record import parts
 
 COMMAND = os.path.join(programs.ROOT, "target/command/violstream")
 SHEET = os.path.join(programs.ROOT, "examples/day.run")
@@ -56,14 +57,16 @@ class Server:
     """A server in a folder of its own, with its journal and its windows."""
     calls = []
 
-    def __init__(self, folder, shim=None, sheet=SHEET, journal=None):
-        self.folder, self.sheet, self.shim, self.call = folder, sheet, shim, None
+    def __init__(self, folder, shim=None, sheet=SHEET, journal=None, book=None):
+        self.folder, self.sheet, self.shim, self.call, self.said = folder, sheet, shim, None, ""
+        self.book = book
         self.windows, self.journal = os.path.join(folder, "windows"), journal or os.path.join(folder, "journal")
         self.disk, self.synced = os.path.join(folder, "disk"), os.path.join(folder, "synced")
         os.makedirs(self.windows, exist_ok=True)
 
     def words(self, *more):
-        return [COMMAND, "serve", "--journal", self.journal, "--windows", self.windows, *more, self.sheet]
+        book = ["--book", self.book] if self.book else []
+        return [COMMAND, "serve", "--journal", self.journal, "--windows", self.windows, *book, *more, self.sheet]
 
     def start(self, *more, **how):
         """Started, and ready when its sentence is there; or what it has said, and its status."""
@@ -87,10 +90,21 @@ class Server:
 
     def end(self, number=signal.SIGTERM):
         self.call.send_signal(number)
+        return self.ended()
+
+    def ended(self):
+        """Its status; what it has said since it was ready is kept."""
         status = self.call.wait(LIMIT)
+        self.said = self.call.stderr.read().decode()
         self.call.stdout.close()
         self.call.stderr.close()
         return status
+
+    def tell_disk(self, words):
+        """What the disk does from now on (tests/c/disk.c)."""
+        with open(self.disk + ".new", "w") as handle:
+            handle.write(words)
+        os.rename(self.disk + ".new", self.disk)
 
     def path(self, window):
         return os.path.join(self.windows, window)
@@ -594,12 +608,7 @@ def failing(at):
     """Writes that fail, whole or after a part; syncs that fail after the write went through; a file that cannot be made shorter. And a slow disk."""
     server, model = Server(at.folder, at.shim), Model()
     server.begin()
-    askers = {window: server.at(window) for window in WINDOWS}
-
-    def disk(words):
-        with open(server.disk + ".new", "w") as handle:
-            handle.write(words)
-        os.rename(server.disk + ".new", server.disk)
+    askers, disk = {window: server.at(window) for window in WINDOWS}, server.tell_disk
 
     def good():
         for window, line in (("office1", b"file=1,2"), ("office2", b"file=3,1"), ("operator", b"waiting"), ("office1", b"withdraw=%d" % model.desk.last[1])):
@@ -781,6 +790,193 @@ def kills(at):
     print(f"serve.py: {at.words.kills} kills, {total} answers before them, {lost} bytes that no disk had kept")
 
 
+# ---- The record book that follows ----
+
+def entries_in(book):
+    return [parts(contents(os.path.join(book, name))) for name in sorted(os.listdir(book)) if name.endswith(".record")] if os.path.isdir(book) else []
+
+
+def lined_up(server, others=0):
+    """The book has each boarding of the journal, in its order and once, by the line above it: these lines, the entries of boardings, and all."""
+    above = [above for above, event in server.entries() if event.startswith(b"board=")]
+    found = entries_in(server.book)
+    mine = [entry for entry in found if ABOVE.fullmatch(b"# " + entry["by"].encode())]
+    must(len(found) - len(mine) == others, f"of {len(found)} entries {len(mine)} are of boardings")
+    must([entry["by"] for entry in mine] == [line[2:].decode() for line in above], lambda: f"the book has the boardings {[entry['by'] for entry in mine]}, and the journal {above}")
+    return above, mine, found
+
+
+def followed(server, others=0):
+    """The same, and each entry has what desk --replay keeps; and audit finds the book right."""
+    keep = os.path.join(server.folder, "kept")
+    shutil.rmtree(keep, ignore_errors=True)
+    os.makedirs(keep)
+    must(called("desk", "--replay", server.journal, "--keep", keep).returncode == 0, "the journal is not replayed")
+    above, mine, found = lined_up(server, others)
+    for number, (entry, line) in enumerate(zip(mine, above), 1):
+        for kind in ("run", "plan"):
+            must(entry[kind] == contents(os.path.join(keep, f"{number}.{kind}")), f"boarding {number} has another {kind} sheet in the book: {entry[kind]!r}")
+        must(entry["made"] >= line.split()[1].decode(), f"the entry of {line!r} was made before it, at {entry['made']}")
+    said = called("audit", server.book)
+    must(said.returncode == 0 and said.stdout.startswith(b"entries=%d\n" % len(found)), f"audit says {said}")
+    return len(mine)
+
+
+def boards(server, model, times=1):
+    """So many boardings, each of some tickets, answered as the model has it."""
+    askers = {window: server.at(window) for window in WINDOWS}
+    for number in range(times):
+        for window, line in (("office1", b"file=%d,2" % (number % 6 + 1)), ("office2", b"file=3,1"), ("operator", b"board=60,%d" % number)):
+            said, expected = askers[window].ask(line), model.answer(window, line)
+            must(said == expected, f"{line!r} is answered {said!r} and not {expected!r}")
+
+
+def books(at):
+    """A book from the first day, one that joins later, one that others write to; a server that is ended in every way."""
+    server, model = Server(at.folder, book=os.path.join(at.folder, "book")), Model()
+    server.begin()
+    must(entries_in(server.book) == [], "a book of no boardings has entries")
+    for number in range(1, 6):
+        boards(server, model)
+        must(len(entries_in(server.book)) == number, "a boarding was answered that is not in the book")
+    operator = server.at("operator")
+    must(operator.ask(b"board=60,1") == model.answer("operator", b"board=60,1"), "an empty boarding is answered otherwise")
+    must(operator.ask(b"board=1099511627777,1").startswith(b"refused=7") and len(entries_in(server.book)) == 6, "a refused boarding is in the book")
+    must(called("record", server.book, os.path.join(programs.ROOT, "examples/VX0041.run")).returncode == 0, "record does not add to the book of a server")
+    for number in (signal.SIGTERM, signal.SIGKILL, signal.SIGINT):
+        boards(server, model)
+        server.end(number)
+        server.begin()
+    server.end()
+    must(followed(server, 1) == 9 and server.said == "", f"the server said {server.said!r}")
+    # Without the book, and with it again; then with a new one.
+    server.book, kept = None, server.book
+    server.begin()
+    boards(server, model, 3)
+    server.end()
+    server.book = kept
+    server.begin()
+    must(len(entries_in(server.book)) == 13, "when the server is ready, boardings are not in the book")
+    server.end()
+    must(followed(server, 1) == 12, "boardings without the book did not follow")
+    server.book = os.path.join(at.folder, "new")
+    server.begin()
+    server.end()
+    must(followed(server) == 12, "a new book has not every boarding of the journal")
+    # Two tapes, one book.
+    other = Server(os.path.join(at.folder, "other"), book=server.book)
+    server.begin()
+    other.begin()
+    mine, theirs = Model(), model
+    threads = [threading.Thread(target=boards, args=(one, its, 8)) for one, its in ((server, theirs), (other, mine))]
+    [thread.start() for thread in threads]
+    [thread.join() for thread in threads]
+    ended = server.end(), other.end()
+    must(ended == (0, 0) and len(entries_in(server.book)) == 28, lambda: f"two servers share no book: {ended}, {server.said}, {other.said}, {len(entries_in(server.book))} entries")
+    must(called("audit", server.book).returncode == 0, "a book of two servers is wrong")
+
+
+def book_kills(at):
+    """Killed under load, and before and behind the very link of an entry: no boarding is missing in the book, and none is there twice."""
+    kills, total = max(5, at.words.kills // 8), 0
+    draw, server = random.Random(at.words.seed), Server(at.folder, at.shim, book=os.path.join(at.folder, "book"))
+    for number in range(kills):
+        server.begin()
+        loads = [Load(server, ("office1", "office2", "operator", "operator")[n], draw.random()) for n in range(4)]
+        [load.start() for load in loads]
+        time.sleep(draw.choice((0.001, 0.005, 0.02, 0.05)) * draw.random() * 2)
+        if number % 3:
+            # A word for the disk kills it at the next link.
+            server.tell_disk(draw.choice(("early", "late")))
+            must(server.ended() == -signal.SIGKILL, "the server was not killed at a link")
+            server.tell_disk("")
+        else:
+            server.end(signal.SIGKILL)
+        [load.join(LIMIT) for load in loads]
+        boarded = sum(said.startswith(b"boarded=") for load in loads for _, said in load.told)
+        before = len(entries_in(server.book))
+        must(before >= total + boarded, f"kill {number}: {boarded} boardings were answered, and the book has {before - total} more entries")
+        server.begin()
+        server.end()
+        total = len(lined_up(server)[1])
+    must(followed(server) == total > kills, f"{kills} kills met {total} boardings")
+    print(f"serve.py: {kills} kills with a book, {total} boardings in it, each once")
+
+
+def book_closed(at):
+    """A book that cannot be written: boardings are answered, one sentence tells it, and they follow; a server that is ended then follows when it starts."""
+    for words in ("room", "link", "shelf"):
+        server, model = Server(os.path.join(at.folder, words), at.shim, book=os.path.join(at.folder, words, "book")), Model()
+        server.begin()
+        boards(server, model)
+        for ending in (None, signal.SIGTERM, signal.SIGKILL):
+            before = len(entries_in(server.book))
+            server.tell_disk(words)
+            boards(server, model, 3)
+            time.sleep(1.2 if ending is None else 0)
+            there = len(entries_in(server.book))
+            # What was linked and could not be synced is there, once, however often it is tried.
+            must(there == before + (words == "shelf"), f"with {words} failing the book has {there - before} of three boardings")
+            if ending is None:
+                server.tell_disk("")
+                until(lambda: len(entries_in(server.book)) == before + 3, lambda: f"after {words} the book has {len(entries_in(server.book)) - before} of three boardings")
+                continue
+            status = server.end(ending)
+            must(status == (1 if ending == signal.SIGTERM else -ending), f"with {words} failing the server ends with {status}")
+            must(server.said.count("boardings go on, they are in the journal") == (2 if ending == signal.SIGTERM else 1), f"the server said {server.said!r}")
+            must(("the book is written again" in server.said) == ("follow in the book when the server is started again" in server.said) == (ending == signal.SIGTERM), f"the server said {server.said!r}")
+            journal = contents(server.journal)
+            said = server.start()
+            must(not isinstance(said, str) and said[1] == 1 and "book" in said[0] and sorted(os.listdir(server.windows)) in ([], sorted(WINDOWS)), f"with {words} failing the server starts: {said}")
+            must(contents(server.journal) == journal, "a server that does not start has written")
+            server.tell_disk("")
+            server.begin()
+            must(followed(server) == sum(event.startswith(b"board=") for event in model.journal), "another number of boardings")
+        server.end()
+    moved(at)
+    mounted(at)
+
+
+def moved(at):
+    """Something else in the book's place."""
+    server, model = Server(os.path.join(at.folder, "moved"), book=os.path.join(at.folder, "moved", "book")), Model()
+    server.begin()
+    boards(server, model)
+    os.rename(server.book, server.book + ".away")
+    with open(server.book, "wb"):
+        boards(server, model, 2)
+    os.remove(server.book)
+    os.rename(server.book + ".away", server.book)
+    until(lambda: len(entries_in(server.book)) == 3, "a book that was moved away and back is not gone on with")
+    must(server.end() == 0, "after a book that was moved away the server ends as if something was wrong")
+    must(followed(server) == 3, "another number of boardings")
+
+
+def mounted(at):
+    """A disk that is full, and one that may only be read, where such can be mounted."""
+    disk = os.path.join(at.folder, "mounted")
+    os.makedirs(disk)
+    if os.getuid() != 0 or subprocess.run(["mount", "-t", "tmpfs", "-o", "size=64k", "none", disk], capture_output=True).returncode:
+        print("serve.py: book_closed: no disk can be mounted here, so none is full or read-only")
+        return
+    try:
+        server, model = Server(os.path.join(at.folder, "on-it"), book=os.path.join(disk, "book")), Model()
+        server.begin()
+        boards(server, model)
+        for closing, opening in ((["dd", "if=/dev/zero", f"of={disk}/full"], ["rm", f"{disk}/full"]), (["mount", "-o", "remount,ro", disk], ["mount", "-o", "remount,rw", disk])):
+            before = len(entries_in(server.book))
+            subprocess.run(closing, capture_output=True)
+            boards(server, model, 2)
+            must(len(entries_in(server.book)) == before, f"after {closing} the book was written to")
+            subprocess.run(opening, check=True)
+            until(lambda: len(entries_in(server.book)) == before + 2, f"after {opening} the book did not follow")
+        must(server.end() == 0 and followed(server) == 5, "another number of boardings")
+        must("No space left" in server.said and "Read-only" in server.said, f"the server said {server.said!r}")
+    finally:
+        [call.kill() for call in Server.calls if call.poll() is None]
+        subprocess.run(["umount", "-l", disk], check=True)
+
+
 def numbers(at):
     """A day up to number 65,535, and 18 behind it; then started again."""
     with tempfile.TemporaryDirectory(dir="/dev/shm" if os.access("/dev/shm", os.W_OK) else None) as quick:
@@ -842,10 +1038,10 @@ def until(true, otherwise):
         if true():
             return
         time.sleep(0.02)
-    raise Wrong(otherwise())
+    raise Wrong(otherwise() if callable(otherwise) else otherwise)
 
 
-TESTS = (protocol, days, asking, stalling, crowds, starting, groups, faults, damage, full, failing, kills, numbers, fuzz)
+TESTS = (protocol, days, asking, stalling, crowds, starting, groups, faults, damage, full, failing, kills, books, book_kills, book_closed, numbers, fuzz)
 
 
 class At:

@@ -14,8 +14,9 @@ use crate::status::{failed, Stop};
 use entry::Entry;
 use nix::unistd::{geteuid, User};
 use sha2::{Digest, Sha256};
-use std::ffi::OsStr;
+use std::ffi::{OsStr, OsString};
 use std::fmt::Write as _;
+use std::path::Path;
 
 /// What stands for the digest of the entry before the first.
 pub const NOTHING: &str = "0000000000000000000000000000000000000000000000000000000000000000";
@@ -24,30 +25,56 @@ pub const NOTHING: &str = "00000000000000000000000000000000000000000000000000000
 pub const MOST_KEPT: usize = 1 << 26;
 
 /// A book that is written to, and who asks.
-pub struct Book<'a> {
-    folder: &'a OsStr,
+pub struct Book {
+    folder: OsString,
     by: String,
     program: String,
 }
 
-impl<'a> Book<'a> {
+impl Book {
     /// Nothing is made yet. Without a WHO it is the user by whom the call runs.
-    pub fn of(folder: &'a OsStr, by: Option<&str>, call: &Call) -> Result<Book<'a>, Stop> {
+    pub fn of(folder: &OsStr, by: Option<&str>, call: &Call) -> Result<Book, Stop> {
         let by = match by {
             Some(by) => by.to_string(),
             None => user()?,
         };
         let program = help::version(&call.places)?.lines().next().unwrap_or_default().to_string();
-        Ok(Book { folder, by, program })
+        Ok(Book { folder: folder.to_os_string(), by, program })
     }
 
     /// Adds an entry with a run sheet and the answer to it, on the disk before this returns. Its number, or the sentence that says why there is none.
     pub fn add(&self, run: &[u8], plan: &[u8]) -> Result<u64, String> {
+        self.add_by(&self.by, run, plan)
+    }
+
+    /// The same for somebody else who asks.
+    pub fn add_by(&self, by: &str, run: &[u8], plan: &[u8]) -> Result<u64, String> {
         let made = clock::now()?;
         let entry_at = |number: u64, previous: &str| {
-            Entry { number, made: made.clone(), by: self.by.clone(), program: self.program.clone(), previous: previous.to_string(), run, plan }.text()
+            Entry { number, made: made.clone(), by: by.to_string(), program: self.program.clone(), previous: previous.to_string(), run, plan }.text()
         };
-        shelf::add(self.folder, entry_at)
+        shelf::add(&self.folder, entry_at)
+    }
+
+    /// The numbers of the entries behind one, in their order; a book that is not there has none.
+    pub fn behind(&self, number: u64) -> Result<Vec<u64>, String> {
+        if !Path::new(&self.folder).exists() {
+            return Ok(Vec::new());
+        }
+        Ok(shelf::numbers(&self.folder)?.0.into_iter().filter(|&other| other > number).collect())
+    }
+
+    /// Whether an entry is such; what is no entry is not.
+    pub fn has(&self, number: u64, is_such: impl Fn(&Entry) -> bool) -> Result<bool, String> {
+        match shelf::take(&self.folder, number)? {
+            shelf::Taken::Text(text) => Ok(Entry::read(&text).map_or(false, |entry| is_such(&entry))),
+            _ => Ok(false),
+        }
+    }
+
+    /// What was found there stays there.
+    pub fn settle(&self) -> Result<(), String> {
+        shelf::settle(&self.folder)
     }
 }
 

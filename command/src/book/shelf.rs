@@ -107,6 +107,11 @@ fn make(folder: &OsStr) -> Result<(), String> {
     sync(parent).map_err(cannot)
 }
 
+/// The entries that are there, and their names, on the disk: of those that somebody has linked and could not sync too.
+pub fn settle(folder: &OsStr) -> Result<(), String> {
+    sync(Path::new(folder)).map_err(|error| format!("cannot write to the book {}: {}", quoted(folder), reason(&error)))
+}
+
 fn sync(folder: &Path) -> io::Result<()> {
     File::open(folder)?.sync_all()
 }

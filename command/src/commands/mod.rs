@@ -63,6 +63,7 @@ pub struct Sought {
 pub struct Serve {
     pub journal: OsString,
     pub windows: OsString,
+    pub book: Option<OsString>,
     pub groups: [Option<OsString>; 3],
     pub sheet: OsString,
 }

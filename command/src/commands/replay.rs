@@ -3,14 +3,14 @@
 
 use super::desk::{Day, Events};
 use super::{frame_pair, say_refused, told, Call, SHEET};
-use crate::answers::{lines, refusal};
+use crate::answers::refusal;
+use crate::boarding::{boards, Boarding};
 use crate::input::{self, cannot_read, Input};
 use crate::output::put;
 use crate::programs::{Fault, Program};
 use crate::say::{quoted, reason, shown};
 use crate::status::{failed, Status, Stop};
 use crate::words;
-use std::collections::BTreeMap;
 use std::ffi::OsStr;
 use std::fs::OpenOptions;
 use std::io::{self, Write};
@@ -104,7 +104,7 @@ pub struct Keeper<'a> {
 
 impl Keeper<'_> {
     pub fn keep(&mut self, event: &[u8], answer: &[u8]) -> Result<(), Stop> {
-        if !answer.starts_with(b"boarded=") {
+        if !boards(answer) {
             return Ok(());
         }
         self.number += 1;
@@ -118,66 +118,5 @@ impl Keeper<'_> {
         let path = self.folder.join(format!("{}.{kind}", self.number));
         let written = OpenOptions::new().write(true).create_new(true).open(&path).and_then(|mut file| file.write_all(text.as_bytes()));
         written.or_else(|error| failed(format!("cannot write {}: {}", quoted(path.as_os_str()), reason(&error))))
-    }
-}
-
-/// A boarding: what the operator said, and what was answered.
-struct Boarding {
-    head: String,
-    turn: String,
-    /// sum, finish, end, detours and each detour, as they stand in the answer.
-    plan: Vec<String>,
-    /// Of each file its reads, and its time and leg.
-    wants: BTreeMap<u64, (u64, String)>,
-}
-
-impl Boarding {
-    fn read(event: &[u8], answer: &[u8]) -> Boarding {
-        let event = String::from_utf8_lossy(event);
-        let (head, turn) = event.trim_end().trim_start_matches("board=").split_once(',').unwrap_or_default();
-        let (mut plan, mut wants) = (Vec::new(), BTreeMap::new());
-        for line in lines(answer).skip(1).map(String::from_utf8_lossy) {
-            match line.strip_prefix("ticket=").map(|ticket| ticket.splitn(5, ',').collect::<Vec<_>>()).as_deref() {
-                Some([_, _, file, count, read]) => {
-                    let want = wants.entry(file.parse().unwrap_or(0)).or_insert((0, read.to_string()));
-                    want.0 += count.parse::<u64>().unwrap_or(0);
-                }
-                _ => plan.push(line.to_string()),
-            }
-        }
-        Boarding { head: head.to_string(), turn: turn.to_string(), plan, wants }
-    }
-
-    fn run(&self, sheet: &str) -> String {
-        let files: String = sheet.lines().filter(|line| line.starts_with("file")).map(|line| format!("{line}\n")).collect();
-        let wants: String = self.wants.iter().map(|(file, (reads, _))| format!("want={file},{reads}\n")).collect();
-        format!("{}\nhead={}\nturn={}\nrule=least\n{files}wants={}\n{wants}", tape(sheet), self.head, self.turn, self.wants.len())
-    }
-
-    fn plan(&self, sheet: &str) -> String {
-        let reads: u64 = self.wants.values().map(|(reads, _)| reads).sum();
-        let (sum, rest) = self.plan.split_first().map_or((String::new(), Vec::new()), |(sum, rest)| (sum.clone(), rest.to_vec()));
-        let times = self.wants.iter().map(|(file, (_, read))| format!("time={file},{read}"));
-        let all = [tape(sheet).to_string(), sum, format!("reads={reads}")].into_iter().chain(rest).chain(times);
-        all.map(|line| format!("{line}\n")).collect()
-    }
-}
-
-fn tape(sheet: &str) -> &str {
-    sheet.lines().next().unwrap_or_default()
-}
-
-#[cfg(test)]
-mod tests {
-    use super::*;
-
-    #[test]
-    fn boardings() {
-        let answer =
-            b"boarded=2,1\nsum=288\nfinish=85\nend=16\ndetours=1\ndetour=6,6\nticket=1,1,3,2,85,2\nticket=1,2,6,1,33,1\nticket=2,1,3,1,85,2\n";
-        let boarding = Boarding::read(b"board=70,3\n", answer);
-        let sheet = "tape=A\nhead=0\nturn=\nrule=least\nfiles=2\nfile=0,1,0\nfile=1,1,0\nwants=1\nwant=1,1\n";
-        assert_eq!(boarding.run(sheet), "tape=A\nhead=70\nturn=3\nrule=least\nfiles=2\nfile=0,1,0\nfile=1,1,0\nwants=2\nwant=3,3\nwant=6,1\n");
-        assert_eq!(boarding.plan(sheet), "tape=A\nsum=288\nreads=4\nfinish=85\nend=16\ndetours=1\ndetour=6,6\ntime=3,85,2\ntime=6,33,1\n");
     }
 }

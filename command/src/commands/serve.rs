@@ -2,13 +2,14 @@
 
 use super::{frame_pair, say_refused, told, Call, Serve, SHEET};
 use crate::answers::refusal;
+use crate::book::Book;
 use crate::build;
 use crate::input::take;
 use crate::library::Library;
 use crate::output::put;
 use crate::programs::Program;
 use crate::say::{quoted, reason, say, shown};
-use crate::serve::{hold_signals, serve, tape_of, Desk, Journal, Windows};
+use crate::serve::{hold_signals, serve, tape_of, Desk, Follower, Journal, Windows};
 use crate::status::{failed, Status, Stop};
 use crate::words;
 use nix::unistd::{Gid, Group};
@@ -37,7 +38,9 @@ pub fn answer(asked: &Serve, call: &Call) -> Result<Status, Stop> {
     }
     let signals = hold_signals()?;
     let journal = Journal::open(Path::new(&asked.journal))?;
-    let (desk, events) = Desk::open(library, tape_of(&sheet), journal, &sheet)?;
+    let book = asked.book.as_ref().map(|book| Book::of(book, Some("serve"), call)).transpose()?;
+    let follower = book.map(|book| Follower::new(book, &sheet));
+    let (desk, events) = Desk::open(library, tape_of(&sheet), journal, &sheet, follower)?;
     let windows = Windows::open(folder, groups)?;
     let where_ = quoted(&asked.windows);
     say(&format!("serving at {where_}/office1, {where_}/office2 and {where_}/operator; events in the journal: {events}"));

@@ -1,13 +1,15 @@
 //! The desk: the waiting table in memory and the journal on the disk, which say the same whenever an answer leaves.
 
+use super::follower::{Boarded, Follower, PAUSE};
 use super::journal::{Damage, Journal};
 use super::window::{Line, Window};
 use crate::answers::Refusal;
+use crate::boarding::boards;
 use crate::clock::utc;
 use crate::library::{Calls, Table, Tape, Told};
-use crate::say::say;
-use crate::status::Stop;
-use std::time::SystemTime;
+use crate::say::{reason, say};
+use crate::status::{failed, Stop};
+use std::time::{Duration, SystemTime};
 
 pub struct Desk<C> {
     calls: C,
@@ -16,6 +18,15 @@ pub struct Desk<C> {
     journal: Journal,
     /// The last text was not written.
     is_failing: bool,
+    book: Option<Follower>,
+}
+
+/// What a round has accepted.
+#[derive(Default)]
+struct Accepted {
+    /// As the journal has it.
+    text: Vec<u8>,
+    boardings: Vec<Boarded>,
 }
 
 /// A line that somebody has sent.
@@ -32,47 +43,73 @@ const OTHER_WINDOW: u64 = 43;
 const FAILED: &[u8] = b"failed=journal\n";
 
 impl<C: Calls> Desk<C> {
-    /// Where the journal ends; how many events it has.
-    pub fn open(mut calls: C, tape: Tape, mut journal: Journal, sheet: &[u8]) -> Result<(Desk<C>, u64), Stop> {
+    /// Where the journal ends; how many events it has. A book has every boarding of the journal when this returns.
+    pub fn open(mut calls: C, tape: Tape, mut journal: Journal, sheet: &[u8], mut book: Option<Follower>) -> Result<(Desk<C>, u64), Stop> {
         let (mut table, mut count) = (Table::default(), 0);
         let front = [format!("{}\n", sheet.len()).as_bytes(), sheet].concat();
         journal.begin(&front, |above, event| {
             let window = Window::named(above).ok_or(Damage::Above)?;
             count += 1;
             match calls.event(&tape, &mut table, event) {
-                Told::Accepted(_) if window.owns(event) => Ok(()),
+                Told::Accepted(answer) if window.owns(event) => {
+                    if let (Some(book), true) = (&mut book, boards(&answer)) {
+                        book.owe(Boarded { by: said_above(above), event: event.to_vec(), answer });
+                    }
+                    Ok(())
+                }
                 _ => Err(Damage::Event),
             }
         })?;
-        Ok((Desk { calls, tape, table, journal, is_failing: false }, count))
+        if let Some(book) = &mut book {
+            book.follow().or_else(failed)?;
+        }
+        Ok((Desk { calls, tape, table, journal, is_failing: false, book }, count))
     }
 
-    /// The answer to each. What they show is on the disk when this returns; one write and one sync serve all of them.
+    /// The answer to each. What they show is on the disk when this returns; one write and one sync serve all of them. The book follows before they leave,
+    /// where it can be written.
     pub fn answer(&mut self, requests: &[Request]) -> Vec<Vec<u8>> {
         let before = self.table.clone();
-        let (now, mut text) = (utc(SystemTime::now()), Vec::new());
-        let answers = requests.iter().map(|request| self.take(request, &now, &mut text)).collect();
-        if text.is_empty() {
+        let (now, mut accepted) = (utc(SystemTime::now()), Accepted::default());
+        let answers = requests.iter().map(|request| self.take(request, &now, &mut accepted)).collect();
+        if accepted.text.is_empty() {
+            self.follow(Vec::new());
             return answers;
         }
-        let written = self.journal.add(&text);
+        let written = self.journal.add(&accepted.text);
         self.tell(&written);
         if written.is_ok() {
+            self.follow(accepted.boardings);
             return answers;
         }
         self.table = before;
         requests.iter().map(|request| self.take_unwritten(request)).collect()
     }
 
+    fn follow(&mut self, boardings: Vec<Boarded>) {
+        if let Some(book) = &mut self.book {
+            boardings.into_iter().for_each(|boarded| book.owe(boarded));
+            book.go_on();
+        }
+    }
+
+    /// How long nothing need be done where nobody asks.
+    pub fn patience(&self) -> Option<Duration> {
+        self.book.as_ref().filter(|book| book.owes() > 0).map(|_| PAUSE)
+    }
+
     /// One answer; where the event is accepted, the table and the text of the journal have it.
-    fn take(&mut self, request: &Request, now: &str, text: &mut Vec<u8>) -> Vec<u8> {
+    fn take(&mut self, request: &Request, now: &str, accepted: &mut Accepted) -> Vec<u8> {
         let told = match request.window.understand(&request.line) {
             Line::Waiting => self.calls.waiting(&self.table),
             Line::Event(event) => {
                 let told = self.calls.event(&self.tape, &mut self.table, &event);
-                if let Told::Accepted(_) = told {
-                    text.extend(format!("# {now} {} {}\n", request.window.name(), request.who).into_bytes());
-                    text.extend(event);
+                if let Told::Accepted(answer) = &told {
+                    let above = format!("# {now} {} {}\n", request.window.name(), request.who);
+                    accepted.text.extend_from_slice(&[above.as_bytes(), &event].concat());
+                    if boards(answer) {
+                        accepted.boardings.push(Boarded { by: said_above(above.trim_end().as_bytes()), event, answer: answer.clone() });
+                    }
                 }
                 told
             }
@@ -91,9 +128,9 @@ impl<C: Calls> Desk<C> {
 
     /// The same where nothing can be written: what would be accepted is not, and changes nothing.
     fn take_unwritten(&mut self, request: &Request) -> Vec<u8> {
-        let (before, mut text) = (self.table.clone(), Vec::new());
-        let answer = self.take(request, "", &mut text);
-        if text.is_empty() {
+        let (before, mut accepted) = (self.table.clone(), Accepted::default());
+        let answer = self.take(request, "", &mut accepted);
+        if accepted.text.is_empty() {
             return answer;
         }
         self.table = before;
@@ -109,10 +146,21 @@ impl<C: Calls> Desk<C> {
         self.is_failing = written.is_err();
     }
 
-    /// What could not be taken back when it was not written is taken back now.
-    pub fn close(&mut self) -> std::io::Result<()> {
-        self.journal.repair()
+    /// What could not be taken back when it was not written is taken back now, and what the book is owed is written.
+    pub fn close(&mut self) -> Result<(), Stop> {
+        if let Err(error) = self.journal.repair() {
+            return failed(format!("what was not accepted may stand in the journal, and could not be taken back: {}", reason(&error)));
+        }
+        match self.book.as_mut().map_or(Ok(()), Follower::follow) {
+            Ok(()) => Ok(()),
+            Err(why) => failed(format!("{why}; some boardings are in the journal alone, and follow in the book when the server is started again")),
+        }
     }
+}
+
+/// What stands above an event, for a book.
+fn said_above(above: &[u8]) -> String {
+    String::from_utf8_lossy(above).trim_start_matches("# ").to_string()
 }
 
 fn refused(number: u64) -> Told {
@@ -159,7 +207,7 @@ mod tests {
     fn what_is_not_written_has_not_been() {
         let path = std::env::temp_dir().join(format!("violstream-desk-{}", std::process::id()));
         let moved = path.with_extension("moved");
-        let open = || Desk::open(Counting, Tape::default(), Journal::open(&path).unwrap(), b"sheet\n").unwrap();
+        let open = || Desk::open(Counting, Tape::default(), Journal::open(&path).unwrap(), b"sheet\n", None).unwrap();
         let (mut desk, count) = open();
         assert_eq!(count, 0);
         assert_eq!(answers(&mut desk, &["file=1,1", "waiting", "x"]), ["filed=1,1\n", "waiting=1,0\n", "refused=11\nplace=0\n"]);

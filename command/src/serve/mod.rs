@@ -1,9 +1,11 @@
 //! serve: the desk for two offices in two rooms. What an event does is the proved call's; what stands here is windows, journal and clock.
 //!
 //! One round: whoever has asked is heard, all that was asked is judged in turn, what was accepted is written to the journal and synced once, and then the
-//! answers leave. So no answer shows what is not on the disk, and a table that could not be written is the one before.
+//! answers leave. So no answer shows what is not on the disk, and a table that could not be written is the one before. A record book, where there is one, follows
+//! the journal before the answers leave, or as soon as it can be written.
 
 mod desk;
+mod follower;
 mod journal;
 mod window;
 mod windows;
@@ -12,6 +14,7 @@ use crate::library::{Calls, Tape};
 use crate::say::reason;
 use crate::status::{failed, Status, Stop};
 pub use desk::Desk;
+pub use follower::Follower;
 pub use journal::Journal;
 use nix::sys::signal::{SigSet, Signal};
 use nix::sys::signalfd::{SfdFlags, SignalFd};
@@ -30,15 +33,13 @@ pub fn hold_signals() -> Result<SignalFd, Stop> {
 pub fn serve<C: Calls>(mut desk: Desk<C>, mut windows: Windows, signals: &SignalFd) -> Result<Status, Stop> {
     let ended = rounds(&mut desk, &mut windows, signals);
     windows.close();
+    let closed = desk.close();
     ended?;
-    match desk.close() {
-        Ok(()) => Ok(Status::Answered),
-        Err(error) => failed(format!("what was not accepted may stand in the journal, and could not be taken back: {}", reason(&error))),
-    }
+    closed.map(|()| Status::Answered)
 }
 
 fn rounds<C: Calls>(desk: &mut Desk<C>, windows: &mut Windows, signals: &SignalFd) -> Result<(), Stop> {
-    while !windows.wait(signals.as_raw_fd())? {
+    while !windows.wait(signals.as_raw_fd(), desk.patience())? {
         let (places, requests) = windows.lines();
         let answers = desk.answer(&requests);
         windows.give(&places, &answers);

@@ -81,12 +81,12 @@ impl Windows {
         Ok(opened)
     }
 
-    /// Until somebody comes, asks or takes; true where the descriptor of signals has something.
-    pub fn wait(&mut self, signals: RawFd) -> Result<bool, Stop> {
+    /// Until somebody comes, asks or takes, or the patience is over; true where the descriptor of signals has something.
+    pub fn wait(&mut self, signals: RawFd, patience: Option<Duration>) -> Result<bool, Stop> {
         let mut ends = vec![PollFd::new(signals, PollFlags::POLLIN)];
         ends.extend(self.windows.iter().map(|(_, _, listener)| PollFd::new(listener.as_raw_fd(), PollFlags::POLLIN)));
         ends.extend(self.askers.iter().map(|asker| PollFd::new(asker.stream.as_raw_fd(), asker.wishes())));
-        let limit = if self.askers.iter().any(Asker::has_line) { 0 } else { -1 };
+        let limit = if self.askers.iter().any(Asker::has_line) { 0 } else { patience.map_or(-1, |patience| patience.as_millis() as i32) };
         match poll(&mut ends, limit) {
             Ok(_) | Err(Errno::EINTR) => {}
             Err(errno) => return failed(format!("cannot wait for events: {}", reason(&errno.into()))),
