@@ -326,6 +326,7 @@ run python/pages
 run python/paths
 run python/rows
 run python/command
+run python/pictures
 run python/faults
 run python/record
 run python/serve

@@ -10,6 +10,29 @@ pub fn utc(time: SystemTime) -> String {
     format!("{year:04}-{month:02}-{day:02}T{:02}:{:02}:{:02}Z", of_day / 3600, of_day / 60 % 60, of_day % 60)
 }
 
+/// A moment for a person: 2026-11-16 08:00:00. Years of more digits have them.
+pub fn moment(seconds: u64) -> String {
+    let (year, month, day) = date(seconds / 86400);
+    format!("{year:04}-{month:02}-{day:02} {}", hours(seconds % 86400))
+}
+
+/// Hours, minutes and seconds: 08:14:55. The hours have as many digits as they need.
+pub fn hours(seconds: u64) -> String {
+    format!("{:02}:{:02}:{:02}", seconds / 3600, seconds / 60 % 60, seconds % 60)
+}
+
+/// The seconds from 1970 to a time like 2026-11-16T08:00:00, in whatever zone it is meant.
+pub fn seconds(text: &str) -> Option<u64> {
+    if !is_time(&format!("{text}Z")) {
+        return None;
+    }
+    let at = |from: usize, to: usize| text[from..to].parse::<u64>().ok();
+    let (year, month, day) = (at(0, 4)?, at(5, 7)?, at(8, 10)?);
+    let before = (1970..year).map(|year| 365 + u64::from(days_of(year, 2) == 29)).sum::<u64>();
+    let days = before + (1..month).map(|month| days_of(year, month)).sum::<u64>() + day - 1;
+    (year >= 1970).then_some(days * 86400 + at(11, 13)? * 3600 + at(14, 16)? * 60 + at(17, 19)?)
+}
+
 /// This moment, where the machine's clock can tell it.
 pub fn now() -> Result<String, String> {
     let time = SystemTime::now();
@@ -79,6 +102,14 @@ mod tests {
             assert!(!is_time(&format!("{day}T00:00:00Z")), "{day}");
         }
         assert!(!is_time("2026-01-01T24:00:00Z") && !is_time("2026-01-01T00:60:00Z") && !is_time("\u{e4}026-01-01T00:00:0Z"));
+        for text in ["1970-01-01T00:00:00", "2000-02-29T23:59:59", "2026-11-16T08:00:00", "2100-03-01T00:00:01", "9999-12-31T23:59:59"] {
+            assert_eq!(seconds(text).map(moment), Some(text.replace('T', " ")));
+        }
+        for text in ["1969-12-31T23:59:59", "2026-02-29T00:00:00", "2026-11-16T08:00:00Z", "2026-11-16 08:00:00", ""] {
+            assert_eq!(seconds(text), None);
+        }
+        assert_eq!((hours(0), hours(29695), hours(1 << 58)), ("00:00:00".into(), "08:14:55".into(), "80063993375475:29:04".into()));
+        assert_eq!(moment(1 << 58), "9133658989-08-04 03:29:04");
         assert!(!is_utc("2026-11-16T08:00:00") && !is_utc("2026-11-16 08:00:00Z") && !is_utc(""));
     }
 }

@@ -1,10 +1,13 @@
 //! The words of a call, read by clap, and what to say of those that are wrong.
 
 use crate::book::is_name;
-use crate::commands::{Asked, Serve, Sought};
+use crate::clock;
+use crate::commands::{Asked, Explain, Serve, Sought};
+use crate::explain::schedule::Speed;
 use crate::places::Places;
 use crate::say::quoted;
 use crate::status::Stop;
+use crate::words::is_number;
 use clap::error::{ContextKind, ContextValue, ErrorKind};
 use clap::{value_parser, Arg, ArgAction, ArgMatches, Command, ValueHint};
 use std::ffi::{OsStr, OsString};
@@ -37,7 +40,13 @@ pub const COMMANDS: [Known; 23] = [
     known("buys", "[--any] [--json] [FILE...]", "what each detour of a plan buys", &["any", "json"], Words::Files),
     known("price", "RUN LIST", "the plan sheet of a list of your own", &[], Words::Files),
     known("check", "[--json] RUN PLAN", "whether a plan sheet is right", &["json"], Words::Files),
-    known("explain", "[--svg FILE] RUN", "the plan for a person, and its picture", &["svg"], Words::Files),
+    known(
+        "explain",
+        "[--svg FILE] [--names FILE] [--speed UNITS [--begin TIME]] RUN",
+        "the plan for a person, and its picture",
+        &["svg", "names", "speed", "begin"],
+        Words::Files,
+    ),
     known("rewrite", "[FILE...]", "each run sheet with turn=0 for an empty turn=", &[], Words::Files),
     known("mend", "[FILE...]", "each run sheet put in order", &[], Words::Files),
     known("month", "[--json] [FILE...]", "one page over up to 1,000 run sheets", &["json"], Words::Files),
@@ -75,9 +84,12 @@ pub const FOR_CHECKOUTS: [&str; 4] = ["build", "test", "install", "deb"];
 // ---- For clap ----
 
 /// Options that take a value, and what it is.
-const VALUES: [(&str, &str); 5] = [
+const VALUES: [(&str, &str); 8] = [
     ("--svg", "the name of a file"),
     ("--html", "the name of a file"),
+    ("--names", "the name of a file"),
+    ("--speed", "a whole number of units of tape in a second, 1 or more"),
+    ("--begin", "a time like 2026-11-16T08:00:00, from 1970 on"),
     ("--by", "a name of whoever asks, on one line"),
     ("--tape", "the name of a tape, 1 to 16 of A-Z and 0-9"),
     ("--file", "the number of a file, 1 to 256"),
@@ -93,6 +105,9 @@ fn option(name: &str) -> Arg {
         "any" => Arg::new("any").long("any").action(ArgAction::SetTrue).help("any run: the head anywhere, and more room"),
         "json" => Arg::new("json").long("json").action(ArgAction::SetTrue).help("one object of JSON for each answer"),
         "svg" => valued("svg", "FILE", ValueHint::FilePath, "a picture too"),
+        "names" => valued("names", "FILE", ValueHint::FilePath, "the names of the files, as pick writes them"),
+        "speed" => valued("speed", "UNITS", ValueHint::Other, "units of tape in a second: times by the clock too"),
+        "begin" => valued("begin", "TIME", ValueHint::Other, "when the run begins: the time of day too"),
         "by" => valued("by", "WHO", ValueHint::Other, "who asks; without it the user's name"),
         "tape" => valued("tape", "NAME", ValueHint::Other, "when files of this tape were read"),
         "file" => valued("file", "N", ValueHint::Other, "this file of it alone"),
@@ -223,7 +238,7 @@ impl Usage<'_> {
             "plan" | "field" | "buys" | "rewrite" | "mend" => self.sheets(words, any, json),
             "month" => self.month(words, json),
             "price" | "check" => self.pair(words, json),
-            "explain" => self.explain(words, matches.get_one::<OsString>("svg")),
+            "explain" => self.explain(words, value),
             "ltfs" => self.ltfs(words),
             "desk" => self.desk(words, value("replay"), value("keep")),
             "serve" => self.serve(words, value),
@@ -273,13 +288,32 @@ impl Usage<'_> {
         }
     }
 
-    fn explain(&self, words: Vec<OsString>, picture: Option<&OsString>) -> Result<Asked, Stop> {
-        if picture.map_or(false, |picture| picture.is_empty()) {
-            return self.misused(needs("--svg"));
+    fn explain(&self, words: Vec<OsString>, value: impl Fn(&str) -> Option<OsString>) -> Result<Asked, Stop> {
+        for option in ["svg", "names"] {
+            if value(option).map_or(false, |name| name.is_empty()) {
+                return self.misused(needs(&format!("--{option}")));
+            }
         }
+        let (picture, names, speed) = (value("svg"), value("names"), self.speed(&value)?);
         match <[OsString; 1]>::try_from(words) {
-            Ok([run]) => Ok(Asked::Explain { run, picture: picture.cloned() }),
+            Ok([run]) => {
+                self.only_once(&[&run].into_iter().chain(&names).collect::<Vec<_>>())?;
+                Ok(Asked::Explain(Explain { run, picture, names, speed }))
+            }
             Err(_) => self.misused("explain takes one run sheet"),
+        }
+    }
+
+    fn speed(&self, value: &impl Fn(&str) -> Option<OsString>) -> Result<Speed, Stop> {
+        let whole = |text: &OsString| text.to_str().filter(|text| is_number(text)).and_then(|text| text.parse::<u64>().ok());
+        let units = match value("speed").map(|text| whole(&text).filter(|&units| units > 0)) {
+            Some(None) => return self.misused(needs("--speed")),
+            units => units.flatten(),
+        };
+        match (units, value("begin").map(|text| text.to_str().and_then(clock::seconds))) {
+            (_, Some(None)) => self.misused(needs("--begin")),
+            (None, Some(_)) => self.misused("--begin needs --speed, by which times become seconds"),
+            (units, begin) => Ok(Speed { units, begin: begin.flatten() }),
         }
     }
 

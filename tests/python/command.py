@@ -6,6 +6,7 @@ usage: tests/python/command.py [--only NAME]    (the programs are those in targe
 It works in a copy of the command's own files in a temporary folder, with the programs beside it, so that nothing is proved here.
 """
 import argparse
+import datetime
 import json
 import os
 import pty
@@ -233,11 +234,55 @@ def explained(at):
             if part not in text:
                 raise Wrong(f"./violstream explain prints {text!r}, without {part!r}")
         picture = open(at.path("picture.svg"), "rb").read()
-        if b'points="110.0,112.0 110.0,' not in picture and run == "mounted" or b' 910.0,' not in picture:
+        path = re.search(rb'class="head" points="([0-9.]+),128.0 ([0-9.]+),.* ([0-9.]+),', picture)
+        if not path or path[1] != path[2] or run == "mounted" and float(path[3]) != float(path[1]) + 800:
             raise Wrong(f"the picture of {run} is {picture!r}")
     at.must("./violstream explain examples/retired-rule.run", 3, refusal(19, 4), ["refused (19)"])
     at.must("./violstream explain --svg no-such/picture.svg examples/VX0041.run", 1, b"", ["cannot write no-such/picture.svg"])
     at.must("./violstream explain examples/no-wants.run", 0, silent=True)
+
+
+def timed(at):
+    """Times by the clock, and names: the table in the order of reading, whole seconds rounded up, exact in every digit."""
+    plain = at.shell("./violstream explain examples/VX0041.run")[0]
+    table = b"""time     after                   at  leg  reads  file
+  55  00:00:06  2026-02-28 23:59:56    1      3  %b
+  81  00:00:09  2026-02-28 23:59:59    2      1  %b
+ 121  00:00:13  2026-03-01 00:00:03    2      1  %b
+"""
+    at.must("./violstream explain --speed 10 --begin 2026-02-28T23:59:50 examples/VX0041.run", 0, plain + b"\n" + table % (b"file 2", b"file 1", b"file 3"), silent=True)
+    at.write("names", b"name=1,1,a, b/c\nname=2,3,\x1b[2J\nname=3,1,\xc3\xa4\n")
+    named = plain + b"\n" + table % (b"$'\\x1b[2J'", b"a, b/c", b"\xc3\xa4")
+    at.must("./violstream explain examples/VX0041.run --speed=10 --begin=2026-02-28T23:59:50 --names=names", 0, named, silent=True)
+    at.must("./violstream explain --speed 10 --begin 2026-02-28T23:59:50 --names - examples/VX0041.run < names", 0, named, silent=True)
+    at.must("./violstream explain --names names examples/VX0041.run | tail -n 1", 0, b" 121    2      1  \xc3\xa4\n", silent=True)
+    at.must("./violstream explain --names names --svg picture.svg examples/VX0041.run | tail -n 1 && grep -c 'a, b/c' picture.svg", 0, silent=True)
+    # Several names of one file share its time, in their order; a file without one has its number.
+    at.write("some", b"name=2,1,z\nname=2,2,a\n")
+    at.must("./violstream explain --names some examples/VX0041.run | tail -n 4", 0, b"  55    1      1  z\n  55    1      2  a\n  81    2      1  file 1\n 121    2      1  file 3\n", silent=True)
+    for text, says in ((b"name=4,1,x\n", "names: line 1: the run does not want file 4"), (b"name=1,1,x\nname=2,2,y\n", "names: the names of file 2 have 2 reads together, and in the run 3 wait"),
+                       (b"name=1,1,x\nname=2,3\n", "names, line 2: not name=ENTRY,READS,PATH"), (b"name=01,1,x\n", "names, line 1: not"), (b"\n", "names, line 1: not"), (b"tape=A\n", "names, line 1: not")):
+        at.write("names", text)
+        at.must("rm -f picture.svg; ./violstream explain --names names --svg picture.svg examples/VX0041.run; s=$?; test ! -e picture.svg && exit $s", 1, b"", [says])
+    at.must("./violstream explain --names no-such examples/VX0041.run", 1, b"", ["cannot read no-such"])
+    at.must("./violstream explain --speed 5 examples/retired-rule.run", 3, refusal(19, 4), ["refused (19)"])
+    at.must("./violstream explain --speed 5 examples/no-wants.run | tail -n 1", 0, b"time  after  leg  reads  file\n", silent=True)
+    # Times of many digits, against whole numbers that do not end.
+    far = b"tape=A\nhead=%d\nturn=%d\nrule=least\nfiles=%d\n" % (2**40, 2**32, 40)
+    at.write("far.run", far + b"".join(b"file=%d,1,0\n" % (n * 27487790694) for n in range(40)) + b"wants=40\n" + b"".join(b"want=%d,%d\n" % (n, n % 3 + 1) for n in range(1, 41)))
+    times = sorted(int(line.split(b",")[1]) for line in at.shell("./violstream plan --any far.run")[0].split(b"\n") if line.startswith(b"time="))
+    for speed in (1, 3, 299792458, 2**40, 2**64 - 1):
+        lines = [line.split() for line in at.shell(f"./violstream explain --speed {speed} --begin 1999-12-31T23:59:59 far.run")[0].split(b"\n")[-41:-1]]
+        for time, cells in zip(times, lines):
+            seconds = -(-time // speed)
+            after = b"%02d:%02d:%02d" % (seconds // 3600, seconds // 60 % 60, seconds % 60)
+            moment = (datetime.datetime(1999, 12, 31, 23, 59, 59) + datetime.timedelta(seconds=seconds)).isoformat(" ").encode() if seconds < 2 * 10**11 else None
+            if cells[:2] != [b"%d" % time, after] or moment and b" ".join(cells[2:4]) != moment:
+                raise Wrong(f"of time {time} at {speed} units a second explain says {cells}, and it must be {after} and {moment}")
+    for words in ("--speed 0", "--speed 1.5", "--speed=", "--speed -1", "--speed 18446744073709551616", "--speed x", "--begin 2026-11-16T08:00:00", "--speed 1 --begin 2026-11-16", "--speed 1 --begin 2026-02-29T00:00:00",
+                  "--speed 1 --begin 1969-12-31T23:59:59", "--speed 1 --begin 2026-11-16T08:00:00Z", "--speed 1 --begin=", "--names=", "--names - -"):
+        at.must(f"./violstream explain {words} examples/VX0041.run", 2, b"", ["usage: "])
+    at.must("./violstream explain --names - -", 2, b"", ["given once only"])
 
 
 def rewriting(at):
@@ -1358,7 +1403,7 @@ def until(true, otherwise):
     raise Wrong(otherwise)
 
 
-TESTS = (answers, any_run, fielding, figures, pairs, explained, rewriting, mending, monthly, desk, replaying, statuses, help_and_version, nothing_lost, closed, odd_ends, quick, broken_program, several, ltfs_inputs, words_of_sheets, words_of_damaged_sheets,
+TESTS = (answers, any_run, fielding, figures, pairs, explained, timed, rewriting, mending, monthly, desk, replaying, statuses, help_and_version, nothing_lost, closed, odd_ends, quick, broken_program, several, ltfs_inputs, words_of_sheets, words_of_damaged_sheets,
          words_of_tapes, keyboard, transcripts, manual, interrupted, manners, as_json, installing, packaged, limits, other_user, without_compiler, building, building_fails, building_twice, building_interrupted, beside, surrounded)
 
 

@@ -1,7 +1,9 @@
 //! explain: what the programs print of a run, arranged for a person.
 
-use super::{frame_pair, say_refused, told, Call, SHEET};
+use super::{frame_pair, say_refused, told, Call, Explain, SHEET};
 use crate::answers::refusal;
+use crate::explain::picture::Beside;
+use crate::explain::schedule::{self, Names};
 use crate::explain::{picture, table, Plan, Texts};
 use crate::input::take;
 use crate::output::put;
@@ -12,9 +14,13 @@ use crate::words;
 use crate::words::sheet::By;
 use std::ffi::OsStr;
 
-pub fn answer(run: &OsStr, picture_file: Option<&OsStr>, call: &Call) -> Result<Status, Stop> {
-    let sheet = match take(run, SHEET, &call.began) {
-        Ok(sheet) => sheet,
+/// More than any text of names has.
+const NAMES: usize = 1 << 26;
+
+pub fn answer(asked: &Explain, call: &Call) -> Result<Status, Stop> {
+    let run = &asked.run;
+    let (sheet, names) = match take(run, SHEET, &call.began).and_then(|sheet| Ok((sheet, names(asked.names.as_deref(), call)?))) {
+        Ok(texts) => texts,
         Err(sentence) => return Ok(told(&sentence)),
     };
     let framed = frame_pair(&sheet, b"");
@@ -33,11 +39,24 @@ pub fn answer(run: &OsStr, picture_file: Option<&OsStr>, call: &Call) -> Result<
         answers.push(answer);
     }
     let plan = Plan::read(&Texts { run: &sheet, plan: &answers[0], buys: &answers[1], sweep: &answers[2] });
-    if let Some(file) = picture_file {
-        if let Err(error) = std::fs::write(file, picture::draw(&plan)) {
+    if let (Some(file), Err(why)) = (&asked.names, names.fit(&plan)) {
+        return Ok(told(&format!("{}: {why}", shown(file))));
+    }
+    if let Some(file) = &asked.picture {
+        if let Err(error) = std::fs::write(file, picture::draw(&plan, &Beside { names: &names, speed: asked.speed, in_bytes: false })) {
             return Ok(told(&format!("cannot write {}: {}", shown(file), reason(&error))));
         }
     }
     put(table::draw(&plan).as_bytes())?;
+    if asked.names.is_some() || asked.speed.is_given() {
+        put(format!("\n{}", schedule::draw(&plan, &names, asked.speed)).as_bytes())?;
+    }
     Ok(Status::Answered)
+}
+
+fn names(file: Option<&OsStr>, call: &Call) -> Result<Names, String> {
+    match file {
+        None => Ok(Names::default()),
+        Some(file) => Names::read(&take(file, NAMES, &call.began)?).map_err(|why| format!("{}, {why}", shown(file))),
+    }
 }

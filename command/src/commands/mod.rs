@@ -15,6 +15,7 @@ mod sheets;
 use crate::answers::Refusal;
 use crate::build;
 use crate::deb;
+use crate::explain::schedule::Speed;
 use crate::help;
 use crate::install;
 use crate::output::put;
@@ -34,7 +35,7 @@ pub struct Call {
 pub enum Asked {
     Sheets { command: &'static str, any: bool, files: Vec<OsString>, json: bool },
     Pair { command: &'static str, run: OsString, other: OsString, json: bool },
-    Explain { run: OsString, picture: Option<OsString> },
+    Explain(Explain),
     Month { files: Vec<OsString>, json: bool },
     Ltfs { tape: OsString, label: OsString, index: OsString },
     Desk { sheet: OsString, events: OsString },
@@ -59,6 +60,14 @@ pub struct Sought {
     pub file: Option<usize>,
 }
 
+/// The words of explain.
+pub struct Explain {
+    pub run: OsString,
+    pub picture: Option<OsString>,
+    pub names: Option<OsString>,
+    pub speed: Speed,
+}
+
 /// The words of serve; the groups are those of office 1, office 2 and the operator.
 pub struct Serve {
     pub journal: OsString,
@@ -75,7 +84,7 @@ pub fn answer(asked: &Asked, call: &Call) -> Result<Status, Stop> {
     match asked {
         Asked::Sheets { command, any, files, json } => sheets::answer(command, *any, files, *json, call),
         Asked::Pair { command, run, other, json } => pair::answer(command, run, other, *json, call),
-        Asked::Explain { run, picture } => explain::answer(run, picture.as_deref(), call),
+        Asked::Explain(asked) => explain::answer(asked, call),
         Asked::Month { files, json } => month::answer(files, *json, call),
         Asked::Ltfs { tape, label, index } => ltfs::answer(tape, label, index, call),
         Asked::Desk { sheet, events } => desk::answer(sheet, events, call),

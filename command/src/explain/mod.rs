@@ -4,7 +4,9 @@
 //! files, or the head's first place where a leg turns there; the clock as it sets off to the right, which is the time of its first file less the
 //! way to that file's end; and the clock at its end, which is so much later as it is long. Nothing here reads or writes a file.
 
+pub mod measure;
 pub mod picture;
+pub mod schedule;
 pub mod sketch;
 pub mod table;
 

@@ -1,7 +1,7 @@
 //! A plan's picture for a page with many: place from left to right, clock from top to bottom, as `picture` has it. It is short, takes its colours
 //! from the page's own style, and says nothing by colour alone; the numbers stand in a table beside it.
 
-use super::picture::{grouped, step_for};
+use super::measure::{spaced, step_for};
 use super::Plan;
 use std::fmt::Write as _;
 
@@ -39,7 +39,7 @@ fn in_units(unit: i64) -> String {
     if unit == 1 {
         String::new()
     } else {
-        format!(", in units of {}", grouped(unit))
+        format!(", in units of {}", spaced(unit))
     }
 }
 
@@ -104,15 +104,15 @@ impl Sketch<'_> {
         for clock in (0..=self.plan.finish).step_by(step as usize) {
             let y = self.y(clock);
             let _ = write!(lines, "M{:.0} {y:.0}h5", LEFT - 5.0);
-            self.text((LEFT - 9.0, y + 4.0), "end", "st", &grouped(clock / unit));
+            self.text((LEFT - 9.0, y + 4.0), "end", "st", &spaced(clock / unit));
         }
-        self.text((4.0, 16.0), "start", "st", &format!("clock{}", in_units(unit)));
+        self.text((4.0, 18.0), "start", "st", &format!("clock{}", in_units(unit)));
         let (step, unit) = steps(self.high - self.low);
         let first = step * ((self.low + step - 1) / step);
         for place in (first..=self.high).step_by(step as usize) {
             let x = self.x(place);
             let _ = write!(lines, "M{x:.0} {bottom:.0}v5");
-            self.text((x, bottom + 19.0), "middle", "st", &grouped(place / unit));
+            self.text((x, bottom + 19.0), "middle", "st", &spaced(place / unit));
         }
         let _ = write!(self.out, "<path class=\"sa\" d=\"{lines}\"/>");
         self.text((LEFT + WIDE / 2.0, bottom + 41.0), "middle", "st", &format!("place on the tape{}", in_units(unit)));
@@ -136,9 +136,9 @@ impl Sketch<'_> {
     }
 
     /// The numbers of the wanted files above their bands, in up to two rows where they stand close; of few files the time beside the dot too, where
-    /// there is room for it.
+    /// there is room for it. On a telephone letters are larger, and what has no room there is not shown.
     fn names(&mut self) {
-        let mut taken = [-100.0; 2];
+        let (mut taken, mut on_telephone) = ([-100.0; 2], [-100.0; 2]);
         for number in self.plan.wanted() {
             let file = match self.plan.file(number) {
                 Some(file) => file,
@@ -147,11 +147,15 @@ impl Sketch<'_> {
             let name = number.to_string();
             let x = (self.x(file.start) + self.x(file.end)) / 2.0;
             if let Some(row) = (0..2).find(|row| x - taken[*row] >= 8.0 + 8.0 * name.len() as f64) {
+                let is_small = x - on_telephone[row] < 6.0 + 13.0 * name.len() as f64;
                 taken[row] = x;
-                self.text((x, TOP - 6.0 - 18.0 * row as f64), "middle", "sn", &name);
+                if !is_small {
+                    on_telephone[row] = x;
+                }
+                self.text((x, TOP - 6.0 - 18.0 * row as f64), "middle", if is_small { "sn sm" } else { "sn" }, &name);
             }
         }
-        if self.plan.done.len() > NAMED || grouped(self.plan.finish).len() > LONG {
+        if self.plan.done.len() > NAMED || spaced(self.plan.finish).len() > LONG {
             return;
         }
         let mut taken: Vec<(f64, f64)> = Vec::new();
@@ -161,7 +165,7 @@ impl Sketch<'_> {
                 continue;
             }
             taken.push((x, y));
-            let name = format!("{} at {}", read.file, grouped(read.time));
+            let name = format!("{} at {}", read.file, spaced(read.time));
             // Beside the dot, or where that is over the edge below the line that comes to it.
             let fits = x + 9.0 + 7.5 * name.len() as f64 <= 640.0;
             let (at, anchor, below) = if fits { (x + 9.0, "start", -5.0) } else { (x + 4.0, "end", 20.0) };

@@ -9,7 +9,7 @@ use super::shown;
 use super::wants::{Want, Wants};
 use crate::clock;
 use crate::commands::{frame_pair, Call};
-use crate::explain::picture::grouped;
+use crate::explain::measure::{escaped, grouped};
 use crate::explain::{sketch, Plan, Texts};
 use crate::help;
 use crate::programs::Program;
@@ -27,11 +27,6 @@ pub struct Page<'a> {
     program: String,
     rows: String,
     articles: String,
-}
-
-/// So that it stands for itself between tags and in quotes.
-fn escaped(text: &str) -> String {
-    text.replace('&', "&amp;").replace('<', "&lt;").replace('>', "&gt;").replace('"', "&quot;").replace('\'', "&#39;")
 }
 
 fn count(number: usize, one: &str, many: &str) -> String {
