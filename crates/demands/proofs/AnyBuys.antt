@@ -22,7 +22,7 @@ use Rattle.runs.proofs.Entries.{length-list}
 use Rattle.runs.proofs.AnyHead.{GoodAnyRun, accepted-any}
 use Rattle.walk.specs.declared.Answer.{Answer}
 use Rattle.walk.specs.declared.Leg.{Leg}
-use Rattle.walk.specs.Walk.{headAt, sumOf}
+use Rattle.walk.specs.Walk.{headAt, walked, sumOf}
 use Rattle.walk.specs.AnyHead.{runLegs, pricedAnyAnswer}
 use Rattle.walk.proofs.AnyHead.{any-even, any-formed}
 use Rattle.least.specs.AnyHead.{LeastAnyFor, listSumAny}
@@ -133,6 +133,8 @@ module _ (r : Run) (froms tos : List ℕ) (p : PriceableAny r froms tos) where
         even = any-even (r .head) (stopsOf r) froms tos (p .list);
         formed = is-formed-any r good (listOf froms tos) well;
         sum = λ gs are. rw says (sym (walked-as (listOf froms tos) well gs are));
+        finish = λ gs are. rw says (ap (λ hs. walked (r .turn) (headAt (r .head)) hs .clock) (sym (legs-one r good (listOf froms tos) well gs are)));
+        end = λ gs are. rw says (ap (λ hs. walked (r .turn) (headAt (r .head)) hs .place) (sym (legs-one r good (listOf froms tos) well gs are)));
         number = rw says count;
         each = λ i l. rw (is, figure-in (drop (length froms) row) i l) (bought-any i l);
         long = rw is (omega (arith, length-append (figuresAnyOf r (listOf froms tos)) (drop (length froms) row), length-drop (length froms) row, size, fits));

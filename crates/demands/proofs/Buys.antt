@@ -151,6 +151,8 @@ module _ (r : Run) (froms tos : List ℕ) (p : Priceable r froms tos) where
         even = even;
         formed = list-formed (stopsOf r) froms tos (p .list);
         sum = rw says refl;
+        finish = rw says refl;
+        end = rw says refl;
         number = rw says count;
         each = λ i l. rw (is, figure-in (drop (length froms) row) i l) (bought i l);
         long = rw is (omega (arith, length-append (figuresOf r (listOf froms tos)) (drop (length froms) row), length-drop (length froms) row, size, fits));

@@ -154,11 +154,11 @@ module _ (sheet : List ℕ) where
       (ended 5)))))
 
   -- What follows the files' lines, the wants' line and the wants.
-  wants-behind : wantsText sheet ≡ afterLines (5 + F) sheet
+  pub wants-behind : wantsText sheet ≡ afterLines (5 + F) sheet
   unfolding wantsText fileText
   wants-behind = after-both F 5 (5 + F) sheet refl
 
-  want-behind : wantText sheet ≡ afterLines (6 + F) sheet
+  pub want-behind : wantText sheet ≡ afterLines (6 + F) sheet
   unfolding wantText
   want-behind = ap (afterLines 1) wants-behind ∙ after-both 1 (5 + F) (6 + F) sheet (omega arith)
 
@@ -235,10 +235,20 @@ module _ (sheet : List ℕ) where
         before = λ j l h. found .1 j l (in-stretch j h);
       }
 
-  no-line : firstBadLine sheet ≡ 0 → (p : ℕ) → FirstBad (LineIsBad sheet) (linesDue sheet) p → ⊥
-  no-line e p f = line-search .none e (f .index) (in-stretch (f .index) (f .here))
+  pub no-bad : firstBadLine sheet ≡ 0 → (i : ℕ) → LineIsBad sheet i → ⊥
+  no-bad e i here = line-search .none e i (in-stretch i here)
 
-  line-found : (p : ℕ) → FirstBad (LineIsBad sheet) (linesDue sheet) p → firstBadLine sheet ≡ p
+  pub no-line : firstBadLine sheet ≡ 0 → (p : ℕ) → FirstBad (LineIsBad sheet) (linesDue sheet) p → ⊥
+  no-line e p f = no-bad e (f .index) (f .here)
+
+  pub none-found : ((p : ℕ) → FirstBad (LineIsBad sheet) (linesDue sheet) p → ⊥) → firstBadLine sheet ≡ 0
+  none-found none = go (firstBadLine sheet) refl
+    where
+      go : (n : ℕ) → firstBadLine sheet ≡ n → firstBadLine sheet ≡ 0
+      go zero e = e
+      go (suc n) e = absurd (none (suc n) (found-line n e))
+
+  pub line-found : (p : ℕ) → FirstBad (LineIsBad sheet) (linesDue sheet) p → firstBadLine sheet ≡ p
   line-found p f = go (firstBadLine sheet) refl
     where
       go : (n : ℕ) → firstBadLine sheet ≡ n → firstBadLine sheet ≡ p

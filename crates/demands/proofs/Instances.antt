@@ -44,7 +44,8 @@ use Rattle.answer_rewrite.specs.Rewriting.{priceIsEmpty, bytesBefore, rewritten
 use Rattle.demands.specs.RefusalTable.{FirstBad, NothingApplies, FirstThatApplies, none, here, later, SomeApplies}
 use Rattle.demands.specs.Demand1.{ByTheTable, PlanApplies, planOrder}
 use Rattle.demands.specs.Lines.{LineIsBad, linesDue}
-use Rattle.demands.specs.Sheets.{GivesBack, RunComesBack}
+use Rattle.demands.specs.Sheets.{GivesBack, runRead, RunComesBack}
+use Rattle.demands.specs.SheetLines.{OnItsLines, BehindRead}
 use Rattle.demands.specs.Turns.{Rewrites}
 use Rattle.demands.specs.Formed.{ObeysTheRules}
 use Rattle.demands.specs.Demand2.{IsTheWalk, IsPriceOf, IsLeast}
@@ -62,6 +63,7 @@ use Rattle.demands.proofs.Called.{demand2-price-call, demand2-plan-call
 use Rattle.demands.proofs.FirstLine.{lines-by-the-table}
 use Rattle.demands.proofs.Sheets.{demand1-read}
 use Rattle.demands.proofs.WriteRead.{demand2-round-trip, write-then-read}
+use Rattle.demands.proofs.SheetLines.{read-holds-its-lines}
 use Rattle.demands.proofs.Turns.{rewritten-bytes}
 use Rattle.demands.proofs.Plain.{plain-as-planned}
 use Rattle.demands.proofs.Fits.{planAnswer, planRows, plans-for-every-input, plainAnswer, plainAfter, plain-for-every-input}
@@ -413,3 +415,13 @@ old-rewrites = rewritten-bytes oldSheet oldRow oldWritten oldOut (record { answe
 pub old-rewritten : rewritten oldSheet ≡ bytes "tape=A\nhead=0\nturn=0\nrule=least\nfiles=0\nwants=1\nwant=0,0\n"
 unfolding rewritten priceIsEmpty bytesBefore afterLines lineOf startsWith behind before has
 old-rewritten = refl
+
+-- It is read as well: what stands on its lines, whatever the planner says of it, and later entries stay.
+old-read : readBack oldSheet .refusal ≡ Accepted
+unfolding readAnswer readVerdict sheetVerdict ruleVerdict saysSweep namesSweep firstBadLine firstBadTop firstBadBelow firstBadOf firstWhere endText wantText sheetWants wantsText fileText sheetFiles isPairLine isPair isRuleLine isTurnLine isCountLine isNumberLine isTapeLine afterLines lineOf isName isNumber valueFrom allOf startsWith behind before has
+old-read = refl
+
+pub old-holds-its-lines : OnItsLines oldSheet (readName oldSheet) (runRead (readBack oldSheet) (rowsBack oldSheet)) × BehindRead (readBack oldSheet) sevens (rowsBack oldSheet)
+unfolding readAnswer sheetRun
+old-holds-its-lines =
+    read-holds-its-lines oldSheet sevens (readBack oldSheet) (rowsBack oldSheet) (record { answer = refl; starts = refl; lengths = refl; aggregates = refl; numbers = refl; counts = refl }) old-read

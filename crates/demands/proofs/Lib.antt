@@ -33,9 +33,12 @@ pub mod Cases
 pub mod Alone
 pub mod Buys
 pub mod AnyBuys
+pub mod Canonical
 pub mod Lines
+pub mod Letters
 pub mod FirstLine
 pub mod Sheets
+pub mod SheetLines
 pub mod WriteRead
 pub mod Writers
 pub mod Turns

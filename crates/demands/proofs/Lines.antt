@@ -21,7 +21,7 @@ use Rattle.demands.proofs.Tests.{Tells, tells-true, tells-holds, tells-
 
 -- A byte that a text has not has nothing behind it.
 module _ (c : ℕ) where
-  behind-none : (text : List ℕ) → has c text ≡ false → behind c text ≡ []
+  pub behind-none : (text : List ℕ) → has c text ≡ false → behind c text ≡ []
   unfolding has behind
   behind-none [] e = refl
   behind-none (b ∷ text) e = let both = or-false-both (eqb b c) (has c text) e in rw (both .0) (behind-none text (both .1))
@@ -53,14 +53,18 @@ pub nothing-no-number : Number [] → ⊥
 unfolding isNumber
 nothing-no-number e = true≢false (sym e)
 
+pub number-some : (text : List ℕ) → Number text → isEmpty text ≡ false
+number-some [] n = absurd (nothing-no-number n)
+number-some (b ∷ text) n = refl
+
 pub number-flat : (c : ℕ) → isDigit c ≡ false → (text : List ℕ) → Number text → has c text ≡ false
 number-flat c n text e = has-none isDigit c n text (digits-of text e)
 
-name-flat : (text : List ℕ) → Name text → has lineFeed text ≡ false
+pub name-flat : (text : List ℕ) → Name text → has lineFeed text ≡ false
 unfolding isName
 name-flat text e = has-none isNameByte lineFeed refl text (and-true-both (between 1 16 (length text)) (allOf isNameByte text) e .1)
 
-nothing-flat : (text : List ℕ) → NumberOrNothing text → has lineFeed text ≡ false
+pub nothing-flat : (text : List ℕ) → NumberOrNothing text → has lineFeed text ≡ false
 unfolding has
 nothing-flat text (inl e) = rw e
 nothing-flat text (inr n) = number-flat lineFeed refl text n

@@ -1,7 +1,7 @@
 -- The sheets' share of demand 1: the reader's and the writers' verdicts are the first of the table that applies, and a refusal changes nothing.
 use Prim.Native.Nat.{ℕ, _≤_, _<_}
 use mathlib.Core.Path.{_≡_, refl, sym, ap, ap₂, _∙_}
-use mathlib.Core.Bool.{Bool, true, false, cond, not, _||_, true≢false}
+use mathlib.Core.Bool.{Bool, true, false, cond, not, _||_}
 use mathlib.Core.Logic.{_⊎_, inl, inr, ⊎-elim}
 use mathlib.Core.List.{List, [], _∷_}
 use native.Mathlib.Omega.{arith}
@@ -116,7 +116,20 @@ module _ (sheet : List ℕ) (rows : RunRows) where
       not-there true h = absurd (omega (arith, h))
       not-there false h = refl
 
+  pub sheet-passes : refuses (rowsVerdict sheet rows) ≡ false → refuses (sheetVerdict sheet) ≡ false
+  unfolding readVerdict short
+  sheet-passes e = all-accept (sheetVerdict sheet ∷ ruleVerdict sheet ∷ refuseIf short ShortRow ∷ []) e .0
+
   module _ (answer : Reading) (after : RunRows) (read : SheetRead sheet rows answer after) where
+    pub read-passes : answer .refusal ≡ Accepted → refuses (rowsVerdict sheet rows) ≡ false
+    read-passes accepts = go (refuses (rowsVerdict sheet rows)) refl
+      where
+        go : (b : Bool) → refuses (rowsVerdict sheet rows) ≡ b → refuses (rowsVerdict sheet rows) ≡ false
+        go true e =
+            let is : answer ≡ refusedReading (rowsVerdict sheet rows) = read .answer ∙ rw e in
+            ap isRefusal (sym (ap (λ (x : Reading). x .refusal) is) ∙ accepts)
+        go false e = e
+
     read-kept : refuses (rowsVerdict sheet rows) ≡ true → after ≡ rows
     unfolding readRow
     read-kept e = same-rows after rows (rw e at (read .starts)) (rw e at (read .lengths)) (rw e at (read .aggregates)) (rw e at (read .numbers)) (rw e at (read .counts))
@@ -135,14 +148,7 @@ pub demand1-read : Demand1Read
 demand1-read sheet before answer after read = read-says sheet before answer after read (refuses (rowsVerdict sheet before)) refl
 
 pub one-rule : OneRule
-unfolding readAnswer
-one-rule sheet before answer after read accepts = go (refuses (rowsVerdict sheet before)) refl
-  where
-    go : (b : Bool) → refuses (rowsVerdict sheet before) ≡ b → Ruled leastText sheet
-    go true e =
-        let is : answer ≡ refusedReading (rowsVerdict sheet before) = read .answer ∙ rw e in
-        absurd (true≢false (sym e ∙ ap isRefusal (sym (ap (λ (x : Reading). x .refusal) is) ∙ accepts)))
-    go false e = accepted-ruled sheet before e
+one-rule sheet before answer after read accepts = accepted-ruled sheet before (read-passes sheet before answer after read accepts)
 
 -- What a writer's answer has of its verdict: kind and place; and a refusal has no bytes and keeps the row.
 module _ (vs : List Verdict) (text row : List ℕ) (answer : Written) (out : List ℕ) (says : Handed (firstOf vs) text row answer out) where

@@ -1,14 +1,15 @@
 -- The request on empty turn prices: what the reader gives, what the rewriting gives, and that the one reads the other as the old reader read the old sheet.
 use Prim.Native.Nat.{ℕ, _+_, _≤_, _<_}
+use Prim.Native.Char.{code}
 use mathlib.Core.Path.{_≡_, refl, sym, ap, _∙_}
 use mathlib.Core.Bool.{Bool, true, false, true≢false}
 use mathlib.Core.Logic.{_⊎_, inl, inr, ⊎-elim}
 use mathlib.Core.List.{List, [], _∷_, _++_}
 use native.Mathlib.Omega.{arith}
-use lib.ListN.{length, take, drop}
+use lib.ListN.{length, take, drop, length-append}
 use lib.Seq.{take-append-seam, drop-append-seam}
 use lib.Dec.{ltb}
-use borrow.Author.Tests.{le-ltb, ltb-false, ne-eqb}
+use borrow.Author.Tests.{le-ltb, ltb-true, ltb-false, ne-eqb}
 use Rattle.refusals.specs.declared.Refusal.the-variants.{Accepted, BadLine, LongSheet, ShortRow}
 use Rattle.refusals.specs.declared.Verdict.{Verdict}
 use Rattle.refusals.specs.Refusals.{isRefusal, accepted, refuseIf, refuseAt, firstOf}
@@ -18,21 +19,21 @@ use Rattle.sheet_reader.specs.declared.Reading.{Reading}
 use Rattle.text_lines.specs.Lines.{afterLines, lineAfter}
 use Rattle.sheet_reader.specs.Lines.{turnKey, turnWith}
 use Rattle.sheet_reader.specs.Sheet.{longestSheet, firstBadLine, saysSweep, sheetFiles, sheetWants, sheetTurnWith}
-use Rattle.sheet_reader.specs.Reading.{sheetVerdict, ruleVerdict, readVerdict, refusedReading, readRow, RunRows, rowsVerdict, ReadWith, readName}
+use Rattle.sheet_reader.specs.Reading.{sheetVerdict, ruleVerdict, readVerdict, readRow, RunRows, rowsVerdict, ReadWith, readName}
 use Rattle.sheet_reader.proofs.Good.{short-sheet, accepted-sheet, good-lines}
 use Rattle.sheet_writer.specs.declared.Written.{Written}
 use Rattle.sheet_writer.specs.Writing.{rowVerdict, writtenAnswer, writtenRow}
 use Rattle.sheet_writer.proofs.Reread.{key-value}
 use Rattle.answer_rewrite.specs.Rewriting.{priceIsEmpty, rewritten, rewriteVerdict, SheetRewritten}
-use Rattle.answer_rewrite.proofs.Meaning.{upper, rest-is, old-cut, new-cut, unchanged, keeps, little-longer}
+use Rattle.answer_rewrite.proofs.Meaning.{upper, rest-is, old-cut, new-cut, unchanged, keeps}
 use Rattle.demands.specs.RefusalTable.{FirstBad}
-use Rattle.demands.specs.Lines.{Number, LineIsBad, linesDue}
-use Rattle.demands.specs.Turns.{EmptyPrice, GivenPrice, DrivesOwnPrice, RewrittenBytes, RewrittenMeans, RewrittenOnce, UnreadApplies, ResultApplies, UnreadFirst, RewriteFinds, unread, result, Demand1Rewrite}
-use Rattle.demands.proofs.Tests.{tells-below}
-use Rattle.demands.proofs.Checks.{decides-if, decides-reworded, Finds, finds-none, finds-first, refused-iff}
+use Rattle.demands.specs.Lines.{LineIsBad, linesDue}
+use Rattle.demands.specs.Turns.{EmptyPrice, GivenPrice, DrivesOwnPrice, RewrittenBytes, RewrittenMeans, RewrittenOnce, UnreadApplies, ResultApplies, RewriteFinds, unread, result, Demand1Rewrite}
+use Rattle.demands.proofs.Tests.{Tells, tells-below}
+use Rattle.demands.proofs.Checks.{decides-if, decides-reworded, Finds, finds-none, finds-first}
 use Rattle.demands.proofs.FirstLine.{decides-line}
-use Rattle.demands.proofs.Lines.{line-read, number-flat, nothing-no-number, tells-turn}
-use Rattle.demands.proofs.Sheets.{same-rows, told}
+use Rattle.demands.proofs.Lines.{line-read, number-flat, number-some, tells-turn}
+use Rattle.demands.proofs.Sheets.{same-rows, read-passes, told}
 use Rattle.demands.proofs.WriteRead.{written-passes}
 
 -- The third line: an empty `turn=`, or one with a number.
@@ -45,20 +46,13 @@ module _ (sheet : List ℕ) where
   unfolding has
   given-line p = line-read turnKey (p .value) (p .rest) (afterLines 2 sheet) refl (number-flat lineFeed refl (p .value) (p .kind)) (p .is)
 
-  some-value : (p : GivenPrice sheet) → isEmpty (p .value) ≡ false
-  some-value p = go (p .value) (p .kind)
-    where
-      go : (v : List ℕ) → Number v → isEmpty v ≡ false
-      go [] n = absurd (nothing-no-number n)
-      go (b ∷ v) n = refl
-
   is-empty : EmptyPrice sheet → priceIsEmpty sheet ≡ true
   unfolding priceIsEmpty startsWith
   is-empty p = ap (isText turnKey) (empty-line p)
 
   is-given : GivenPrice sheet → priceIsEmpty sheet ≡ false
   unfolding priceIsEmpty
-  is-given p = ap (isText turnKey) (given-line p) ∙ longer (p .value) (some-value p)
+  is-given p = ap (isText turnKey) (given-line p) ∙ longer (p .value) (number-some (p .value) (p .kind))
     where
       longer : (v : List ℕ) → isEmpty v ≡ false → isText turnKey (turnKey ++ v) ≡ false
       longer [] e = absurd (true≢false e)
@@ -74,19 +68,11 @@ module _ (sheet : List ℕ) where
 pub drives-own-price : DrivesOwnPrice
 unfolding sheetTurnWith turnWith
 drives-own-price sheet before answer after read accepts =
+    let price : answer .turn ≡ sheetTurnWith 12000 sheet = ap (λ (x : Reading). x .turn) (read .answer) ∙ rw (read-passes sheet before answer after read accepts) in
     record {
       empty = λ p. price ∙ rw (empty-line sheet p);
-      given = λ p. price ∙ rw (given-line sheet p, key-value turnKey (p .value), some-value sheet p);
+      given = λ p. price ∙ rw (given-line sheet p, key-value turnKey (p .value), number-some (p .value) (p .kind));
     }
-  where
-    go : (b : Bool) → refuses (rowsVerdict sheet before) ≡ b → answer .turn ≡ sheetTurnWith 12000 sheet
-    go true e =
-        let is : answer ≡ refusedReading (rowsVerdict sheet before) = read .answer ∙ rw e in
-        absurd (true≢false (sym e ∙ ap isRefusal (sym (ap (λ (x : Reading). x .refusal) is) ∙ accepts)))
-    go false e = ap (λ (x : Reading). x .turn) (read .answer) ∙ rw e
-
-    price : answer .turn ≡ sheetTurnWith 12000 sheet
-    price = go (refuses (rowsVerdict sheet before)) refl
 
 -- An accepted rewriting.
 module _ (sheet row : List ℕ) (answer : Written) (out : List ℕ) (says : SheetRewritten sheet row answer out) (accepts : answer .refusal ≡ Accepted) where
@@ -199,22 +185,62 @@ module _ (sheet : List ℕ) where
       (λ a. finds-first (UnreadApplies sheet) [] refl (decides-reworded (λ p. UnreadApplies.bad-line) sheet-line (decides-line sheet))
       (λ b. finds-none (UnreadApplies sheet)))
 
+  -- The result is a byte longer where a 0 is put in.
+  longer-by-one : refuses (sheetVerdict sheet) ≡ false → EmptyPrice sheet → length (rewritten sheet) ≡ length sheet + 1
+  longer-by-one good p =
+      let e = is-empty sheet p in
+      let above = upper sheet good e ++ turnKey in
+      let back = afterLines 3 sheet in
+      let old = ap length (old-cut sheet good e) ∙ length-append above (lineFeed ∷ back) in
+      let new = ap length (new-cut sheet good e) ∙ length-append above (code "0" ∷ (lineFeed ∷ back)) in
+      omega (arith, old, new)
+
+  as-long : refuses (sheetVerdict sheet) ≡ false → GivenPrice sheet → length (rewritten sheet) ≡ length sheet
+  as-long good p = ap length (unchanged sheet good (is-given sheet p))
+
+  abbrev Overfull : Type 0
+  Overfull = EmptyPrice sheet × (length sheet ≡ 16384)
+
+  abbrev TooShort : List ℕ → Type 0
+  TooShort row = (EmptyPrice sheet × (length row < length sheet + 1)) ⊎ (GivenPrice sheet × (length row < length sheet))
+
+  tells-overfull : refuses (sheetVerdict sheet) ≡ false → Tells (ltb longestSheet (length (rewritten sheet))) Overfull
+  tells-overfull good =
+      record {
+        when-true = λ e.
+            let l = ltb-true longestSheet (length (rewritten sheet)) e in
+            ⊎-elim (λ p. (p, omega (arith, l, longer-by-one good p, short-sheet sheet good))) (λ g. absurd (omega (arith, l, as-long good g, short-sheet sheet good))) (price-stands sheet good);
+        when-false = λ e h. omega (arith, ltb-false longestSheet (length (rewritten sheet)) e, longer-by-one good (h .0), h .1);
+      }
+
+  tells-too-short : (row : List ℕ) → refuses (sheetVerdict sheet) ≡ false → Tells (ltb (length row) (length (rewritten sheet))) (TooShort row)
+  tells-too-short row good =
+      record {
+        when-true = λ e.
+            let l = ltb-true (length row) (length (rewritten sheet)) e in
+            ⊎-elim (λ p. inl (p, omega (arith, l, longer-by-one good p))) (λ g. inr (g, omega (arith, l, as-long good g))) (price-stands sheet good);
+        when-false = λ e.
+            let l = ltb-false (length row) (length (rewritten sheet)) e in
+            ⊎-elim (λ h. omega (arith, l, longer-by-one good (h .0), h .1)) (λ h. omega (arith, l, as-long good (h .0), h .1));
+      }
+
   module _ (row : List ℕ) where
     abbrev resultChecks : List Verdict
     resultChecks = refuseIf (ltb longestSheet (length (rewritten sheet))) LongSheet ∷ refuseIf (ltb (length row) (length (rewritten sheet))) ShortRow ∷ []
 
-    result-long : (p : ℕ) → ResultApplies sheet row LongSheet p → (p ≡ 0) × (longestSheet < length (rewritten sheet))
-    result-long p (ResultApplies.too-long h) = (refl, h)
+    result-long : (p : ℕ) → ResultApplies sheet row LongSheet p → (p ≡ 0) × Overfull
+    result-long p (ResultApplies.too-long e l) = (refl, (e, l))
 
-    result-row : (p : ℕ) → ResultApplies sheet row ShortRow p → (p ≡ 0) × (length row < length (rewritten sheet))
-    result-row p (ResultApplies.short-row h) = (refl, h)
+    result-row : (p : ℕ) → ResultApplies sheet row ShortRow p → (p ≡ 0) × TooShort row
+    result-row p (ResultApplies.short-empty e l) = (refl, inl (e, l))
+    result-row p (ResultApplies.short-given g l) = (refl, inr (g, l))
 
-    result-finds : Finds (ResultApplies sheet row) (LongSheet ∷ ShortRow ∷ []) (firstOf resultChecks)
-    result-finds =
+    result-finds : refuses (sheetVerdict sheet) ≡ false → Finds (ResultApplies sheet row) (LongSheet ∷ ShortRow ∷ []) (firstOf resultChecks)
+    result-finds good =
         finds-first (ResultApplies sheet row) (refuseIf (ltb (length row) (length (rewritten sheet))) ShortRow ∷ []) refl
-        (decides-reworded (λ p h. rw (h .0) (ResultApplies.too-long (h .1))) result-long (decides-if _ LongSheet (tells-below longestSheet (length (rewritten sheet)))))
+        (decides-reworded (λ p h. rw (h .0) (ResultApplies.too-long (h .1 .0) (h .1 .1))) result-long (decides-if _ LongSheet (tells-overfull good)))
         (λ a. finds-first (ResultApplies sheet row) [] refl
-        (decides-reworded (λ p h. rw (h .0) (ResultApplies.short-row (h .1))) result-row (decides-if _ ShortRow (tells-below (length row) (length (rewritten sheet)))))
+        (decides-reworded (λ p h. rw (h .0) (⊎-elim (λ q. ResultApplies.short-empty (q .0) (q .1)) (λ q. ResultApplies.short-given (q .0) (q .1)) (h .1))) result-row (decides-if _ ShortRow (tells-too-short row good)))
         (λ b. finds-none (ResultApplies sheet row)))
 
     verdict-refused : refuses (sheetVerdict sheet) ≡ true → rewriteVerdict sheet row ≡ sheetVerdict sheet
@@ -227,17 +253,7 @@ module _ (sheet : List ℕ) where
 
     verdict-finds : (b : Bool) → refuses (sheetVerdict sheet) ≡ b → RewriteFinds sheet row (rewriteVerdict sheet row .refusal) (rewriteVerdict sheet row .place)
     verdict-finds true e = rw (verdict-refused e) (unread (λ k. true≢false (sym e ∙ ap isRefusal k)) unread-finds)
-    verdict-finds false e = rw (verdict-passed e) (result (rw (accepted-sheet sheet e) at unread-finds) result-finds)
-
-  -- A sheet for which neither of the first two applies can be read.
-  none-applies : UnreadFirst sheet Accepted 0 → refuses (sheetVerdict sheet) ≡ false
-  none-applies first = go (refuses (sheetVerdict sheet)) refl
-    where
-      go : (b : Bool) → refuses (sheetVerdict sheet) ≡ b → refuses (sheetVerdict sheet) ≡ false
-      go true e =
-          let some = refused-iff (UnreadApplies sheet) unread-finds (refl, (refl, tt)) .0 (λ k. true≢false (sym e ∙ ap isRefusal k)) in
-          absurd (refused-iff (UnreadApplies sheet) first (refl, (refl, tt)) .1 some refl)
-      go false e = e
+    verdict-finds false e = rw (verdict-passed e) (result (rw (accepted-sheet sheet e) at unread-finds) (result-finds e))
 
 pub demand1-rewrite : Demand1Rewrite
 unfolding rewriteVerdict
@@ -247,5 +263,4 @@ demand1-rewrite sheet row answer out says =
     record {
       first = rw (tells .kind, tells .place) (verdict-finds sheet row (refuses (sheetVerdict sheet)) refl);
       kept = tells .kept;
-      longest = λ first long. let readable = none-applies sheet first in omega (arith, long, short-sheet sheet readable, little-longer sheet readable);
     }

@@ -9,7 +9,7 @@ use Rattle.refusals.specs.declared.Refusal.{Refusal}
 use Rattle.refusals.specs.declared.Refusal.the-variants.{Accepted, ShortRow, BadEntry}
 use Rattle.walk.specs.declared.Answer.{Answer}
 use Rattle.walk.specs.declared.Leg.{Leg}
-use Rattle.walk.specs.Walk.{headAt, sumOf}
+use Rattle.walk.specs.Walk.{headAt, walked, sumOf}
 use Rattle.runs.specs.Run.{Run, stopsOf}
 use Rattle.runs.specs.Lists.{Detour, listOf}
 use Rattle.figures.specs.AnyHead.{figuresAnyAnswer, figuresAnyRow}
@@ -51,6 +51,8 @@ pub record FiguresAnyTold (r : Run) (froms tos : List ℕ) (row : List ℤ) (ans
   pub even : length froms ≡ length tos
   pub formed : IsFormedAny r (listOf froms tos)
   pub sum : (gs : List Leg) → AreLegsOf r (listOf froms tos) gs → answer .sum ≡ sumOf (r .turn) (headAt (r .head)) gs (stopsOf r)
+  pub finish : (gs : List Leg) → AreLegsOf r (listOf froms tos) gs → answer .finish ≡ walked (r .turn) (headAt (r .head)) gs .clock
+  pub end : (gs : List Leg) → AreLegsOf r (listOf froms tos) gs → answer .end ≡ walked (r .turn) (headAt (r .head)) gs .place
   pub number : answer .detours ≡ length froms
   pub each : (i : ℕ) → i < length froms → IsBoughtAny r (listOf froms tos) i (getD out i (pos 0))
   pub long : length out ≡ length row

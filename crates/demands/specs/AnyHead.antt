@@ -8,7 +8,7 @@ use lib.Dec.{T}
 use lib.ListN.{length, getD, take}
 use Rattle.refusals.specs.declared.Refusal.{Refusal}
 use Rattle.refusals.specs.declared.Refusal.the-variants.{Accepted, HeadPlace, ShortRow, ShortRoom, BadEntry}
-use Rattle.runs.specs.Run.{Run, Stop, lastPlace, total, stopsOf, wantStopsOf}
+use Rattle.runs.specs.Run.{Run, Stop, total, stopsOf, wantStopsOf}
 use Rattle.runs.specs.Rows.{stopAt}
 use Rattle.runs.specs.Lists.{Detour, listOf}
 use Rattle.walk.specs.declared.Answer.{Answer}
@@ -32,7 +32,7 @@ use Rattle.demands.specs.AnyLegs.{AreLegsOf}
 -- 1 to 7: as in 01's table, but that 7 is only a head past the last place.
 pub data RunAppliesAny (r : Run) : Refusal → ℕ → Type 0 where
   as-01 : {kind : Refusal} {place : ℕ} → (kind ≡ HeadPlace → ⊥) → RunApplies r kind place → RunAppliesAny r kind place
-  head-far : lastPlace < r .head → RunAppliesAny r HeadPlace 0
+  head-far : 1099511627776 < r .head → RunAppliesAny r HeadPlace 0
 
 abbrev pub NothingAppliesAny : Run → Type 0
 NothingAppliesAny r = (kind : Refusal) (place : ℕ) → RunAppliesAny r kind place → ⊥

@@ -9,6 +9,8 @@ use lib.IntN.{ℤ, pos, negsuc}
 use Rattle.refusals.specs.declared.Refusal.{Refusal}
 use Rattle.refusals.specs.declared.Refusal.the-variants.{Accepted, ShortRow, BadEntry}
 use Rattle.walk.specs.declared.Answer.{Answer}
+use Rattle.walk.specs.Walk.{headAt, walked}
+use Rattle.walk.specs.Detours.{legsOf}
 use Rattle.runs.specs.Run.{Run, runOf, stopsOf}
 use Rattle.runs.specs.Lists.{Detour, WellFormed, listOf}
 use Rattle.least.specs.Least.{listSum}
@@ -70,6 +72,8 @@ pub record FiguresTold (r : Run) (froms tos : List ℕ) (row : List ℤ) (answer
   pub even : length froms ≡ length tos
   pub formed : WellFormed (stopsOf r) (listOf froms tos)
   pub sum : answer .sum ≡ listSum (r .turn) (r .head) (stopsOf r) (listOf froms tos)
+  pub finish : answer .finish ≡ walked (r .turn) (headAt (r .head)) (legsOf (stopsOf r) (listOf froms tos)) .clock
+  pub end : answer .end ≡ walked (r .turn) (headAt (r .head)) (legsOf (stopsOf r) (listOf froms tos)) .place
   pub number : answer .detours ≡ length froms
   pub each : (i : ℕ) → i < length froms → IsBought r (listOf froms tos) i (getD out i (pos 0))
   pub long : length out ≡ length row

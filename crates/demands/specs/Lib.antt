@@ -19,8 +19,10 @@ pub mod Behind
 pub mod Cases
 pub mod Aggregates
 pub mod Alone
+pub mod Letters
 pub mod Lines
 pub mod Sheets
+pub mod SheetLines
 pub mod Buys
 pub mod AnyBuys
 pub mod Writers

@@ -5,11 +5,10 @@ use mathlib.Core.Path.{_≡_}
 use mathlib.Core.Bool.{true}
 use mathlib.Core.Logic.{_⊎_, _↔_}
 use mathlib.Core.List.{List, [], _∷_, _++_}
-use Rattle.runs.specs.Run.{mostWants}
 use Rattle.text_bytes.specs.Text.{lineFeed, comma, isNumber, isName, valueOf}
 use Rattle.text_lines.specs.Lines.{afterLines}
 use Rattle.sheet_reader.specs.Lines.{tapeKey, headKey, turnKey, ruleKey, filesKey, fileKey, wantsKey, wantKey, sweepText, leastText}
-use Rattle.sheet_reader.specs.Sheet.{mostSheetFiles, sheetFiles, sheetWants, firstBadLine}
+use Rattle.sheet_reader.specs.Sheet.{sheetFiles, sheetWants, firstBadLine}
 use Rattle.demands.specs.RefusalTable.{FirstBad}
 
 -- Behind i lines the sheet goes on with this key, a value of this kind and an LF. So no line that is missing or without LF is as described.
@@ -55,9 +54,9 @@ pub data LineIsBad (sheet : List ℕ) (i : ℕ) : Type 0 where
   head : i ≡ 1 → (Stands headKey Number sheet i → ⊥) → LineIsBad sheet i
   turn : i ≡ 2 → (Stands turnKey NumberOrNothing sheet i → ⊥) → LineIsBad sheet i
   rule : i ≡ 3 → (Stands ruleKey RuleName sheet i → ⊥) → LineIsBad sheet i
-  files : i ≡ 4 → (Stands filesKey (UpTo mostSheetFiles) sheet i → ⊥) → LineIsBad sheet i
+  files : i ≡ 4 → (Stands filesKey (UpTo 256) sheet i → ⊥) → LineIsBad sheet i
   file : 5 ≤ i → i < 5 + sheetFiles sheet → (Stands fileKey Triple sheet i → ⊥) → LineIsBad sheet i
-  wants : i ≡ 5 + sheetFiles sheet → (Stands wantsKey (UpTo mostWants) sheet i → ⊥) → LineIsBad sheet i
+  wants : i ≡ 5 + sheetFiles sheet → (Stands wantsKey (UpTo 64) sheet i → ⊥) → LineIsBad sheet i
   want : 6 + sheetFiles sheet ≤ i → i < 6 + sheetFiles sheet + sheetWants sheet → (Stands wantKey Pair sheet i → ⊥) → LineIsBad sheet i
   beyond : i ≡ 6 + sheetFiles sheet + sheetWants sheet → (afterLines i sheet ≡ [] → ⊥) → LineIsBad sheet i
 

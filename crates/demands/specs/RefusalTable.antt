@@ -7,7 +7,7 @@ use mathlib.Core.List.{List, [], _∷_}
 use lib.ListN.{length, getD}
 use Rattle.refusals.specs.declared.Refusal.{Refusal}
 use Rattle.refusals.specs.declared.Refusal.the-variants.{Accepted, FileRows, BadFile, WantRows, BadWant, TooManyReads, TurnPrice, HeadPlace}
-use Rattle.runs.specs.Run.{Run, mostFiles, mostAggregates, mostWants, mostReads, lastPlace, highestTurn, total}
+use Rattle.runs.specs.Run.{Run, total}
 
 -- The place of the first of n entries, counted from 1, that is bad.
 pub record FirstBad (bad : ℕ → Type 0) (n place : ℕ) : Type 0 where
@@ -44,8 +44,8 @@ abbrev pub FileIsBad : Run → ℕ → Type 0
 FileIsBad r i =
     ((getD (r .lengths) i 0 ≡ 0)
     ⊎ (((j : ℕ) × (i ≡ suc j) × (getD (r .starts) i 0 < endOfFile r (suc j)))
-    ⊎ (lastPlace < endOfFile r (suc i))))
-    ⊎ ((mostAggregates < getD (r .aggregates) i 0) ⊎ Returns r i)
+    ⊎ (1099511627776 < endOfFile r (suc i))))
+    ⊎ ((4096 < getD (r .aggregates) i 0) ⊎ Returns r i)
 
 -- 4: file number not in the table or not ascending, or count 0.
 abbrev pub WantIsBad : Run → ℕ → Type 0
@@ -104,13 +104,13 @@ ListIsBad r froms tos place =
 -- 1 to 7: what a run can be refused for, each with its place. 7 twice: the head is past the last place; or left of the rightmost wanted end, where
 -- some file that lies together with a wanted one ends.
 pub data RunApplies (r : Run) : Refusal → ℕ → Type 0 where
-  file-rows : (mostFiles < length (r .starts)) ⊎ ((length (r .starts) ≡ length (r .lengths) → ⊥) ⊎ (length (r .starts) ≡ length (r .aggregates) → ⊥)) → RunApplies r FileRows 0
+  file-rows : (4096 < length (r .starts)) ⊎ ((length (r .starts) ≡ length (r .lengths) → ⊥) ⊎ (length (r .starts) ≡ length (r .aggregates) → ⊥)) → RunApplies r FileRows 0
   bad-file : {place : ℕ} → FirstBad (FileIsBad r) (length (r .starts)) place → RunApplies r BadFile place
-  want-rows : (mostWants < length (r .numbers)) ⊎ (length (r .numbers) ≡ length (r .counts) → ⊥) → RunApplies r WantRows 0
+  want-rows : (64 < length (r .numbers)) ⊎ (length (r .numbers) ≡ length (r .counts) → ⊥) → RunApplies r WantRows 0
   bad-want : {place : ℕ} → FirstBad (WantIsBad r) (length (r .numbers)) place → RunApplies r BadWant place
-  many-reads : mostReads < total (r .counts) → RunApplies r TooManyReads 0
-  turn-price : highestTurn < r .turn → RunApplies r TurnPrice 0
-  head-far : lastPlace < r .head → RunApplies r HeadPlace 0
+  many-reads : 1024 < total (r .counts) → RunApplies r TooManyReads 0
+  turn-price : 4294967296 < r .turn → RunApplies r TurnPrice 0
+  head-far : 1099511627776 < r .head → RunApplies r HeadPlace 0
   head-near : {f : ℕ} → IsFile r f → WantedWith r f → r .head < endOfFile r f → RunApplies r HeadPlace 0
 
 -- A run is accepted where none of them applies.

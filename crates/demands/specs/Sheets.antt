@@ -12,7 +12,7 @@ use Rattle.sheet_reader.specs.declared.Reading.{Reading}
 use Rattle.sheet_writer.specs.declared.Written.{Written}
 use Rattle.text_bytes.specs.Text.{isName}
 use Rattle.sheet_reader.specs.Lines.{sweepText, leastText}
-use Rattle.sheet_reader.specs.Sheet.{longestSheet, mostSheetFiles, sheetFiles, sheetWants, sheetRun}
+use Rattle.sheet_reader.specs.Sheet.{sheetFiles, sheetWants, sheetRun}
 use Rattle.sheet_reader.specs.Reading.{readVerdict, readAnswer, readRow, RunRows, SheetRead, readName}
 use Rattle.sheet_writer.specs.Writing.{sheetText, writeVerdict, writtenAnswer, writtenRow, SheetWritten}
 use Rattle.sheet_writer.specs.PlanSheet.{planText, planSheetVerdict}
@@ -24,7 +24,7 @@ abbrev pub readOrder : List Refusal
 readOrder = LongSheet ∷ BadLine ∷ RetiredRule ∷ ShortRow ∷ []
 
 pub data ReadApplies (sheet : List ℕ) (rows : RunRows) : Refusal → ℕ → Type 0 where
-  too-long : longestSheet < length sheet → ReadApplies sheet rows LongSheet 0
+  too-long : 16384 < length sheet → ReadApplies sheet rows LongSheet 0
   bad-line : {place : ℕ} → FirstBad (LineIsBad sheet) (linesDue sheet) place → ReadApplies sheet rows BadLine place
   retired-rule : Ruled sweepText sheet → ReadApplies sheet rows RetiredRule 4
   short-starts : length (rows .starts) < sheetFiles sheet → ReadApplies sheet rows ShortRow 0
@@ -64,7 +64,7 @@ listSheetOrder = FileRows ∷ BadFile ∷ WantRows ∷ BadWant ∷ TooManyReads 
 
 pub data WriteApplies (name : List ℕ) (r : Run) (row : List ℕ) : Refusal → ℕ → Type 0 where
   run : {kind : Refusal} {place : ℕ} → RunApplies r kind place → WriteApplies name r row kind place
-  many-files : mostSheetFiles < length (r .starts) → WriteApplies name r row BadName 0
+  many-files : 256 < length (r .starts) → WriteApplies name r row BadName 0
   bad-name : isName name ≡ false → WriteApplies name r row BadName 0
   short-row : length row < length (sheetText name r) → WriteApplies name r row ShortRow 0
 
@@ -117,7 +117,7 @@ abbrev pub Demand2RoundTrip : Type 0
 Demand2RoundTrip =
     (name : List ℕ) (r : Run)
     → NothingApplies r
-    → length (r .starts) ≤ mostSheetFiles
+    → length (r .starts) ≤ 256
     → isName name ≡ true
     → (starts lengths aggregates numbers counts : List ℕ)
     → length (r .starts) ≤ length starts

@@ -8,9 +8,7 @@ use lib.ListN.{length}
 use lib.Dec.{ltb}
 use Rattle.refusals.specs.declared.Refusal.{Refusal}
 use Rattle.refusals.specs.declared.Refusal.the-variants.{Accepted, ShortRow, BadName, BadText, ManyExtents, Overlap, FarFile}
-use Rattle.runs.specs.Run.{lastPlace}
 use Rattle.text_bytes.specs.Text.{isName}
-use Rattle.sheet_reader.specs.Sheet.{mostSheetFiles}
 use Rattle.answer_ltfs.specs.declared.Report.{Report}
 use Rattle.tape_markup.specs.Tree.{treeOf}
 use Rattle.tape_markup.specs.Promises.{SaysForest}
@@ -29,8 +27,8 @@ pub data TapeApplies (name label index row : List ℕ) : Refusal → ℕ → Typ
   label-values : isGoodLabel (treeOf label) ≡ false → TapeApplies name label index row BadText 0
   index-values : isGoodIndex (treeOf index) ≡ false → TapeApplies name label index row BadText 0
   several : some inSeveral (indexFiles (treeOf index)) ≡ true → TapeApplies name label index row ManyExtents 0
-  many : mostSheetFiles < length (rangesIn label index) → TapeApplies name label index row FarFile 0
-  far : some (λ range. ltb lastPlace (endOfRange range)) (rangesIn label index) ≡ true → TapeApplies name label index row FarFile 0
+  many : 256 < length (rangesIn label index) → TapeApplies name label index row FarFile 0
+  far : some (λ range. ltb 1099511627776 (endOfRange range)) (rangesIn label index) ≡ true → TapeApplies name label index row FarFile 0
   overlap : someOverlap (tapeTable label index) ≡ true → TapeApplies name label index row Overlap 0
   short-row : length row < length (ltfsSheet name label index) → TapeApplies name label index row ShortRow 0
 

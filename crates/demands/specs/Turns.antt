@@ -1,7 +1,7 @@
 -- The request on empty turn prices (L3): an empty `turn=` means the drives' own price. An old sheet is rewritten with a 0 there, byte for byte the same
 -- elsewhere. Whatever an empty `turn=` means to a reader, it reads the new sheet as the old one was read when that was 0. Demands 2 and 3 speak of a
 -- run's price: for a run that was read from a sheet it is the number that the reader gives by this rule.
-use Prim.Native.Nat.{ℕ, _≤_, _<_}
+use Prim.Native.Nat.{ℕ, _+_, _≤_, _<_}
 use Prim.Native.Char.{code}
 use mathlib.Core.Path.{_≡_}
 use mathlib.Core.Logic.{_⊎_}
@@ -13,10 +13,9 @@ use Rattle.text_bytes.specs.Text.{lineFeed, valueOf}
 use Rattle.sheet_reader.specs.declared.Reading.{Reading}
 use Rattle.text_lines.specs.Lines.{afterLines}
 use Rattle.sheet_reader.specs.Lines.{turnKey}
-use Rattle.sheet_reader.specs.Sheet.{longestSheet}
 use Rattle.sheet_reader.specs.Reading.{RunRows, ReadWith, SheetRead, readName}
 use Rattle.sheet_writer.specs.declared.Written.{Written}
-use Rattle.answer_rewrite.specs.Rewriting.{rewritten, SheetRewritten}
+use Rattle.answer_rewrite.specs.Rewriting.{SheetRewritten}
 use Rattle.demands.specs.RefusalTable.{FirstBad, FirstThatApplies}
 use Rattle.demands.specs.Lines.{Stands, Number, LineIsBad, linesDue}
 
@@ -90,14 +89,16 @@ RewrittenOnce =
     → SheetRewritten (take (written .bytes) out) more again outAgain
     → (again ≡ written) × (take (again .bytes) outAgain ≡ take (written .bytes) out)
 
--- The refusals: 12 and 11 of the sheet, as the reader gives them; then 12 and 8 of the result. Nothing else: neither the rule nor the run is judged.
+-- The refusals: 12 and 11 of the sheet, as the reader gives them; then 12 and 8 of the result, which is a byte longer where a 0 is put in. So of sheets that can be
+-- read, 12 then refuses only one of exactly 16,384 bytes with an empty price. Nothing else: neither the rule nor the run is judged.
 pub data UnreadApplies (sheet : List ℕ) : Refusal → ℕ → Type 0 where
-  too-long : longestSheet < length sheet → UnreadApplies sheet LongSheet 0
+  too-long : 16384 < length sheet → UnreadApplies sheet LongSheet 0
   bad-line : {place : ℕ} → FirstBad (LineIsBad sheet) (linesDue sheet) place → UnreadApplies sheet BadLine place
 
 pub data ResultApplies (sheet row : List ℕ) : Refusal → ℕ → Type 0 where
-  too-long : longestSheet < length (rewritten sheet) → ResultApplies sheet row LongSheet 0
-  short-row : length row < length (rewritten sheet) → ResultApplies sheet row ShortRow 0
+  too-long : EmptyPrice sheet → length sheet ≡ 16384 → ResultApplies sheet row LongSheet 0
+  short-empty : EmptyPrice sheet → length row < length sheet + 1 → ResultApplies sheet row ShortRow 0
+  short-given : GivenPrice sheet → length row < length sheet → ResultApplies sheet row ShortRow 0
 
 abbrev pub UnreadFirst : List ℕ → Refusal → ℕ → Type 0
 UnreadFirst sheet kind place = FirstThatApplies (UnreadApplies sheet) (LongSheet ∷ BadLine ∷ []) kind place
@@ -109,11 +110,10 @@ pub data RewriteFinds (sheet row : List ℕ) (kind : Refusal) (place : ℕ) : Ty
   unread : (kind ≡ Accepted → ⊥) → UnreadFirst sheet kind place → RewriteFinds sheet row kind place
   result : UnreadFirst sheet Accepted 0 → ResultFirst sheet row kind place → RewriteFinds sheet row kind place
 
--- A refusal has no bytes, and the row is as it was. Of sheets that can be read, only one of exactly 16,384 bytes has too long a result.
+-- A refusal has no bytes, and the row is as it was.
 pub record RewriteAnswers (sheet row : List ℕ) (answer : Written) (out : List ℕ) : Type 0 where
   pub first : RewriteFinds sheet row (answer .refusal) (answer .place)
   pub kept : (answer .refusal ≡ Accepted → ⊥) → (answer .bytes ≡ 0) × (out ≡ row)
-  pub longest : UnreadFirst sheet Accepted 0 → longestSheet < length (rewritten sheet) → length sheet ≡ longestSheet
 
 abbrev pub Demand1Rewrite : Type 0
 Demand1Rewrite =

@@ -42,12 +42,15 @@ use Rattle.answer_check.specs.RunRules.{headAnywhere}
 use Rattle.answer_check.specs.Pricing.{pricingVerdict, priceText}
 use Rattle.answer_check.specs.Checking.{differFrom, walkLine, differenceLines, leastLine, verdictLines, checkText, verdictOn, SheetChecked}
 use Rattle.demands.specs.Cases.{exampleRun}
-use Rattle.demands.proofs.Judged.{nothing-judged}
+use Rattle.demands.proofs.Judged.{nothing-judged, judged-nothing}
 use Rattle.demands.proofs.Cases.{cases-hold}
 use Rattle.demands.proofs.AnyInstances.{mounted}
 use Rattle.promises.specs.Answers.{exampleSheet, examplePlan, PrintsTheExample, retiredSheet, PrintsTwoLines}
 use Rattle.promises.specs.Lengths.{checkRow}
 use Rattle.promises.specs.CheckWhole.{wrongPlan, PrintsTheDifference, mountedSheet, mountedPlan, ChecksMounted}
+use Rattle.promises.specs.Mends.{SheetComesBack}
+use Rattle.promises.proofs.Early.{none-early}
+use Rattle.promises.proofs.Mends.{accepted-comes-back}
 use Rattle.promises.proofs.Checks.{put-whole}
 use Rattle.promises.proofs.Lengths.{run-judges, run-checks-near, plan-held}
 use Rattle.promises.specs.TwoTexts.{PrintsTheListsLine}
@@ -95,6 +98,10 @@ prints-the-example row n row′ c wide =
     ∙ ap (λ l. planText (sheetName exampleSheet) (sheetRun exampleSheet) (map (λ d. d .from) l) (map (λ d. d .to) l)) one
     ∙ ap (λ r. planText (sheetName exampleSheet) r (2 ∷ []) (2 ∷ [])) example-run
     ∙ example-text
+
+-- So it is what the mender asks of a sheet that comes back.
+pub example-comes-back : SheetComesBack exampleSheet
+example-comes-back = accepted-comes-back exampleSheet (none-early exampleSheet example-good example-ruled) (judged-nothing (sheetRun exampleSheet) (ap (λ r. refuses (judgeOf r)) example-run ∙ example-judged))
 
 -- The retired rule.
 retired-good : sheetVerdict retiredSheet ≡ accepted

@@ -15,22 +15,27 @@ use Rattle.refusals.specs.declared.Verdict.{Verdict}
 use Rattle.refusals.specs.Refusals.{numberOf, isRefusal}
 use Rattle.refusals.proofs.Verdicts.{refuses}
 use Rattle.runs.proofs.Search.{true-or-false}
-use Rattle.runs.specs.Run.{total}
-use Rattle.runs.specs.AnyHead.{judgeAnyOf}
+use Rattle.runs.specs.Run.{total, stopsOf}
+use Rattle.runs.specs.AnyHead.{judgeAnyOf, lifted}
+use Rattle.runs.proofs.AnyHead.{accepted-any}
 use Rattle.sheet_reader.specs.Sheet.{sheetRun, sheetName}
 use Rattle.sheet_writer.specs.declared.Written.{Written}
 use Rattle.sheet_writer.specs.Writing.{rowVerdict, writtenAnswer, writtenRow}
 use Rattle.answer_plan.specs.PlannedLists.{TextHanded}
-use Rattle.answer_any.specs.AnyRun.{anyChecks, anyVerdict, PlanAnyOf, SheetAnswered}
+use Rattle.answer_any.specs.AnyRun.{anyChecks, anyVerdict, PlanAnyOf, roomLeft, SheetAnswered}
 use Rattle.answer_any.proofs.Planned.{room-kept, room-cleared}
 use Rattle.answer_any.proofs.Determined.{plan-any-once}
 use Rattle.demands.specs.RefusalTable.{HasStops, FirstThatApplies, none, here, later}
 use Rattle.demands.specs.AnyHead.{RunAppliesAny}
-use Rattle.demands.proofs.Checks.{AllRefuse}
+use Rattle.demands.proofs.Checks.{AllRefuse, refused-iff}
+use Rattle.demands.proofs.Counted.{has-stops}
+use Rattle.demands.proofs.AnyLifted.{stops-down}
 use Rattle.demands.proofs.AnyJudged.{any-small}
 use Rattle.promises.specs.Answers.{run, engine, WordsApply, roomOrder}
-use Rattle.promises.specs.AnswersAny.{AnyApplies, RecordApplies, of-sheet, short-row, RecordByTheTable, AnswerByTheTable}
+use Rattle.promises.specs.AnswersAny.{AnyApplies, RoomPrinted, AnyLeavesTheRoom, RecordApplies, of-sheet, short-row, RecordByTheTable, AnswerByTheTable}
+use Rattle.promises.specs.AnyFigures.{BuysAnyLeavesTheRoom}
 use Rattle.promises.specs.PlanLines.{PlanAnyPrinted}
+use Rattle.promises.proofs.DeskDays.{accepts}
 use Rattle.promises.proofs.PlanLines.{plan-any-printed, plan-any-back}
 use Rattle.promises.proofs.Answers.{room-all, sheet-accepts}
 use Rattle.promises.proofs.AnyLengths.{any-passes}
@@ -76,6 +81,40 @@ module _ (words : ℕ) (sheet row : List ℕ) where
   passed (k ∷ ks) more o all (here h) rest = absurd (true≢false (sym (all .0)))
   passed (k ∷ ks) more o all (later s f) rest = later (λ p h. s p (of-the-sheet k p (o .0) h)) (passed ks more (o .1) (all .1) f rest)
 
+-- The room, by the verdict and by the table.
+module _ (sheet room room′ : List ℕ) (is : room′ ≡ roomLeft sheet room) where
+  abbrev judging : Verdict
+  judging = anyVerdict (length room) sheet
+
+  room-by-stops : refuses judging ≡ false → (stops : ℕ) → HasStops (sheetRun sheet) stops
+      → room′ ≡ replicate (stops * stops * (total (sheetRun sheet .counts) + 1)) 0 ++ drop (stops * stops * (total (sheetRun sheet .counts) + 1)) room
+  room-by-stops e stops s =
+      is ∙ room-cleared judging (sheetRun sheet) room e
+      ∙ ap (λ n. replicate n 0 ++ drop n room) (sym (one (length room) sheet stops (any-passes (length room) sheet e .1) s))
+
+  room-printed : RoomPrinted sheet room room′
+  room-printed =
+      let by-table = refused-iff (AnyApplies (length room) sheet) (any-finds (length room) sheet) room-all in
+      record {
+        kept = λ some.
+            ⊎-elim (λ (e : refuses judging ≡ true). is ∙ room-kept judging (sheetRun sheet) room e)
+            (λ (e : refuses judging ≡ false). absurd (by-table .1 some (accepts (judging .refusal) e)))
+            (true-or-false (refuses judging));
+        cleared = λ none.
+            ⊎-elim (λ (e : refuses judging ≡ true). absurd (none (by-table .0 (λ k. true≢false (sym e ∙ ap isRefusal k)))))
+            (λ (e : refuses judging ≡ false).
+            let run = sheetRun sheet in
+            let has = stops-down run (has-stops (lifted run) (accepted-any run (any-passes (length room) sheet e .1) .run)) in
+            record { stops = length (stopsOf (lifted run)); are = has; left = room-by-stops e (length (stopsOf (lifted run))) has })
+            (true-or-false (refuses judging));
+      }
+
+pub any-leaves-the-room : AnyLeavesTheRoom
+any-leaves-the-room sheet row room n row′ room′ c = room-printed sheet room room′ (c .cleared)
+
+pub buys-any-leaves-the-room : BuysAnyLeavesTheRoom
+buys-any-leaves-the-room sheet row room n row′ room′ c = room-printed sheet room room′ (c .cleared)
+
 module _ (sheet row room : List ℕ) (w : Written) (row′ room′ : List ℕ) (c : SheetAnswered sheet row room w row′ room′) where
   abbrev v : Verdict
   v = anyVerdict (length room) sheet
@@ -108,9 +147,7 @@ module _ (sheet row room : List ℕ) (w : Written) (row′ room′ : List ℕ) (
     printed = plan-any-printed (sheetName sheet) (sheetRun sheet) judged (plan .text) (plan .asked)
 
     left : (stops : ℕ) → HasStops (sheetRun sheet) stops → room′ ≡ replicate (stops * stops * (total (sheetRun sheet .counts) + 1)) 0 ++ drop (stops * stops * (total (sheetRun sheet .counts) + 1)) room
-    left stops s =
-        c .cleared ∙ room-cleared v (sheetRun sheet) room e
-        ∙ ap (λ n. replicate n 0 ++ drop n room) (sym (one (length room) sheet stops (any-passes (length room) sheet e .1) s))
+    left = room-by-stops sheet room room′ (c .cleared) e
 
     none-before : FirstThatApplies (AnyApplies (length room) sheet) roomOrder Accepted 0
     none-before = rw (sheet-accepts RunAppliesAny any-few (WordsApply (length room)) (words-own (length room)) sheet (anyChecks (length room)) e) at (any-finds (length room) sheet)

@@ -69,13 +69,13 @@ pub same-text : (a b : List ℕ) → b ≡ a → isText a b ≡ true
 same-text a b e = rw (e, eq-eqb (length a) (length a) refl, starts-itself a)
 
 -- Two rows of one length and the list that they hold.
-starts-of : (froms tos : List ℕ) → length froms ≡ length tos → map (λ d. d .from) (listOf froms tos) ≡ froms
+pub starts-of : (froms tos : List ℕ) → length froms ≡ length tos → map (λ d. d .from) (listOf froms tos) ≡ froms
 unfolding listOf
 starts-of [] tos e = refl
 starts-of (a ∷ froms) [] e = absurd (omega arith)
 starts-of (a ∷ froms) (b ∷ tos) e = ap (λ l. a ∷ l) (starts-of froms tos (omega arith))
 
-ends-of : (froms tos : List ℕ) → length froms ≡ length tos → map (λ d. d .to) (listOf froms tos) ≡ tos
+pub ends-of : (froms tos : List ℕ) → length froms ≡ length tos → map (λ d. d .to) (listOf froms tos) ≡ tos
 unfolding listOf
 ends-of [] [] e = refl
 ends-of [] (b ∷ tos) e = absurd (omega arith)

@@ -33,7 +33,7 @@ use Rattle.answer_check.specs.Checking.{CheckGiven, roomChecked, SheetChecked}
 use Rattle.answer_check.specs.Inputs.{mostInput, framedInput, badInput, AnsweredIn, roomIn, InputChecked}
 use Rattle.demands.proofs.Lines.{nothing-no-number}
 use Rattle.promises.specs.InputTexts.{Counts, InputIsItsTexts, NoTwoTexts, Prints, OtherInputsRefused, CutInputsRefused}
-use Rattle.promises.proofs.Canonical.{number-text}
+use Rattle.demands.proofs.Canonical.{number-text}
 use Rattle.promises.proofs.Checks.{put-whole}
 
 -- An input that begins with a number.

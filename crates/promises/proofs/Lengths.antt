@@ -5,13 +5,14 @@ use mathlib.Core.Bool.{Bool, true, false, cond, not}
 use mathlib.Core.Logic.{⊎-elim}
 use mathlib.Core.List.{List, [], _∷_, _++_, map}
 use native.Mathlib.Omega.{arith}
-use lib.ListN.{length, getD, length-append}
+use lib.ListN.{length, getD, take, drop, length-append}
+use lib.Seq.{take-append-seam, drop-append-seam}
 use lib.Dec.{ltb, leb}
 use lib.IntN.{ℤ, pos, negsuc, _-ℤ_}
 use mir.Syntax.{w64}
 use mir.Val.{SFits}
 use mir.ValLaws.{toZ-ofZ}
-use borrow.Author.Tests.{leb-true, le-ltb}
+use borrow.Author.Tests.{leb-true, le-ltb, ltb-true, ltb-false}
 use Rattle.refusals.specs.declared.Refusal.{Refusal}
 use Rattle.refusals.specs.declared.Refusal.the-variants.{BadLine, LongSheet, RetiredRule, ShortRoom, WantRows, OverEightWants}
 use Rattle.refusals.specs.declared.Verdict.{Verdict}
@@ -51,7 +52,7 @@ use Rattle.answer_plan.specs.Recall.{runChecks, roomWords, verdictBy, recallVer
 use Rattle.answer_plan.proofs.Determined.{answer-once}
 use Rattle.answer_field.specs.Field.{fieldChecks}
 use Rattle.answer_buys.specs.Buys.{BuysText, AnswersBuys}
-use Rattle.promises.specs.Lengths.{TakesAll, planRow, buysRow, PlanIsWhole, FieldIsWhole, BuysIsWhole}
+use Rattle.promises.specs.Lengths.{LeftIn, TakesAll, planRow, buysRow, PlanIsWhole, FieldIsWhole, BuysIsWhole}
 use Rattle.promises.proofs.Checks.{put-whole, rows-accepted}
 
 -- A text that begins with a byte has one.
@@ -71,6 +72,27 @@ put-bytes : (text row : List ℕ) (n : ℕ) → n ≡ bytesPut text row → leng
 unfolding bytesPut
 put-bytes text row n e l = e ∙ rw (le-ltb (length row) (length text) l)
 
+-- What a text leaves in any row.
+left-in : (text row : List ℕ) (n : ℕ) (row′ : List ℕ) → n ≡ bytesPut text row → row′ ≡ rowPut text row → LeftIn text row n row′
+unfolding bytesPut rowPut
+left-in text row n row′ bytes left = go (ltb (length row) (length text)) refl
+  where
+    go : (b : Bool) → ltb (length row) (length text) ≡ b → LeftIn text row n row′
+    go true t =
+        let l = ltb-true (length row) (length text) t in
+        let none : n ≡ 0 = bytes ∙ rw t in
+        let same : row′ ≡ row = left ∙ rw t in
+        record { whole = λ fits. absurd (omega (arith, fits, l)); short = λ _. none; behind = rw (none, same) }
+    go false f =
+        let l = ltb-false (length row) (length text) f in
+        let size : n ≡ length text = bytes ∙ rw f in
+        let is : row′ ≡ text ++ drop (length text) row = left ∙ rw f in
+        record {
+          whole = λ _. (size, rw (size, is) (take-append-seam text (drop (length text) row)));
+          short = λ few. absurd (omega (arith, few, l));
+          behind = rw (size, is) (drop-append-seam text (drop (length text) row));
+        }
+
 pub takes-all : {Answers : List ℕ → ℕ → List ℕ → Type 0} (most : ℕ) (held : (row : List ℕ) (n : ℕ) (row′ : List ℕ) → Answers row n row′ → Held most row n row′)
     → ((row : List ℕ) (n : ℕ) (row′ other : List ℕ) (m : ℕ) (other′ : List ℕ) (a : Answers row n row′) (b : Answers other m other′) → held row n row′ a .text ≡ held other m other′ b .text)
     → TakesAll most Answers
@@ -80,11 +102,10 @@ takes-all most held same row n row′ a enough =
     let size = put-bytes (h .text) row n (h .bytes) fits in (
       omega (arith, size, h .some),
       omega (arith, size, h .short),
-      λ other m other′ b wide.
+      λ other m other′ b.
           let k = held other m other′ b in
-          put-whole (k .text) other m other′ (k .bytes) (k .left) (omega (arith, k .short))
-          ∙ sym (same row n row′ other m other′ a b)
-          ∙ sym (put-whole (h .text) row n row′ (h .bytes) (h .left) fits),
+          let one : k .text ≡ take n row′ = sym (same row n row′ other m other′ a b) ∙ sym (put-whole (h .text) row n row′ (h .bytes) (h .left) fits) in
+          subst (λ text. LeftIn text other m other′) one (left-in (k .text) other m other′ (k .bytes) (k .left)),
     )
 
 -- The first number of a row that is not 0: each is small, given that those before it are 0.

@@ -13,6 +13,7 @@ pub mod DeskDays
 pub mod DeskAsked
 pub mod DeskTells
 pub mod DeskHeld
+pub mod DeskRoom
 pub mod DeskWorked
 pub mod DeskReplay
 pub mod DeskTaken
@@ -23,12 +24,12 @@ pub mod DeskCases
 pub mod Gathered
 pub mod Copied
 pub mod Again
-pub mod Canonical
 pub mod Same
 pub mod Written
 pub mod Taken
 pub mod Described
 pub mod Strict
+pub mod Early
 pub mod Mends
 pub mod MenderLines
 pub mod MenderWants
@@ -56,6 +57,7 @@ pub mod InputTexts
 pub mod TapeInput
 pub mod BuysLines
 pub mod PlanLines
+pub mod ListSheets
 pub mod Answers
 pub mod MonthRuns
 pub mod MonthPage

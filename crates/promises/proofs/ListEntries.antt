@@ -1,70 +1,37 @@
 -- The entries of a list that is handed in are the numbers of its lines.
 use Prim.Native.Nat.{ℕ, _+_, _<_}
 use mathlib.Core.Path.{_≡_, refl, ap, sym, _∙_, subst}
-use mathlib.Core.Bool.{Bool, true, false, not, true≢false}
+use mathlib.Core.Bool.{true, false, not}
 use mathlib.Core.Logic.{⊎-elim}
 use mathlib.Core.List.{List, [], _∷_, _++_}
 use native.Mathlib.Omega.{arith}
 use lib.ListN.{length, getD}
 use borrow.Author.Tests.{not-false}
 use Rattle.refusals.specs.declared.Refusal.the-variants.{BadLine}
-use Rattle.refusals.specs.declared.Verdict.{Verdict}
 use Rattle.refusals.specs.Refusals.{firstOf}
 use Rattle.refusals.proofs.Verdicts.{refuses, all-accept, accepts-at}
 use Rattle.runs.proofs.Search.{true-or-false, first-zero}
-use Rattle.text_bytes.specs.Text.{lineFeed, comma, has, before, behind, isEmpty, valueOf, decimal}
-use Rattle.text_bytes.proofs.Split.{before-here, behind-here}
-use Rattle.text_lines.specs.Lines.{lineOf, afterLines, lineAfter, valueText, numberBehind, firstIn, secondIn, isPairLine, firstBadOf, eachOf}
+use Rattle.text_bytes.specs.Text.{lineFeed, comma, has, behind, isEmpty, valueOf, decimal}
+use Rattle.text_lines.specs.Lines.{lineOf, afterLines, lineAfter, numberBehind, firstIn, secondIn, isPairLine, firstBadOf}
 use Rattle.text_lines.proofs.Filling.{length-each}
-use Rattle.sheet_reader.specs.Lines.{isCountLine}
 use Rattle.sheet_reader.specs.Sheet.{unless}
 use Rattle.sheet_writer.specs.PlanSheet.{detoursKey, detourKey}
 use Rattle.sheet_writer.proofs.Reread.{key-value}
 use Rattle.sheet_lists.specs.Form.{mostDetours, linesUpTo, firstBadToEnd, detoursTold, detourText, planBadLine, isPlan, listBadLine, listDetours, listText, startsOn, endsOn, planFroms, planTos, listFroms, listTos}
 use Rattle.sheet_lists.specs.Reading.{formChecks, planForm, listForm}
-use Rattle.demands.specs.Lines.{Stands, UpTo, Pair}
-use Rattle.demands.proofs.Tests.{Tells}
-use Rattle.demands.proofs.Lines.{tells-count, tells-pair-line, tells-end, number-flat, pair-flat, line-read}
+use Rattle.demands.specs.Lines.{Stands, Number, UpTo, Pair}
+use Rattle.demands.proofs.Lines.{tells-count, tells-pair-line, tells-end, number-flat, line-read}
 use Rattle.demands.proofs.FirstLine.{after-both}
-use Rattle.promises.specs.ListLines.{PlanLineIsBad, IsPlanSheet}
+use Rattle.demands.proofs.SheetLines.{value-read, pair-says, each-value, stands-there}
+use Rattle.promises.specs.ListLines.{PlanLineIsBad, DetoursAreTold}
 use Rattle.promises.specs.ListEntries.{EntriesOn, OnPlanSheet, OnBareList, PlanHoldsItsLines, ListHoldsItsLines}
-use Rattle.promises.proofs.Canonical.{number-text}
+use Rattle.demands.proofs.Canonical.{number-text}
 use Rattle.promises.proofs.Lengths.{first-none, unless-none}
-use Rattle.promises.proofs.MenderWants.{each-value}
 use Rattle.promises.proofs.ListLines.{plan-search, plan-is, is-plan}
-
--- A detour line that is as described says the two numbers that are read on it.
-module _ (text : List ℕ) (i : ℕ) (s : Stands detourKey Pair text i) where
-  abbrev first : List ℕ
-  first = s .kind .first
-
-  abbrev others : List ℕ
-  others = s .kind .others
-
-  value-is : valueText detourKey (lineAfter i text) ≡ first ++ (comma ∷ others)
-  unfolding has
-  value-is = ap (λ l. valueText detourKey l) (line-read detourKey (s .value) (s .rest) (afterLines i text) refl (pair-flat (s .value) (s .kind)) (s .is)) ∙ key-value detourKey (s .value) ∙ s .kind .is
-
-  no-comma : has comma first ≡ false
-  no-comma = number-flat comma refl first (s .kind .left)
-
-  start-text : first ≡ decimal (firstIn detourKey (lineAfter i text))
-  start-text = sym (ap (λ t. decimal (valueOf (before comma t))) value-is ∙ ap (λ t. decimal (valueOf t)) (before-here comma first others no-comma) ∙ number-text first (s .kind .left))
-
-  end-text : others ≡ decimal (secondIn detourKey (lineAfter i text))
-  end-text = sym (ap (λ t. decimal (valueOf (behind comma t))) value-is ∙ ap (λ t. decimal (valueOf t)) (behind-here comma first others no-comma) ∙ number-text others (s .kind .right))
-
-  says-its-numbers : Stands detourKey (λ value. value ≡ decimal (firstIn detourKey (lineAfter i text)) ++ (comma ∷ decimal (secondIn detourKey (lineAfter i text)))) text i
-  says-its-numbers =
-      record {
-        value = s .value;
-        rest = s .rest;
-        is = s .is;
-        kind = s .kind .is ∙ ap (λ t. t ++ (comma ∷ others)) start-text ∙ ap (λ t. decimal (firstIn detourKey (lineAfter i text)) ++ (comma ∷ t)) end-text;
-      }
 
 -- So many such lines behind others.
 entries-on : (text : List ℕ) (first count : ℕ) → ((i : ℕ) → i < count → Stands detourKey Pair text (first + i)) → EntriesOn text first (startsOn count (afterLines first text)) (endsOn count (afterLines first text))
+unfolding has
 entries-on text first count stand =
     let start : ℕ → ℕ = λ k. firstIn detourKey (lineAfter k (afterLines first text)) in
     let end : ℕ → ℕ = λ k. secondIn detourKey (lineAfter k (afterLines first text)) in
@@ -79,12 +46,13 @@ entries-on text first count stand =
           ap (λ t. secondIn detourKey (lineOf t)) (sym there) ∙ sym (each-value end count i h) in
           subst (λ b. Stands detourKey (λ value. value ≡ decimal (getD (startsOn count (afterLines first text)) i 0) ++ (comma ∷ decimal b)) text (first + i)) to
           (subst (λ a. Stands detourKey (λ value. value ≡ decimal a ++ (comma ∷ decimal (secondIn detourKey (lineAfter (first + i) text)))) text (first + i)) from
-          (says-its-numbers text (first + i) (stand i h)));
+          (pair-says detourKey refl text (first + i) (stand i h)));
     }
 
--- What passes a test stands, where no line that does not is met.
-stands-there : {b : Bool} {P : Type 0} → Tells b P → ((P → ⊥) → ⊥) → P
-stands-there {b} t n = ⊎-elim (λ (e : b ≡ true). t .when-true e) (λ (e : b ≡ false). absurd (n (t .when-false e))) (true-or-false b)
+-- The number of detours, of any plan sheet that says one.
+pub detours-are-told : DetoursAreTold
+unfolding detoursTold has
+detours-are-told plan line = ap valueOf (value-read detoursKey refl plan 5 Number line (number-flat lineFeed refl (line .value) (line .kind)))
 
 no-bad : (bad : ℕ) (text : List ℕ) → refuses (firstOf (formChecks bad text)) ≡ false → bad ≡ 0
 no-bad bad text e = accepts-at bad BadLine refl (all-accept (formChecks bad text) e .1 .0)

@@ -4,16 +4,15 @@ use mathlib.Core.Path.{_≡_, refl, ap, sym, _∙_}
 use mathlib.Core.Bool.{Bool, true, false, true≢false, not, cond}
 use mathlib.Core.List.{List, [], _∷_, _++_}
 use native.Mathlib.Omega.{arith}
-use native.Mathlib.Decide.{decLt}
-use lib.ListN.{length, drop, getD, List·getD-append}
-use lib.Seq.{getD-append-seam, drop-cons, drop-length}
+use lib.ListN.{length, drop, getD}
+use lib.Seq.{drop-cons, drop-length}
 use lib.Dec.{eqb, ltb}
 use borrow.Author.Tests.{eq-eqb, ne-eqb, eqb-true}
 use Rattle.runs.specs.Run.{mostWants, mostReads, total}
 use Rattle.runs.proofs.Search.{any-here}
 use Rattle.text_bytes.specs.Text.{comma, lineFeed, has, before, behind, valueOf}
 use Rattle.text_bytes.proofs.Split.{before-here, behind-here}
-use Rattle.text_lines.specs.Lines.{lineOf, afterLines, lineAfter, valueText, numberBehind, firstIn, secondIn, eachOf}
+use Rattle.text_lines.specs.Lines.{lineOf, afterLines, lineAfter, valueText, numberBehind, firstIn, secondIn}
 use Rattle.sheet_reader.specs.Lines.{filesKey, wantsKey, wantKey}
 use Rattle.sheet_reader.specs.Sheet.{sheetFiles}
 use Rattle.sheet_reader.proofs.Rows.{length-each}
@@ -23,25 +22,13 @@ use Rattle.answer_mend.specs.Wants.{remaining, readsInAll}
 use Rattle.answer_mend.specs.Mending.{sheetRemaining}
 use Rattle.demands.proofs.Tests.{Tells, tells-equal, tells-below, tells-not, tells-some, tells-reworded}
 use Rattle.demands.specs.Lines.{Stands, Number}
+use Rattle.demands.proofs.SheetLines.{each-value}
 use Rattle.demands.proofs.Lines.{tells-number, number-flat, pair-flat, line-read}
 use Rattle.promises.specs.Mender.{WantLine, Asks, HasReads, WantsRemain, CountsFrom, end, want, other, PartsRead, PartsAreRead}
 use Rattle.promises.proofs.Gathered.{Rising, remaining-rising, rising-least, rising-at, isIn, in-at, find-in, asks, in-remaining}
 use Rattle.promises.proofs.Taken.{reads-total}
 use Rattle.promises.proofs.MenderLines.{tail-behind, all-mended, files-come, wants-come, wants-there, want-lines, want-at, want-among, nothing-stands, nothing-behind}
 use Rattle.promises.proofs.Described.{described}
-
--- One of many values.
-pub each-value : (value : ℕ → ℕ) (n i : ℕ) → i < n → getD (eachOf value n) i 0 ≡ value i
-unfolding eachOf
-each-value value zero i l = absurd (omega arith)
-each-value value (suc n) i l = go (each-value value n i) (decLt i n)
-  where
-    go : (i < n → getD (eachOf value n) i 0 ≡ value i) → Dec (i < n) → getD (eachOf value n ++ (value n ∷ [])) i 0 ≡ value i
-    go rest (yes m) = List·getD-append (eachOf value n) (value n ∷ []) 0 i (rw (length-each value n) m) ∙ rest m
-    go rest (no m) =
-        let last : length (eachOf value n) ≡ i = omega (arith, length-each value n) in
-        let same : n ≡ i = omega arith in
-        ap (λ k. getD (eachOf value n ++ (value n ∷ [])) k 0) (sym last) ∙ getD-append-seam (eachOf value n) (value n) [] 0 ∙ ap value same
 
 -- What a want line asks for stands on it, and each asks for something.
 asks-read : (sheet : List ℕ) (i file count : ℕ) → Asks sheet i file count → (firstIn wantKey (lineAfter i sheet) ≡ file) × (secondIn wantKey (lineAfter i sheet) ≡ count)

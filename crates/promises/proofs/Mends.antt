@@ -37,6 +37,7 @@ use Rattle.promises.proofs.Gathered.{rising-at, Clean, remaining-clean,
 use Rattle.runs.specs.Judging.{judgeOf}
 use Rattle.text_lines.specs.Lines.{afterLines, lineAfter, valueText, firstIn}
 use Rattle.sheet_reader.specs.Reading.{sheetVerdict, ruleVerdict}
+use Rattle.promises.proofs.Early.{none-early, early-read, early-least}
 use Rattle.promises.proofs.Same.{empty-is, fair-wants, old-sheet, new-sheet, same-sheet, one-change}
 use Rattle.promises.proofs.Written.{written-so, mended-short}
 use Rattle.promises.proofs.Taken.{taken, five-longer}
@@ -173,8 +174,7 @@ mended-is-read sheet text m =
     let few : looseWants text ≤ mostWants = rw (e, wants-again sheet (k .good) (k .few) (k .reads)) (k .few) in
     let least : saysSweep text ≡ false = ap saysSweep e ∙ rule-there sheet (k .good) (k .few) (k .reads) in
     record {
-      lines = rw (le-ltb longestSheet (length text) short, strict text (order .described) (order .files-said) (order .wants-said) few);
-      rule = rw least;
+      taken = none-early text (rw (le-ltb longestSheet (length text) short, strict text (order .described) (order .files-said) (order .wants-said) few)) (rw least);
       numbers = numbers-read text (order .described) (order .files-said) (order .wants-said) few;
       counts = counts-read text (order .described) (order .files-said) (order .wants-said) few;
     }
@@ -371,8 +371,9 @@ every-change-listed sheet text m =
     }
 
 pub accepted-comes-back : AcceptedComesBack
-accepted-comes-back sheet read least nothing =
-    let good : isRefusal (sheetVerdict sheet .refusal) ≡ false = rw read in
+accepted-comes-back sheet none nothing =
+    let good : isRefusal (sheetVerdict sheet .refusal) ≡ false = rw (early-read sheet none) in
+    let least = early-least sheet none in
     let run = nothing-judged (sheetRun sheet) nothing in
     record {
       above = firstLines 2 sheet;
@@ -384,14 +385,17 @@ accepted-comes-back sheet read least nothing =
     }
 
 pub accepted-as-written : AcceptedAsWritten
-accepted-as-written sheet read least nothing = written-so sheet (rw read) (nothing-judged (sheetRun sheet) nothing) least
+accepted-as-written sheet none nothing = written-so sheet (rw (early-read sheet none)) (nothing-judged (sheetRun sheet) nothing) (early-least sheet none)
 
 pub accepted-taken : AcceptedTaken
-accepted-taken sheet read least nothing out notes answer out′ notes′ h row list =
+accepted-taken sheet none nothing out notes answer out′ notes′ h row list =
     record { taken = fits; given = given; left-out = five-longer sheet good run least }
   where
     good : isRefusal (sheetVerdict sheet .refusal) ≡ false
-    good = rw read
+    good = rw (early-read sheet none)
+
+    least : saysSweep sheet ≡ false
+    least = early-least sheet none
 
     run : isRefusal (judgeOf (sheetRun sheet) .refusal) ≡ false
     run = nothing-judged (sheetRun sheet) nothing

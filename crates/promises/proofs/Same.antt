@@ -30,7 +30,7 @@ use Rattle.answer_mend.specs.Wants.{remaining, fateOf}
 use Rattle.answer_mend.specs.Mending.{firstLines, sheetRemaining, sheetReads, mendedText, changeIf, changesText, fateLines}
 use Rattle.promises.proofs.Gathered.{Rising, Clean, clean-remaining, clean-each, clean-stays}
 use Rattle.promises.proofs.Again.{come-so-many, not-file, not-want, regroup, none-more, line-good, remaining-once, reads-once, fates-none}
-use Rattle.promises.proofs.Canonical.{number-text}
+use Rattle.demands.proofs.Canonical.{number-text}
 
 -- A text is its first line, with its LF, and what stands behind it.
 pub text-line : (k : ℕ) (key value text : List ℕ) → startsWith (k ∷ key) (lineOf text) ≡ true → lineOf text ≡ (k ∷ key) ++ value → text ≡ line (k ∷ key) value ++ behind lineFeed text

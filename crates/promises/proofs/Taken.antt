@@ -22,7 +22,7 @@ use Rattle.sheet_loose.specs.Loose.{looseWantsText, looseEnd, priceLeftOut, fir
 use Rattle.sheet_loose.specs.Reading.{looseVerdict}
 use Rattle.answer_mend.specs.Wants.{sumBelow, readsInAll}
 use Rattle.answer_mend.specs.Mending.{firstLines, sheetRemaining, mendedText, changesText, mendVerdict}
-use Rattle.promises.proofs.Canonical.{number-text}
+use Rattle.demands.proofs.Canonical.{number-text}
 use Rattle.promises.proofs.Same.{fair-wants, empty-is, g, below, wants-number, files-number, tail-same, body-same, wants-same, named, counted, remain, old-sheet, new-sheet}
 
 -- The reads of all lines are the total of their counts.

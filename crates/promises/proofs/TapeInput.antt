@@ -36,7 +36,7 @@ use Rattle.demands.proofs.Lines.{tells-tape, tells-number, number-flat, line-re
 use Rattle.demands.proofs.Tapes.{demand1-tape}
 use Rattle.promises.specs.Lengths.{sheetRow}
 use Rattle.promises.specs.TapeInput.{leftOutLines, TapePrinted, TapeByItsTable, OtherTapesRefused}
-use Rattle.promises.proofs.Canonical.{number-text}
+use Rattle.demands.proofs.Canonical.{number-text}
 use Rattle.promises.proofs.Answers.{lines-are}
 use Rattle.promises.proofs.TapeLengths.{tape-is-whole}
 

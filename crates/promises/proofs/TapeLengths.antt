@@ -5,7 +5,7 @@ use mathlib.Core.Bool.{Bool, true, false, not}
 use mathlib.Core.List.{List, [], _∷_, _++_}
 use native.Mathlib.Omega.{arith}
 use lib.ListN.{length, drop, getD, length-append, length-take, length-drop}
-use lib.Seq.{take-append-seam}
+use lib.Seq.{take-append-seam, drop-append-seam}
 use lib.Dec.{ltb, eqb}
 use borrow.Author.Tests.{le-ltb, ltb-false}
 use Rattle.refusals.specs.declared.Refusal.the-variants.{BadName, BadText, ManyExtents, FarFile, Overlap}
@@ -27,7 +27,7 @@ use Rattle.tape_files.specs.Index.{some, Level, Role, holds, file, other, roleO
 use Rattle.answer_ltfs.specs.TapeTable.{inSeveral, isEmptyFile, liesElsewhere, howMany, areFar, someOverlap, rangesIn, tapeTable, areGoodTexts, ltfsSheet, tapeVerdict}
 use Rattle.answer_ltfs.specs.Input.{mostTapeInput, labelKey, indexKey, emptyKey, otherKey, isFramed, countedText, afterCounted, inputName, inputLabel, inputIndex, badFrame, tapeInputVerdict, answerText, leftOutText, reportText, rowsShort}
 use Rattle.answer_ltfs.proofs.Promise.{sheet-within}
-use Rattle.promises.specs.Lengths.{sheetRow, reportRow, TapeIsWhole}
+use Rattle.promises.specs.Lengths.{sheetRow, reportRow, TapeIsWhole, TapeKeepsBehind}
 use Rattle.promises.proofs.Lengths.{some-begun, number-length, refusal-short, refusal-begins}
 
 -- The elements of a tree are fewer than the text's bytes: each begins with a token of its own.
@@ -209,3 +209,18 @@ tape-is-whole input out notes r out′ notes′ h wide long =
       text = rw (bytes, sheet) (take-append-seam (answerText input) (drop (length (answerText input)) out));
       report = rw (noted, listed) (take-append-seam (reportText input) (drop (length (reportText input)) notes));
     }
+
+pub tape-keeps-behind : TapeKeepsBehind
+tape-keeps-behind input out notes r out′ notes′ h = go (rowsShort (answerText input) (reportText input) out notes) refl
+  where
+    go : (b : Bool) → rowsShort (answerText input) (reportText input) out notes ≡ b → (drop (r .bytes) out′ ≡ drop (r .bytes) out) × (drop (r .noted) notes′ ≡ drop (r .noted) notes)
+    go true e =
+        let sheet : out′ ≡ out = h .sheet ∙ rw e in
+        let listed : notes′ ≡ notes = h .listed ∙ rw e in
+        (rw sheet, rw listed)
+    go false e =
+        let bytes : r .bytes ≡ length (answerText input) = ap (λ t. t .bytes) (h .told) ∙ rw e in
+        let noted : r .noted ≡ length (reportText input) = ap (λ t. t .noted) (h .told) ∙ rw e in
+        let sheet : out′ ≡ answerText input ++ drop (length (answerText input)) out = h .sheet ∙ rw e in
+        let listed : notes′ ≡ reportText input ++ drop (length (reportText input)) notes = h .listed ∙ rw e in
+        (rw (bytes, sheet) (drop-append-seam (answerText input) (drop (length (answerText input)) out)), rw (noted, listed) (drop-append-seam (reportText input) (drop (length (reportText input)) notes)))

@@ -70,7 +70,7 @@ module _ (sheet : List ℕ) where
   rule-back : (p : ℕ) → EarlyApplies sheet RetiredRule p → (p ≡ 4) × Ruled sweepText sheet
   rule-back p (EarlyApplies.retired-rule h) = (refl, h)
 
-  early-finds : Finds (EarlyApplies sheet) earlyOrder (firstOf (sheetVerdict sheet ∷ ruleVerdict sheet ∷ []))
+  pub early-finds : Finds (EarlyApplies sheet) earlyOrder (firstOf (sheetVerdict sheet ∷ ruleVerdict sheet ∷ []))
   unfolding sheetVerdict ruleVerdict saysSweep
   early-finds =
       let long = refuseIf (ltb longestSheet (length sheet)) LongSheet in

@@ -27,7 +27,7 @@ use Rattle.sheet_writer.proofs.RoundTrip.{round-trip}
 use Rattle.sheet_loose.specs.Loose.{looseFiles}
 use Rattle.answer_mend.specs.Mending.{firstLines, sheetRemaining, sheetReads, mendedText}
 use Rattle.demands.proofs.Judged.{judged-accepted}
-use Rattle.promises.proofs.Canonical.{number-text}
+use Rattle.demands.proofs.Canonical.{number-text}
 use Rattle.promises.proofs.Same.{fair-wants, text-line, number-line, behind-none, no-number, pair-value, g, below, files-same, named, counted, remain, ask, lower-is, new-sheet}
 
 no-pair : isPair [] ≡ false

@@ -12,8 +12,9 @@ use Rattle.sheet_reader.specs.Sheet.{sheetRun, sheetName}
 use Rattle.sheet_writer.specs.declared.Written.{Written}
 use Rattle.answer_plan.specs.Recall.{SheetRecalled}
 use Rattle.answer_any.specs.AnyRun.{SheetRecalledAny, SheetAnswered}
-use Rattle.demands.specs.RefusalTable.{HasStops, FirstThatApplies}
+use Rattle.demands.specs.RefusalTable.{HasStops, FirstThatApplies, SomeApplies}
 use Rattle.demands.specs.AnyHead.{RunAppliesAny}
+use Rattle.promises.specs.Rooms.{RoomOfPlan}
 use Rattle.promises.specs.Lengths.{TakesAll, planRow}
 use Rattle.promises.specs.PlanLines.{PlanAnyPrinted}
 use Rattle.promises.specs.Answers.{SheetRunApplies, WordsApply, roomOrder, twoLines, PrintedByTheTable}
@@ -28,6 +29,14 @@ AnyByTheTable =
     → SheetRecalledAny sheet row room n row′ room′
     → planRow ≤ length row
     → PrintedByTheTable (AnyApplies (length room) sheet) roomOrder (PlanAnyPrinted (sheetName sheet) (sheetRun sheet)) (take n row′)
+
+-- The room: where a refusal applies as it was, else as the plan leaves it.
+pub record RoomPrinted (sheet room room′ : List ℕ) : Type 0 where
+  pub kept : SomeApplies (AnyApplies (length room) sheet) roomOrder → room′ ≡ room
+  pub cleared : (SomeApplies (AnyApplies (length room) sheet) roomOrder → ⊥) → RoomOfPlan (sheetRun sheet) room room′
+
+abbrev pub AnyLeavesTheRoom : Type 0
+AnyLeavesTheRoom = (sheet row room : List ℕ) (n : ℕ) (row′ room′ : List ℕ) → SheetRecalledAny sheet row room n row′ room′ → RoomPrinted sheet room room′
 
 -- The program's row takes every answer whole.
 abbrev pub AnyIsWhole : Type 0

@@ -11,7 +11,7 @@ use Rattle.answer_buys_any.specs.AnyBuys.{SheetBoughtAny}
 use Rattle.promises.specs.Lengths.{TakesAll, buysRow}
 use Rattle.promises.specs.PlanLines.{FiguresAnyPrinted}
 use Rattle.promises.specs.Answers.{roomOrder, twoLines, PrintedByTheTable}
-use Rattle.promises.specs.AnswersAny.{AnyApplies}
+use Rattle.promises.specs.AnswersAny.{AnyApplies, RoomPrinted}
 
 -- The first n bytes of a row as long as the program's are printed. Asked for is the figure sheet of the least list for the head where it stands.
 abbrev pub BuysAnyByTheTable : Type 0
@@ -20,6 +20,10 @@ BuysAnyByTheTable =
     → SheetBoughtAny sheet row room n row′ room′
     → buysRow ≤ length row
     → PrintedByTheTable (AnyApplies (length room) sheet) roomOrder (FiguresAnyPrinted (sheetName sheet) (sheetRun sheet)) (take n row′)
+
+-- The room is left as by `plan --any`.
+abbrev pub BuysAnyLeavesTheRoom : Type 0
+BuysAnyLeavesTheRoom = (sheet row room : List ℕ) (n : ℕ) (row′ room′ : List ℕ) → SheetBoughtAny sheet row room n row′ room′ → RoomPrinted sheet room room′
 
 -- The program's row takes every answer whole.
 abbrev pub BuysAnyIsWhole : Type 0

@@ -4,7 +4,7 @@ use Prim.Native.Nat.{ℕ, _^_, _≤_, _<_}
 use mathlib.Core.Path.{_≡_}
 use mathlib.Core.Bool.{Bool}
 use mathlib.Core.List.{List, _++_}
-use lib.ListN.{length, take, getD}
+use lib.ListN.{length, take, drop, getD}
 use Rattle.refusals.specs.declared.Refusal.the-variants.{Accepted, ShortRow}
 use Rattle.refusals.specs.declared.Verdict.{Verdict}
 use Rattle.text_bytes.specs.Text.{bytes}
@@ -27,14 +27,20 @@ use Rattle.answer_check.specs.Inputs.{InputPriced, InputChecked}
 use Rattle.promises.specs.Months.{ReadsOn}
 use Rattle.promises.specs.Texts.{pair}
 
--- A row of so many bytes takes every answer whole: something is printed, no more than these, and another such row prints the same, however long it is.
+-- What any row is left with, of a text that was printed: one that takes it begins with it, a shorter one has nothing of it; whatever stands behind is as it was.
+pub record LeftIn (text row : List ℕ) (n : ℕ) (row′ : List ℕ) : Type 0 where
+  pub whole : length text ≤ length row → (n ≡ length text) × (take n row′ ≡ text)
+  pub short : length row < length text → n ≡ 0
+  pub behind : drop n row′ ≡ drop n row
+
+-- A row of so many bytes takes every answer whole: something is printed, no more than these, and every other row, of any length, is left with that text.
 abbrev pub TakesAll : ℕ → (List ℕ → ℕ → List ℕ → Type 0) → Type 0
 TakesAll most Answers =
     (row : List ℕ) (n : ℕ) (row′ : List ℕ)
     → Answers row n row′
     → most ≤ length row
     → (0 < n) × (n ≤ most)
-    × ((other : List ℕ) (m : ℕ) (other′ : List ℕ) → Answers other m other′ → most ≤ length other → take m other′ ≡ take n row′)
+    × ((other : List ℕ) (m : ℕ) (other′ : List ℕ) → Answers other m other′ → LeftIn (take n row′) other m other′)
 
 -- `plan` and `field`, `buys`, `price`, `check`.
 abbrev pub planRow : ℕ
@@ -150,3 +156,10 @@ TapeIsWhole =
     → sheetRow ≤ length out
     → reportRow ≤ length notes
     → TapePrints input r out′ notes′
+
+-- Whatever rows are lent, what stands behind the two texts is as it was.
+abbrev pub TapeKeepsBehind : Type 0
+TapeKeepsBehind =
+    (input out notes : List ℕ) (r : Told) (out′ notes′ : List ℕ)
+    → InputAnswered input out notes r out′ notes′
+    → (drop (r .bytes) out′ ≡ drop (r .bytes) out) × (drop (r .noted) notes′ ≡ drop (r .noted) notes)

@@ -1,6 +1,7 @@
 -- What requests L6, L7, L11 and L13 promise, what `price` and `check` tell, and what every program prints: a whole answer (Lengths), by the table (Answers).
 -- Each statement is a type; proofs/ has its proof.
 pub mod Texts
+pub mod Rooms
 pub mod Desk
 pub mod DeskRefusals
 pub mod DeskWants
@@ -12,6 +13,7 @@ pub mod DeskDays
 pub mod DeskAsked
 pub mod DeskTells
 pub mod DeskHeld
+pub mod DeskRoom
 pub mod DeskWorked
 pub mod DeskReplay
 pub mod DeskTaken
@@ -25,6 +27,7 @@ pub mod Checks
 pub mod Lengths
 pub mod BuysLines
 pub mod PlanLines
+pub mod ListSheets
 pub mod Answers
 pub mod MonthRuns
 pub mod MonthPage

@@ -6,6 +6,7 @@ use mathlib.Core.List.{List, [], _∷_, _++_}
 use lib.ListN.{length}
 use Rattle.refusals.specs.declared.Refusal.{Refusal}
 use Rattle.refusals.specs.declared.Refusal.the-variants.{BadLine, LongSheet}
+use Rattle.text_bytes.specs.Text.{valueOf}
 use Rattle.text_lines.specs.Lines.{afterLines}
 use Rattle.sheet_reader.specs.Lines.{tapeKey}
 use Rattle.sheet_writer.specs.PlanSheet.{sumKey, readsKey, finishKey, endKey, detoursKey, detourKey, timeKey}
@@ -50,6 +51,10 @@ formOrder = LongSheet ∷ BadLine ∷ []
 
 abbrev pub PlanFormByTheTable : Type 0
 PlanFormByTheTable = (plan : List ℕ) → FirstThatApplies (PlanFormApplies plan) formOrder (planForm plan .refusal) (planForm plan .place)
+
+-- The detours that a plan sheet says it has: of any that has such a line, the number on it.
+abbrev pub DetoursAreTold : Type 0
+DetoursAreTold = (plan : List ℕ) (line : Stands detoursKey Number plan 5) → detoursTold plan ≡ valueOf (line .value)
 
 abbrev pub ListFormByTheTable : Type 0
 ListFormByTheTable = (list : List ℕ) → FirstThatApplies (ListFormApplies list) formOrder (listForm list .refusal) (listForm list .place)

@@ -7,13 +7,10 @@ use mathlib.Core.Bool.{true, false}
 use mathlib.Core.List.{List, [], _++_}
 use lib.ListN.{length, take, drop, getD}
 use Rattle.refusals.specs.declared.Refusal.the-variants.{Accepted}
-use Rattle.refusals.specs.Refusals.{accepted}
-use Rattle.runs.specs.Run.{mostWants}
 use Rattle.text_bytes.specs.Text.{bytes, decimal}
 use Rattle.text_lines.specs.Lines.{lineAfter, valueText}
 use Rattle.sheet_reader.specs.Lines.{turnKey}
-use Rattle.sheet_reader.specs.Sheet.{sheetTurn, saysSweep, sheetFiles, sheetName, sheetRun}
-use Rattle.sheet_reader.specs.Reading.{sheetVerdict, ruleVerdict}
+use Rattle.sheet_reader.specs.Sheet.{sheetTurn, sheetFiles, sheetName, sheetRun}
 use Rattle.text_pages.specs.Printing.{line, numberLine}
 use Rattle.sheet_writer.specs.Writing.{sheetText}
 use Rattle.sheet_loose.specs.Loose.{looseFiles, looseWants, wantsSaid, priceLeftOut, firstBadLoose, wantedFiles, wantedCounts}
@@ -22,7 +19,8 @@ use Rattle.answer_mend.specs.declared.wants.Fate.{Fate}
 use Rattle.answer_mend.specs.declared.wants.Fate.the-variants.{Stays, Moved, Added, Dropped}
 use Rattle.answer_mend.specs.Wants.{readsInAll, readsOfWant, fateOf}
 use Rattle.answer_mend.specs.Mending.{mendedText, changesText, SheetMended}
-use Rattle.demands.specs.RefusalTable.{NothingApplies}
+use Rattle.demands.specs.RefusalTable.{NothingApplies, SomeApplies}
+use Rattle.promises.specs.TwoTexts.{EarlyApplies, earlyOrder}
 
 -- An accepted mending: the mended sheet and the changes stand in the first bytes of the rows, and the later bytes are as they were.
 pub record InRows (sheet out notes : List ℕ) (answer : Mended) (out′ notes′ : List ℕ) : Type 0 where
@@ -75,7 +73,7 @@ pub record Orderly (files counts : List ℕ) : Type 0 where
 pub record SheetInOrder (text : List ℕ) : Type 0 where
   pub described : firstBadLoose text ≡ 0
   pub wants : Orderly (wantedFiles text) (wantedCounts text)
-  pub few : length (wantedFiles text) ≤ mostWants
+  pub few : length (wantedFiles text) ≤ 64
   pub files-said : sheetFiles text ≡ looseFiles text
   pub wants-said : wantsSaid text ≡ looseWants text
 
@@ -84,8 +82,7 @@ MendedInOrder = (sheet text : List ℕ) → WasMended sheet text → SheetInOrde
 
 -- So the reader of run sheets takes it: 12, 11 and 19 do not apply, and the wants that it reads are those lines.
 pub record ReadAsARun (text : List ℕ) : Type 0 where
-  pub lines : sheetVerdict text ≡ accepted
-  pub rule : ruleVerdict text ≡ accepted
+  pub taken : SomeApplies (EarlyApplies text) earlyOrder → ⊥
   pub numbers : sheetRun text .numbers ≡ wantedFiles text
   pub counts : sheetRun text .counts ≡ wantedCounts text
 
@@ -167,7 +164,7 @@ OnceIsEnough =
     → length text ≤ length out
     → (answer ≡ record { refusal = Accepted; place = 0; bytes = length text; noted = 0 }) × (take (length text) out′ ≡ text)
 
--- The sheet of an accepted run comes back the same, byte for byte, apart from an empty turn price written out: what stands above the third line and
+-- The sheet of an accepted run, to which none of 12, 11, 19 and 1 to 7 applies, comes back the same, byte for byte, apart from an empty turn price written out: what stands above the third line and
 -- below it is as it was, and that price is the one change listed.
 pub record SheetComesBack (sheet : List ℕ) : Type 0 where
   pub above : List ℕ
@@ -180,8 +177,7 @@ pub record SheetComesBack (sheet : List ℕ) : Type 0 where
 abbrev pub AcceptedComesBack : Type 0
 AcceptedComesBack =
     (sheet : List ℕ)
-    → sheetVerdict sheet ≡ accepted
-    → saysSweep sheet ≡ false
+    → (SomeApplies (EarlyApplies sheet) earlyOrder → ⊥)
     → NothingApplies (sheetRun sheet)
     → SheetComesBack sheet
 
@@ -189,8 +185,7 @@ AcceptedComesBack =
 abbrev pub AcceptedAsWritten : Type 0
 AcceptedAsWritten =
     (sheet : List ℕ)
-    → sheetVerdict sheet ≡ accepted
-    → saysSweep sheet ≡ false
+    → (SomeApplies (EarlyApplies sheet) earlyOrder → ⊥)
     → NothingApplies (sheetRun sheet)
     → mendedText sheet ≡ sheetText (sheetName sheet) (sheetRun sheet)
 
@@ -203,8 +198,7 @@ pub record Taken (sheet : List ℕ) (answer : Mended) : Type 0 where
 abbrev pub AcceptedTaken : Type 0
 AcceptedTaken =
     (sheet : List ℕ)
-    → sheetVerdict sheet ≡ accepted
-    → saysSweep sheet ≡ false
+    → (SomeApplies (EarlyApplies sheet) earlyOrder → ⊥)
     → NothingApplies (sheetRun sheet)
     → (out notes : List ℕ) (answer : Mended) (out′ notes′ : List ℕ)
     → SheetMended sheet out notes answer out′ notes′

@@ -11,10 +11,10 @@ use Rattle.walk.specs.Walk.{headAt, walked, timesOf, legsFor, sumOf}
 use Rattle.walk.specs.Detours.{legsOf}
 use Rattle.least.specs.Least.{LeastForRun}
 use Rattle.text_bytes.specs.Text.{bytes, decimal}
-use Rattle.text_pages.specs.Printing.{pairLines, tripleLines}
 use Rattle.demands.specs.AnyLegs.{AreLegsOf}
 use Rattle.demands.specs.AnyHead.{IsLeastWalk}
 use Rattle.demands.specs.AnyBuys.{IsBoughtAny}
+use Rattle.promises.specs.Texts.{pairsOn, triplesOn}
 use Rattle.promises.specs.BuysLines.{FiguresSaid}
 
 -- The plan sheet of a list by its legs: the tape; sum, reads, finish and end of their walk, and the number of detours; a line of start and end for each detour; and one of file,
@@ -27,8 +27,8 @@ walkSheet name r list legs =
     ++ (bytes "finish=" ++ decimal (walked (r .turn) (headAt (r .head)) legs .clock) ++ bytes "\n")
     ++ (bytes "end=" ++ decimal (walked (r .turn) (headAt (r .head)) legs .place) ++ bytes "\n")
     ++ (bytes "detours=" ++ decimal (length list) ++ bytes "\n"))
-    ++ pairLines (bytes "detour=") (map (λ d. d .from) list) (map (λ d. d .to) list)
-    ++ tripleLines (bytes "time=") (r .numbers) (timesOf (r .turn) (headAt (r .head)) legs (wantStopsOf r)) (legsFor legs (wantStopsOf r))
+    ++ pairsOn (bytes "detour=") (map (λ d. d .from) list) (map (λ d. d .to) list)
+    ++ triplesOn (bytes "time=") (r .numbers) (timesOf (r .turn) (headAt (r .head)) legs (wantStopsOf r)) (legsFor legs (wantStopsOf r))
 
 pub record PlanPrinted (name : List ℕ) (r : Run) (printed : List ℕ) : Type 0 where
   pub list : List Detour

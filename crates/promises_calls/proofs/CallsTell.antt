@@ -38,11 +38,10 @@ use Rattle.boundary_desk.specs.Calls.{fileCall, wantPlace, takenWith, boardingO
 use Rattle.boundary_desk.proofs.Calling.{filing-verdict}
 use Rattle.promises.specs.DeskTells.{TextStands}
 use Rattle.promises.proofs.DeskDays.{accepts}
-use Rattle.demands.proofs.Behind.{plan-behind}
-use Rattle.promises.proofs.DeskSteps.{board-accepted}
 use Rattle.promises.proofs.DeskLines.{there, not-moved, each-added, numbers-told}
 use Rattle.promises.proofs.DeskTells.{accepted-event-tells}
-use Rattle.promises_calls.specs.CallsTell.{FileCallTells, AtTheirWants, BoardCallTells, BoardBehind, EventCallTells, WaitingTells, WaitingCallTells}
+use Rattle.promises.proofs.DeskRoom.{boarded-behind, event-leaves-the-room}
+use Rattle.promises_calls.specs.CallsTell.{FileCallTells, AtTheirWants, BoardCallTells, BoardBehind, EventCallTells, EventCallLeavesTheRoom, WaitingTells, WaitingCallTells}
 
 -- A filing.
 last-of : (office n : ℕ) (l : Lasts) → lastOf office (lastsWith office n l) ≡ n
@@ -103,8 +102,7 @@ board-call-tells rows rows′ lasts taken taken′ sums sums′ tape head turn c
     }
 
 pub board-behind : BoardBehind
-board-behind len tape row b before after r boards accepted =
-    plan-behind (boardRun tape row b) before (r .boarded .answer) after (boards .planned (board-accepted len tape row b before after r boards (ap isRefusal accepted)) .plans) accepted
+board-behind = boarded-behind
 
 -- An event.
 pub event-call-tells : EventCallTells
@@ -118,6 +116,12 @@ event-call-tells rows rows′ lasts lasts′ line out out′ room room′ sizes 
           (accepted-event-tells len tape (dayAt rows lasts) room out event done room′ out′ (called .answers) (accepts (done .verdict .refusal) e)),
       ap (drop 1) is,
     )
+
+pub event-call-leaves-the-room : EventCallLeavesTheRoom
+event-call-leaves-the-room rows rows′ lasts lasts′ line out out′ room room′ sizes sizes′ tape code called zero-code =
+    let done = called .done in
+    let e : isRefusal (done .verdict .refusal) ≡ false = code-accepts (done .verdict) (sym (called .says) ∙ zero-code) in
+    event-leaves-the-room (placesIf 1 sizes (placesIf 2 lasts (length rows))) tape (dayAt rows lasts) room out (eventOf (lineOf (oneLine line))) done room′ out′ (called .answers) (accepts (done .verdict .refusal) e)
 
 -- Who waits.
 module _ (v : Verdict) (row : List Ticket) (out out′ sizes sizes′ : List ℕ) (out-is : out′ ≡ writtenRow v (waitingText row) out)

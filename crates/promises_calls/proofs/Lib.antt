@@ -7,3 +7,4 @@ pub mod Determined
 pub mod WaitingTells
 pub mod CallsTell
 pub mod EventCalls
+pub mod CallVerdicts

@@ -24,6 +24,7 @@ use Rattle.demands.specs.Behind.{BehindPlan}
 use Rattle.promises.specs.Desk.{Call, filing, withdrawal, boarding, Fits}
 use Rattle.promises.specs.DeskDays.{IsCall}
 use Rattle.promises.specs.DeskTells.{TextStands}
+use Rattle.promises.specs.DeskRoom.{RoomLeft}
 use Rattle.promises_calls.specs.DeskCalls.{keptInC}
 
 -- A filing is given the last number of its office, as the row of last numbers then has it.
@@ -72,6 +73,14 @@ EventCallTells =
     → code ≡ 0
     → TextStands (placesIf 1 sizes (placesIf 2 lasts (length rows))) tape (dayAt rows lasts) room out (eventOf (lineOf (oneLine line))) (called .done .day) (getD sizes′ 0 0) out′
     × (drop 1 sizes′ ≡ drop 1 sizes)
+
+-- The room that it was lent is left as the event leaves it: a filing's and a withdrawal's as it was, a boarding's as its plan does.
+abbrev pub EventCallLeavesTheRoom : Type 0
+EventCallLeavesTheRoom =
+    (rows rows′ : List (List ℕ)) (lasts lasts′ line out out′ room room′ sizes sizes′ : List ℕ) (tape : Tape) (code : ℕ)
+    → EventCalled rows lasts tape line out room sizes code rows′ lasts′ out′ room′ sizes′
+    → code ≡ 0
+    → RoomLeft tape (dayAt rows lasts) room (eventOf (lineOf (oneLine line))) room′
 
 -- It is a call on the table in the row, which is accepted: what it leaves there is what the call leaves, and later records and words stay.
 abbrev pub CallAccepts : Call → Type 0

@@ -4,3 +4,4 @@ pub mod DeskCalls
 pub mod CallRefusals
 pub mod WaitingTells
 pub mod CallsTell
+pub mod CallVerdicts

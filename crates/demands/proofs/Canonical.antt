@@ -24,7 +24,7 @@ decimal-enough (suc a) (suc b) n l m =
       | no h ↦ rw (le-ltb n 10 (omega arith), decimal-enough a b (n / 10) (omega arith) (omega arith))
     ]
 
-decimal-step : (n e : ℕ) → 1 ≤ n → e < 10 → decimal (n * 10 + e) ≡ decimal n ++ ((48 + e) ∷ [])
+pub decimal-step : (n e : ℕ) → 1 ≤ n → e < 10 → decimal (n * 10 + e) ≡ decimal n ++ ((48 + e) ∷ [])
 unfolding decimalIn
 decimal-step n e some small = go (n * 10 + e) refl
   where

@@ -1,0 +1,103 @@
+-- Digits, numbers, names and lines by their conditions.
+use Prim.Native.Nat.{ℕ, zero, suc, _+_, _^_, _≤_, _<_}
+use mathlib.Core.Path.{_≡_, refl, sym, ap, _∙_}
+use mathlib.Core.Bool.{Bool, true, false, not, _&&_, _||_}
+use mathlib.Core.Logic.{_⊎_, inl, inr}
+use mathlib.Core.List.{List, [], _∷_}
+use native.Mathlib.Omega.{arith}
+use lib.ListN.{length, getD}
+use lib.Dec.{leb, ltb}
+use borrow.Author.Tests.{lt-ltb, ltb-true, leb-true, le-leb, ne-eqb}
+use Rattle.text_bytes.specs.Text.{lineFeed, has, behind, allOf, between, isDigit, isNameByte, isEmpty, leadingZero, isNumber, isName, valueOf, decimalIn, decimal}
+use Rattle.text_bytes.proofs.Bytes.{and-true-both}
+use Rattle.text_bytes.proofs.Split.{before-here, behind-here}
+use Rattle.text_bytes.proofs.Decimals.{has-append, decimal-value, decimal-number}
+use Rattle.text_lines.specs.Lines.{lineOf, afterLines}
+use Rattle.demands.specs.Letters.{Digits, IsTextOfANumber, NumbersAreTexts, IsTapeName, NamesByTheirBytes, NoFeed, LinesByTheirFeeds}
+use Rattle.demands.proofs.Canonical.{decimal-step, number-text}
+use Rattle.demands.proofs.Lines.{behind-none}
+
+one-digit : (n : ℕ) → n < 10 → decimal n ≡ (48 + n) ∷ []
+unfolding decimalIn
+one-digit zero l = refl
+one-digit (suc n) l = rw (lt-ltb (suc n) 10 l)
+
+pub digits : Digits
+digits = record { one = one-digit; more = λ n d some small. decimal-step n d (omega arith) small }
+
+word-value : (text : List ℕ) → isNumber text ≡ true → valueOf text < 2 ^ 64
+unfolding isNumber
+word-value text e =
+    ltb-true (valueOf text) (2 ^ 64) (and-true-both (not (isEmpty text) && not (leadingZero text) && allOf isDigit text) (ltb (valueOf text) (2 ^ 64)) e .1)
+
+pub numbers-are-texts : NumbersAreTexts
+numbers-are-texts =
+    record {
+      number = λ text. (
+        λ e. record { n = valueOf text; word = word-value text e; is = sym (number-text text e) },
+        λ (t : IsTextOfANumber text). ap isNumber (t .is) ∙ decimal-number (t .n) (t .word),
+      );
+      value = decimal-value;
+    }
+
+-- A name, byte by byte.
+abbrev InName : ℕ → Type 0
+InName b = ((48 ≤ b) × (b ≤ 57)) ⊎ ((65 ≤ b) × (b ≤ 90))
+
+byte-read : (b : ℕ) → isNameByte b ≡ true → InName b
+byte-read b e = go (isDigit b) refl
+  where
+    both : (least most : ℕ) → between least most b ≡ true → (least ≤ b) × (b ≤ most)
+    both least most t = let h = and-true-both (leb least b) (leb b most) t in (leb-true least b (h .0), leb-true b most (h .1))
+
+    go : (d : Bool) → isDigit b ≡ d → InName b
+    go true t = inl (both 48 57 t)
+    go false f = inr (both 65 90 (sym (rw f) ∙ e))
+
+byte-told : (b : ℕ) → InName b → isNameByte b ≡ true
+byte-told b (inl h) = rw (le-leb 48 b (h .0), le-leb b 57 (h .1))
+byte-told b (inr h) = rw (le-leb 65 b (h .0), le-leb b 90 (h .1)) (or-true (isDigit b))
+  where
+    or-true : (x : Bool) → (x || true) ≡ true
+    or-true true = refl
+    or-true false = refl
+
+all-read : (text : List ℕ) → allOf isNameByte text ≡ true → (i : ℕ) → i < length text → InName (getD text i 0)
+unfolding allOf
+all-read [] e i l = absurd (omega arith)
+all-read (b ∷ text) e zero l = byte-read b (and-true-both (isNameByte b) (allOf isNameByte text) e .0)
+all-read (b ∷ text) e (suc i) l = all-read text (and-true-both (isNameByte b) (allOf isNameByte text) e .1) i (omega arith)
+
+all-told : (text : List ℕ) → ((i : ℕ) → i < length text → InName (getD text i 0)) → allOf isNameByte text ≡ true
+unfolding allOf
+all-told [] each = refl
+all-told (b ∷ text) each = rw (byte-told b (each 0 (omega arith)), all-told text (λ i l. each (suc i) (omega arith)))
+
+pub names-by-their-bytes : NamesByTheirBytes
+unfolding isName
+names-by-their-bytes text = (
+  λ e.
+      let both = and-true-both (between 1 16 (length text)) (allOf isNameByte text) e in
+      let size = and-true-both (leb 1 (length text)) (leb (length text) 16) (both .0) in
+      record { some = leb-true 1 (length text) (size .0); few = leb-true (length text) 16 (size .1); each = all-read text (both .1) },
+  λ (n : IsTapeName text). rw (le-leb 1 (length text) (n .some), le-leb (length text) 16 (n .few), all-told text (n .each)),
+)
+
+-- Lines.
+no-feed : (text : List ℕ) → NoFeed text → has lineFeed text ≡ false
+unfolding has
+no-feed [] none = refl
+no-feed (b ∷ text) none = rw (ne-eqb b 10 (none 0 (omega arith)), no-feed text (λ i l. none (suc i) (omega arith)))
+
+pub lines-by-their-feeds : LinesByTheirFeeds
+unfolding afterLines lineOf has
+lines-by-their-feeds text =
+    record {
+      first = refl;
+      next = λ i line rest none is.
+          let plain = no-feed line none in (
+            rw (is, has-append lineFeed line (lineFeed ∷ rest), plain) (before-here lineFeed line rest plain),
+            ap (behind lineFeed) is ∙ behind-here lineFeed line rest plain,
+          );
+      last = λ i none. let plain = no-feed (afterLines i text) none in (rw plain, behind-none lineFeed (afterLines i text) plain);
+    }

@@ -1,0 +1,48 @@
+-- The words that every statement on a text uses, each by conditions of its own: the digits of a number, what text is a number and its value, a tape name, and where
+-- the lines of a text are cut. The definitions that the contracts use nobody need believe.
+use Prim.Native.Nat.{ℕ, suc, _+_, _*_, _^_, _≤_, _<_}
+use mathlib.Core.Path.{_≡_}
+use mathlib.Core.Bool.{true}
+use mathlib.Core.Logic.{_⊎_, _↔_}
+use mathlib.Core.List.{List, [], _∷_, _++_}
+use lib.ListN.{length, getD}
+use Rattle.text_bytes.specs.Text.{isNumber, isName, valueOf, decimal}
+use Rattle.text_lines.specs.Lines.{afterLines, lineAfter}
+
+-- The text of a number: one digit, whose byte is 48 and the digit; or that of its tenth part, and then its last digit.
+pub record Digits : Type 0 where
+  pub one : (n : ℕ) → n < 10 → decimal n ≡ (48 + n) ∷ []
+  pub more : (n d : ℕ) → 0 < n → d < 10 → decimal (n * 10 + d) ≡ decimal n ++ ((48 + d) ∷ [])
+
+-- A number is the text of one below 2^64, and that is its value.
+pub record IsTextOfANumber (text : List ℕ) : Type 0 where
+  pub n : ℕ
+  pub word : n < 2 ^ 64
+  pub is : text ≡ decimal n
+
+pub record NumbersAreTexts : Type 0 where
+  pub number : (text : List ℕ) → (isNumber text ≡ true) ↔ IsTextOfANumber text
+  pub value : (n : ℕ) → valueOf (decimal n) ≡ n
+
+-- A tape name: 1 to 16 bytes, each 0 to 9 or A to Z.
+pub record IsTapeName (text : List ℕ) : Type 0 where
+  pub some : 1 ≤ length text
+  pub few : length text ≤ 16
+  pub each : (i : ℕ) → i < length text → ((48 ≤ getD text i 0) × (getD text i 0 ≤ 57)) ⊎ ((65 ≤ getD text i 0) × (getD text i 0 ≤ 90))
+
+abbrev pub NamesByTheirBytes : Type 0
+NamesByTheirBytes = (text : List ℕ) → (isName text ≡ true) ↔ IsTapeName text
+
+-- No byte of a text is a line feed.
+abbrev pub NoFeed : List ℕ → Type 0
+NoFeed text = (i : ℕ) → i < length text → getD text i 0 ≡ 10 → ⊥
+
+-- Behind no line stands the text; where a line and its feed stand behind i lines, that is line i, and the rest stands behind one line more; where no feed is left there
+-- is no line and nothing behind it.
+pub record LinesAreCut (text : List ℕ) : Type 0 where
+  pub first : afterLines 0 text ≡ text
+  pub next : (i : ℕ) (line rest : List ℕ) → NoFeed line → afterLines i text ≡ line ++ (10 ∷ rest) → (lineAfter i text ≡ line) × (afterLines (suc i) text ≡ rest)
+  pub last : (i : ℕ) → NoFeed (afterLines i text) → (lineAfter i text ≡ []) × (afterLines (suc i) text ≡ [])
+
+abbrev pub LinesByTheirFeeds : Type 0
+LinesByTheirFeeds = (text : List ℕ) → LinesAreCut text
