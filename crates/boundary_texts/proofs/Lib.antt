@@ -1,2 +1,3 @@
--- What the call's contract says, from the promise of what it calls.
+-- What the calls' contracts say, from the promises of what they call: of one text (Answered), of two (Mended).
 pub mod Answered
+pub mod Mended

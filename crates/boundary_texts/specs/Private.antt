@@ -1,9 +1,27 @@
--- For the function that answers where there is no row for the text's length. No public contract cites this file.
-use Prim.Native.Nat.{ℕ, _<_}
-use mathlib.Core.List.{List}
-use lib.ListN.{length}
-use Rattle.boundary_texts.specs.Texts.{AnswerCalled}
+-- For the functions that make a code and tell the lengths. No public contract cites this file.
+use Prim.Native.Nat.{ℕ}
+use mathlib.Core.Path.{_≡_}
+use mathlib.Core.Bool.{cond}
+use mathlib.Core.List.{List, _∷_}
+use lib.ListN.{drop}
+use Rattle.refusals.specs.declared.Verdict.{Verdict}
+use Rattle.refusals.specs.Refusals.{isRefusal}
+use Rattle.sheet_writer.specs.declared.Written.{Written}
+use Rattle.answer_mend.specs.declared.Mended.{Mended}
+use Rattle.boundary.specs.Boundary.{codeOf}
 
--- The call on any rows of which the last is too short: they stay.
-abbrev pub ShortAnswered : List ℕ → List ℕ → ℕ → List ℕ → Type 0
-ShortAnswered sheet room code room′ = (out sizes : List ℕ) → length sizes < 1 → AnswerCalled sheet out room sizes code out room′ sizes
+-- The verdict in what was written, and in what was mended.
+abbrev pub writtenVerdict : Written → Verdict
+writtenVerdict w = record { refusal = w .refusal; place = w .place }
+
+abbrev pub mendedVerdict : Mended → Verdict
+mendedVerdict m = record { refusal = m .refusal; place = m .place }
+
+-- The code, and the lengths in the first words unless it is a refusal's.
+pub record Told (v : Verdict) (bytes : ℕ) (sizes : List ℕ) (code : ℕ) (sizes′ : List ℕ) : Type 0 where
+  pub says : code ≡ codeOf v
+  pub sizesAre : sizes′ ≡ cond (isRefusal (v .refusal)) sizes (bytes ∷ drop 1 sizes)
+
+pub record BothTold (v : Verdict) (bytes noted : ℕ) (sizes : List ℕ) (code : ℕ) (sizes′ : List ℕ) : Type 0 where
+  pub says : code ≡ codeOf v
+  pub sizesAre : sizes′ ≡ cond (isRefusal (v .refusal)) sizes (bytes ∷ noted ∷ drop 2 sizes)

@@ -152,7 +152,7 @@ listed-near list = form-near (listBadLine list) list (list-line-few list)
 price-checks-near : (list : List ℕ) (run : Run) → AllNear (priceChecks headAnywhere list run)
 price-checks-near list run = (listed-near list, λ a. (judge-any-near run, λ b. (entry-near run (listFroms list) (listTos list) (list-even list) (list-many list a), λ c. tt)))
 
-check-checks-near : (words : ℕ) (plan : List ℕ) (run : Run) → AllNear (checkChecks headAnywhere words plan run)
+pub check-checks-near : (words : ℕ) (plan : List ℕ) (run : Run) → AllNear (checkChecks headAnywhere words plan run)
 unfolding planForm
 check-checks-near words plan run = (form-near (planBadLine plan) plan (plan-line-few plan), λ a. (judge-any-near run, λ b. (if-near (ltb words (roomFor run)) ShortRoom, λ c. tt)))
 

@@ -56,19 +56,19 @@ module _ (sheet : List ℕ) where
   reads-back : (p : ℕ) → SheetApplies sheet TooManyReads p → (p ≡ 0) × ((n : ℕ) × CountsFrom sheet 0 n × (1024 < n))
   reads-back p (many-reads {n} c l) = (refl, (n, c, l))
 
-  abbrev long : Verdict
+  abbrev pub long : Verdict
   long = refuseIf (ltb longestSheet (length sheet)) LongSheet
 
-  abbrev line : Verdict
+  abbrev pub line : Verdict
   line = refuseAt (firstBadLoose sheet) BadLine
 
-  abbrev wants : Verdict
+  abbrev pub wants : Verdict
   wants = refuseIf (ltb mostWants (length (sheetRemaining sheet))) WantRows
 
-  abbrev reads : Verdict
+  abbrev pub reads : Verdict
   reads = refuseIf (ltb mostReads (readsInAll (wantedCounts sheet))) TooManyReads
 
-  sheet-finds : Finds (SheetApplies sheet) sheetOrder (firstOf (long ∷ line ∷ wants ∷ reads ∷ []))
+  pub sheet-finds : Finds (SheetApplies sheet) sheetOrder (firstOf (long ∷ line ∷ wants ∷ reads ∷ []))
   sheet-finds =
       finds-first (SheetApplies sheet) (line ∷ wants ∷ reads ∷ []) refl (decides-reworded long-there long-back (decides-if (ltb longestSheet (length sheet)) LongSheet (tells-below longestSheet (length sheet))))
       (λ a. finds-first (SheetApplies sheet) (wants ∷ reads ∷ []) refl
@@ -105,7 +105,7 @@ module _ (text changes out notes : List ℕ) where
       (λ b. finds-none applies))
 
 -- Two rows of checks, one behind the other, are one.
-rows-joined : (a b c d x : Verdict) → firstOf (firstOf (a ∷ b ∷ []) ∷ firstOf (c ∷ d ∷ []) ∷ x ∷ []) ≡ firstOf (firstOf (a ∷ b ∷ c ∷ d ∷ []) ∷ x ∷ [])
+pub rows-joined : (a b c d x : Verdict) → firstOf (firstOf (a ∷ b ∷ []) ∷ firstOf (c ∷ d ∷ []) ∷ x ∷ []) ≡ firstOf (firstOf (a ∷ b ∷ c ∷ d ∷ []) ∷ x ∷ [])
 rows-joined a b c d x =
     first-of-joined (a ∷ b ∷ []) (firstOf (c ∷ d ∷ []) ∷ x ∷ [])
     ∙ ap (λ v. cond (refuses a) a (cond (refuses b) b v)) (first-of-joined (c ∷ d ∷ []) (x ∷ []))

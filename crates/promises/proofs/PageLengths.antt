@@ -278,7 +278,7 @@ module _ (sheet : List ℕ) (short : length sheet ≤ 16384) where
         ),
       )
 
-mend-near : (sheet out notes : List ℕ) → mendVerdict sheet out notes .place ≤ placeMost
+pub mend-near : (sheet out notes : List ℕ) → mendVerdict sheet out notes .place ≤ placeMost
 unfolding mendVerdict looseVerdict
 mend-near sheet out notes =
     let texts = textsVerdicts (mendedText sheet) (changesText sheet) out notes in

@@ -115,7 +115,7 @@ module _ (words : ℕ) (r : Run) where
   room-back a p (PlannedApplies.run h) = absurd (omega (arith, any-small r h))
   room-back a p (PlannedApplies.room (short-room s h)) = (refl, rw (stops-one (lifted r) (accepted-any r a .run) (stops-up r s)) at h)
 
-  planned-finds : Finds (PlannedApplies words r) plannedOrder (firstOf (anyChecks words r))
+  pub planned-finds : Finds (PlannedApplies words r) plannedOrder (firstOf (anyChecks words r))
   planned-finds =
       let short = refuseIf (ltb words (roomFor r)) ShortRoom in
       run-any-finds r (PlannedApplies words r) (λ k p. PlannedApplies.run) planned-of-run (ShortRoom ∷ []) (short ∷ [])
@@ -166,6 +166,22 @@ module _ (OfSheet OfText OfRun : Refusal → ℕ → Type 0) (order : List Refus
   moved : (applies : Refusal → ℕ → Type 0) (o : List Refusal) (w : Verdict) → w ≡ v → Finds applies o w → Finds applies o v
   moved applies o w e f = subst (Finds applies o) e f
 
+  -- What is found in all, by what applies.
+  pub first-of-sheet : SomeApplies OfSheet earlyOrder → Finds OfSheet earlyOrder v
+  first-of-sheet s = ⊎-elim (λ e. moved OfSheet earlyOrder e₀ (v-early e) early) (λ e. absurd (none-so e s)) (true-or-false (refuses e₀))
+
+  pub first-of-text : (SomeApplies OfSheet earlyOrder → ⊥) → SomeApplies OfText formOrder → Finds OfText formOrder v
+  first-of-text n s =
+      ⊎-elim (λ e. absurd (n (some-so e)))
+      (λ e. ⊎-elim (λ f. moved OfText formOrder form (v-form e f) text) (λ f. absurd (none-text f s)) (true-or-false (refuses form)))
+      (true-or-false (refuses e₀))
+
+  pub first-of-run : (SomeApplies OfSheet earlyOrder → ⊥) → (SomeApplies OfText formOrder → ⊥) → Finds OfRun order v
+  first-of-run n m =
+      ⊎-elim (λ e. absurd (n (some-so e)))
+      (λ e. ⊎-elim (λ f. absurd (m (some-text f))) (λ f. moved OfRun order (firstOf others) (v-run e f) run) (true-or-false (refuses form)))
+      (true-or-false (refuses e₀))
+
   -- None of them is 8, where none of their orders has it.
   pub never-eight : NoEight order → numberOf (v .refusal) ≡ 8 → ⊥
   never-eight none is =
@@ -184,15 +200,9 @@ module _ (OfSheet OfText OfRun : Refusal → ℕ → Type 0) (order : List Refus
         record {
           kind = v .refusal;
           place = v .place;
-          of-sheet = λ s. ⊎-elim (λ e. moved OfSheet earlyOrder e₀ (v-early e) early) (λ e. absurd (none-so e s)) (true-or-false (refuses e₀));
-          of-text = λ n s.
-              ⊎-elim (λ e. absurd (n (some-so e)))
-              (λ e. ⊎-elim (λ f. moved OfText formOrder form (v-form e f) text) (λ f. absurd (none-text f s)) (true-or-false (refuses form)))
-              (true-or-false (refuses e₀));
-          of-run = λ n m.
-              ⊎-elim (λ e. absurd (n (some-so e)))
-              (λ e. ⊎-elim (λ f. absurd (m (some-text f))) (λ f. moved OfRun order (firstOf others) (v-run e f) run) (true-or-false (refuses form)))
-              (true-or-false (refuses e₀));
+          of-sheet = first-of-sheet;
+          of-text = first-of-text;
+          of-run = first-of-run;
           refused = λ n. lines (not-accepted (v .refusal) n) ∙ lines-are v;
           asked = λ e. asked (ap isRefusal e);
         }

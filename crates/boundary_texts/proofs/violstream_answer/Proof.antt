@@ -1,33 +1,32 @@
 -- `boundary_texts::violstream_answer` meets its contract: the answer by value, and its text's length.
 -- Assumes nothing.
 use native.Mathlib.Omega.{arith}
-use Rattle.boundary_texts.proofs.Answered.{one-set, verdict-placed, called-refused, called-told}
+use Rattle.boundary_texts.proofs.Answered.{answer-near, answer-called, answer-short}
 use borrow.Author.Needs.{needs}
 use Rattle.boundary_texts.proofs.violstream_answer.Statement.{statement}
 use Rattle.boundary_texts.proofs.violstream_answer.Tie as tie
 
 -- The way back from a place in the code to the one that the name says.
-abbrev at-work : tie.After-verdict-of → tie.After-answer
-at-work c = c .before .before .before .before .before
-
-abbrev at-test : tie.After-answer → tie.Else1
-at-test c = c .before .before .before
-
-abbrev at-start : tie.Else1 → tie.Start
+abbrev at-start : tie.Then1 → tie.Start
 at-start c = c .before .before .before .before .before
 
-short-answer-requires : tie.Need-short-answer-requires
-short-answer-requires c κs = search needs
+abbrev at-start-2 : tie.Else1 → tie.Start
+at-start-2 c = c .before .before .before .before .before
 
-same-length : tie.Need-same-length
-same-length c = search needs
+abbrev at-work : tie.After-verdict-of → tie.After-answer
+at-work c = c .before .before .before .before
 
-returns : tie.Need-returns
-returns c =
-    let s = c .before .before in
-    let t = s .before .before in
-    let a = t .before .before .before .before .before .args in
-    s .short-answer .ensures (a .out .now) (a .sizes .now) (t .if1 .taken)
+abbrev at-test : tie.After-answer → tie.Then1
+at-test c = c .before .before .before
+
+abbrev at-work-2 : tie.After-verdict-of2 → tie.After-answer2
+at-work-2 c = c .before .before .before .before .before
+
+abbrev at-test-2 : tie.After-answer2 → tie.Else1
+at-test-2 c = c .before .before .before
+
+slice-aggregate-answer : tie.Need-slice-aggregate-answer
+slice-aggregate-answer c = search needs
 
 answer-requires : tie.Need-answer-requires
 answer-requires c κs = search needs
@@ -35,11 +34,32 @@ answer-requires c κs = search needs
 verdict-of-requires : tie.Need-verdict-of-requires
 verdict-of-requires c κs = search needs
 
-code-of-requires : tie.Need-code-of-requires
-code-of-requires c κs = verdict-placed _ _ _ _ _ _ (at-work c .answer .ensures) _ (c .verdict-of .ensures)
+short-code-requires : tie.Need-short-code-requires
+short-code-requires c κs = answer-near (at-work c .answer .ensures) _ (c .verdict-of .ensures)
 
-refused-requires : tie.Need-refused-requires
-refused-requires c κs = search needs
+same-length : tie.Need-same-length
+same-length c = search needs
+
+returns : tie.Need-returns
+returns c =
+    let q = c .before in
+    let w = at-work q in
+    let t = at-test w in
+    let a = at-start t .args in
+    answer-short (w .answer .ensures) _ (q .verdict-of .ensures) _ (c .short-code .ensures) (a .out .now) (a .sizes .now) (t .if1 .taken)
+
+answer-requires-2 : tie.Need-answer-requires-2
+answer-requires-2 c κs = search needs
+
+verdict-of-requires-2 : tie.Need-verdict-of-requires-2
+verdict-of-requires-2 c κs = search needs
+
+tell-requires : tie.Need-tell-requires
+tell-requires c κs =
+    let q = c .before in
+    let w = at-work-2 q in
+    let t = at-test-2 w in
+    (answer-near (w .answer2 .ensures) _ (q .verdict-of2 .ensures), omega (arith, t .if1 .left))
 
 same-length-2 : tie.Need-same-length-2
 same-length-2 c = search needs
@@ -47,56 +67,32 @@ same-length-2 c = search needs
 same-length-3 : tie.Need-same-length-3
 same-length-3 c = search needs
 
-returns-2 : tie.Need-returns-2
-returns-2 c =
-    let f = c .before in
-    let d = f .before in
-    let q = d .before in
-    let w = at-work q in
-    let e = at-test w in
-    let a = at-start e .args in
-    called-refused (a .sheet .now) (a .out .now) (a .room .now) _ _ _ (w .answer .ensures) _ (q .verdict-of .ensures) _ (f .refused .ensures) (a .sizes .now) (omega (arith, e .if1 .left))
-    _ (d .code-of .ensures) (c .if2 .taken)
-
-slice-write-sizes : tie.Need-slice-write-sizes
-slice-write-sizes c = search needs
-
 same-length-4 : tie.Need-same-length-4
 same-length-4 c = search needs
 
-same-length-5 : tie.Need-same-length-5
-same-length-5 c = search needs
-
-same-length-6 : tie.Need-same-length-6
-same-length-6 c = search needs
-
-returns-3 : tie.Need-returns-3
-returns-3 c =
-    let f = c .before in
-    let d = f .before in
-    let q = d .before in
-    let w = at-work q in
-    let e = at-test w in
-    let a = at-start e .args in
-    called-told (a .sheet .now) (a .out .now) (a .room .now) _ _ _ (w .answer .ensures) _ (q .verdict-of .ensures) _ (f .refused .ensures) (a .sizes .now) (omega (arith, e .if1 .left))
-    _ (d .code-of .ensures) (c .if2 .left) _ (one-set _ (a .sizes .now) (omega (arith, e .if1 .left)))
+returns-2 : tie.Need-returns-2
+returns-2 c =
+    let f = c .before .before in
+    let q = f .before .before in
+    let w = at-work-2 q in
+    let t = at-test-2 w in
+    let a = at-start-2 t .args in
+    answer-called (w .answer2 .ensures) (a .sizes .now) (omega (arith, t .if1 .left)) _ (q .verdict-of2 .ensures) _ _ (f .tell .ensures)
 
 pub violstream-answer-spec : {M : Type 1} → statement M
 violstream-answer-spec =
     tie.close
     (tie.spec
-    short-answer-requires
-    same-length
-    returns
+    slice-aggregate-answer
     answer-requires
     verdict-of-requires
-    code-of-requires
-    refused-requires
+    short-code-requires
+    same-length
+    returns
+    answer-requires-2
+    verdict-of-requires-2
+    tell-requires
     same-length-2
     same-length-3
-    returns-2
-    slice-write-sizes
     same-length-4
-    same-length-5
-    same-length-6
-    returns-3)
+    returns-2)
