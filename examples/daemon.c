@@ -1,220 +1,362 @@
-/* A caller in the manner of a recall daemon: rows and room are set aside once, then each line of standard input is a
- * request and gets one line of answer.
+/* A recall daemon's day. Two offices ask for files of one tape by tickets; tickets are filed and withdrawn, up to eight leave on each boarding, and each
+ * that has left is closed from its own want's time and leg. Whenever the daemon ends, between any two of its steps, it goes on from there when it is
+ * started again: no ticket is lost, no number is given twice, and every request has one answer.
  *
- *   plan HEAD TURN files N START LENGTH AGGREGATE ... wants N FILE COUNT ...
- *   price HEAD TURN files N START LENGTH AGGREGATE ... wants N FILE COUNT ... detours N START END ...
+ *   daemon STATE TAPE.run REQUESTS ANSWERS [--end-at STEP]
  *
- * AGGREGATE is 0 for a file that lies in none. An answer is
+ * A line of REQUESTS is one of
  *
- *   sum=367 finish=121 end=50 detours=2,2 times=1:81,2:55,3:121 legs=1:2,2:1,3:2
- *   refused=7 place=0 head above 2^40, or left of the end of the rightmost wanted file or its aggregate
- *   unreadable: word 4: a number was expected, not 'x'
+ *   file=OFFICE,FILE,COUNT    filed=OFFICE,NUMBER
+ *   withdraw=OFFICE,NUMBER    withdrawn=OFFICE,NUMBER
+ *   board=HEAD,TURN           boarded=N1,N2,SUM,FINISH,END, then closed=OFFICE,NUMBER,FILE,TIME,LEG for each that has left
+ *   waiting                   waits=OFFICE,NUMBER,FILE,COUNT,AHEAD,BOARDINGS for each that waits, then waiting=N1,N2
  *
- * Against an installed library:  cc examples/daemon.c $(pkg-config --cflags --libs violstream) -o daemon
- * Against the build itself:      cc -I include examples/daemon.c target/staticlib/libviolstream.a -o daemon
- * ./daemon < examples/daemon.requests, or ./daemon --example for one request that is built in. */
+ * and its answer, in ANSWERS, is what stands beside it, or refused=NUMBER,PLACE and the words of violstream.h, or unreadable. A last line without LF waits for its end.
+ *
+ * STATE holds the waiting table, the last numbers given, how much of REQUESTS is done, and the last answer with its place in ANSWERS. A request goes in three
+ * steps: it is carried out in memory; STATE is replaced, by a file written beside it, synced and renamed; the answer is put in its place in ANSWERS and
+ * synced. Until STATE is replaced nothing has happened. From then on the answer is in STATE, and is put in its place again at every start.
+ *
+ * --end-at STEP ends the daemon there with status 70, as a crash would: tests/python/daemon.py tries every step.
+ *
+ * cc examples/daemon.c $(pkg-config --cflags --libs violstream) -o daemon */
 #define _POSIX_C_SOURCE 200809L
 #include <errno.h>
+#include <fcntl.h>
 #include <inttypes.h>
-#include <stdbool.h>
+#include <stdarg.h>
 #include <stdio.h>
 #include <stdlib.h>
 #include <string.h>
+#include <sys/stat.h>
+#include <unistd.h>
 #include <violstream.h>
 
-static const char example[] = "plan 60 1 files 3 0 10 0 10 4 0 20 30 0 wants 3 1 1 2 3 3 1";
+enum { LINE_MOST = 200, TEXT_MOST = 4096, SHEET_MOST = 16384 };
+_Static_assert(TEXT_MOST >= VIOLSTREAM_TEXT_MOST, "an answer takes the longest text");
 
-/* One place more than the limits, so that a request over a limit can be lent as it is, and refused by the library. */
-enum { FILES = VIOLSTREAM_MAX_FILES + 1, WANTS = VIOLSTREAM_MAX_WANTS + 1 };
-
-/* Rows of the same length: two for wants and detours, three for files. */
-enum { MOST_ROWS = 3 };
-struct entries {
-    size_t length;
-    uint64_t row[MOST_ROWS][FILES];
+/* What is kept, and nothing else: words and bytes, without a gap. */
+struct state {
+    char kind[8];
+    struct violstream_ticket tickets[VIOLSTREAM_PLACES];
+    uint64_t lasts[VIOLSTREAM_OFFICES];
+    uint64_t requests_done;                 /* bytes of REQUESTS */
+    uint64_t answer_at, answer_bytes;       /* where the last answer stands in ANSWERS */
+    char answer[TEXT_MOST];
 };
+static const char KIND[8] = "viols-1";
 
 static struct {
-    struct entries files, wants, detours;
-    uint64_t times[WANTS], legs[WANTS];
-    uint64_t *room;
-} rows;
+    const char *state, *tape, *requests, *answers;
+    long end_at, steps;
+} daemon_;
+static struct state kept;
+static struct violstream_desk desk;
+static struct violstream_run tape;
+static uint64_t starts[VIOLSTREAM_MAX_FILES], lengths[VIOLSTREAM_MAX_FILES], aggregates[VIOLSTREAM_MAX_FILES];
+static uint64_t room[VIOLSTREAM_ROOM_WORDS(VIOLSTREAM_BOARDERS, VIOLSTREAM_MAX_READS)];
 
-/* ---- Reading a request ---- */
+/* ---- Ends ---- */
 
-struct request {
-    bool plan;
-    uint64_t head, turn;
-};
-
-struct words {
-    char *rest;                             /* where strtok_r goes on */
-    unsigned number;                        /* of the last word, from 1 */
-    bool good;                              /* until a word is not what was expected, which is then said */
-};
-
-static void say_unreadable(struct words *words, const char *expected, const char *word)
+static _Noreturn void fail(const char *what, const char *path)
 {
-    if (words->good)
-        printf("unreadable: word %u: %s was expected, not '%.40s'\n", words->number, expected, word);
-    words->good = false;
+    fprintf(stderr, "daemon: %s %s: %s\n", what, path, strerror(errno));
+    exit(1);
 }
 
-static const char *next_word(struct words *words)
+static _Noreturn void refuse(const char *sentence)
 {
-    const char *word = strtok_r(NULL, " \t\r\n", &words->rest);
-    words->number++;
-    return word == NULL ? "" : word;
+    fprintf(stderr, "daemon: %s\n", sentence);
+    exit(1);
 }
 
-static uint64_t next_number(struct words *words)
+/* Between any two steps. */
+static void step(void)
 {
-    const char *word = next_word(words);
-    char *end;
-    errno = 0;
-    uint64_t value = strtoull(word, &end, 10);
-    if (*word < '0' || *word > '9' || *end != '\0' || errno != 0)
-        say_unreadable(words, "a number", word);
-    return value;
+    if (++daemon_.steps == daemon_.end_at)
+        _exit(70);
 }
 
-static void expect_word(struct words *words, const char *expected)
+/* ---- Files ---- */
+
+/* At most so many bytes of a file from a place; how many there are. */
+static size_t read_at(const char *path, uint64_t from, void *into, size_t most)
 {
-    const char *word = next_word(words);
-    if (strcmp(word, expected) != 0)
-        say_unreadable(words, expected, word);
+    int file = open(path, O_RDONLY | O_CLOEXEC);
+    size_t have = 0;
+    ssize_t got = 1;
+    if (file < 0)
+        fail("cannot open", path);
+    while (have < most && got != 0) {
+        got = pread(file, (char *)into + have, most - have, (off_t)(from + have));
+        if (got < 0 && errno != EINTR)
+            fail("cannot read", path);
+        have += got > 0 ? (size_t)got : 0;
+    }
+    close(file);
+    return have;
 }
 
-/* A key, the number of entries, and the entries, with a number for each row. Those past what the rows hold are read and
- * left out. */
-static void read_entries(struct words *words, const char *key, int numbers, size_t most, struct entries *entries)
+/* A step between the halves of what is written, so that an end there is tried too. */
+static void write_at(int file, const char *path, uint64_t to, const void *from, size_t bytes)
 {
-    expect_word(words, key);
-    uint64_t length = next_number(words);
-    entries->length = 0;
-    for (uint64_t i = 0; words->good && i < length; i++) {
-        for (int r = 0; r < numbers; r++) {
-            uint64_t number = next_number(words);
-            if (i < most)
-                entries->row[r][i] = number;
-        }
-        entries->length += i < most;
+    size_t put = 0;
+    while (put < bytes) {
+        ssize_t some = pwrite(file, (const char *)from + put, put == 0 && bytes > 1 ? bytes / 2 : bytes - put, (off_t)(to + put));
+        if (some < 0 && errno != EINTR)
+            fail("cannot write", path);
+        put += some > 0 ? (size_t)some : 0;
+        step();
     }
 }
 
-/* Takes the request into the rows; false, with the reason printed, if it cannot be read. */
-static bool read_request(char *line, struct request *request)
+static void sync_folder_of(const char *path)
 {
-    struct words words = {.number = 1, .good = true};
-    const char *key = strtok_r(line, " \t\r\n", &words.rest);
-    request->plan = key != NULL && strcmp(key, "plan") == 0;
-    if (!request->plan && (key == NULL || strcmp(key, "price") != 0))
-        say_unreadable(&words, "plan or price", key == NULL ? "" : key);
-    if (!words.good)
-        return false;
-    request->head = next_number(&words);
-    request->turn = next_number(&words);
-    read_entries(&words, "files", 3, FILES, &rows.files);
-    read_entries(&words, "wants", 2, WANTS, &rows.wants);
-    if (!request->plan)
-        read_entries(&words, "detours", 2, WANTS, &rows.detours);
-    expect_word(&words, "");
-    return words.good;
-}
-
-/* ---- Answering it ---- */
-
-/* The run of the request, in the rows that it was read into. */
-static struct violstream_run run_of(const struct request *request)
-{
-    return (struct violstream_run){
-        .starts = rows.files.row[0], .lengths = rows.files.row[1], .aggregates = rows.files.row[2],
-        .files = rows.files.length,
-        .numbers = rows.wants.row[0], .counts = rows.wants.row[1], .wants = rows.wants.length,
-        .head = request->head, .turn = request->turn,
-    };
-}
-
-/* The rows for the answer; for a price the list of detours is as long as it was read. */
-static struct violstream_rows lent(const struct request *request)
-{
-    return (struct violstream_rows){
-        .detour_starts = rows.detours.row[0], .detour_ends = rows.detours.row[1],
-        .detours = request->plan ? WANTS : rows.detours.length,
-        .times = rows.times, .times_len = WANTS,
-        .legs = rows.legs, .legs_len = WANTS,
-        .room = rows.room, .room_len = VIOLSTREAM_ROOM_MOST,
-    };
-}
-
-/* A row of the answer: for each want its file number and its entry. */
-static void print_entries(const char *key, const uint64_t *entries)
-{
-    printf(" %s=", key);
-    for (size_t i = 0; i < rows.wants.length; i++)
-        printf("%s%" PRIu64 ":%" PRIu64, i == 0 ? "" : ",", rows.wants.row[0][i], entries[i]);
-}
-
-static void print_accepted(const uint64_t *sums)
-{
-    printf("sum=%" PRIu64 " finish=%" PRIu64 " end=%" PRIu64 " detours=", sums[VIOLSTREAM_SUM],
-           sums[VIOLSTREAM_FINISH], sums[VIOLSTREAM_END]);
-    for (size_t i = 0; i < sums[VIOLSTREAM_DETOURS]; i++)
-        printf("%s%" PRIu64 ",%" PRIu64, i == 0 ? "" : ";", rows.detours.row[0][i], rows.detours.row[1][i]);
-    print_entries("times", rows.times);
-    print_entries("legs", rows.legs);
-    printf("\n");
-}
-
-static void answer(char *line)
-{
-    struct request request = {0};
-    if (!read_request(line, &request))
-        return;
-    struct violstream_run run = run_of(&request);
-    struct violstream_rows given = lent(&request);
-    uint64_t result = request.plan ? violstream_plan_rows(&run, VIOLSTREAM_LEAST, &given) : violstream_price_rows(&run, &given);
-    if (result == 0)
-        print_accepted(given.sums);
+    char folder[4096];
+    snprintf(folder, sizeof folder, "%s", path);
+    char *slash = strrchr(folder, '/');
+    if (slash == NULL)
+        strcpy(folder, ".");
     else
-        printf("refused=%d place=%" PRIu64 " %s\n", (int)violstream_number(result), violstream_place(result),
-               violstream_reason(result));
+        slash[slash == folder] = '\0';
+    int file = open(folder, O_RDONLY | O_DIRECTORY | O_CLOEXEC);
+    if (file < 0 || fsync(file) != 0)
+        fail("cannot sync", folder);
+    close(file);
 }
 
-static int answer_all(void)
+/* The state, whole or as it was. */
+static void keep(const struct state *next)
 {
-    char *line = NULL;
-    size_t size = 0;
-    while (getline(&line, &size, stdin) >= 0) {
-        answer(line);
-        fflush(stdout);
+    char beside[4096];
+    if ((size_t)snprintf(beside, sizeof beside, "%s.new", daemon_.state) >= sizeof beside)
+        refuse("the name of the state is too long");
+    int file = open(beside, O_WRONLY | O_CREAT | O_TRUNC | O_CLOEXEC, 0600);
+    if (file < 0)
+        fail("cannot make", beside);
+    step();
+    write_at(file, beside, 0, next, sizeof *next);
+    if (fsync(file) != 0 || close(file) != 0)
+        fail("cannot sync", beside);
+    step();
+    if (rename(beside, daemon_.state) != 0)
+        fail("cannot replace", daemon_.state);
+    step();
+    sync_folder_of(daemon_.state);
+    step();
+    kept = *next;
+}
+
+/* The last answer, in its place, with nothing behind it. */
+static void put_answer(void)
+{
+    int file = open(daemon_.answers, O_WRONLY | O_CREAT | O_CLOEXEC, 0600);
+    if (file < 0)
+        fail("cannot open", daemon_.answers);
+    step();
+    write_at(file, daemon_.answers, kept.answer_at, kept.answer, (size_t)kept.answer_bytes);
+    if (ftruncate(file, (off_t)(kept.answer_at + kept.answer_bytes)) != 0 || fdatasync(file) != 0 || close(file) != 0)
+        fail("cannot write", daemon_.answers);
+    step();
+}
+
+/* ---- Answers ---- */
+
+static void say(struct state *next, const char *form, ...)
+{
+    va_list words;
+    size_t left = sizeof next->answer - (size_t)next->answer_bytes;
+    va_start(words, form);
+    int bytes = vsnprintf(next->answer + next->answer_bytes, left, form, words);
+    va_end(words);
+    if (bytes < 0 || (size_t)bytes >= left)
+        refuse("an answer is longer than there is room for");
+    next->answer_bytes += (uint64_t)bytes;
+}
+
+static void say_refused(struct state *next, uint64_t result)
+{
+    say(next, "refused=%d,%" PRIu64 " %s\n", (int)violstream_number(result), violstream_place(result), violstream_reason(result));
+}
+
+static void file_ticket(struct state *next, uint64_t office, uint64_t file, uint64_t count)
+{
+    uint64_t number;
+    uint64_t result = violstream_file_rows(&desk, office, file, count, tape.files, &number);
+    if (result == 0)
+        say(next, "filed=%" PRIu64 ",%" PRIu64 "\n", office, number);
+    else
+        say_refused(next, result);
+}
+
+static void withdraw_ticket(struct state *next, uint64_t office, uint64_t number)
+{
+    uint64_t result = violstream_withdraw_rows(&desk, office, number);
+    if (result == 0)
+        say(next, "withdrawn=%" PRIu64 ",%" PRIu64 "\n", office, number);
+    else
+        say_refused(next, result);
+}
+
+/* Who has left stood first in each office's places; `taken` has for each the place of its want, and so its time and leg. */
+static void board(struct state *next, uint64_t head, uint64_t turn)
+{
+    uint64_t from[VIOLSTREAM_BOARDERS - 1], to[VIOLSTREAM_BOARDERS - 1], times[VIOLSTREAM_BOARDERS], legs[VIOLSTREAM_BOARDERS];
+    struct violstream_rows rows = {
+        .detour_starts = from, .detour_ends = to, .detours = VIOLSTREAM_BOARDERS - 1,
+        .times = times, .times_len = VIOLSTREAM_BOARDERS, .legs = legs, .legs_len = VIOLSTREAM_BOARDERS,
+        .room = room, .room_len = sizeof room / sizeof *room,
+    };
+    struct violstream_ticket before[VIOLSTREAM_PLACES];
+    memcpy(before, desk.tickets, sizeof before);
+    tape.head = head, tape.turn = turn;
+    uint64_t result = violstream_board_rows(&desk, &tape, &rows);
+    if (result != 0) {
+        say_refused(next, result);
+        return;
     }
-    free(line);
-    return ferror(stdin) || ferror(stdout) ? 1 : 0;
+    say(next, "boarded=%" PRIu64 ",%" PRIu64 ",%" PRIu64 ",%" PRIu64 ",%" PRIu64 "\n", desk.taken[0], desk.taken[1], rows.sums[VIOLSTREAM_SUM],
+        rows.sums[VIOLSTREAM_FINISH], rows.sums[VIOLSTREAM_END]);
+    const uint64_t *want = desk.taken + 2;
+    for (size_t office = 0; office < VIOLSTREAM_OFFICES; office++)
+        for (size_t i = 0; i < desk.taken[office]; i++, want++) {
+            const struct violstream_ticket *ticket = &before[office * (VIOLSTREAM_PLACES / VIOLSTREAM_OFFICES) + i];
+            say(next, "closed=%" PRIu64 ",%" PRIu64 ",%" PRIu64 ",%" PRIu64 ",%" PRIu64 "\n", ticket->office, ticket->number, ticket->file, times[*want - 1],
+                legs[*want - 1]);
+        }
 }
 
-static int answer_example(void)
+static void tell_waiting(struct state *next)
 {
-    char line[sizeof example];
-    memcpy(line, example, sizeof example);
-    printf("%s\n", example);
-    answer(line);
-    return ferror(stdout) ? 1 : 0;
+    struct violstream_text text = {.bytes = (uint8_t *)next->answer, .room = sizeof next->answer};
+    uint64_t result = violstream_waiting_rows(&desk, &text);
+    if (result == 0)
+        next->answer_bytes = text.size;
+    else
+        say_refused(next, result);
 }
 
-int main(int argc, char **argv)
+/* ---- Requests ---- */
+
+/* Numbers behind a key, with commas between them and nothing behind the last. */
+static int numbers_behind(const char *line, const char *key, int many, uint64_t *numbers)
 {
-    bool asked_for_example = argc == 2 && strcmp(argv[1], "--example") == 0;
-    if (argc > 1 && !asked_for_example) {
-        fprintf(stderr, "usage: daemon < requests\n       daemon --example\n");
+    size_t length = strlen(key);
+    if (strncmp(line, key, length) != 0)
+        return 0;
+    line += length;
+    for (int i = 0; i < many; i++) {
+        char *end;
+        errno = 0;
+        numbers[i] = strtoull(line, &end, 10);
+        if (*line < '0' || *line > '9' || errno != 0 || *end != (i + 1 < many ? ',' : '\0'))
+            return 0;
+        line = end + 1;
+    }
+    return 1;
+}
+
+/* A request carried out, in memory; what is to be kept of it. */
+static struct state carried_out(const char *line, size_t bytes)
+{
+    struct state next = kept;
+    uint64_t n[3];
+    next.requests_done += bytes;
+    next.answer_at += kept.answer_bytes;
+    next.answer_bytes = 0;
+    if (numbers_behind(line, "file=", 3, n))
+        file_ticket(&next, n[0], n[1], n[2]);
+    else if (numbers_behind(line, "withdraw=", 2, n))
+        withdraw_ticket(&next, n[0], n[1]);
+    else if (numbers_behind(line, "board=", 2, n))
+        board(&next, n[0], n[1]);
+    else if (strcmp(line, "waiting") == 0)
+        tell_waiting(&next);
+    else
+        say(&next, "unreadable\n");
+    memset(next.answer + next.answer_bytes, 0, sizeof next.answer - (size_t)next.answer_bytes);
+    memcpy(next.tickets, desk.tickets, sizeof next.tickets);
+    memcpy(next.lasts, desk.lasts, sizeof next.lasts);
+    return next;
+}
+
+/* Whether there was a whole line. */
+static int serve_one(void)
+{
+    char line[LINE_MOST + 1];
+    size_t have = read_at(daemon_.requests, kept.requests_done, line, LINE_MOST);
+    char *end = memchr(line, '\n', have);
+    if (end == NULL && have < LINE_MOST)
+        return 0;
+    if (end == NULL)
+        refuse("a request is longer than 200 bytes");
+    *end = '\0';
+    step();
+    struct state next = carried_out(line, (size_t)(end - line) + 1);
+    step();
+    keep(&next);
+    put_answer();
+    return 1;
+}
+
+/* ---- The tape, and where the day goes on ---- */
+
+/* The tape's files, from a run sheet; its wants are the tickets'.
+ *
+ * PICK: a daemon that is handed paths lends label, index and list of paths to violstream_pick here, once the library has that call, and reads the sheet that it
+ * writes in the same way. */
+static void mount_tape(void)
+{
+    static char sheet[SHEET_MOST + 1];
+    size_t have = read_at(daemon_.tape, 0, sheet, SHEET_MOST);
+    sheet[have] = '\0';
+    for (char *line = strtok(sheet, "\n"); line != NULL; line = strtok(NULL, "\n")) {
+        uint64_t n[3];
+        if (strncmp(line, "file=", 5) != 0)
+            continue;
+        if (tape.files == VIOLSTREAM_MAX_FILES || !numbers_behind(line, "file=", 3, n))
+            refuse("the tape's sheet has a file line that is none");
+        starts[tape.files] = n[0], lengths[tape.files] = n[1], aggregates[tape.files] = n[2];
+        tape.files++;
+    }
+    tape.starts = starts, tape.lengths = lengths, tape.aggregates = aggregates;
+}
+
+/* What was kept, or the morning of a day; the table is judged by the library. */
+static void go_on(void)
+{
+    struct stat about;
+    uint8_t bytes[VIOLSTREAM_TEXT_MOST];
+    struct violstream_text text = {.bytes = bytes, .room = sizeof bytes};
+    memcpy(kept.kind, KIND, sizeof KIND);
+    if (stat(daemon_.state, &about) != 0) {
+        if (errno != ENOENT)
+            fail("cannot find", daemon_.state);
+        return;
+    }
+    if (read_at(daemon_.state, 0, &kept, sizeof kept) != sizeof kept || memcmp(kept.kind, KIND, sizeof KIND) != 0 || kept.answer_bytes > sizeof kept.answer)
+        refuse("the state is none that this daemon keeps");
+    memcpy(desk.tickets, kept.tickets, sizeof desk.tickets);
+    memcpy(desk.lasts, kept.lasts, sizeof desk.lasts);
+    if (violstream_waiting_rows(&desk, &text) != 0)
+        refuse("the state holds no waiting table");
+    put_answer();
+}
+
+int main(int words, char **word)
+{
+    if (words == 7 && strcmp(word[5], "--end-at") == 0)
+        daemon_.end_at = atol(word[6]);
+    else if (words != 5) {
+        fprintf(stderr, "usage: daemon STATE TAPE.run REQUESTS ANSWERS [--end-at STEP]\n");
         return 2;
     }
-    rows.room = calloc(VIOLSTREAM_ROOM_MOST, sizeof *rows.room);
-    if (rows.room == NULL) {
-        fprintf(stderr, "daemon: no memory for a room of %zu words\n", VIOLSTREAM_ROOM_MOST);
-        return 1;
-    }
-    int status = asked_for_example ? answer_example() : answer_all();
-    free(rows.room);
-    return status;
+    if (violstream_version() / 10000 != VIOLSTREAM_VERSION_NUMBER / 10000)
+        refuse("the library is not the one that this was compiled for");
+    daemon_.state = word[1], daemon_.tape = word[2], daemon_.requests = word[3], daemon_.answers = word[4];
+    mount_tape();
+    go_on();
+    while (serve_one())
+        step();
+    return 0;
 }

@@ -1,25 +1,42 @@
 /*
  * violstream.h - plan and price the recall of files from tape, and keep the waiting tickets of two offices
  *
- * THE CALLS, in the order in which a daemon meets them
+ * THE CALLS, in the order in which a daemon meets them, with the program below in which each is made
  *
- *   violstream_plan       the best list of detours for a run, and what it costs; asks for a head at or right of everything wanted
- *   violstream_plan_any   the same for a head anywhere: a tape just mounted, or a second run from where the first ended
- *   violstream_price      what a list of detours costs; violstream_price_any: for a head anywhere
- *   violstream_answer     a run sheet's bytes to the plan sheet's, for a head anywhere: what `violstream plan --any` prints
- *   violstream_file       a ticket filed at one of two offices; violstream_withdraw: one withdrawn
- *   violstream_board      up to eight tickets leave on one run, which is planned
- *   violstream_event      one of these three by a line of text, answered by the text that `violstream desk` prints
- *   violstream_waiting    who waits, as text
- *   violstream_version    the version of the library that is linked
+ *   violstream_version    the version of the library that is linked                                            (anywhere.c)
+ *   violstream_mend       a run sheet from mail put in order, and a line for each change: what
+ *                         `violstream mend` prints                                                                (sheet.c)
+ *   violstream_plan       the best list of detours for a run, and what it costs; asks for a head at or
+ *                         right of everything wanted                                                            (example.c)
+ *   violstream_plan_any   the same for a head anywhere: a tape just mounted, or a second run from where
+ *                         the first ended                                                                      (anywhere.c)
+ *   violstream_price      what a list of detours costs; violstream_price_any: for a head anywhere              (anywhere.c)
+ *   violstream_answer     a run sheet's bytes to the plan sheet's, for a head anywhere: what
+ *                         `violstream plan --any` prints                                                          (sheet.c)
+ *   violstream_file       a ticket filed at one of two offices; violstream_withdraw: one withdrawn              (tickets.c)
+ *   violstream_waiting    who waits, as text                                                                    (tickets.c)
+ *   violstream_board      up to eight tickets leave on one run, which is planned                                (tickets.c)
+ *   violstream_event      a filing, withdrawal or boarding by a line of text, answered by the text that
+ *                         `violstream desk` prints                                                              (tickets.c)
+ *   violstream_check      whether a plan sheet is right for a run sheet: what `violstream check` prints           (sheet.c)
  *
- * Where violstream_plan and violstream_price accept, the calls for a head anywhere give the same.
+ * Each has a second form with its rows in structs, violstream_NAME_rows, at the end of this file. Where violstream_plan and
+ * violstream_price accept, the calls for a head anywhere give the same.
  *
  * All work on 64-bit numbers and on rows that the caller lends. They allocate nothing and keep nothing between calls, so
- * several threads can call at once, each with rows of its own. Whatever the run, a price takes at most 1,024 bytes of stack
- * beside its arguments and a plan at most 6,144; a plan at the limits takes a few milliseconds, at most some tens. The calls for
- * tickets take at most 16,384 bytes and violstream_answer 32,768, but violstream_event takes up to 557,056 (544 KiB): mind it
- * where a thread has a small stack. C99 or later, or C++. Link with libviolstream.a (x86-64), which needs the C library and nothing else:
+ * several threads can call at once, each with rows of its own. A plan at the limits takes a few milliseconds, at most some
+ * tens. The most bytes of stack that a call takes beside its arguments, whatever it is handed:
+ *
+ *   violstream_price, violstream_price_any                                                  1,024
+ *   violstream_plan, violstream_plan_any                                                    6,144
+ *   violstream_file, violstream_withdraw, violstream_board, violstream_waiting             16,384
+ *   violstream_answer                                                                      32,768
+ *   violstream_check                                                                      147,456  (144 KiB)
+ *   violstream_mend                                                                       167,936  (164 KiB)
+ *   violstream_event                                                                      557,056  (544 KiB)
+ *
+ * Mind the last three where a thread has a small stack. C99 or later, or C++. Link with libviolstream.a (x86-64), which needs
+ * the C library and nothing else:
  *
  *   cc example.c $(pkg-config --cflags --libs violstream)
  *
@@ -145,30 +162,97 @@
  * The detour is to stop 2, which is aggregate 7: the head reads it from 10 to 20 for the three who wait for file 3. Were
  * all four numbers 0, the sum would be 349, and the detour 3,3.
  *
- * ANOTHER, from a run sheet to its plan sheet
+ * ANOTHER, for a tape just mounted, whose head stands at its start
+ *
+ * ---- anywhere.c ----
+ *     #include <inttypes.h>
+ *     #include <stdio.h>
+ *     #include <violstream.h>
+ *
+ *     int main(void)
+ *     {
+ *         const uint64_t starts[] = {0, 10, 20}, lengths[] = {10, 4, 30}, aggregates[] = {0, 0, 0};
+ *         const uint64_t numbers[] = {1, 2, 3}, counts[] = {1, 3, 1};
+ *         static uint64_t room[VIOLSTREAM_ROOM_WORDS(3, 5)];
+ *         uint64_t from[2], to[2], times[3], legs[3];
+ *         struct violstream_run run;
+ *         struct violstream_rows rows;
+ *
+ *         if (violstream_version() != VIOLSTREAM_VERSION_NUMBER)
+ *             return 1;                                               // another library than this header's
+ *         run.starts = starts, run.lengths = lengths, run.aggregates = aggregates, run.files = 3;
+ *         run.numbers = numbers, run.counts = counts, run.wants = 3;
+ *         run.head = 0, run.turn = 1;
+ *         rows.detour_starts = from, rows.detour_ends = to, rows.detours = 2;
+ *         rows.times = times, rows.times_len = 3;
+ *         rows.legs = legs, rows.legs_len = 3;
+ *         rows.room = room, rows.room_len = VIOLSTREAM_ROOM_WORDS(3, 5);
+ *         printf("%s\n", violstream_reason(violstream_plan_rows(&run, VIOLSTREAM_LEAST, &rows)));
+ *         if (violstream_plan_any_rows(&run, &rows) != 0)
+ *             return 1;
+ *         printf("from 0: sum %" PRIu64 ", and the head ends at %" PRIu64 "\n", rows.sums[VIOLSTREAM_SUM], rows.sums[VIOLSTREAM_END]);
+ *         run.head = rows.sums[VIOLSTREAM_END];                       // where the next run begins
+ *         rows.detours = 0;                                           // priced is the empty list
+ *         if (violstream_price_any_rows(&run, &rows) != 0)
+ *             return 1;
+ *         printf("from there without detours: sum %" PRIu64 "\n", rows.sums[VIOLSTREAM_SUM]);
+ *         from[0] = to[0] = 2, rows.detours = 1;
+ *         if (violstream_price_rows(&run, &rows) != 0)
+ *             return 1;
+ *         printf("with a detour to file 2: sum %" PRIu64 "\n", rows.sums[VIOLSTREAM_SUM]);
+ *         return 0;
+ *     }
+ * ---- end of anywhere.c ----
+ *
+ * It prints
+ *
+ * ---- anywhere ----
+ *     head above 2^40, or left of the end of the rightmost wanted file or its aggregate
+ *     from 0: sum 107, and the head ends at 50
+ *     from there without detours: sum 357
+ *     with a detour to file 2: sum 317
+ * ---- end of anywhere ----
+ *
+ * ANOTHER, with sheets: one from mail put in order, planned, and its plan checked
  *
  * ---- sheet.c ----
  *     #include <stdio.h>
  *     #include <string.h>
  *     #include <violstream.h>
  *
+ *     static void print(const struct violstream_text *text)
+ *     {
+ *         fwrite(text->bytes, 1, VIOLSTREAM_AS(size_t, text->size), stdout);
+ *     }
+ *
  *     int main(void)
  *     {
- *         const char *sheet = "tape=VX0041\nhead=60\nturn=1\nrule=least\n"
- *                             "files=2\nfile=0,10,0\nfile=10,4,0\nwants=1\nwant=2,3\n";
+ *         const char *mail = "tape=VX0041\nhead=60\nturn=1\nrule=least\nfiles=2\nfile=0,10,0\nfile=10,4,0\n"
+ *                            "wants=3\nwant=2,1\nwant=1,1\nwant=2,2\n";  // out of order, and file 2 twice
  *         static uint64_t room[VIOLSTREAM_ROOM_MOST];
- *         static uint8_t bytes[VIOLSTREAM_PLAN_MOST];
+ *         static uint8_t sheet_bytes[VIOLSTREAM_SHEET_MOST], change_bytes[VIOLSTREAM_CHANGES_MOST];
+ *         static uint8_t plan_bytes[VIOLSTREAM_PLAN_MOST], verdict_bytes[VIOLSTREAM_CHECK_MOST];
  *         struct violstream_rows rows;
- *         struct violstream_text text;
+ *         struct violstream_text sheet, changes, plan, verdict;
  *
  *         rows.room = room, rows.room_len = VIOLSTREAM_ROOM_MOST;
- *         text.bytes = bytes, text.room = sizeof bytes;
- *         uint64_t result = violstream_answer_rows(sheet, strlen(sheet), &rows, &text);
+ *         sheet.bytes = sheet_bytes, sheet.room = sizeof sheet_bytes;
+ *         changes.bytes = change_bytes, changes.room = sizeof change_bytes;
+ *         plan.bytes = plan_bytes, plan.room = sizeof plan_bytes;
+ *         verdict.bytes = verdict_bytes, verdict.room = sizeof verdict_bytes;
+ *         uint64_t result = violstream_mend_rows(mail, strlen(mail), &sheet, &changes);
+ *         if (result == 0)
+ *             result = violstream_answer_rows(sheet.bytes, VIOLSTREAM_AS(size_t, sheet.size), &rows, &plan);
+ *         if (result == 0)
+ *             result = violstream_check_rows(sheet.bytes, VIOLSTREAM_AS(size_t, sheet.size), plan.bytes,
+ *                                            VIOLSTREAM_AS(size_t, plan.size), &rows, &verdict);
  *         if (result != 0) {
  *             fprintf(stderr, "refused: %s\n", violstream_reason(result));
  *             return 1;
  *         }
- *         fwrite(bytes, 1, VIOLSTREAM_AS(size_t, text.size), stdout);
+ *         print(&changes);
+ *         print(&plan);
+ *         print(&verdict);
  *         return 0;
  *     }
  * ---- end of sheet.c ----
@@ -176,13 +260,21 @@
  * It prints
  *
  * ---- sheet ----
+ *     change=8,wants
+ *     change=10,moved
+ *     change=11,added
  *     tape=VX0041
- *     sum=165
- *     reads=3
- *     finish=55
- *     end=14
- *     detours=0
+ *     sum=246
+ *     reads=4
+ *     finish=81
+ *     end=10
+ *     detours=1
+ *     detour=2,2
+ *     time=1,81,2
  *     time=2,55,1
+ *     formed=yes
+ *     walk=yes
+ *     least=yes
  * ---- end of sheet ----
  *
  * ANOTHER, with tickets
@@ -279,6 +371,9 @@
 #define VIOLSTREAM_BOARDERS 8                           /* the most tickets that leave at once */
 #define VIOLSTREAM_TAKEN 10                             /* the words of `taken` */
 #define VIOLSTREAM_PLAN_MOST 7644                       /* no plan sheet is longer */
+#define VIOLSTREAM_CHECK_MOST 24115                     /* no text of violstream_check is longer */
+#define VIOLSTREAM_SHEET_MOST 16384                     /* no run sheet is longer */
+#define VIOLSTREAM_CHANGES_MOST 98424                   /* no text of changes is longer */
 #define VIOLSTREAM_TEXT_MOST 2677                       /* no text of violstream_event or violstream_waiting is longer */
 
 /*
@@ -337,11 +432,12 @@ enum violstream_refusal {
                                       none); place 0 */
     VIOLSTREAM_SHORT_ROOM = 9,     /* violstream_plan: room below VIOLSTREAM_ROOM_WORDS of the stops and the reads; place 0 */
 
-    /* Of the calls for tickets. Each says below in which order it checks. */
-    VIOLSTREAM_BAD_LINE = 11,      /* violstream_event: not one line that is an event, with its LF; place 0.
-                                      violstream_answer: a line of the sheet that is not as described; place: the line */
-    VIOLSTREAM_LONG_SHEET = 12,    /* violstream_answer: a sheet of over 16,384 bytes; place 0 */
-    VIOLSTREAM_RETIRED_RULE = 19,  /* violstream_answer: a sheet with rule=sweep; place: its line, 4 */
+    /* Of the calls for sheets and for tickets. Each says below in which order it checks. */
+    VIOLSTREAM_BAD_LINE = 11,      /* violstream_event: not one line that is an event, with its LF; place 0. Of a sheet:
+                                      a line that is not as described; place: the line */
+    VIOLSTREAM_LONG_SHEET = 12,    /* a sheet of over 16,384 bytes; violstream_mend: also one that would be, mended;
+                                      place 0 */
+    VIOLSTREAM_RETIRED_RULE = 19,  /* a run sheet with rule=sweep, unless it is to be mended; place: its line, 4 */
     VIOLSTREAM_BAD_TICKET = 15,    /* office other than 1 and 2, file not in the table or above 4,096, count 0 or above 128;
                                       place 0 */
     VIOLSTREAM_OFFICE_FULL = 16,   /* that office has 16 waiting; place 0 */
@@ -488,6 +584,43 @@ uint64_t violstream_answer(const uint8_t *sheet, size_t sheet_len,
                            uint64_t *room, size_t room_len,
                            uint64_t *sizes, size_t sizes_len);
 
+/*
+ * Whether a plan sheet, whoever made it, is right for a run sheet, for a head anywhere. A `no` is an answer.
+ *
+ *   sheet, plan   the two sheets' bytes
+ *   out           for the verdict, at least as many bytes as it has; VIOLSTREAM_CHECK_MOST do for every verdict
+ *   room, sizes   as for violstream_answer
+ *
+ * Written is formed=yes or formed=no,ENTRY: whether the list is well formed, or its first entry that breaks a rule. In the first
+ * case walk=yes or walk=no,LINE follows: whether every number is the walk's, or the first line that is not as it should be; and
+ * least=yes or least=no,DIFFERENCE: whether the list is the best, or by how much its sum is larger. With walk=no then found= and
+ * expected=, that line as it stands and as it should.
+ *
+ * Checks: 12, 11, 19 of the run sheet, 12 and 11 of the plan sheet, 1 to 7 and 9, and last 8 for out and sizes. A verdict that is
+ * made leaves the room cleared, by 8 too.
+ */
+uint64_t violstream_check(const uint8_t *sheet, size_t sheet_len,
+                          const uint8_t *plan, size_t plan_len,
+                          uint8_t *out, size_t out_len,
+                          uint64_t *room, size_t room_len,
+                          uint64_t *sizes, size_t sizes_len);
+
+/*
+ * A run sheet from mail put in order: counts that are not the lines' number, a price left out, the retired rule, wants out of order, twice,
+ * or with count 0.
+ *
+ *   sheet     the sheet's bytes
+ *   out       for the mended sheet, at least as many bytes as it has; VIOLSTREAM_SHEET_MOST do for every sheet
+ *   changes   for a line change=LINE,WHAT for each line of the sheet that is not as it was; VIOLSTREAM_CHANGES_MOST bytes do
+ *   sizes     for the number of bytes of both, at least 2 words
+ *
+ * Checks: 12, 11, 3, 5, then 12 for the mended sheet, and last 8 for out, changes and sizes.
+ */
+uint64_t violstream_mend(const uint8_t *sheet, size_t sheet_len,
+                         uint8_t *out, size_t out_len,
+                         uint8_t *changes, size_t changes_len,
+                         uint64_t *sizes, size_t sizes_len);
+
 /* A ticket: office 1 or 2, the file's number, how often it is to be read, the number given. An empty place is all 0. */
 struct violstream_ticket {
     uint64_t office, file, count, number;
@@ -584,7 +717,7 @@ uint64_t violstream_waiting(const struct violstream_ticket *tickets, size_t tick
 uint64_t violstream_version(void);
 
 /*
- * The calls of before with their parameters by name. They only call the functions above. A length that several rows share
+ * The calls above with their parameters by name. They only call the functions above. A length that several rows share
  * stands once in the struct. Set every member that a call takes, but for `sums`, which is filled by the call. Where no file
  * lies in an aggregate, `aggregates` is a row of zeros, as long as the others.
  */
@@ -624,6 +757,22 @@ static inline uint64_t violstream_plan_rows(const struct violstream_run *run, ui
                            rows->legs_len, rows->sums, VIOLSTREAM_SUMS, rows->room, rows->room_len);
 }
 
+static inline uint64_t violstream_price_any_rows(const struct violstream_run *run, struct violstream_rows *rows)
+{
+    return violstream_price_any(run->starts, run->files, run->lengths, run->files, run->aggregates, run->files, run->numbers,
+                                run->wants, run->counts, run->wants, run->head, run->turn, rows->detour_starts, rows->detours,
+                                rows->detour_ends, rows->detours, rows->times, rows->times_len, rows->legs, rows->legs_len,
+                                rows->sums, VIOLSTREAM_SUMS);
+}
+
+static inline uint64_t violstream_plan_any_rows(const struct violstream_run *run, struct violstream_rows *rows)
+{
+    return violstream_plan_any(run->starts, run->files, run->lengths, run->files, run->aggregates, run->files, run->numbers,
+                               run->wants, run->counts, run->wants, run->head, run->turn, rows->detour_starts, rows->detours,
+                               rows->detour_ends, rows->detours, rows->times, rows->times_len, rows->legs, rows->legs_len,
+                               rows->sums, VIOLSTREAM_SUMS, rows->room, rows->room_len);
+}
+
 /* A waiting table with the last numbers given, all zeros at first; and who left with the last boarding that was accepted. */
 struct violstream_desk {
     struct violstream_ticket tickets[VIOLSTREAM_PLACES];
@@ -643,6 +792,25 @@ static inline uint64_t violstream_answer_rows(const void *sheet, size_t sheet_le
 {
     return violstream_answer(VIOLSTREAM_AS(const uint8_t *, sheet), sheet_len, text->bytes, text->room, rows->room, rows->room_len,
                              &text->size, 1);
+}
+
+/* Of the rows the room. */
+static inline uint64_t violstream_check_rows(const void *sheet, size_t sheet_len, const void *plan, size_t plan_len,
+                                             struct violstream_rows *rows, struct violstream_text *text)
+{
+    return violstream_check(VIOLSTREAM_AS(const uint8_t *, sheet), sheet_len, VIOLSTREAM_AS(const uint8_t *, plan), plan_len,
+                            text->bytes, text->room, rows->room, rows->room_len, &text->size, 1);
+}
+
+static inline uint64_t violstream_mend_rows(const void *sheet, size_t sheet_len, struct violstream_text *text,
+                                            struct violstream_text *changes)
+{
+    uint64_t sizes[2] = {0, 0};
+    uint64_t result = violstream_mend(VIOLSTREAM_AS(const uint8_t *, sheet), sheet_len, text->bytes, text->room, changes->bytes,
+                                      changes->room, sizes, 2);
+    if (result == 0)
+        text->size = sizes[0], changes->size = sizes[1];
+    return result;
 }
 
 static inline uint64_t violstream_file_rows(struct violstream_desk *desk, uint64_t office, uint64_t file, uint64_t count,

@@ -84,7 +84,7 @@ make_rust() {
 # ---- Tests that are more than one program ----
 
 header_example() {
-    for name in example sheet tickets; do
+    for name in example anywhere sheet tickets; do
         make_c "${name}_c" "${name}_c++"
         if command -v clang > /dev/null; then
             strictly="-fsyntax-only -Wall -Wextra -Wpedantic -Wconversion -Werror -I $here/include"
@@ -99,26 +99,58 @@ header_example() {
             step_built "header $name ($language)" "$out/c/${name}_$language" > "$out/example.is"
             same "header $name ($language)" "$out/c/$name.must" "$out/example.is"
         done
+        if can_watch; then
+            make_c "${name}_checked"
+            step "header $name (sanitizers)" "$out/c/${name}_checked" > "$out/example.is"
+            same "header $name (sanitizers)" "$out/c/$name.must" "$out/example.is"
+        fi
     done
+    can_watch || printf 'header (sanitizers): left out, the compiler has none here\n'
 }
 
-# answer_requests WHAT PROGRAM
+# Whether programs can be run here with what the compiler's sanitizers watch.
+can_watch() {
+    [ "$emulated" = no ] || return 1
+    if [ ! -e "$out/watched.c" ]; then
+        echo 'int main(void) { return 0; }' > "$out/watched.c"
+        "$cc" -fsanitize=address,undefined "$out/watched.c" -o "$out/watched" 2> /dev/null
+    fi
+    [ -x "$out/watched" ] && "$out/watched"
+}
+
+# answer_requests WHAT PROGRAM: examples/planning.c
 answer_requests() {
-    step_built "$1" "$2" < "$here/examples/daemon.requests" > "$out/answers.is"
+    step_built "$1" "$2" < "$here/examples/planning.requests" > "$out/answers.is"
+    same "$1" "$here/examples/planning.answers" "$out/answers.is"
+}
+
+# a_day WHAT PROGRAM: examples/daemon.c
+a_day() {
+    rm -f "$out/day.state" "$out/answers.is"
+    step_built "$1" "$2" "$out/day.state" "$here/examples/day.run" "$here/examples/daemon.requests" "$out/answers.is"
     same "$1" "$here/examples/daemon.answers" "$out/answers.is"
 }
 
+# The two examples in C; the daemon also ended at each of its steps, and watched by sanitizers.
 daemon() {
-    make_c daemon
-    answer_requests "daemon against the archive" "$out/c/daemon"
+    make_c planning daemon
+    answer_requests "planning against the archive" "$out/c/planning"
+    a_day "daemon against the archive" "$out/c/daemon"
+    step "the daemon ended at every step" python3 "$here/tests/python/daemon.py" ${emulator:+"$emulator" -L "$cross"} "$out/c/daemon"
+    if can_watch; then
+        make_c daemon_checked
+        a_day "daemon (sanitizers)" "$out/c/daemon_checked"
+    fi
 }
 
-# daemon_by HOW PROGRAM WORD...: built as a C programmer builds it, by the compiler alone.
+# daemon_by HOW PROGRAM WORD...: both built as a C programmer builds them, by the compiler alone.
 daemon_by() {
     how=$1 program=$2
     shift 2
+    step "building planning.c $how" "$cc" -std=c11 -O2 "$here/examples/planning.c" "$@" -o "$program"
+    answer_requests "planning $how" "$program"
     step "building daemon.c $how" "$cc" -std=c11 -O2 "$here/examples/daemon.c" "$@" -o "$program"
-    answer_requests "daemon $how" "$program"
+    a_day "daemon $how" "$program"
 }
 
 # The command as it was installed, where there is neither a checkout nor rt.
@@ -175,6 +207,12 @@ server_installed() {
 # C, C++, Rust and Python against the shared library, by the name that it goes by.
 shared_installed() {
     readelf -d "$prefix/lib/libviolstream.so" | grep -q 'SONAME.*\[libviolstream\.so\.[0-9]*\]' || fail "libviolstream.so has no soname"
+    # Nothing is allocated, and nothing else is asked of the system: the C library copies, fills, moves and compares.
+    needed=$(nm -D --undefined-only "$prefix/lib/libviolstream.so" | sed -n 's/^ *U //p' | sed 's/@.*//' | grep -vx -e memcpy -e memset -e memmove -e memcmp)
+    [ -z "$needed" ] || fail "libviolstream.so needs $needed"
+    nm -D --defined-only "$prefix/lib/libviolstream.so" | sed -n 's/.* T //p' | sort > "$out/calls.is"
+    sed -n 's/^uint64_t \(violstream_[a-z_]*\)(.*/\1/p' "$here/include/violstream.h" | sort > "$out/calls.must"
+    same "the calls of the shared library" "$out/calls.must" "$out/calls.is"
     there="-Wl,-rpath,$prefix/lib"
     daemon_by "against the shared library" "$out/daemon_shared" -I "$prefix/include" -L "$prefix/lib" "$there" -lviolstream
     readelf -d "$out/daemon_shared" | grep -q 'NEEDED.*libviolstream' || fail "the daemon was not linked to the shared library"
@@ -190,8 +228,9 @@ shared_installed() {
         printf 'the shared library from Python: left out, the library is not for this processor\n'
     else
         step "the shared library from Python" python3 "$here/tests/python/library.py" "$prefix/lib/libviolstream.so"
-        step "the calls for tickets against a model" python3 "$here/tests/python/desk_calls.py" "$prefix/lib/libviolstream.so" --calls 100000
-        step "the call for sheets against a model" python3 "$here/tests/python/answer_calls.py" "$prefix/lib/libviolstream.so"
+        step "the module for Python, where it was installed" python3 "$here/tests/python/module.py" "$prefix/lib/libviolstream.so" "$prefix/lib/python3/dist-packages"
+        step "the calls for tickets against a model" python3 "$here/tests/python/desk_calls.py" "$prefix/lib/libviolstream.so" --calls 30000
+        step "the calls for sheets against models" python3 "$here/tests/python/answer_calls.py" "$prefix/lib/libviolstream.so"
     fi
 }
 
@@ -295,6 +334,7 @@ run header_example
 run daemon
 run installed
 run c/threads
+run c/threads_calls
 run c/stack
 run c/stack_desk
 run bench
@@ -303,6 +343,7 @@ run c/compare ${calls:+--calls "$calls"} --sheets "$out/c.sheets"
 run rust/compare ${calls:+--calls "$calls"} --sheets "$out/rust.sheets"
 run rust/any_head ${calls:+--calls "$calls"}
 run rust/movements
+run rust/calls
 run python/plan
 run python/plan --any
 run python/field

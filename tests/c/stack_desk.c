@@ -13,16 +13,16 @@
 #include "stack.h"
 
 /* The bytes that violstream.h allows. */
-enum { CALL_MOST = 16384, SHEET_MOST = 32768, EVENT_MOST = 557056, FILES = 8 };
+enum { CALL_MOST = 16384, SHEET_MOST = 32768, CHECK_MOST = 147456, MEND_MOST = 167936, EVENT_MOST = 557056, FILES = 8 };
 
 static const uint64_t starts[FILES] = {0, 10, 16, 20, 50, 60, 70, 80}, lengths[FILES] = {10, 4, 4, 30, 10, 10, 10, 10}, aggregates[FILES];
 static struct violstream_desk desk;
 static uint64_t room[VIOLSTREAM_ROOM_WORDS(8, 1024)], from[8], to[8], times[8], legs[8], number, result;
-static uint8_t bytes[VIOLSTREAM_TEXT_MOST], sheet_bytes[VIOLSTREAM_PLAN_MOST];
-static struct violstream_text text, sheet_text;
+static uint8_t bytes[VIOLSTREAM_TEXT_MOST], sheet_bytes[VIOLSTREAM_SHEET_MOST], verdict_bytes[VIOLSTREAM_CHECK_MOST], change_bytes[VIOLSTREAM_CHANGES_MOST];
+static struct violstream_text text, sheet_text, verdict_text, change_text;
 static struct violstream_run run;
 static struct violstream_rows rows;
-static const char *line;
+static const char *line, *plan;
 static int wrong;
 
 static void nothing(void) { }
@@ -33,6 +33,8 @@ static void event(void) { result = violstream_event_rows(&desk, &run, line, strl
 static void waiting(void) { result = violstream_waiting_rows(&desk, &text); }
 
 static void answer(void) { result = violstream_answer_rows(line, strlen(line), &rows, &sheet_text); }
+static void check(void) { result = violstream_check_rows(line, strlen(line), plan, strlen(plan), &rows, &verdict_text); }
+static void mend(void) { result = violstream_mend_rows(line, strlen(line), &sheet_text, &change_text); }
 
 /* Sixteen tickets of each office, with as many reads as they can ask for. */
 static void fill(void)
@@ -86,7 +88,19 @@ int main(void)
     sheet_text.bytes = sheet_bytes, sheet_text.room = sizeof sheet_bytes;
     line = "tape=VX0041\nhead=0\nturn=1\nrule=least\nfiles=2\nfile=0,10,0\nfile=10,4,0\nwants=2\nwant=1,1\nwant=2,3\n";
     hold("answer", answer, 0, SHEET_MOST);
+    verdict_text.bytes = verdict_bytes, verdict_text.room = sizeof verdict_bytes;
+    change_text.bytes = change_bytes, change_text.room = sizeof change_bytes;
+    plan = "tape=VX0041\nsum=43\nreads=4\nfinish=15\nend=14\ndetours=0\ntime=1,11,1\ntime=2,15,1\n";
+    hold("check", check, 0, CHECK_MOST);
+    plan = "tape=VX0041\nsum=1\nreads=4\nfinish=15\nend=14\ndetours=1\ndetour=2,2\ntime=1,11,1\ntime=2,15,1\n";
+    hold("check, another list", check, 0, CHECK_MOST);
+    plan = "x\n";
+    hold("check, no plan sheet", check, VIOLSTREAM_BAD_LINE + 256 * 1, CHECK_MOST);
+    hold("mend", mend, 0, MEND_MOST);
+    line = "tape=VX0041\nhead=0\nturn=\nrule=sweep\nfiles=0\nfile=0,10,0\nfile=10,4,0\nwants=0\nwant=2,3\nwant=1,1\nwant=2,0\nwant=1,1\n";
+    hold("mend, all kinds", mend, 0, MEND_MOST);
     line = "x\n";
+    hold("mend, no sheet", mend, VIOLSTREAM_BAD_LINE + 256 * 1, MEND_MOST);
     hold("answer, no sheet", answer, VIOLSTREAM_BAD_LINE + 256 * 1, SHEET_MOST);
     text.room = 100;
     hold_event("event, board, short row", "board=100,1\n", VIOLSTREAM_SHORT_ROW);

@@ -1,11 +1,12 @@
 #!/usr/bin/env python3
 """Compares the library's calls for tickets with the models of desk.py and day.py, which share nothing with the crates.
 
-usage: tests/python/desk_calls.py LIBRARY [--calls N]    (a libviolstream.so that this machine's own processor can load)
+usage: tests/python/desk_calls.py LIBRARY [--calls N] [--long]    (a libviolstream.so that this machine's own processor can load)
 
 Filing, withdrawing and boarding are drawn on rows of records, damaged ones and short ones among them; events and who waits on days that go on from call to
 call. Every row that is lent ends at a page that cannot be touched, or has a pattern behind it; what stands before it is a pattern too. After each call every
-row is looked at, the code, and the patterns. N is how many calls of each kind are made (10,000), but for boardings, of which there are a tenth.
+row is looked at, the code, and the patterns. N is how many filings and withdrawals are made (10,000); of boardings, events and texts of who waits a tenth as many.
+--long makes 100,000 of each kind.
 """
 import argparse
 import ctypes
@@ -228,14 +229,17 @@ def main():
     reader = argparse.ArgumentParser(description=__doc__.split("\n")[0])
     reader.add_argument("library")
     reader.add_argument("--calls", type=int, default=10000, metavar="N")
+    reader.add_argument("--long", action="store_true")
     given = reader.parse_args()
     calls = Calls(given.library, random.Random(43))
-    for _ in range(given.calls):
+    most = 100000 if given.long else given.calls
+    fewer = most if given.long else most // 10
+    for _ in range(most):
         calls.file()
         calls.withdraw()
-    for _ in range(given.calls // 10):
+    for _ in range(fewer):
         calls.board()
-    for _ in range(given.calls // 400):
+    for _ in range(fewer // 40):
         calls.events(40)
     if calls.calls["version"]() != 40000:
         sys.exit("desk_calls.py: violstream_version is another")

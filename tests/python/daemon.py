@@ -1,0 +1,101 @@
+#!/usr/bin/env python3
+"""Runs examples/daemon.c, compiled, on the requests beside it, and ends it at every one of its steps.
+
+usage: tests/python/daemon.py WORD..    (the compiled daemon; before it, on another processor, what starts it)
+
+Without an end its answers must be examples/daemon.answers. Then it is ended at its first step, at its second and so on until it goes through; and each time it is started
+again, ended once more at a step drawn, and started again. The answers and the state must then be, byte for byte, those of a daemon that was never ended: so no
+ticket is lost and no number given twice. Requests that come while it is down are answered when it is started again. A state that is none is not taken.
+"""
+import os
+import random
+import re
+import subprocess
+import sys
+import tempfile
+
+ROOT = os.path.join(os.path.dirname(os.path.abspath(__file__)), "../..")
+ENDED = 70
+
+
+def contents(path):
+    with open(path, "rb") as file:
+        return file.read()
+
+
+def put(path, text):
+    with open(path, "wb") as file:
+        file.write(text)
+
+
+class Daemon:
+    """One in a folder of its own."""
+
+    def __init__(self, start, folder):
+        self.start, self.folder = start, folder
+        self.requests = os.path.join(folder, "requests")
+
+    def path(self, name):
+        return os.path.join(self.folder, name)
+
+    def run(self, end_at=None):
+        words = [self.path("state"), os.path.join(ROOT, "examples/day.run"), self.requests, self.path("answers")]
+        ran = subprocess.run(self.start + words + (["--end-at", str(end_at)] if end_at else []), capture_output=True)
+        if ran.returncode not in (0, ENDED) or ran.stdout or ran.stderr:
+            sys.exit(f"daemon.py: ended at {end_at}, the daemon says {ran.stderr!r} with status {ran.returncode}")
+        return ran.returncode
+
+    def left(self):
+        return contents(self.path("answers")), contents(self.path("state"))
+
+
+def main():
+    if len(sys.argv) < 2:
+        sys.exit(__doc__)
+    requests, draw = contents(os.path.join(ROOT, "examples/daemon.requests")), random.Random(6)
+    # In memory where that can be had: what is tried is the order of the steps, and not the disk.
+    with tempfile.TemporaryDirectory(dir="/dev/shm" if os.access("/dev/shm", os.W_OK) else None) as folder:
+        def fresh(name, text):
+            os.mkdir(os.path.join(folder, name))
+            one = Daemon(sys.argv[1:], os.path.join(folder, name))
+            put(one.requests, text)
+            return one
+
+        whole = fresh("whole", requests)
+        whole.run()
+        must = whole.left()
+        if must[0] != contents(os.path.join(ROOT, "examples/daemon.answers")):
+            sys.exit(f"daemon.py: the answers are not those of examples/daemon.answers:\n{must[0].decode()}")
+        given = re.findall(rb"filed=(\d+),(\d+)\n", must[0])
+        if len(set(given)) != len(given) or len(given) < 8 or b"closed=" not in must[0] or b"refused=17" not in must[0]:
+            sys.exit("daemon.py: the requests do not file, close and refuse")
+        steps = 0
+        while True:
+            steps += 1
+            one = fresh(f"ended-{steps}", requests)
+            if one.run(steps) == 0:
+                break
+            one.run(draw.randrange(1, 40))
+            one.run()
+            if one.left() != must:
+                sys.exit(f"daemon.py: ended at step {steps}, answers or state are others:\n{one.left()[0].decode()}")
+        half = requests.index(b"\nboard=") + 5
+        late = fresh("late", requests[:half])
+        late.run()
+        put(late.requests, requests)
+        late.run()
+        if late.left() != must:
+            sys.exit("daemon.py: requests that come later are answered otherwise")
+        damaged = bytearray(must[1])
+        damaged[8] ^= 3
+        for text in (b"", b"x" * len(must[1]), must[1][:-1], bytes(damaged)):
+            other = fresh(f"damaged-{len(text)}-{text[:9].hex()}", requests)
+            put(other.path("state"), text)
+            ran = subprocess.run(sys.argv[1:] + [other.path("state"), os.path.join(ROOT, "examples/day.run"), other.requests, other.path("answers")], capture_output=True)
+            if ran.returncode != 1 or contents(other.path("state")) != text or os.path.exists(other.path("answers")):
+                sys.exit(f"daemon.py: a state that is none is taken, with status {ran.returncode}")
+    print(f"daemon.py: ended at each of {steps - 1} steps and started again, the daemon answers as if it had never been ended")
+
+
+if __name__ == "__main__":
+    main()
