@@ -75,7 +75,7 @@ impl Package {
 
     fn put(&self, item: &Item) -> Result<(), Stop> {
         let to = match item.to.strip_prefix("lib/") {
-            Some(name) if name.starts_with("systemd/") => format!("usr/lib/{name}"),
+            Some(name) if name.starts_with("systemd/") || name.starts_with("python3/") => format!("usr/lib/{name}"),
             Some(name) => format!("usr/{LIBRARIES}/{name}"),
             None => format!("usr/{}", item.to),
         };
@@ -155,11 +155,13 @@ Maintainer: {}
 Section: utils
 Priority: optional
 Depends: libc6
+Recommends: python3
 Description: plan the recall of files from tape, with proved answers
  Violstream reads where files lie on a tape, where the head stands and how many
  wait for which file, and prints how the head is to move: no other way makes the
  waiting of all, added up, shorter. That is proved, and so is every time that it
- prints. The package has the command, and for C the header and the library.
+ prints. The package has the command, and for programs in C, Python and Rust the
+ library.
 ",
             self.version(),
             maintainer()

@@ -1,10 +1,9 @@
-//! The two proved calls of the library for C that the server makes, behind a trait, so that its own tests need no library. Beside `system` the only
-//! file with `unsafe` in it. Where this command was compiled before the library was there, there is no `Library` either, and `serve` says so.
+//! The two proved calls of the library for C that the server makes (`violstream`), behind a trait, so that its own tests need no library. Where this command was
+//! compiled before the library was there, there is no `Library` either, and `serve` says so.
 
 use crate::answers::Refusal;
 
 /// A place of the waiting table, as the library has it; all zero where nobody waits.
-#[repr(C)]
 #[derive(Clone, Copy, Debug, Default, PartialEq, Eq)]
 pub struct Ticket {
     pub office: u64,
@@ -47,87 +46,44 @@ pub use linked::Library;
 #[cfg(feature = "library")]
 mod linked {
     use super::{Calls, Refusal, Table, Tape, Ticket, Told};
+    use crate::violstream::{self, Desk, Refused};
 
     #[link(name = "violstream", kind = "static")]
-    extern "C" {
-        fn violstream_event(
-            tickets: *mut Ticket,
-            tickets_len: usize,
-            lasts: *mut u64,
-            lasts_len: usize,
-            starts: *const u64,
-            starts_len: usize,
-            lengths: *const u64,
-            lengths_len: usize,
-            aggregates: *const u64,
-            aggregates_len: usize,
-            line: *const u8,
-            line_len: usize,
-            out: *mut u8,
-            out_len: usize,
-            room: *mut u64,
-            room_len: usize,
-            sizes: *mut u64,
-            sizes_len: usize,
-        ) -> u64;
-        fn violstream_waiting(tickets: *const Ticket, tickets_len: usize, out: *mut u8, out_len: usize, sizes: *mut u64, sizes_len: usize) -> u64;
-    }
+    extern "C" {}
 
-    /// The rows that every call is lent: room for every boarding, and a text longer than any answer.
-    pub struct Library {
-        room: Vec<u64>,
-        out: Vec<u8>,
-    }
+    /// With the rows that every call is lent.
+    pub struct Library(violstream::Library);
 
     impl Library {
         pub fn open() -> Option<Library> {
-            Some(Library { room: vec![0; 65600], out: vec![0; 8192] })
+            Some(Library(violstream::Library::new()))
         }
+    }
 
-        fn told(&self, result: u64, size: u64) -> Told {
-            match result {
-                0 => Told::Accepted(self.out[..self.out.len().min(size as usize)].to_vec()),
-                refused => Told::Refused(Refusal { number: refused % 256, place: refused / 256 }),
-            }
+    fn told(answer: Result<Vec<u8>, Refused>) -> Told {
+        match answer {
+            Ok(text) => Told::Accepted(text),
+            Err(refused) => Told::Refused(Refusal { number: refused.number, place: refused.place }),
         }
+    }
+
+    fn desk_of(table: &Table) -> Desk {
+        let tickets = table.tickets.map(|t| violstream::Ticket { office: t.office, file: t.file, count: t.count, number: t.number });
+        Desk { tickets, lasts: table.lasts }
     }
 
     impl Calls for Library {
         fn event(&mut self, tape: &Tape, table: &mut Table, line: &[u8]) -> Told {
-            let mut sizes = [0];
-            // SAFETY: every row is lent with its own length, no two of them overlap, and each is alive until the call returns.
-            let result = unsafe {
-                violstream_event(
-                    table.tickets.as_mut_ptr(),
-                    table.tickets.len(),
-                    table.lasts.as_mut_ptr(),
-                    table.lasts.len(),
-                    tape.starts.as_ptr(),
-                    tape.starts.len(),
-                    tape.lengths.as_ptr(),
-                    tape.lengths.len(),
-                    tape.aggregates.as_ptr(),
-                    tape.aggregates.len(),
-                    line.as_ptr(),
-                    line.len(),
-                    self.out.as_mut_ptr(),
-                    self.out.len(),
-                    self.room.as_mut_ptr(),
-                    self.room.len(),
-                    sizes.as_mut_ptr(),
-                    sizes.len(),
-                )
-            };
-            self.told(result, sizes[0])
+            let mut desk = desk_of(table);
+            let tape = violstream::Tape { starts: &tape.starts, lengths: &tape.lengths, aggregates: &tape.aggregates };
+            let answer = self.0.event(&mut desk, tape, line);
+            table.tickets = desk.tickets.map(|t| Ticket { office: t.office, file: t.file, count: t.count, number: t.number });
+            table.lasts = desk.lasts;
+            told(answer)
         }
 
         fn waiting(&mut self, table: &Table) -> Told {
-            let (tickets, mut sizes) = (&table.tickets, [0]);
-            // SAFETY: as above.
-            let result = unsafe {
-                violstream_waiting(tickets.as_ptr(), tickets.len(), self.out.as_mut_ptr(), self.out.len(), sizes.as_mut_ptr(), sizes.len())
-            };
-            self.told(result, sizes[0])
+            told(self.0.waiting(&desk_of(table)))
         }
     }
 }

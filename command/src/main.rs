@@ -20,7 +20,6 @@ mod help;
 mod input;
 mod install;
 mod json;
-#[allow(unsafe_code)]
 mod library;
 mod output;
 mod places;
@@ -31,6 +30,9 @@ mod status;
 #[allow(unsafe_code)]
 mod system;
 mod usage;
+#[cfg(feature = "library")]
+#[allow(unsafe_code)]
+mod violstream;
 mod words;
 
 use status::{Status, Stop};

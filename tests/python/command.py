@@ -49,7 +49,7 @@ class Checkout:
         self.root = os.path.join(folder, "checkout")
         self.temporary = os.path.join(folder, "temporary")
         os.makedirs(self.temporary)
-        for name in ("violstream", "README.md", "CHANGELOG.md", "command", "docs", "tools", "include", "examples", "crates.txt"):
+        for name in ("violstream", "README.md", "CHANGELOG.md", "command", "docs", "tools", "include", "python", "examples", "crates.txt"):
             source, to = os.path.join(programs.ROOT, name), os.path.join(self.root, name)
             os.makedirs(os.path.dirname(to), exist_ok=True)
             (shutil.copytree if os.path.isdir(source) else shutil.copy2)(source, to)
@@ -943,7 +943,7 @@ def installing(at):
     whole = files()
     for name in ("bin/violstream", "libexec/violstream/cmd_plan", "libexec/violstream/cmd_plan_any", "share/man/man1/violstream.1", "share/doc/violstream/OPERATOR.md", "share/doc/violstream/examples/VX0041.run",
                  "share/bash-completion/completions/violstream", "lib/libviolstream.a", "lib/libviolstream.so", "lib/pkgconfig/violstream.pc", "include/violstream.h",
-                 "lib/systemd/system/violstream-desk@.service"):
+                 "lib/python3/dist-packages/violstream.py", "share/violstream/violstream.rs", "lib/systemd/system/violstream-desk@.service"):
         if name not in whole or not os.stat(os.path.join(prefix, name)).st_mode & 0o004 or not os.stat(os.path.dirname(os.path.join(prefix, name))).st_mode & 0o001:
             raise Wrong(f"{name} was not installed, or not for everybody")
     at.must("cd / && $OLDPWD/prefix/bin/violstream plan -", 0, PLAN, data=RUN, silent=True)
@@ -1009,7 +1009,7 @@ def packaged(at):
     at.must("dpkg-deb -x target/command/deb/*.deb unpacked && unpacked/usr/bin/violstream plan examples/VX0041.run", 0, PLAN, silent=True)
     at.must("unpacked/usr/bin/violstream plan --any examples/mounted.run", 0, contents("examples/mounted.plan"), silent=True)
     for name in ("share/man/man1/violstream.1.gz", "share/doc/violstream/copyright", "lib/x86_64-linux-gnu/libviolstream.a", "lib/x86_64-linux-gnu/pkgconfig/violstream.pc", "include/violstream.h",
-                 "lib/systemd/system/violstream-desk@.service"):
+                 "lib/python3/dist-packages/violstream.py", "share/violstream/violstream.rs", "lib/systemd/system/violstream-desk@.service"):
         if not os.path.exists(at.path(f"unpacked/usr/{name}")):
             raise Wrong(f"the package has no {name}")
     at.must("find unpacked ! -perm -044 ! -type l", 0, b"")

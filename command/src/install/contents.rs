@@ -1,5 +1,5 @@
-//! What is installed: the command with its programs, its manual page and its pages, a unit for systemd, and for C the header, the library and
-//! violstream.pc.
+//! What is installed: the command with its programs, its manual page and its pages, a unit for systemd, and for other programs the library, with its header and
+//! violstream.pc for C, a module for Python and a file for Rust.
 
 use crate::build::PROGRAMS;
 use crate::commands::Call;
@@ -85,11 +85,18 @@ fn examples(folder: &Path) -> Result<Vec<String>, Stop> {
     Ok(names)
 }
 
-// ---- For C ----
+// ---- For other programs ----
 
 fn library(items: &mut Vec<Item>, prefix: &Path, version: &str, call: &Call) -> Result<(), Stop> {
     let number = version.split(' ').nth(1).unwrap_or_default();
-    items.push(item("include/violstream.h", 0o644, read(&call.places.root.join("include/violstream.h"))?));
+    let own = [
+        ("include/violstream.h", "include/violstream.h"),
+        ("python/violstream.py", "lib/python3/dist-packages/violstream.py"),
+        ("command/src/violstream.rs", "share/violstream/violstream.rs"),
+    ];
+    for (from, to) in own {
+        items.push(item(to, 0o644, read(&call.places.root.join(from))?));
+    }
     items.push(item("lib/libviolstream.a", 0o644, read(&call.places.archive())?));
     let shared = format!("libviolstream.so.{number}");
     let soname = format!("libviolstream.so.{}", number.split('.').next().unwrap_or_default());
