@@ -1,5 +1,5 @@
 -- What each call for tickets is refused for, and that a refusal changes nothing.
-use Prim.Native.Nat.{ℕ, _+_, _*_, _<_}
+use Prim.Native.Nat.{ℕ, _+_, _*_, _≤_, _<_}
 use mathlib.Core.Path.{_≡_, refl, sym, ap, _∙_}
 use mathlib.Core.Bool.{Bool, true, false, not, cond}
 use mathlib.Core.Logic.{⊎-elim, _⊎_, inl, inr}
@@ -23,17 +23,24 @@ use Rattle.desk_tickets.specs.declared.WithdrawnRow.{WithdrawnRow}
 use Rattle.desk_boardings.specs.Boardings.{Tape}
 use Rattle.boundary.specs.Boundary.{codeOf}
 use Rattle.boundary_desk.specs.Records.{tableAt, placesIf}
-use Rattle.boundary_desk.specs.Calls.{fileCall, FileCalled, withdrawCall, WithdrawCalled, boardingOf, boardPlaces, BoardCalled, oneLine, dayAt, EventCalled}
+use Rattle.boundary_desk.specs.Calls.{fileCall, FileCalled, withdrawCall, WithdrawCalled, boardingOf, boardPlaces, BoardCalled, oneLine, dayAt, EventCalled, WaitingCalled}
 use Rattle.answer_desk.specs.Events.{eventOf}
 use Rattle.text_lines.specs.Lines.{lineOf}
 use Rattle.desk_tickets.specs.WaitingTable.{recordsVerdict}
 use Rattle.desk_tickets.specs.Filings.{inRange, isFull, isSpent, fileVerdict}
 use Rattle.desk_tickets.specs.Withdrawals.{isWaiting, withdrawVerdict}
 use Rattle.boundary_desk.proofs.Calling.{filing-verdict, withdrawal-verdict}
+use Rattle.sheet_writer.specs.Writing.{rowVerdict}
+use Rattle.desk_waits.specs.Waits.{waitingText, anyLasts, waitingVerdict}
+use Rattle.demands.specs.RefusalTable.{SomeApplies}
+use Rattle.demands.proofs.Checks.{AllRefuse}
+use Rattle.promises.specs.DeskRefusals.{RowApplies, rowOrder}
 use Rattle.promises.proofs.Desk.{refusal-keeps}
 use Rattle.promises.proofs.DeskDays.{accepts, refused-event-changes-nothing}
-use Rattle.promises.proofs.DeskRefusals.{filing-answers, withdrawal-answers, boarding-answers}
-use Rattle.promises_calls.specs.CallRefusals.{ShortCounts, CodeSays, FileCallAnswers, WithdrawCallAnswers, BoardCallAnswers, RefusedFileKeeps, RefusedWithdrawKeeps, RefusedBoardKeeps, RefusedEventKeeps}
+use Rattle.promises.proofs.DeskRefusals.{row-finds, filing-answers, withdrawal-answers, boarding-answers}
+use Rattle.promises.proofs.DeskVerdicts.{event-verdicts}
+use Rattle.promises_calls.specs.CallRefusals.{ShortCounts, CodeSays, FileCallAnswers, WithdrawCallAnswers, BoardCallAnswers, EventCallAnswers, anyNumbers, WaitingCallAnswers, RefusedFileKeeps, RefusedWithdrawKeeps, RefusedBoardKeeps, RefusedEventKeeps}
+use Rattle.promises_calls.proofs.SheetCalls.{some-refuses, none-passes, says-so}
 
 pub short-counts : ShortCounts
 short-counts least words len =
@@ -70,6 +77,44 @@ withdraw-call-answers rows rows′ lasts w code called =
 pub board-call-answers : BoardCallAnswers
 board-call-answers rows rows′ lasts taken taken′ sums sums′ tape head turn code lent after called =
     (boarding-answers (boardPlaces rows lasts taken sums) tape (tableAt rows) (boardingOf lasts head turn) lent after (called .done) (called .boards), called .says)
+
+pub event-call-answers : EventCallAnswers
+event-call-answers rows rows′ lasts lasts′ line out out′ room room′ sizes sizes′ tape code called =
+    (called .says, event-verdicts (placesIf 1 sizes (placesIf 2 lasts (length rows))) tape (dayAt rows lasts) room out (eventOf (lineOf (oneLine line))) (called .done) room′ out′ (called .answers))
+
+-- Who waits: the records' verdict, then the row's.
+module _ (len : ℕ) (row : List Ticket) (out : List ℕ) where
+  abbrev ofRecords : Verdict
+  ofRecords = recordsVerdict len row anyNumbers
+
+  both-refuse : AllRefuse rowOrder
+  both-refuse = (refl, (refl, tt))
+
+  by-records : SomeApplies (RowApplies len row anyNumbers) rowOrder → waitingVerdict len row out ≡ ofRecords
+  unfolding waitingVerdict
+  by-records s = let e = some-refuses (RowApplies len row anyNumbers) rowOrder both-refuse ofRecords (row-finds len row anyNumbers) s in rw e refl
+
+  module _ (n : SomeApplies (RowApplies len row anyNumbers) rowOrder → ⊥) where
+    passes : refuses ofRecords ≡ false
+    passes = none-passes (RowApplies len row anyNumbers) rowOrder both-refuse ofRecords (row-finds len row anyNumbers) n
+
+    by-row : length out < length (waitingText row) → codeOf (waitingVerdict len row out) ≡ 8
+    unfolding waitingVerdict rowVerdict
+    by-row l = rw (passes, lt-ltb (length out) (length (waitingText row)) l) refl
+
+    by-none : length (waitingText row) ≤ length out → codeOf (waitingVerdict len row out) ≡ 0
+    unfolding waitingVerdict rowVerdict
+    by-none l = rw (passes, le-ltb (length out) (length (waitingText row)) l) refl
+
+pub waiting-call-answers : WaitingCallAnswers
+waiting-call-answers rows out out′ sizes sizes′ code called =
+    let len = placesIf 1 sizes (length rows) in
+    let row = tableAt rows in
+    record {
+      of-records = λ s. says-so (RowApplies len row anyNumbers) rowOrder (refl, (refl, tt)) (recordsVerdict len row anyNumbers) (row-finds len row anyNumbers) code (called .says ∙ ap codeOf (by-records len row out s));
+      short = λ n l. called .says ∙ by-row len row out n l;
+      accepted = λ n l. called .says ∙ by-none len row out n l;
+    }
 
 -- A verdict that accepts has the code 0.
 file-zero : (len : ℕ) (row : List Ticket) (f : Filing) → refuses (fileVerdict len row f) ≡ false → codeOf (fileVerdict len row f) ≡ 0

@@ -1,10 +1,15 @@
--- Two results of a boarding, or of an event, that fit the call's contract are equal, in the code and in every row.
+-- Two results of a boarding, of an event, of a run sheet answered or of a plan sheet checked, that fit the call's contract are equal, in the code and in every row.
 use Prim.Native.Nat.{ℕ}
 use mathlib.Core.Path.{_≡_, refl, sym, ap, _∙_}
-use mathlib.Core.Bool.{cond}
-use mathlib.Core.List.{List}
-use lib.ListN.{length}
+use mathlib.Core.Bool.{true, false, cond}
+use mathlib.Core.Logic.{⊎-elim}
+use mathlib.Core.List.{List, _∷_}
+use lib.ListN.{length, drop}
+use Rattle.refusals.specs.declared.Verdict.{Verdict}
 use Rattle.refusals.specs.Refusals.{isRefusal}
+use Rattle.runs.specs.Run.{Run}
+use Rattle.runs.specs.Lists.{Detour}
+use Rattle.runs.proofs.Search.{true-or-false}
 use Rattle.planner.specs.Rows.{Rows}
 use Rattle.desk_boardings.specs.declared.BoardedRow.{BoardedRow}
 use Rattle.desk_boardings.specs.Boardings.{Tape}
@@ -14,9 +19,18 @@ use Rattle.answer_desk.specs.Answers.{verdictIn}
 use Rattle.answer_desk.specs.Events.{eventOf}
 use Rattle.answer_desk.proofs.Determined.{answer-determined}
 use Rattle.desk_rows.proofs.Determined.{board-in-determined}
+use Rattle.sheet_reader.specs.Sheet.{sheetRun, sheetName}
+use Rattle.sheet_writer.specs.Writing.{writtenRow}
+use Rattle.sheet_lists.specs.Form.{planFroms, planTos}
+use Rattle.answer_any.specs.AnyRun.{anyVerdict, PlanAnyOf}
+use Rattle.answer_any.proofs.Determined.{plan-any-once}
+use Rattle.answer_check.specs.RunRules.{headAnywhere}
+use Rattle.answer_check.specs.Checking.{checkText, VerdictOf, verdictOn}
+use Rattle.answer_check.proofs.Determined.{one-least}
 use Rattle.boundary.specs.Boundary.{codeOf, sumsWith}
 use Rattle.boundary_desk.specs.Records.{tableAt, recordsWith, withLasts, withFirst, placesIf}
 use Rattle.boundary_desk.specs.Calls.{boardingOf, boardPlaces, takenWith, BoardCalled, oneLine, dayAt, EventCalled}
+use Rattle.boundary_texts.specs.Texts.{textVerdict, SheetCalled, AnswerCalled, CheckCalled}
 
 module _ (rows : List (List ℕ)) (lasts : List ℕ) (tape : Tape) (head turn : ℕ) (lent : Rows) (taken sums : List ℕ)
     (code code′ : ℕ) (rows′ rows″ : List (List ℕ)) (after after′ : Rows) (taken′ taken″ sums′ sums″ : List ℕ)
@@ -62,3 +76,44 @@ module _ (rows : List (List ℕ)) (lasts : List ℕ) (tape : Tape) (line out roo
           ),
         ),
       )
+
+-- A call under a verdict on its sheets, where there is one text that can be asked for.
+module _ (v : Verdict) (Asked : List ℕ → Type 0) (once : (text text′ : List ℕ) → Asked text → Asked text′ → text ≡ text′) (out sizes : List ℕ) (code code′ : ℕ) (out′ out″ sizes′ sizes″ : List ℕ)
+    (p : SheetCalled v Asked out sizes code out′ sizes′) (q : SheetCalled v Asked out sizes code′ out″ sizes″) where
+  called-once : (code ≡ code′) × ((out′ ≡ out″) × (sizes′ ≡ sizes″))
+  called-once =
+      ⊎-elim
+      (λ (e : isRefusal (v .refusal) ≡ true).
+      let a = p .refused e in
+      let b = q .refused e in
+      (a .says ∙ sym (b .says), (a .outIs ∙ sym (b .outIs), a .sizesAre ∙ sym (b .sizesAre))))
+      (λ (e : isRefusal (v .refusal) ≡ false).
+      let a = p .answered e in
+      let b = q .answered e in
+      let same = once (a .text) (b .text) (a .asked) (b .asked) in (
+        a .says ∙ ap (λ (t : List ℕ). codeOf (textVerdict t out sizes)) same ∙ sym (b .says),
+        (
+          a .outIs ∙ ap (λ (t : List ℕ). writtenRow (textVerdict t out sizes) t out) same ∙ sym (b .outIs),
+          a .sizesAre ∙ ap (λ (t : List ℕ). cond (isRefusal (textVerdict t out sizes .refusal)) sizes (length t ∷ drop 1 sizes)) same ∙ sym (b .sizesAre),
+        ),
+      ))
+      (true-or-false (isRefusal (v .refusal)))
+
+pub answer-call-determined : (sheet out room sizes : List ℕ) (code code′ : ℕ) (out′ out″ room′ room″ sizes′ sizes″ : List ℕ) → AnswerCalled sheet out room sizes code out′ room′ sizes′ → AnswerCalled sheet out room sizes code′ out″ room″ sizes″
+    → ((code ≡ code′) × ((out′ ≡ out″) × (sizes′ ≡ sizes″))) × (room′ ≡ room″)
+answer-call-determined sheet out room sizes code code′ out′ out″ room′ room″ sizes′ sizes″ p q = (
+  called-once (anyVerdict (length room) sheet) (PlanAnyOf (sheetName sheet) (sheetRun sheet)) (plan-any-once (sheetName sheet) (sheetRun sheet)) out sizes code code′ out′ out″ sizes′ sizes″ (p .called) (q .called),
+  p .cleared ∙ sym (q .cleared),
+)
+
+verdict-once : (name : List ℕ) (run : Run) (plan froms tos text text′ : List ℕ) → VerdictOf headAnywhere name run plan froms tos text → VerdictOf headAnywhere name run plan froms tos text′ → text ≡ text′
+verdict-once name run plan froms tos text text′ p q =
+    p .says ∙ ap (λ (l : List Detour). checkText headAnywhere name run plan froms tos l) (one-least run (p .list) (q .list) (p .least) (q .least)) ∙ sym (q .says)
+
+pub check-call-determined : (sheet plan out room sizes : List ℕ) (code code′ : ℕ) (out′ out″ room′ room″ sizes′ sizes″ : List ℕ) → CheckCalled sheet plan out room sizes code out′ room′ sizes′ → CheckCalled sheet plan out room sizes code′ out″ room″ sizes″
+    → ((code ≡ code′) × ((out′ ≡ out″) × (sizes′ ≡ sizes″))) × (room′ ≡ room″)
+check-call-determined sheet plan out room sizes code code′ out′ out″ room′ room″ sizes′ sizes″ p q = (
+  called-once (verdictOn (length room) sheet plan) (VerdictOf headAnywhere (sheetName sheet) (sheetRun sheet) plan (planFroms plan) (planTos plan))
+      (verdict-once (sheetName sheet) (sheetRun sheet) plan (planFroms plan) (planTos plan)) out sizes code code′ out′ out″ sizes′ sizes″ (p .called) (q .called),
+  p .cleared ∙ sym (q .cleared),
+)

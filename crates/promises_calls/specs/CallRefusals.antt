@@ -1,6 +1,6 @@
--- Demand 1 at the calls for tickets: the code is the number and 256 times the place of the first refusal that applies, each by its own condition; 8 for every
+-- Demand 1 at the calls for tickets, for an event and for who waits: the code is the number and 256 times the place of the first refusal that applies, each by its own condition; 8 for every
 -- short row at one place in the order; and refused, a call leaves everything that was lent as it was.
-use Prim.Native.Nat.{ℕ, _+_, _*_, _<_}
+use Prim.Native.Nat.{ℕ, _+_, _*_, _≤_, _<_}
 use mathlib.Core.Path.{_≡_}
 use mathlib.Core.Logic.{_⊎_}
 use mathlib.Core.List.{List}
@@ -13,9 +13,15 @@ use Rattle.desk_tickets.specs.declared.Filing.{Filing}
 use Rattle.desk_tickets.specs.declared.Withdrawal.{Withdrawal}
 use Rattle.desk_boardings.specs.Boardings.{Tape}
 use Rattle.boundary_desk.specs.Records.{tableAt, placesIf}
-use Rattle.boundary_desk.specs.Calls.{FileCalled, WithdrawCalled, boardingOf, boardPlaces, BoardCalled, EventCalled}
-use Rattle.demands.specs.RefusalTable.{FirstThatApplies}
-use Rattle.promises.specs.DeskRefusals.{FilingApplies, filingOrder, WithdrawalApplies, withdrawalOrder, BoardAnswers}
+use Rattle.text_lines.specs.Lines.{lineOf}
+use Rattle.desk_tickets.specs.declared.Ticket.{Ticket}
+use Rattle.desk_tickets.specs.declared.Lasts.{Lasts}
+use Rattle.answer_desk.specs.Events.{eventOf}
+use Rattle.desk_waits.specs.Waits.{waitingText}
+use Rattle.boundary_desk.specs.Calls.{FileCalled, WithdrawCalled, boardingOf, boardPlaces, BoardCalled, oneLine, dayAt, EventCalled, WaitingCalled}
+use Rattle.demands.specs.RefusalTable.{FirstThatApplies, SomeApplies}
+use Rattle.promises.specs.DeskRefusals.{RowApplies, rowOrder, FilingApplies, filingOrder, WithdrawalApplies, withdrawalOrder, BoardAnswers}
+use Rattle.promises.specs.DeskVerdicts.{OwnVerdict, RowTooShort}
 
 -- The places that a row of records counts for are too few exactly where the row beside it is too short, or the records themselves are.
 abbrev pub ShortCounts : Type 0
@@ -48,6 +54,31 @@ BoardCallAnswers =
     → (called : BoardCalled rows lasts tape head turn lent taken sums code rows′ after taken′ sums′)
     → BoardAnswers (boardPlaces rows lasts taken sums) tape (tableAt rows) (boardingOf lasts head turn) lent (called .done)
     × (code ≡ numberOf (called .done .boarded .answer .refusal) + 256 * (called .done .boarded .answer .place))
+
+-- An event: 11 where the bytes are none; else the refusal of its filing, withdrawal or boarding that applies first, with 8 of a short row beside the records; or 8,
+-- where none of these applies and its text is longer than the row for it.
+abbrev pub EventCallAnswers : Type 0
+EventCallAnswers =
+    (rows rows′ : List (List ℕ)) (lasts lasts′ line out out′ room room′ sizes sizes′ : List ℕ) (tape : Tape) (code : ℕ)
+    → (called : EventCalled rows lasts tape line out room sizes code rows′ lasts′ out′ room′ sizes′)
+    → (code ≡ numberOf (called .done .verdict .refusal) + 256 * (called .done .verdict .place))
+    × (OwnVerdict (placesIf 1 sizes (placesIf 2 lasts (length rows))) tape (dayAt rows lasts) room (eventOf (lineOf (oneLine line))) (called .done .verdict)
+    ⊎ RowTooShort (placesIf 1 sizes (placesIf 2 lasts (length rows))) tape (dayAt rows lasts) room out (eventOf (lineOf (oneLine line))) (called .done .verdict))
+
+-- Who waits: 8 and 26 of the records, of which every number up to 65,535 may have been given; then 8 of a row shorter than the text.
+abbrev pub anyNumbers : Lasts
+anyNumbers = record { one = 65535; two = 65535 }
+
+pub record WaitingRefusals (len : ℕ) (row : List Ticket) (out : List ℕ) (code : ℕ) : Type 0 where
+  pub of-records : SomeApplies (RowApplies len row anyNumbers) rowOrder → CodeSays (RowApplies len row anyNumbers) rowOrder code
+  pub short : (SomeApplies (RowApplies len row anyNumbers) rowOrder → ⊥) → length out < length (waitingText row) → code ≡ 8
+  pub accepted : (SomeApplies (RowApplies len row anyNumbers) rowOrder → ⊥) → length (waitingText row) ≤ length out → code ≡ 0
+
+abbrev pub WaitingCallAnswers : Type 0
+WaitingCallAnswers =
+    (rows : List (List ℕ)) (out out′ sizes sizes′ : List ℕ) (code : ℕ)
+    → WaitingCalled rows out sizes code out′ sizes′
+    → WaitingRefusals (placesIf 1 sizes (length rows)) (tableAt rows) out code
 
 -- Refused, nothing that was lent has changed.
 abbrev pub RefusedFileKeeps : Type 0
