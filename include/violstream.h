@@ -1,46 +1,6 @@
 /*
- * violstream.h - plan and price the recall of files from tape, and keep the waiting tickets of two offices
- *
- * THE CALLS, in the order in which a daemon meets them, with the program below in which each is made
- *
- *   violstream_version    the version of the library that is linked                                            (anywhere.c)
- *   violstream_mend       a run sheet from mail put in order, and a line for each change: what
- *                         `violstream mend` prints                                                                (sheet.c)
- *   violstream_plan       the best list of detours for a run, and what it costs; asks for a head at or
- *                         right of everything wanted                                                            (example.c)
- *   violstream_plan_any   the same for a head anywhere: a tape just mounted, or a second run from where
- *                         the first ended                                                                      (anywhere.c)
- *   violstream_price      what a list of detours costs; violstream_price_any: for a head anywhere              (anywhere.c)
- *   violstream_answer     a run sheet's bytes to the plan sheet's, for a head anywhere: what
- *                         `violstream plan --any` prints                                                          (sheet.c)
- *   violstream_file       a ticket filed at one of two offices; violstream_withdraw: one withdrawn              (tickets.c)
- *   violstream_waiting    who waits, as text                                                                    (tickets.c)
- *   violstream_board      up to eight tickets leave on one run, which is planned                                (tickets.c)
- *   violstream_event      a filing, withdrawal or boarding by a line of text, answered by the text that
- *                         `violstream desk` prints                                                              (tickets.c)
- *   violstream_check      whether a plan sheet is right for a run sheet: what `violstream check` prints           (sheet.c)
- *
- * Each has a second form with its rows in structs, violstream_NAME_rows, at the end of this file. Where violstream_plan and
- * violstream_price accept, the calls for a head anywhere give the same.
- *
- * All work on 64-bit numbers and on rows that the caller lends. They allocate nothing and keep nothing between calls, so
- * several threads can call at once, each with rows of its own. A plan at the limits takes a few milliseconds, at most some
- * tens. The most bytes of stack that a call takes beside its arguments, whatever it is handed:
- *
- *   violstream_price, violstream_price_any                                                  1,024
- *   violstream_plan, violstream_plan_any                                                    6,144
- *   violstream_file, violstream_withdraw, violstream_board, violstream_waiting             16,384
- *   violstream_answer                                                                      32,768
- *   violstream_check                                                                      147,456  (144 KiB)
- *   violstream_mend                                                                       167,936  (164 KiB)
- *   violstream_event                                                                      557,056  (544 KiB)
- *
- * Mind the last three where a thread has a small stack. C99 or later, or C++. Link with libviolstream.a (x86-64), which needs
- * the C library and nothing else:
- *
- *   cc example.c $(pkg-config --cflags --libs violstream)
- *
- * -lviolstream by itself takes libviolstream.so, which must then be found when the program starts.
+ * violstream.h - plan and price the recall of files from tape, keep the waiting tickets of two offices, and answer, check and
+ * mend sheets. First what a run is, then the calls.
  *
  * THE RUN
  *
@@ -83,6 +43,47 @@
  *   Of two lists with the same sum, look at the rightmost stop at which they differ in whether a detour ends
  *   there or in where that detour starts: the list with no detour ending there comes first, else the one whose
  *   detour starts further right. So there is one best list.
+ *
+ * THE CALLS, in the order in which a daemon meets them, with the program below in which each is made
+ *
+ *   violstream_version    the version of the library that is linked                                            (anywhere.c)
+ *   violstream_mend       a run sheet from mail put in order, and a line for each change: what
+ *                         `violstream mend` prints                                                                (sheet.c)
+ *   violstream_plan       the best list of detours for a run, and what it costs; asks for a head at or
+ *                         right of everything wanted                                                            (example.c)
+ *   violstream_plan_any   the same for a head anywhere: a tape just mounted, or a second run from where
+ *                         the first ended                                                                      (anywhere.c)
+ *   violstream_price      what a list of detours costs; violstream_price_any: for a head anywhere              (anywhere.c)
+ *   violstream_answer     a run sheet's bytes to the plan sheet's, for a head anywhere: what
+ *                         `violstream plan --any` prints                                                          (sheet.c)
+ *   violstream_file       a ticket filed at one of two offices; violstream_withdraw: one withdrawn              (tickets.c)
+ *   violstream_waiting    who waits, as text                                                                    (tickets.c)
+ *   violstream_board      up to eight tickets leave on one run, which is planned                                (tickets.c)
+ *   violstream_event      a filing, withdrawal or boarding by a line of text, answered by the text that
+ *                         `violstream desk` prints                                                              (tickets.c)
+ *   violstream_check      whether a plan sheet is right for a run sheet: what `violstream check` prints           (sheet.c)
+ *
+ * Each that is lent rows has a second form with its rows in structs, violstream_NAME_rows, at the end of this file. Where
+ * violstream_plan and violstream_price accept, the calls for a head anywhere give the same.
+ *
+ * All work on 64-bit numbers and on rows that the caller lends. They allocate nothing and keep nothing between calls, so
+ * several threads can call at once, each with rows of its own. A plan at the limits takes a few milliseconds, at most some
+ * tens. The most bytes of stack that a call takes beside its arguments, whatever it is handed:
+ *
+ *   violstream_price, violstream_price_any                                                  1,024
+ *   violstream_plan, violstream_plan_any                                                    6,144
+ *   violstream_file, violstream_withdraw, violstream_board, violstream_waiting             16,384
+ *   violstream_answer                                                                      32,768
+ *   violstream_check                                                                      147,456  (144 KiB)
+ *   violstream_mend                                                                       167,936  (164 KiB)
+ *   violstream_event                                                                      557,056  (544 KiB)
+ *
+ * Mind the last three where a thread has a small stack. C99 or later, or C++. Link with libviolstream.a (x86-64), which needs
+ * the C library and nothing else:
+ *
+ *   cc example.c $(pkg-config --cflags --libs violstream)
+ *
+ * -lviolstream by itself takes libviolstream.so, which must then be found when the program starts.
  *
  * TICKETS
  *
@@ -190,7 +191,8 @@
  *         printf("%s\n", violstream_reason(violstream_plan_rows(&run, VIOLSTREAM_LEAST, &rows)));
  *         if (violstream_plan_any_rows(&run, &rows) != 0)
  *             return 1;
- *         printf("from 0: sum %" PRIu64 ", and the head ends at %" PRIu64 "\n", rows.sums[VIOLSTREAM_SUM], rows.sums[VIOLSTREAM_END]);
+ *         printf("from 0: sum %" PRIu64 ", and the head ends at %" PRIu64 "\n", rows.sums[VIOLSTREAM_SUM],
+ *                rows.sums[VIOLSTREAM_END]);
  *         run.head = rows.sums[VIOLSTREAM_END];                       // where the next run begins
  *         rows.detours = 0;                                           // priced is the empty list
  *         if (violstream_price_any_rows(&run, &rows) != 0)
@@ -576,8 +578,8 @@ uint64_t violstream_plan_any(const uint64_t *starts, size_t starts_len,
  *   room    working room, as for violstream_plan_any
  *   sizes   for the number of its bytes, at least 1 word
  *
- * Checks: 12, 11, 19, 1 to 7 and 9, each as for the sheet's run, and last 8 for out and sizes. A plan that is made leaves the room cleared, by 8 too. No 0 byte
- * ends the text.
+ * Checks: 12, 11, 19, 1 to 7 and 9, each as for the sheet's run, and last 8 for out and sizes. A plan that is made leaves the
+ * room cleared, by 8 too. No 0 byte ends the text.
  */
 uint64_t violstream_answer(const uint8_t *sheet, size_t sheet_len,
                            uint8_t *out, size_t out_len,
@@ -606,8 +608,8 @@ uint64_t violstream_check(const uint8_t *sheet, size_t sheet_len,
                           uint64_t *sizes, size_t sizes_len);
 
 /*
- * A run sheet from mail put in order: counts that are not the lines' number, a price left out, the retired rule, wants out of order, twice,
- * or with count 0.
+ * A run sheet from mail put in order: counts that are not the lines' number, a price left out, the retired rule, wants out of
+ * order, twice, or with count 0.
  *
  *   sheet     the sheet's bytes
  *   out       for the mended sheet, at least as many bytes as it has; VIOLSTREAM_SHEET_MOST do for every sheet
