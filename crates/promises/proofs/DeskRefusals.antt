@@ -37,7 +37,7 @@ tells-within most n =
     tells-reworded (λ h. record { some = h .0; few = h .1 }) (λ w. (w .some, w .few))
     (tells-both (not (eqb n 0)) (leb n most) (tells-not (eqb n 0) (tells-equal n 0)) (tells-at-most n most))
 
-tells-empty : (t : Ticket) → Tells (isEmptyPlace t) (t ≡ noTicket)
+pub tells-empty : (t : Ticket) → Tells (isEmptyPlace t) (t ≡ noTicket)
 tells-empty t = record { when-true = empty-is t; when-false = λ e h. true≢false (sym (ap isEmptyPlace h) ∙ e) }
 
 tells-ticket : (office last : ℕ) (t : Ticket) → Tells (isTicket office last t) (IsTicketOf office last t)

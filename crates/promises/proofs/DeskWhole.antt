@@ -1,12 +1,12 @@
 -- The promises of requests L6 and L7 as whole sentences: from the laws on single calls, on days and on the row.
-use Prim.Native.Nat.{ℕ, _+_, _-_, _≤_, _<_}
+use Prim.Native.Nat.{ℕ, suc, _+_, _-_, _≤_, _<_}
 use mathlib.Core.Path.{_≡_, refl, sym, ap, subst, _∙_}
 use mathlib.Core.Bool.{Bool, true, false, true≢false}
 use mathlib.Core.List.{List, [], _∷_, _++_, append-nil}
-use mathlib.Core.Logic.{⊎-elim}
+use mathlib.Core.Logic.{_⊎_, inl, inr, ⊎-elim}
 use native.Mathlib.Omega.{arith}
-use native.Mathlib.Decide.{decLe}
-use lib.ListN.{length, take, drop, replicate, length-append, length-take, take-append-drop, drop-of-length-le}
+use native.Mathlib.Decide.{decLe, decLt}
+use lib.ListN.{length, getD, take, drop, replicate, length-append, length-take, take-append-drop, drop-of-length-le}
 use lib.Seq.{take-all, take-at, length-take-le, getD-append-seam}
 use borrow.Author.Tests.{le-ltb}
 use Rattle.refusals.specs.declared.Refusal.{Refusal}
@@ -16,9 +16,10 @@ use Rattle.runs.proofs.Search.{true-or-false, first-zero, first-all}
 use Rattle.desk_tickets.specs.declared.Ticket.{Ticket}
 use Rattle.desk_tickets.specs.declared.Lasts.{Lasts}
 use Rattle.desk_tickets.specs.declared.Withdrawal.{Withdrawal}
-use Rattle.desk_tickets.specs.WaitingTable.{allPlaces, noTicket, badRecord, waiting, recordsVerdict}
+use Rattle.desk_tickets.specs.WaitingTable.{allPlaces, noTicket, isEmptyPlace, ticketsIn, badRecord, waiting, recordsVerdict}
 use Rattle.desk_tickets.specs.Filings.{fileRow, ticketOf}
 use Rattle.desk_tickets.specs.Withdrawals.{isWaiting, withdrawVerdict, withdrawRow}
+use Rattle.desk_tickets.proofs.Halves.{tickets-none, tickets-one, tickets-end, tickets-at, tickets-fit, placesFrom, places-long, place-in-row}
 use Rattle.desk_tickets.proofs.Kept.{Stands}
 use Rattle.desk_tickets.proofs.Placed.{none-bad}
 use Rattle.desk_tickets.proofs.Sound.{row-sound}
@@ -26,10 +27,10 @@ use Rattle.desk_rows.specs.Desk.{tableIn, withTable, boardedRow}
 use Rattle.promises.specs.Desk.{Kept, Call, Fits, Day, answered}
 use Rattle.promises.specs.DeskRefusals.{RecordIsBad, IsWaiting}
 use Rattle.promises.specs.DeskRows.{LentFits, keptIn}
-use Rattle.promises.specs.DeskWhole.{LeavesFromItsFiling, WithdrawalServes, TableHasNoBadRecord, RefusedLeavesTheRow}
+use Rattle.promises.specs.DeskWhole.{LeavesFromItsFiling, WithdrawalServes, TableHasNoBadRecord, RefusedLeavesTheRow, WaitAt, WaitAtTheirPlaces}
 use Rattle.promises.proofs.DeskSteps.{not-accepted}
 use Rattle.promises.proofs.Desk.{table-from-empty, table-stays, accepted-filing, filed-behind, leaves-in-time, refused-changes}
-use Rattle.promises.proofs.DeskRefusals.{tells-bad, tells-waiting, withdrawn-verdict}
+use Rattle.promises.proofs.DeskRefusals.{tells-empty, tells-bad, tells-waiting, withdrawn-verdict}
 
 -- A ticket that was filed stands last, behind as many as waited.
 pub leaves-from-its-filing : LeavesFromItsFiling
@@ -107,3 +108,41 @@ refused-row {ts} {exit} {l} (LentFits.lent-boarding {r = r} last lent) e =
 
 pub refused-leaves-the-row : RefusedLeavesTheRow
 refused-leaves-the-row ts exit l m c fits some = refused-row fits (not-accepted (answered c) some)
+
+-- Who waits, by the places.
+ends-so : (h : List Ticket) → (length (ticketsIn h) ≡ length h) ⊎ (isEmptyPlace (getD h (length (ticketsIn h)) noTicket) ≡ true)
+ends-so [] = inl (rw tickets-end)
+ends-so (t ∷ ts) = by-case (isEmptyPlace t) refl (ends-so ts)
+  where
+    by-case : (b : Bool) → isEmptyPlace t ≡ b → (length (ticketsIn ts) ≡ length ts) ⊎ (isEmptyPlace (getD ts (length (ticketsIn ts)) noTicket) ≡ true)
+        → (length (ticketsIn (t ∷ ts)) ≡ suc (length ts)) ⊎ (isEmptyPlace (getD (t ∷ ts) (length (ticketsIn (t ∷ ts))) noTicket) ≡ true)
+    by-case true e rest = inr (rw (tickets-none t ts e) e)
+    by-case false e rest = ⊎-elim (λ same. inl (rw (tickets-one t ts e) (ap suc same))) (λ empty. inr (rw (tickets-one t ts e) empty)) rest
+
+module _ (first : ℕ) (row : List Ticket) (in-row : first ≤ 16) (all : length row ≡ 32) where
+  abbrev there : List Ticket
+  there = placesFrom first row
+
+  fits-half : length (ticketsIn there) ≤ 16
+  fits-half = omega (arith, tickets-fit there, places-long first row in-row all)
+
+  wait-at : WaitAt first row (ticketsIn there)
+  wait-at =
+      record {
+        few = fits-half;
+        each = λ i l.
+            let t = tickets-at there i l in
+            let p = place-in-row first row in-row all i (omega (arith, l, fits-half)) in
+            (t .0 ∙ p, tells-empty (getD row (first + i) noTicket) .when-false (ap isEmptyPlace (sym p) ∙ t .1));
+        end = ⊎-elim
+            (λ (same : length (ticketsIn there) ≡ length there). inl (same ∙ places-long first row in-row all))
+            (λ (e : isEmptyPlace (getD there (length (ticketsIn there)) noTicket) ≡ true).
+            elim (decLt (length (ticketsIn there)) 16) [
+              | yes l ↦ inr (tells-empty (getD row (first + length (ticketsIn there)) noTicket) .when-true (ap isEmptyPlace (sym (place-in-row first row in-row all (length (ticketsIn there)) l)) ∙ e))
+              | no l ↦ inl (omega (arith, fits-half, l))
+            ])
+            (ends-so there);
+      }
+
+pub wait-at-their-places : WaitAtTheirPlaces
+wait-at-their-places row all = (wait-at 0 row (omega arith) all, wait-at 16 row (omega arith) all)

@@ -370,6 +370,19 @@ every-change-listed sheet text m =
       want-lines = subst (λ (n : ℕ). FatesSaid (wantedFiles sheet) (wantedCounts sheet) (looseFiles sheet + 6) n fates) (lines-many sheet) (fates-said (wantedFiles sheet) (wantedCounts sheet) (looseFiles sheet + 6) (length (wantedFiles sheet)));
     }
 
+-- A price that is left out, or not.
+left-out-so : (sheet : List ℕ) → valueText turnKey (lineAfter 2 sheet) ≡ [] → priceLeftOut sheet ≡ true
+unfolding priceLeftOut
+left-out-so sheet e = ap isEmpty e
+
+not-left-out : (sheet : List ℕ) → (valueText turnKey (lineAfter 2 sheet) ≡ [] → ⊥) → priceLeftOut sheet ≡ false
+unfolding priceLeftOut
+not-left-out sheet some = go (isEmpty (valueText turnKey (lineAfter 2 sheet))) refl
+  where
+    go : (b : Bool) → isEmpty (valueText turnKey (lineAfter 2 sheet)) ≡ b → isEmpty (valueText turnKey (lineAfter 2 sheet)) ≡ false
+    go true e = absurd (some (empty-is (valueText turnKey (lineAfter 2 sheet)) e))
+    go false e = e
+
 pub accepted-comes-back : AcceptedComesBack
 accepted-comes-back sheet none nothing =
     let good : isRefusal (sheetVerdict sheet .refusal) ≡ false = rw (early-read sheet none) in
@@ -380,7 +393,7 @@ accepted-comes-back sheet none nothing =
       back = afterLines 3 sheet;
       old = old-sheet sheet good (fair-wants sheet run) least;
       new = new-sheet sheet good (fair-wants sheet run) least;
-      given = same-sheet sheet good (fair-wants sheet run) least;
+      given = λ some. same-sheet sheet good (fair-wants sheet run) least (not-left-out sheet some);
       listed = subst (λ (part : List ℕ). ListedWhen (valueText turnKey (lineAfter 2 sheet) ≡ []) part 3 (bytes "turn")) (sym (one-change sheet good (fair-wants sheet run) least)) (turn-listed sheet);
     }
 
@@ -389,7 +402,7 @@ accepted-as-written sheet none nothing = written-so sheet (rw (early-read sheet 
 
 pub accepted-taken : AcceptedTaken
 accepted-taken sheet none nothing out notes answer out′ notes′ h row list =
-    record { taken = fits; given = given; left-out = five-longer sheet good run least }
+    record { taken = fits; given = λ some. given (not-left-out sheet some); left-out = λ e. five-longer sheet good run least (left-out-so sheet e) }
   where
     good : isRefusal (sheetVerdict sheet .refusal) ≡ false
     good = rw (early-read sheet none)

@@ -69,3 +69,12 @@ RefusedLeavesTheRow =
     → LentFits ts l c exit m
     → (answered c ≡ Accepted → ⊥)
     → (exit ≡ ts) × (m ≡ l)
+
+-- Who waits, by the places of a table: an office's tickets are the records from its first place on, up to 16, none of them empty; and they end where an empty one stands.
+pub record WaitAt (first : ℕ) (row ts : List Ticket) : Type 0 where
+  pub few : length ts ≤ 16
+  pub each : (i : ℕ) → i < length ts → (getD ts i noTicket ≡ getD row (first + i) noTicket) × (getD row (first + i) noTicket ≡ noTicket → ⊥)
+  pub end : (length ts ≡ 16) ⊎ (getD row (first + length ts) noTicket ≡ noTicket)
+
+abbrev pub WaitAtTheirPlaces : Type 0
+WaitAtTheirPlaces = (row : List Ticket) → length row ≡ 32 → WaitAt 0 row (waiting 1 row) × WaitAt 16 row (waiting 2 row)

@@ -3,7 +3,6 @@
 -- needs no second mending; the sheet of an accepted run is accepted and comes back.
 use Prim.Native.Nat.{ℕ, suc, _+_, _≤_, _<_}
 use mathlib.Core.Path.{_≡_}
-use mathlib.Core.Bool.{true, false}
 use mathlib.Core.List.{List, [], _++_}
 use lib.ListN.{length, take, drop, getD}
 use Rattle.refusals.specs.declared.Refusal.the-variants.{Accepted}
@@ -13,7 +12,7 @@ use Rattle.sheet_reader.specs.Lines.{turnKey}
 use Rattle.sheet_reader.specs.Sheet.{sheetTurn, sheetFiles, sheetName, sheetRun}
 use Rattle.text_pages.specs.Printing.{line, numberLine}
 use Rattle.sheet_writer.specs.Writing.{sheetText}
-use Rattle.sheet_loose.specs.Loose.{looseFiles, looseWants, wantsSaid, priceLeftOut, firstBadLoose, wantedFiles, wantedCounts}
+use Rattle.sheet_loose.specs.Loose.{looseFiles, looseWants, wantsSaid, firstBadLoose, wantedFiles, wantedCounts}
 use Rattle.answer_mend.specs.declared.Mended.{Mended}
 use Rattle.answer_mend.specs.declared.wants.Fate.{Fate}
 use Rattle.answer_mend.specs.declared.wants.Fate.the-variants.{Stays, Moved, Added, Dropped}
@@ -171,7 +170,7 @@ pub record SheetComesBack (sheet : List ℕ) : Type 0 where
   pub back : List ℕ
   pub old : sheet ≡ above ++ (line turnKey (valueText turnKey (lineAfter 2 sheet)) ++ back)
   pub new : mendedText sheet ≡ above ++ (numberLine turnKey (sheetTurn sheet) ++ back)
-  pub given : priceLeftOut sheet ≡ false → mendedText sheet ≡ sheet
+  pub given : (valueText turnKey (lineAfter 2 sheet) ≡ [] → ⊥) → mendedText sheet ≡ sheet
   pub listed : ListedWhen (valueText turnKey (lineAfter 2 sheet) ≡ []) (changesText sheet) 3 (bytes "turn")
 
 abbrev pub AcceptedComesBack : Type 0
@@ -192,8 +191,8 @@ AcceptedAsWritten =
 -- And it is accepted, given rows that take both texts: 12, 11, 3 and 5 never apply to it. An empty price, written out, has five digits.
 pub record Taken (sheet : List ℕ) (answer : Mended) : Type 0 where
   pub taken : answer ≡ record { refusal = Accepted; place = 0; bytes = length (mendedText sheet); noted = length (changesText sheet) }
-  pub given : priceLeftOut sheet ≡ false → answer ≡ record { refusal = Accepted; place = 0; bytes = length sheet; noted = 0 }
-  pub left-out : priceLeftOut sheet ≡ true → length (mendedText sheet) ≡ length sheet + 5
+  pub given : (valueText turnKey (lineAfter 2 sheet) ≡ [] → ⊥) → answer ≡ record { refusal = Accepted; place = 0; bytes = length sheet; noted = 0 }
+  pub left-out : valueText turnKey (lineAfter 2 sheet) ≡ [] → length (mendedText sheet) ≡ length sheet + 5
 
 abbrev pub AcceptedTaken : Type 0
 AcceptedTaken =
