@@ -8,4 +8,4 @@ pub mod Determined
 pub mod WaitingTells
 pub mod CallsTell
 pub mod EventCalls
-pub mod CallVerdicts
+pub mod CallLines

@@ -1,8 +1,8 @@
 -- Tickets on rows of C's memory: calls are a day (DeskCalls), and what each is refused for (CallRefusals); what is told of
--- a ticket that waits is so (WaitingTells). The calls that take sheets: SheetCalls.
+-- a ticket that waits is so (WaitingTells), and how its line reads (CallLines). The calls that take sheets: SheetCalls.
 pub mod DeskCalls
 pub mod CallRefusals
 pub mod WaitingTells
 pub mod CallsTell
-pub mod CallVerdicts
+pub mod CallLines
 pub mod SheetCalls
