@@ -121,18 +121,22 @@ returns-5 c =
     balance-other _ _ _ _ _ (c .before .before .before .before .before .before .before .loop .inv) _ _ (m .0) (c .before .before .if2 .left)
     (sym (c .before .same-names .ensures) ∙ not-true _ (c .if3 .taken))
 
+-- The way back from a place in the code to the one that the name says.
+abbrev in-loop : tie.After-behind-text3 Inv-loop μ-loop → tie.At-loop Inv-loop μ-loop
+in-loop c = c .before .before .before .before .before .before .before .before
+
 behind-text-requires-3 : tie.Need-behind-text-requires-3 Inv-loop μ-loop
 behind-text-requires-3 c κs = search needs
 
 loop-less-3 : tie.Need-loop-less-3 Inv-loop μ-loop
 loop-less-3 c =
-    let m = rw (c .before .before .before .before .before .step3 .given .1) at (step-told _ _ _ (c .before .before .before .before .before .before .before .before .loop .inv .within) (c .before .before .before .before .before .before .before .step-from .ensures)) in
+    let m = rw (c .before .before .before .before .before .step3 .given .1) at (step-told _ _ _ (in-loop c .loop .inv .within) (c .before .before .before .before .before .before .before .step-from .ensures)) in
     text-less _ _ _ _ (m .0 .within) (c .behind-text3 .ensures) (unread-token _ _ _ (begins-fewer _ _ _ _ (m .0)))
 
 loop-again-3 : tie.Need-loop-again-3 Inv-loop μ-loop
 loop-again-3 c =
-    let m = rw (c .before .before .before .before .before .step3 .given .1) at (step-told _ _ _ (c .before .before .before .before .before .before .before .before .loop .inv .within) (c .before .before .before .before .before .before .before .step-from .ensures)) in
-    balance-text _ _ _ _ _ _ (balance-close _ _ _ _ _ (c .before .before .before .before .before .before .before .before .loop .inv) _ _ (m .0) (c .before .before .before .if2 .left)
+    let m = rw (c .before .before .before .before .before .step3 .given .1) at (step-told _ _ _ (in-loop c .loop .inv .within) (c .before .before .before .before .before .before .before .step-from .ensures)) in
+    balance-text _ _ _ _ _ _ (balance-close _ _ _ _ _ (in-loop c .loop .inv) _ _ (m .0) (c .before .before .before .if2 .left)
     (sym (c .before .before .same-names .ensures) ∙ not-false _ (c .before .if3 .left))) (c .behind-text3 .ensures)
 
 enum-known-step-4 : tie.Need-enum-known-step-4 Inv-loop μ-loop
