@@ -286,7 +286,7 @@ command_sources() {
 
 # Every shell script, those that others read among them.
 scripts() {
-    for script in "$here"/violstream "$here"/.ci/run "$here"/bench/*.sh "$here"/bench/rules/*.sh "$here"/tests/*.sh "$here"/tools/*.sh; do
+    for script in "$here"/violstream "$here"/.ci/run "$here"/bench/*.sh "$here"/bench/*/*.sh "$here"/tests/*.sh "$here"/tools/*.sh; do
         step "shellcheck of $script" shellcheck -x -P "$here" "$script"
     done
     printf 'scripts: shellcheck finds nothing\n'

@@ -3,11 +3,13 @@
 # Rattle compiler hands to its back end is kept, its target named anew, and compiled at -O3 as the kit does. What is
 # installed, and what the gate runs, is the x86-64 build.
 #
-#   tools/native.sh CRATE OUT      OUT: a program; for a library crate an archive
+#   tools/native.sh CRATE OUT [ABOVE]     OUT: a program; for a library crate an archive
+#
+# ABOVE: a folder of a crate above CRATE, in no repository, with nothing but src/: that one is compiled, and may name CRATE and what CRATE names.
 #
 # The crates below CRATE must be proved already (rt check CRATE).
 set -eu
-unset -v CDPATH clang crate here kit layout library out own source tool triple work
+unset -v CDPATH above clang crate here kit layout library out own source tool triple work
 here=$(cd "$(dirname "$0")/.." && pwd)
 . "$here/tools/machine.sh"
 
@@ -16,9 +18,9 @@ fail() {
     exit 1
 }
 
-[ $# -eq 2 ] || fail "usage: tools/native.sh CRATE OUT"
-crate=$1 out=$2
-source=$here/crates/$crate/src
+[ $# -eq 2 ] || [ $# -eq 3 ] || fail "usage: tools/native.sh CRATE OUT [ABOVE]"
+crate=$1 out=$2 above=${3:-}
+source=${above:-$here/crates/$crate}/src
 kit=$(kit) && own=$kit/on/$machine && clang=$own/toolchain/bin/clang
 [ -x "$clang" ] || fail "no Rattle kit for this machine beside rt"
 
@@ -42,14 +44,14 @@ if [ -f "$source/main.rt" ]; then
 else
     set -- "$source/lib.rt" --crate-type staticlib
 fi
-for library in std $(sed -n "s/^$crate://p" "$here/crates.txt"); do
+for library in std ${above:+"$crate"} $(sed -n "s/^$crate://p" "$here/crates.txt"); do
     if [ -d "$here/target/rlib/$library.rlib" ]; then
         set -- "$@" --extern "$library=$here/target/rlib/$library.rlib"
     else
         set -- "$@" --extern "$library=$own/rlib/$library.rlib"
     fi
 done
-"$own/bin/rattle" build --crate-name "$crate" "$@" -L "dependency=$here/target/rlib" -L "dependency=$own/rlib" \
+"$own/bin/rattle" build --crate-name "${above:+above_}$crate" "$@" -L "dependency=$here/target/rlib" -L "dependency=$own/rlib" \
     --antt-project "$kit/logic/antt-project.json" --logic-built "$own/logic-built" --toolchain "$work/tools" \
     -o "$work/made" > "$work/log" 2>&1 || { tail -n 5 "$work/log" >&2; fail "$crate was not built"; }
 

@@ -1,0 +1,55 @@
+#!/bin/sh
+# Times the readers of LTFS indexes beside libexpat, on an index and a list that make.py writes, and prints a line for each.
+#
+#   bench/index/run.sh [--rounds N] [WORDS of make.py: --files N, --lines N, --indent N]
+#
+# The library for C has no function for an index. So a crate of two functions that hand their text on is made here, in a temporary folder, and
+# compiled for this machine over the proved crates by tools/native.sh: `rt check answer_ltfs` comes first. CC and CFLAGS as for bench/run.sh.
+set -eu
+unset -v CDPATH
+
+here=$(cd "$(dirname "$0")/../.." && pwd)
+out=$(mktemp -d)
+trap 'rm -rf "$out"' EXIT
+
+fail() {
+    printf 'bench/index/run.sh: %s\n' "$1" >&2
+    exit "${2:-1}"
+}
+
+rounds=5
+if [ "${1:-}" = --rounds ]; then
+    case ${2:-} in '' | *[!0-9]*) fail "--rounds takes a number" 2 ;; esac
+    rounds=$2
+    shift 2
+fi
+for tool in python3 "${CC:-gcc}"; do
+    command -v "$tool" > /dev/null || fail "no $tool"
+done
+[ -e "$here/target/stamp/answer_ltfs" ] || fail "answer_ltfs is not proved; 'rt check answer_ltfs' proves it"
+
+mkdir -p "$out/above/src"
+cat > "$out/above/src/lib.rt" << 'END'
+// The readers of an index, for index.c.
+#[no_mangle]
+pub extern "C" fn bench_balanced(index: &[u8]) -> u64 {
+    if tape_markup::is_balanced(index) {
+        return 1;
+    }
+    0
+}
+
+#[no_mangle]
+pub extern "C" fn bench_ltfs(label: &[u8], index: &[u8]) -> u64 {
+    let mut out = [0u8; 64];
+    let report = answer_ltfs::table_sheet(b"VX0041", label, index, &mut out);
+    let refusal = report.refusal;
+    refusals::number(refusal)
+}
+END
+"$here/tools/native.sh" answer_ltfs "$out/readers.a" "$out/above" > "$out/log" || { cat "$out/log" >&2; fail "the readers were not compiled"; }
+# shellcheck disable=SC2086  # flags are words
+"${CC:-gcc}" -std=c11 -D_POSIX_C_SOURCE=200809L ${CFLAGS:--O3} -Wall -Wextra "$here"/bench/index/*.c "$out/readers.a" -lexpat -o "$out/index" \
+    || fail "no bench: libexpat's header is in Debian's libexpat1-dev"
+python3 "$here/bench/index/make.py" "$out/index.xml" "$out/list" "$@"
+"$out/index" "$out/index.xml" "$out/list" "$rounds"
