@@ -9,3 +9,4 @@ pub mod Said
 pub mod Extents
 pub mod Uuids
 pub mod Same
+pub mod Alike
