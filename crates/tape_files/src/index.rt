@@ -23,10 +23,10 @@ use crate::values::read_value;
 use tape_markup::Place;
 
 // A field with what one element more says, where that has the field's name.
-fn joined_if(named: bool, field: Field, later: Field) -> Field
-    ensures { λ r. ⌜ r ≡ joinedIf named field later ⌝ }
+fn joined_if(same: bool, field: Field, later: Field) -> Field
+    ensures { λ r. ⌜ r ≡ joinedIf same field later ⌝ }
 {
-    if named {
+    if same {
         return first_field(field, later);
     }
     field
