@@ -22,7 +22,7 @@ use Rattle.text_lines.specs.Lines.{lineOf}
 use Rattle.boundary.specs.Boundary.{codeOf, sumsWith}
 use Rattle.boundary_desk.specs.Records.{tableAt, recordsWith, lastsIn, withLasts, withFirst, placesIf}
 use Rattle.boundary_desk.specs.Calls.{filingOf, fileCall, FileAnswered, FileCalled, withdrawalOf, withdrawCall, WithdrawAnswered, WithdrawCalled, boardingOf, boardPlaces, takenWith, BoardCalled, oneLine, EventCalled}
-use Rattle.boundary_desk.specs.Private.{Leaves}
+use Rattle.boundary_desk.specs.Private.{CanSettle, Settled}
 use Rattle.boundary_desk.proofs.Filling.{table-long}
 use Rattle.boundary_desk.proofs.Taking.{leaves-so}
 use Rattle.boundary_desk.proofs.Calling.{Long, lent-long, filing-long, withdrawal-long, boarding-near, boarding-long, event-near, event-long}
@@ -130,11 +130,23 @@ module _ (rows : List (List ℕ)) (lasts sizes : List ℕ) (tape : Tape) (line o
         let h : isRefusal (done .verdict .refusal) ≡ false = sym flag-is ∙ e in
         record { done = done; answers = here; says = says; rowsAre = rw h rows-are; lastsAre = rw h lasts-are; sizesAre = rw h sizes-are }
 
+-- What a boarding writes.
+module _ (row : List Ticket) (done : BoardedRow) (rows : List (List ℕ)) (taken sums : List ℕ) (code : ℕ) (says : code ≡ codeOf (verdictIn (done .boarded .answer)))
+    (flag : Bool) (flag-is : flag ≡ isRefusal (done .boarded .answer .refusal)) where
+  pub settled-refused : flag ≡ true → Settled row done rows taken sums code rows taken sums
+  settled-refused e = let h : isRefusal (done .boarded .answer .refusal) ≡ true = sym flag-is ∙ e in record { says = says; rowsAre = rw h refl; takenIs = rw h refl; sumsAre = rw h refl }
+
+  pub settled-done : flag ≡ false → (rows′ : List (List ℕ)) → rows′ ≡ recordsWith (done .row) rows → (taken′ : List ℕ) → taken′ ≡ takenWith row (done .boarded) taken
+      → (sums′ : List ℕ) → sums′ ≡ sumsWith (done .boarded .answer) sums → Settled row done rows taken sums code rows′ taken′ sums′
+  settled-done e rows′ rows-are taken′ taken-is sums′ sums-are =
+      let h : isRefusal (done .boarded .answer .refusal) ≡ false = sym flag-is ∙ e in
+      record { says = says; rowsAre = rw h rows-are; takenIs = rw h taken-is; sumsAre = rw h sums-are }
+
 -- The rows of an accepted boarding.
-pub record BoardFit (rows : List (List ℕ)) (taken sums : List ℕ) : Type 0 where
-  pub records : 32 ≤ length rows
-  pub words : 10 ≤ length taken
-  pub four : 4 ≤ length sums
+record BoardFit (rows : List (List ℕ)) (taken sums : List ℕ) : Type 0 where
+  records : 32 ≤ length rows
+  words : 10 ≤ length taken
+  four : 4 ≤ length sums
 
 module _ (rows : List (List ℕ)) (lasts : List ℕ) (tape : Tape) (head turn : ℕ) (lent : Rows) (taken sums : List ℕ) (row : List Ticket) (l : Lasts) (p₁ p₂ len : ℕ) (done : BoardedRow) (after : Rows)
     (row-is : row ≡ tableAt rows)
@@ -146,32 +158,25 @@ module _ (rows : List (List ℕ)) (lasts : List ℕ) (tape : Tape) (head turn : 
   boards-here : Boards (boardPlaces rows lasts taken sums) tape (tableAt rows) (boardingOf lasts head turn) lent done after
   boards-here = rw (row-is, l-is, len-is, p₂-is, p₁-is) at boards
 
-  pub board-placed : done .boarded .answer .place ≤ 4096
-  board-placed = boarding-near len tape row (record { head = head; turn = turn; lasts = l }) lent done after boards
+  board-fits : isRefusal (done .boarded .answer .refusal) ≡ false → BoardFit rows taken sums
+  board-fits e =
+      let all = boarding-long len tape row (record { head = head; turn = turn; lasts = l }) lent done after boards e in
+      let outer = lent-long 4 sums p₂ (rw len-is at all) in
+      let inner = lent-long 10 taken p₁ (rw p₂-is at (outer .places)) in
+      let last = lent-long 2 lasts (length rows) (rw p₁-is at (inner .places)) in
+      record { records = last .places; words = inner .beside; four = outer .beside }
 
-  module _ (flag : Bool) (flag-is : flag ≡ isRefusal (done .boarded .answer .refusal)) where
-    pub board-fits : flag ≡ false → BoardFit rows taken sums
-    board-fits e =
-        let all = boarding-long len tape row (record { head = head; turn = turn; lasts = l }) lent done after boards (sym flag-is ∙ e) in
-        let outer = lent-long 4 sums p₂ (rw len-is at all) in
-        let inner = lent-long 10 taken p₁ (rw p₂-is at (outer .places)) in
-        let last = lent-long 2 lasts (length rows) (rw p₁-is at (inner .places)) in
-        record { records = last .places; words = inner .beside; four = outer .beside }
+  pub can-settle : CanSettle rows taken sums row done
+  can-settle =
+      record {
+        near = boarding-near len tape row (record { head = head; turn = turn; lasts = l }) lent done after boards;
+        records = λ e. board-fits e .records;
+        words = λ e. board-fits e .words;
+        four = λ e. board-fits e .four;
+        leaves = leaves-so len tape row (ap length row-is ∙ table-long rows) (record { head = head; turn = turn; lasts = l }) lent done after boards;
+      }
 
-    pub board-leaves : flag ≡ false → Leaves row (done .boarded)
-    board-leaves e =
-        leaves-so len tape row (ap length row-is ∙ table-long rows) (record { head = head; turn = turn; lasts = l }) lent done after boards (sym flag-is ∙ e)
-
-    pub board-refused : flag ≡ true → (code : ℕ) → code ≡ codeOf (verdictIn (done .boarded .answer)) → BoardCalled rows lasts tape head turn lent taken sums code rows after taken sums
-    board-refused e code says =
-        let h : isRefusal (done .boarded .answer .refusal) ≡ true = sym flag-is ∙ e in
-        record { done = done; boards = boards-here; says = says; rowsAre = rw h refl; takenIs = rw h refl; sumsAre = rw h refl }
-
-    pub board-done : flag ≡ false → (code : ℕ) → code ≡ codeOf (verdictIn (done .boarded .answer))
-        → (rows′ : List (List ℕ)) → rows′ ≡ recordsWith (done .row) rows
-        → (taken′ : List ℕ) → taken′ ≡ takenWith row (done .boarded) taken
-        → (sums′ : List ℕ) → sums′ ≡ sumsWith (done .boarded .answer) sums
-        → BoardCalled rows lasts tape head turn lent taken sums code rows′ after taken′ sums′
-    board-done e code says rows′ rows-are taken′ taken-is sums′ sums-are =
-        let h : isRefusal (done .boarded .answer .refusal) ≡ false = sym flag-is ∙ e in
-        record { done = done; boards = boards-here; says = says; rowsAre = rw h rows-are; takenIs = rw h (rw row-is at taken-is); sumsAre = rw h sums-are }
+  pub board-called : (code : ℕ) (rows′ : List (List ℕ)) (taken′ sums′ : List ℕ) → Settled row done rows taken sums code rows′ taken′ sums′
+      → BoardCalled rows lasts tape head turn lent taken sums code rows′ after taken′ sums′
+  board-called code rows′ taken′ sums′ s =
+      record { done = done; boards = boards-here; says = s .says; rowsAre = s .rowsAre; takenIs = rw row-is at (s .takenIs); sumsAre = s .sumsAre }

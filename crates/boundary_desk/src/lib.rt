@@ -13,10 +13,11 @@ ghost use Rattle.planner.specs.Rows.{rowsBefore, rowsAfter};
 ghost use Rattle.answer_desk.specs.Answers.{placeIn};
 ghost use Rattle.boundary.specs.Boundary.{codeOf, sumsWith};
 ghost use Rattle.boundary_desk.specs.Records.{wordsOf, ticketIn, tableAt, recordsWith, lastsIn, withLasts};
-ghost use Rattle.boundary_desk.specs.Private.{placesOf, Leaves};
+ghost use Rattle.boundary_desk.specs.Private.{placesOf, Leaves, CanSettle, Settled};
 ghost use Rattle.boundary_desk.specs.Calls.{filingOf, withdrawalOf, wantPlace, takenWith, oneLine, FileCalled, WithdrawCalled, BoardCalled, EventCalled, WaitingCalled};
 use answer_desk::Day;
 use desk_boardings::Boarded;
+use desk_boardings::BoardedRow;
 use desk_boardings::Boarding;
 use desk_tickets::Filing;
 use desk_tickets::Lasts;
@@ -266,6 +267,35 @@ fn fill_sums(a: Answer, sums: &mut [u64])
     sums[3] = a.detours;
 }
 
+// What a boarding leaves: refused, everything as it was; else the table of those who stay, who has left and the sums.
+fn settle(
+    tickets: &mut [[u64; 4]],
+    taken: &mut [u64],
+    sums: &mut [u64],
+    row: [Ticket; 32],
+    done: BoardedRow,
+) -> u64
+    requires { ⌜ CanSettle (now tickets) (now taken) (now sums) row done ⌝ }
+    ensures { λ r. ⌜ Settled row done (now (tickets .entry)) (now (taken .entry)) (now (sums .entry)) r (now (tickets .exit)) (now (taken .exit)) (now (sums .exit)) ⌝ }
+{
+    let boarded = done.boarded;
+    let answer = boarded.answer;
+    let kind = answer.refusal;
+    let verdict = Verdict {
+        refusal: kind,
+        place: answer.place,
+    };
+    let code = code_of(verdict);
+    if refused(verdict) {
+        return code;
+    }
+    let next = done.row;
+    put_table(tickets, next);
+    put_taken(taken, row, boarded);
+    fill_sums(answer, sums);
+    code
+}
+
 // Up to eight tickets boarded from a row of C's records.
 #[no_mangle]
 pub extern "C" fn violstream_board(
@@ -309,22 +339,7 @@ pub extern "C" fn violstream_board(
         legs,
         room,
     );
-    let boarded = done.boarded;
-    let answer = boarded.answer;
-    let kind = answer.refusal;
-    let verdict = Verdict {
-        refusal: kind,
-        place: answer.place,
-    };
-    let code = code_of(verdict);
-    if refused(verdict) {
-        return code;
-    }
-    let next = done.row;
-    put_table(tickets, next);
-    put_taken(taken, row, boarded);
-    fill_sums(answer, sums);
-    code
+    settle(tickets, taken, sums, row, done)
 }
 
 // How many bytes of a text are one line with its LF: all of them, or else none.
