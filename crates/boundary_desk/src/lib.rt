@@ -4,7 +4,7 @@
 ghost use mathlib.Core.Path.{_≡_};
 ghost use mathlib.Core.Bool.{cond};
 ghost use mathlib.Core.List.{[], _∷_, map};
-ghost use Prim.Native.Nat.{suc, _+_, _≤_};
+ghost use Prim.Native.Nat.{suc, _+_, _*_, _≤_};
 ghost use lib.ListN.{length, getD, take, drop};
 ghost use lib.Dec.{ltb};
 ghost use lib.Seq.{paste};
@@ -425,10 +425,20 @@ pub extern "C" fn violstream_waiting(tickets: &[[u64; 4]], out: &mut [u8], sizes
     code
 }
 
-// The library's version: 10,000 times its first number, 100 times its second, and its third.
+// A version as a number: 10,000 times its first, 100 times its second, and its third.
+fn version_of(first: u64, second: u64, third: u64) -> u64
+    requires { ⌜ first ≤ 99 ⌝ }
+    requires { ⌜ second ≤ 99 ⌝ }
+    requires { ⌜ third ≤ 99 ⌝ }
+    ensures { λ r. ⌜ r ≡ 10000 * first + 100 * second + third ⌝ }
+{
+    10000 * first + 100 * second + third
+}
+
+// The library's version.
 #[no_mangle]
 pub extern "C" fn violstream_version() -> u64
     ensures { λ r. ⌜ r ≡ 40000 ⌝ }
 {
-    40000
+    version_of(4, 0, 0)
 }
