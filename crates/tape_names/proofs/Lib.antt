@@ -1,0 +1,3 @@
+-- Laws that this crate's proofs share, and those that other crates cite.
+pub mod Chars
+pub mod Names
