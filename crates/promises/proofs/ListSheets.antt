@@ -1,7 +1,7 @@
 -- The sheets of any list, line by line: those of the list that two rows hold.
 use Prim.Native.Nat.{ℕ}
 use mathlib.Core.Path.{_≡_, ap, sym, _∙_}
-use mathlib.Core.List.{List, map}
+use mathlib.Core.List.{List, _++_, map}
 use native.Mathlib.Omega.{arith}
 use lib.ListN.{length}
 use Rattle.runs.specs.Run.{stopsOf}
@@ -15,6 +15,9 @@ use Rattle.figures.specs.Figures.{figureOf, figuresOf}
 use Rattle.figures.specs.AnyHead.{figureAnyOf, figuresAnyOf}
 use Rattle.figures.specs.Private.{PriceableAny}
 use Rattle.figures.proofs.AnyHead.{list-any-accepted}
+use Rattle.text_pages.specs.Printing.{numberLine, pairLines}
+use Rattle.sheet_reader.specs.Lines.{fileKey, wantsKey, wantKey}
+use Rattle.sheet_writer.specs.Writing.{topText, sheetText}
 use Rattle.sheet_writer.specs.PlanSheet.{planText}
 use Rattle.sheet_writer.specs.AnyHead.{planAnyText}
 use Rattle.sheet_figures.specs.FigureSheet.{figureLines, figurePage, figureText}
@@ -25,16 +28,25 @@ use Rattle.demands.proofs.AnyJudged.{nothing-judged-any}
 use Rattle.demands.proofs.AnyHead.{legs-are-one}
 use Rattle.demands.proofs.AnySums.{formed-any-means}
 use Rattle.demands.proofs.AnyBuys.{bought-any}
+use Rattle.promises.specs.Texts.{triplesOn}
 use Rattle.promises.specs.PlanLines.{walkSheet}
-use Rattle.promises.specs.ListSheets.{PlanSheetLines, PlanAnySheetLines, FigureSheetLines, FigureAnySheetLines}
+use Rattle.promises.specs.ListSheets.{RunSheetLines, PlanSheetLines, PlanAnySheetLines, FigureSheetLines, FigureAnySheetLines}
 use Rattle.promises.proofs.Checks.{starts-of, ends-of}
-use Rattle.promises.proofs.PlanLines.{plan-text-is, any-text-is}
+use Rattle.promises.proofs.PlanLines.{pairs-on, triples-on, plan-text-is, any-text-is}
 use Rattle.promises.proofs.BuysLines.{figures-said}
 
 -- A text of two rows is that of the halves of their list.
 by-halves : (textOf : List ℕ → List ℕ → List ℕ) (froms tos : List ℕ) → length froms ≡ length tos → textOf froms tos ≡ textOf (map (λ d. d .from) (listOf froms tos)) (map (λ d. d .to) (listOf froms tos))
 by-halves textOf froms tos even =
     ap (λ f. textOf f tos) (sym (starts-of froms tos even)) ∙ ap (λ t. textOf (map (λ d. d .from) (listOf froms tos)) t) (sym (ends-of froms tos even))
+
+pub run-sheet-lines : RunSheetLines
+unfolding sheetText topText
+run-sheet-lines name r =
+    let top = topText name (r .head) (r .turn) (length (r .starts)) in
+    let wants = numberLine wantsKey (length (r .numbers)) in
+    ap (λ t. top ++ t ++ wants ++ pairLines wantKey (r .numbers) (r .counts)) (triples-on fileKey (r .starts) (r .lengths) (r .aggregates))
+    ∙ ap (λ t. top ++ triplesOn fileKey (r .starts) (r .lengths) (r .aggregates) ++ wants ++ t) (pairs-on wantKey (r .numbers) (r .counts))
 
 pub plan-sheet-lines : PlanSheetLines
 plan-sheet-lines name r froms tos even = by-halves (planText name r) froms tos even ∙ plan-text-is name r (listOf froms tos)

@@ -28,13 +28,13 @@ use Rattle.promises.specs.Texts.{pairsOn, triplesOn}
 use Rattle.promises.specs.PlanLines.{walkSheet, PlanPrinted, PlanAnyPrinted}
 
 -- Lines of pairs and triples.
-pairs-on : (key firsts seconds : List ℕ) → pairLines key firsts seconds ≡ pairsOn key firsts seconds
+pub pairs-on : (key firsts seconds : List ℕ) → pairLines key firsts seconds ≡ pairsOn key firsts seconds
 unfolding pairLines
 pairs-on key [] seconds = refl
 pairs-on key (a ∷ firsts) [] = refl
 pairs-on key (a ∷ firsts) (b ∷ seconds) = ap (λ t. pairLine key a b ++ t) (pairs-on key firsts seconds)
 
-triples-on : (key firsts seconds thirds : List ℕ) → tripleLines key firsts seconds thirds ≡ triplesOn key firsts seconds thirds
+pub triples-on : (key firsts seconds thirds : List ℕ) → tripleLines key firsts seconds thirds ≡ triplesOn key firsts seconds thirds
 unfolding tripleLines
 triples-on key [] seconds thirds = refl
 triples-on key (a ∷ firsts) [] thirds = refl

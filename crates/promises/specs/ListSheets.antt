@@ -1,4 +1,5 @@
--- The plan sheet and the figure sheet of any list, the least or another, line by line: what `price` prints, what `check` compares with, and what the writers write.
+-- The run sheet of any run; the plan sheet and the figure sheet of any list, the least or another, line by line: what `price` prints, what `check` compares with, and what
+-- the writers write.
 use Prim.Native.Nat.{ℕ}
 use mathlib.Core.Path.{_≡_}
 use mathlib.Core.List.{List, _++_}
@@ -11,6 +12,7 @@ use Rattle.walk.specs.Walk.{headAt, sumOf}
 use Rattle.walk.specs.Detours.{legsOf}
 use Rattle.least.specs.Least.{listSum}
 use Rattle.text_bytes.specs.Text.{bytes, decimal}
+use Rattle.sheet_writer.specs.Writing.{sheetText}
 use Rattle.sheet_writer.specs.PlanSheet.{planText}
 use Rattle.sheet_writer.specs.AnyHead.{planAnyText}
 use Rattle.sheet_figures.specs.FigureSheet.{figureText}
@@ -20,8 +22,24 @@ use Rattle.demands.specs.AnyLegs.{AreLegsOf}
 use Rattle.demands.specs.AnyHead.{NothingAppliesAny, IsFormedAny}
 use Rattle.demands.specs.Buys.{IsBought}
 use Rattle.demands.specs.AnyBuys.{IsBoughtAny}
+use Rattle.promises.specs.Texts.{pairsOn, triplesOn}
 use Rattle.promises.specs.BuysLines.{FiguresSaid}
 use Rattle.promises.specs.PlanLines.{walkSheet}
+
+-- The run sheet: a number always stands behind `turn=`, and the rule is the least.
+abbrev pub runSheet : List ℕ → Run → List ℕ
+runSheet name r =
+    ((bytes "tape=" ++ name ++ bytes "\n")
+    ++ (bytes "head=" ++ decimal (r .head) ++ bytes "\n")
+    ++ (bytes "turn=" ++ decimal (r .turn) ++ bytes "\n")
+    ++ bytes "rule=least\n"
+    ++ (bytes "files=" ++ decimal (length (r .starts)) ++ bytes "\n"))
+    ++ triplesOn (bytes "file=") (r .starts) (r .lengths) (r .aggregates)
+    ++ (bytes "wants=" ++ decimal (length (r .numbers)) ++ bytes "\n")
+    ++ pairsOn (bytes "want=") (r .numbers) (r .counts)
+
+abbrev pub RunSheetLines : Type 0
+RunSheetLines = (name : List ℕ) (r : Run) → sheetText name r ≡ runSheet name r
 
 -- A list in two rows of one length.
 abbrev pub PlanSheetLines : Type 0
