@@ -41,6 +41,7 @@ bare none = none
 bare (char b rest) = bare rest
 bare (element name held rest) = element name held rest
 
+-- The next element, behind bytes that were passed over: its name, and what is left inside it and around it; or there is none, and the reader is past the end.
 pub record ElementMet (text : List ℕ) (place : Place) (from to : ℕ) (next : Place) : Type 0 where
   pub name : NameIn text from to
   pub within : PlaceIn text next
