@@ -13,9 +13,9 @@ use Rattle.tape_markup.specs.Markup.{Open, Close, Char}
 use Rattle.tape_markup.specs.Tree.{Forest, none, char, element, innermost, enclosing}
 use Rattle.tape_files.specs.Index.{flattened, charsOf, insides, under, valuesAt, Level, filesIn}
 use Rattle.tape_markup.specs.Places.{part, PlaceIn, tokensAt, Begins, placeAt, Passes}
-use Rattle.tape_files.specs.Elements.{framesAt, inside, Left, bare, ElementMet, NoElement, NamedAt, NoneNamed}
+use Rattle.tape_files.specs.Elements.{framesAt, inside, Left, bare, ElementMet, NoElement, NamedAt, NoneNamed, ByteAt, NoByte}
 use Rattle.tape_files.specs.Values.{firstField, fieldFrom, fieldAt}
-use Rattle.tape_files.specs.Private.{ByteAt, NoByte, noChars, withByte, charsFrom}
+use Rattle.tape_files.specs.Private.{noChars, withByte, charsFrom}
 use Rattle.tape_markup.proofs.Meets.{begins-fewer}
 use Rattle.tape_files.proofs.Frames.{frames-first, frames-past}
 

@@ -11,11 +11,11 @@ use Rattle.text_bytes.specs.Text.{startsWith, isText}
 use Rattle.tape_markup.specs.declared.Place.{Place}
 use Rattle.tape_markup.specs.Places.{PlaceIn, tokensAt}
 use Rattle.tape_markup.specs.Tree.{Forest, innermost, enclosing, treeOf}
-use Rattle.tape_files.specs.declared.values.NextByte.{NextByte}
+use Rattle.tape_files.specs.declared.NextByte.{NextByte}
 use Rattle.tape_files.specs.Index.{charsOf, insides, under, flattened, valuesAt, labelName, indexName, firstValue, isNone}
-use Rattle.tape_files.specs.Elements.{framesAt, inside, Left, NamedAt, NoneNamed}
+use Rattle.tape_files.specs.Elements.{framesAt, inside, Left, NamedAt, NoneNamed, ByteAt, NoByte, ByteMet}
 use Rattle.tape_files.specs.Volumes.{volumeName, volumesIn, differ, otherVolume}
-use Rattle.tape_files.specs.Private.{ByteAt, NoByte, ByteMet, VolumeAt, isOver}
+use Rattle.tape_files.specs.Private.{VolumeAt, isOver}
 use Rattle.tape_files.proofs.Bare.{Within, within-none, under-last}
 
 -- Elements of a name, at whose ends other paths go on.

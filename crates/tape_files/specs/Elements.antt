@@ -8,10 +8,11 @@ use lib.Dec.{eqb, leb, ltb}
 use Rattle.tape_markup.specs.declared.Place.{Place}
 use Rattle.tape_files.specs.declared.Child.{Child}
 use Rattle.tape_files.specs.declared.Named.{Named}
+use Rattle.tape_files.specs.declared.NextByte.{NextByte}
 use Rattle.tape_files.specs.declared.Use.{Use}
 use Rattle.tape_markup.specs.Places.{part, NameIn, PlaceIn, tokensAt}
 use Rattle.tape_markup.specs.Tree.{Forest, none, char, element, innermost, enclosing, frames}
-use Rattle.tape_files.specs.Index.{insides, Level, outside, inIndex, inDirectory, inContents, Role, holds, file, other}
+use Rattle.tape_files.specs.Index.{charsOf, insides, Level, outside, inIndex, inDirectory, inContents, Role, holds, file, other}
 
 -- A place that does not lie in a text is taken for its end.
 abbrev pub liesIn : List ℕ → Place → Bool
@@ -71,6 +72,21 @@ pub record NoneNamed (text : List ℕ) (place : Place) (name : List ℕ) (next :
 abbrev pub NamedMet : List ℕ → List ℕ → Place → Named → Type 0
 NamedMet name text place (Named.At next) = NamedAt text place name next
 NamedMet name text place (Named.Done next) = NoneNamed text place name next
+
+-- The next byte directly in an element, behind others that were passed over; or there is none.
+pub record ByteAt (text : List ℕ) (place : Place) (byte : ℕ) (next : Place) : Type 0 where
+  pub within : PlaceIn text next
+  pub here : charsOf (inside text place) ≡ byte ∷ charsOf (inside text next)
+  pub outer : enclosing (framesAt text next) ≡ enclosing (framesAt text place)
+  pub fewer : length (tokensAt text next) < length (tokensAt text place)
+
+pub record NoByte (text : List ℕ) (place next : Place) : Type 0 where
+  pub none : charsOf (inside text place) ≡ []
+  pub left : Left text place next
+
+abbrev pub ByteMet : List ℕ → Place → NextByte → Type 0
+ByteMet text place (NextByte.Byte byte next) = ByteAt text place byte next
+ByteMet text place (NextByte.Over next) = NoByte text place next
 
 -- How deep means where: outside of all, in the index, then directories and contents in turn.
 unfoldable pub levelAt : ℕ → Level

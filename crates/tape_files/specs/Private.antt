@@ -1,41 +1,25 @@
 -- For the contracts of private functions alone: the bytes of a value, the elements of an extent, and volumes. No public contract cites this file.
-use Prim.Native.Nat.{ℕ, _+_, _-_, _*_, _^_, _<_}
+use Prim.Native.Nat.{ℕ, _+_, _-_, _*_, _^_}
 use Prim.Native.Char.{code}
 use mathlib.Core.Path.{_≡_}
 use mathlib.Core.Bool.{Bool, true, false, cond, _&&_}
 use mathlib.Core.List.{List, [], _∷_}
-use lib.ListN.{length}
 use lib.Dec.{eqb, ltb}
 use Rattle.text_bytes.specs.Text.{isText, isDigit}
 use Rattle.tape_markup.specs.declared.Place.{Place}
-use Rattle.tape_markup.specs.Places.{PlaceIn, tokensAt}
-use Rattle.tape_markup.specs.Tree.{Forest, none, char, element, enclosing, treeOf}
+use Rattle.tape_markup.specs.Places.{PlaceIn}
+use Rattle.tape_markup.specs.Tree.{Forest, none, char, element, treeOf}
 use Rattle.tape_files.specs.declared.ExtentSaid.{ExtentSaid}
 use Rattle.tape_files.specs.declared.Field.{Field}
 use Rattle.tape_files.specs.declared.Named.{Named}
+use Rattle.tape_files.specs.declared.NextByte.{NextByte}
 use Rattle.tape_files.specs.declared.Use.{Use}
 use Rattle.tape_files.specs.declared.values.Chars.{Chars}
 use Rattle.tape_files.specs.declared.values.Grown.{Grown}
-use Rattle.tape_files.specs.declared.values.NextByte.{NextByte}
 use Rattle.tape_files.specs.Index.{charsOf, partitionName, startBlockName, byteOffsetName, byteCountName}
-use Rattle.tape_files.specs.Elements.{framesAt, inside, Left}
+use Rattle.tape_files.specs.Elements.{inside}
 use Rattle.tape_files.specs.Volumes.{volumesIn}
 use Rattle.tape_files.specs.Values.{numberField, letterField, firstField}
-
--- The next byte directly in an element, behind others that were passed over; or there is none.
-pub record ByteAt (text : List ℕ) (place : Place) (byte : ℕ) (next : Place) : Type 0 where
-  pub within : PlaceIn text next
-  pub here : charsOf (inside text place) ≡ byte ∷ charsOf (inside text next)
-  pub outer : enclosing (framesAt text next) ≡ enclosing (framesAt text place)
-  pub fewer : length (tokensAt text next) < length (tokensAt text place)
-
-pub record NoByte (text : List ℕ) (place next : Place) : Type 0 where
-  pub none : charsOf (inside text place) ≡ []
-  pub left : Left text place next
-
-abbrev pub ByteMet : List ℕ → Place → NextByte → Type 0
-ByteMet text place (NextByte.Byte byte next) = ByteAt text place byte next
-ByteMet text place (NextByte.Over next) = NoByte text place next
 
 -- What is known before the first byte.
 abbrev pub noChars : Chars

@@ -14,6 +14,7 @@ pub use index::has_index;
 pub use index::role_at;
 pub use labels::read_label;
 pub use places::leave;
+pub use places::next_byte;
 pub use places::next_child;
 pub use places::next_named;
 pub use places::read_extent;
@@ -32,6 +33,12 @@ pub enum Child {
 pub enum Named {
     At(Place),
     Done(Place),
+}
+
+// A byte directly in the element that the reader stands in, and where the reader stands behind it; or none is left, and the reader is past the end.
+pub enum NextByte {
+    Byte { byte: u8, next: Place },
+    Over(Place),
 }
 
 // What the elements of one name say: the first counts, and one that is bad spoils all.

@@ -3,15 +3,17 @@ ghost use mathlib.Core.Path.{_≡_};
 ghost use mathlib.Core.Bool.{_&&_};
 ghost use Prim.Native.Nat.{_+_};
 ghost use lib.Dec.{leb, ltb};
-ghost use Rattle.tape_files.specs.Elements.{liesIn, placed, inside, Left, ChildMet, NamedMet};
+ghost use Rattle.tape_files.specs.Elements.{liesIn, placed, inside, Left, ChildMet, NamedMet, ByteMet};
 ghost use Rattle.tape_files.specs.Values.{extentOf};
 use crate::Child;
 use crate::ExtentRead;
 use crate::Named;
+use crate::NextByte;
 use crate::elements::child_from;
 use crate::elements::named_from;
 use crate::elements::past_end;
 use crate::index::extent_from;
+use crate::values::byte_from;
 use tape_markup::Place;
 
 // Whether a place in a CDATA section lies in a text of a size.
@@ -82,6 +84,13 @@ pub fn next_named(text: &[u8], place: Place, name: &[u8]) -> Named
     ensures { λ r. ⌜ NamedMet (now (name .entry)) (now (text .entry)) (placed (now (text .entry)) place) r ⌝ }
 {
     named_from(text, place_in(text, place), name)
+}
+
+// The next byte directly in the element that the reader stands in. Elements in it are passed over.
+pub fn next_byte(text: &[u8], place: Place) -> NextByte
+    ensures { λ r. ⌜ ByteMet (now (text .entry)) (placed (now (text .entry)) place) r ⌝ }
+{
+    byte_from(text, place_in(text, place))
 }
 
 // The extent that an `extent` element says.

@@ -5,11 +5,12 @@ ghost use mathlib.Core.Bool.{cond, _&&_};
 ghost use Prim.Native.Nat.{ℕ, _+_, _-_, _*_};
 ghost use Rattle.tape_files.specs.Index.{charsOf};
 ghost use Rattle.tape_markup.specs.Places.{PlaceIn};
-ghost use Rattle.tape_files.specs.Elements.{Left, inside};
+ghost use Rattle.tape_files.specs.Elements.{Left, inside, ByteMet};
 ghost use Rattle.tape_files.specs.Values.{numberField, letterField, firstField, fieldAt, isValue, valueIn};
-ghost use Rattle.tape_files.specs.Private.{withByte, charsFrom, noChars, mayFollow, grows, digitOf, GrownTo, ByteMet};
+ghost use Rattle.tape_files.specs.Private.{withByte, charsFrom, noChars, mayFollow, grows, digitOf, GrownTo};
 use crate::Field;
 use crate::Named;
+use crate::NextByte;
 use crate::elements::named_from;
 use crate::elements::past_end;
 use tape_markup::Place;
@@ -29,12 +30,6 @@ pub(crate) struct Chars {
 enum Grown {
     To(u64),
     No,
-}
-
-// A byte and where the reader stands behind it; or none is left, and the reader is past the end.
-pub(crate) enum NextByte {
-    Byte { byte: u8, next: Place },
-    Over(Place),
 }
 
 struct CharsRead {

@@ -8,8 +8,8 @@ ghost use Rattle.tape_files.specs.Elements.{inside};
 ghost use Rattle.tape_files.specs.Volumes.{otherVolume};
 ghost use Rattle.tape_files.specs.Private.{VolumeMet, isOver};
 use crate::Named;
+use crate::NextByte;
 use crate::elements::named_from;
-use crate::values::NextByte;
 use crate::values::byte_from;
 use tape_markup::Place;
 

@@ -1,3 +1,2 @@
 -- Laws that this crate's proofs share, and those that other crates cite.
-pub mod Chars
 pub mod Names

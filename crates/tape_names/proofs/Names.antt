@@ -17,15 +17,17 @@ use Rattle.text_references.specs.Readings.{unread, readNext, readBehind, charac
 use Rattle.text_references.specs.Promises.{Ended, EndedBy, Written, saidBy}
 use Rattle.text_references.proofs.Written.{readings-say-characters}
 use Rattle.text_references.proofs.Streams.{bytes-say-themselves, begun-says-itself, ended-says-character}
+use Rattle.tape_markup.specs.declared.Place.{Place}
+use Rattle.tape_markup.specs.Places.{PlaceIn}
 use Rattle.tape_markup.specs.Tree.{Forest}
 use Rattle.tape_files.specs.Index.{flattened, charsOf, insides, under, valuesAt}
+use Rattle.tape_files.specs.Elements.{inside, ByteAt, NoByte}
 use Rattle.tape_files.specs.NamedFiles.{ownName}
 use Rattle.text_order.specs.declared.Range.{Range}
 use Rattle.text_order.specs.Order.{narrowedIn, narrowedAll}
 use Rattle.text_order.proofs.Prefixes.{narrowed-append, narrowed-one}
 use Rattle.tape_names.specs.declared.Naming.{Naming}
 use Rattle.tape_names.specs.Private.{noNaming, saidFrom, namingBy, withByte}
-use Rattle.tape_names.proofs.Chars.{bytesFrom}
 
 -- A character's bytes, as many of the four as there are.
 held-bytes : (text : List ℕ) (r : Utf8) → Holds text r → text ≡ take (r .count) (fieldsOf r)
@@ -223,19 +225,38 @@ module _ (list starts ends order : List ℕ) (range : Range) where
         go false a true q false e = read-on a q e
         go false a false q s e = read-plain a q
 
-  name-read : (rest read : List ℕ) (naming : Naming) → NameRead read naming → bytesFrom (withByte list starts ends order) naming rest .whole ≡ rangeOf (decoded (read ++ rest))
-  unfolding bytesFrom
+  -- The bytes of a name, one after the other.
+  unfoldable pub namingFrom : Naming → List ℕ → Naming
+  namingFrom naming [] = naming
+  namingFrom naming (byte ∷ bytes) = namingFrom (withByte list starts ends order naming byte) bytes
+
+  name-read : (rest read : List ℕ) (naming : Naming) → NameRead read naming → namingFrom naming rest .whole ≡ rangeOf (decoded (read ++ rest))
+  unfolding namingFrom
   name-read [] read naming p = rw (append-nil read) (p .whole)
   name-read (b ∷ rest) read naming p =
       rw (← append-snoc read b rest) (name-read rest (read ++ b ∷ []) (withByte list starts ends order naming b) (read-byte read naming p b))
 
-  -- The bytes of a name, one by one.
-  pub name-said : (name : List ℕ) → bytesFrom (withByte list starts ends order) (noNaming range) name .whole ≡ rangeOf (decoded name)
+  name-said : (name : List ℕ) → namingFrom (noNaming range) name .whole ≡ rangeOf (decoded name)
   unfolding decodedBehind narrowedAll
   name-said name = name-read name [] (noNaming range) (record { whole = refl; standing = λ rest. refl })
 
-  pub name-done : (name : List ℕ) (naming : Naming) → naming ≡ bytesFrom (withByte list starts ends order) (noNaming range) name → naming .whole ≡ rangeOf (decoded name)
-  name-done name naming e = ap (λ (n : Naming). n .whole) e ∙ name-said name
+  -- A reader somewhere in a name: the bytes left make of what is known what all make.
+  pub record NameLeft (text : List ℕ) (place : Place) (naming : Naming) (here : Place) : Type 0 where
+    pub within : PlaceIn text here
+    pub same : namingFrom naming (charsOf (inside text here)) ≡ namingFrom (noNaming range) (charsOf (inside text place))
+
+  pub left-none : (text : List ℕ) (place : Place) → PlaceIn text place → NameLeft text place (noNaming range) place
+  left-none text place p = record { within = p; same = refl }
+
+  module _ (text : List ℕ) (place : Place) (naming : Naming) (here : Place) (p : NameLeft text place naming here) where
+    pub left-byte : (byte : ℕ) (next : Place) → ByteAt text here byte next → (later : Naming) → later ≡ withByte list starts ends order naming byte → NameLeft text place later next
+    unfolding namingFrom
+    left-byte byte next m later e =
+        record { within = m .within; same = ap (λ (n : Naming). namingFrom n (charsOf (inside text next))) e ∙ sym (ap (namingFrom naming) (m .here)) ∙ p .same }
+
+    pub left-over : (next : Place) → NoByte text here next → naming .whole ≡ rangeOf (decoded (charsOf (inside text place)))
+    unfolding namingFrom
+    left-over next n = ap (λ (n : Naming). n .whole) (sym (ap (namingFrom naming) (n .none)) ∙ p .same) ∙ name-said (charsOf (inside text place))
 
   -- The first `name` in an element, or none.
   module _ (held : Forest) where

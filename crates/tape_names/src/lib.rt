@@ -10,11 +10,10 @@ ghost use Rattle.tape_files.specs.NamedFiles.{ownName};
 ghost use Rattle.text_order.specs.Order.{narrowedAll};
 ghost use Rattle.tape_names.specs.Private.{saidFrom, withByte};
 use tape_files::Named;
-use tape_files::leave;
+use tape_files::NextByte;
+use tape_files::next_byte;
 use tape_files::next_named;
 use tape_markup::Place;
-use tape_markup::Step;
-use tape_markup::step_from;
 use text_order::Range;
 use text_order::narrow;
 use text_references::Reading;
@@ -163,25 +162,13 @@ fn read_name(
     };
     let mut here = place;
     loop {
-        let step = step_from(text, here);
-        match step {
-            Step::End => return naming.whole,
-            Step::Broken => return naming.whole,
-            Step::Byte { byte, next } => {
+        let met = next_byte(text, here);
+        match met {
+            NextByte::Over(_) => return naming.whole,
+            NextByte::Byte { byte, next } => {
                 naming = with_byte(list, starts, ends, order, naming, byte);
                 here = next;
             }
-            Step::Start {
-                from: _,
-                to: _,
-                next,
-            } => here = leave(text, next),
-            Step::Finish {
-                from: _,
-                to: _,
-                next: _,
-            } => return naming.whole,
-            Step::Past(next) => here = next,
         }
     }
 }
