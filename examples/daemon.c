@@ -280,19 +280,33 @@ static struct state carried_out(const char *line, size_t bytes)
     return next;
 }
 
+/* The bytes of the next request with its LF, 0 while it has none; its line, which is empty where it is none that can be read. */
+static size_t next_line(char line[LINE_MOST])
+{
+    size_t have, bytes = 0;
+    char *end;
+    do {
+        have = read_at(daemon_.requests, kept.requests_done + bytes, line, LINE_MOST);
+        end = memchr(line, '\n', have);
+        bytes += end == NULL ? have : (size_t)(end - line) + 1;
+    } while (end == NULL && have == LINE_MOST);
+    if (end == NULL)
+        return 0;
+    *end = '\0';
+    if (bytes > LINE_MOST || strlen(line) + 1 != bytes)
+        line[0] = '\0';
+    return bytes;
+}
+
 /* Whether there was a whole line. */
 static int serve_one(void)
 {
-    char line[LINE_MOST + 1];
-    size_t have = read_at(daemon_.requests, kept.requests_done, line, LINE_MOST);
-    char *end = memchr(line, '\n', have);
-    if (end == NULL && have < LINE_MOST)
+    char line[LINE_MOST];
+    size_t bytes = next_line(line);
+    if (bytes == 0)
         return 0;
-    if (end == NULL)
-        refuse("a request is longer than 200 bytes");
-    *end = '\0';
     step();
-    struct state next = carried_out(line, (size_t)(end - line) + 1);
+    struct state next = carried_out(line, bytes);
     step();
     keep(&next);
     put_answer();

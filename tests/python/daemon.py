@@ -5,7 +5,8 @@ usage: tests/python/daemon.py WORD..    (the compiled daemon; before it, on anot
 
 Without an end its answers must be examples/daemon.answers. Then it is ended at its first step, at its second and so on until it goes through; and each time it is started
 again, ended once more at a step drawn, and started again. The answers and the state must then be, byte for byte, those of a daemon that was never ended: so no
-ticket is lost and no number given twice. Requests that come while it is down are answered when it is started again. A state that is none is not taken.
+ticket is lost and no number given twice. Requests that come while it is down are answered when it is started again, half a line not before its end. A line that is no request
+is unreadable, however long. A state that is none is not taken.
 """
 import os
 import random
@@ -86,6 +87,11 @@ def main():
         late.run()
         if late.left() != must:
             sys.exit("daemon.py: requests that come later are answered otherwise")
+        for odd in (b"", b"x" * 199, b"x" * 200, b"file=1,1,1" + b" " * 5000, b"file=1,1,1\0", b"file=1,1", b"file=1,1,1,1", b"file=1,,1", b"board=1,18446744073709551616"):
+            one = fresh(f"odd-{len(odd)}-{odd[-9:].hex()}", odd + b"\nfile=1,1,1\nfile=1,1,1")
+            one.run()
+            if one.left()[0] != b"unreadable\nfiled=1,1\n":
+                sys.exit(f"daemon.py: {odd[:40]!r}, a filing and half a line are answered by {one.left()[0]!r}")
         damaged = bytearray(must[1])
         damaged[8] ^= 3
         for text in (b"", b"x" * len(must[1]), must[1][:-1], bytes(damaged)):
