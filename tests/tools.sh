@@ -15,7 +15,7 @@ missing_tools() {
     command -v cargo > /dev/null || printf ' cargo'
     command -v cargo-fmt > /dev/null || printf ' rustfmt'
     command -v cargo-clippy > /dev/null || printf ' rust-clippy'
-    for crate in clap clap_complete nix serde_json sha2; do
+    for crate in clap clap_complete memmap2 nix serde_json sha2; do
         [ -n "$(find /usr/share/cargo/registry -maxdepth 1 -name "$crate-[0-9]*" 2> /dev/null)" ] || printf ' librust-%s-dev' "$(printf '%s' "$crate" | tr _ -)"
     done
     if [ "$emulated" = no ]; then

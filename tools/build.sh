@@ -144,11 +144,13 @@ library() {
     ar=$(kit)/on/$machine/toolchain/bin/llvm-ar # the kit's own, which knows x86-64 on every machine
     [ -x "$ar" ] || ar='ar'
     cd "$here" || return
-    for crate in boundary boundary_desk boundary_texts; do
+    order=(boundary boundary_desk boundary_texts)
+    [ ! -d crates/boundary_pick ] || order+=(boundary_pick)
+    for crate in "${order[@]}"; do
         TMPDIR=$rooms rt staticlib "$crate" &
         wait "$!" || return
     done
-    { echo "create $rooms/all.a"; printf 'addlib target/staticlib/lib%s.a\n' boundary boundary_desk boundary_texts; echo save; echo end; } | "$ar" -M || return
+    { echo "create $rooms/all.a"; printf 'addlib target/staticlib/lib%s.a\n' "${order[@]}"; echo save; echo end; } | "$ar" -M || return
     mv -f "$rooms/all.a" "target/staticlib/lib$1.a"
 }
 

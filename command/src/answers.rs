@@ -7,6 +7,13 @@ pub struct Refusal {
     pub place: u64,
 }
 
+impl Refusal {
+    /// As a program prints it.
+    pub fn text(&self) -> Vec<u8> {
+        format!("refused={}\nplace={}\n", self.number, self.place).into_bytes()
+    }
+}
+
 /// The answer as a whole is a refusal.
 pub fn refusal(answer: &[u8]) -> Option<Refusal> {
     let mut lines = lines(answer);

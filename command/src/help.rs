@@ -7,7 +7,7 @@ use crate::usage;
 use std::path::Path;
 
 const WHOLE: &str = include_str!("../help/whole.txt");
-const EACH: [(&str, &str); 23] = [
+const EACH: [(&str, &str); 25] = [
     ("plan", include_str!("../help/plan.txt")),
     ("field", include_str!("../help/field.txt")),
     ("buys", include_str!("../help/buys.txt")),
@@ -18,6 +18,8 @@ const EACH: [(&str, &str); 23] = [
     ("mend", include_str!("../help/mend.txt")),
     ("month", include_str!("../help/month.txt")),
     ("ltfs", include_str!("../help/ltfs.txt")),
+    ("pick", include_str!("../help/pick.txt")),
+    ("recall", include_str!("../help/recall.txt")),
     ("desk", include_str!("../help/desk.txt")),
     ("serve", include_str!("../help/serve.txt")),
     ("ask", include_str!("../help/ask.txt")),
@@ -33,11 +35,15 @@ const EACH: [(&str, &str); 23] = [
     ("help", include_str!("../help/help.txt")),
 ];
 
+/// Before the lines of the help that are on files by name.
+const BY_NAME: &str = "{by name}";
+
 /// Installed, the command has another name, and builds nothing.
 pub fn whole(places: &Places) -> String {
     let for_checkouts = |line: &&str| usage::FOR_CHECKOUTS.iter().any(|name| line.starts_with(&format!("       {{me}} {name} ")));
-    let lines = WHOLE.lines().filter(|line| !places.installed || !for_checkouts(line));
-    let text: String = lines.map(|line| format!("{line}\n")).collect();
+    let by_name = usage::by_name(places);
+    let lines = WHOLE.lines().filter(|line| !places.installed || !for_checkouts(line)).filter(|line| by_name || !line.starts_with(BY_NAME));
+    let text: String = lines.map(|line| format!("{}\n", line.strip_prefix(BY_NAME).unwrap_or(line))).collect();
     let text = if places.installed { text.replace("Run sheets and their plan sheets stand in examples/. ", "") } else { text };
     text.replace("{me}", places.me())
 }
@@ -72,9 +78,9 @@ fn read(path: &Path) -> Result<String, Stop> {
     }
 }
 
-pub fn completions(shell: &str) -> String {
+pub fn completions(shell: &str, places: &Places) -> String {
     let mut out = Vec::new();
-    let mut command = usage::whole();
+    let mut command = usage::whole(places);
     match shell {
         "zsh" => clap_complete::generate(clap_complete::shells::Zsh, &mut command, "violstream", &mut out),
         "fish" => clap_complete::generate(clap_complete::shells::Fish, &mut command, "violstream", &mut out),
@@ -89,7 +95,8 @@ mod tests {
 
     #[test]
     fn the_whole_has_every_refusal_in_the_words_of_the_table() {
-        let text = WHOLE.split_whitespace().collect::<Vec<_>>().join(" ");
+        let text = WHOLE.replace(BY_NAME, "");
+        let text = text.split_whitespace().collect::<Vec<_>>().join(" ");
         for (number, words) in crate::words::table::REFUSALS {
             assert!(text.contains(&format!("{number} {words}")), "{number}");
         }

@@ -2,13 +2,15 @@
 
 use crate::output::wait_until;
 use crate::say::{reason, say, shown};
-use crate::system::Began;
+use crate::system::{map, Began};
+use memmap2::Mmap;
 use nix::errno::Errno;
 use nix::poll::PollFlags;
 use nix::unistd;
 use std::ffi::OsStr;
 use std::fs::File;
 use std::io;
+use std::ops::Deref;
 use std::os::unix::io::{AsRawFd, RawFd};
 
 pub enum Input {
@@ -58,11 +60,42 @@ pub fn read(descriptor: RawFd, room: &mut [u8]) -> Result<usize, Errno> {
     }
 }
 
+/// A whole text of any length: a file lies in memory as it is, anything else is read to its end.
+pub enum Bytes {
+    Mapped(Mmap),
+    Held(Vec<u8>),
+}
+
+impl Deref for Bytes {
+    type Target = [u8];
+
+    fn deref(&self) -> &[u8] {
+        match self {
+            Bytes::Mapped(bytes) => bytes,
+            Bytes::Held(bytes) => bytes,
+        }
+    }
+}
+
+pub fn whole(name: &OsStr, began: &Began) -> Result<Bytes, String> {
+    let input = open(name, began)?;
+    if let Input::Named(file) = &input {
+        let about = file.metadata().map_err(|error| cannot_read(name, &error))?;
+        if about.is_file() && about.len() > 0 {
+            return map(file).map(Bytes::Mapped).map_err(|error| cannot_read(name, &error));
+        }
+    }
+    drain(&input, name, usize::MAX).map(Bytes::Held)
+}
+
 /// The first bytes of a file, at most `limit`.
 pub fn take(name: &OsStr, limit: usize, began: &Began) -> Result<Vec<u8>, String> {
-    let input = open(name, began)?;
+    drain(&open(name, began)?, name, limit)
+}
+
+fn drain(input: &Input, name: &OsStr, limit: usize) -> Result<Vec<u8>, String> {
     if let Input::Standard = input {
-        tell_if_keyboard(&input, "reading standard input, which is the keyboard; Ctrl-D on a new line ends it");
+        tell_if_keyboard(input, "reading standard input, which is the keyboard; Ctrl-D on a new line ends it");
     }
     let mut text = Vec::new();
     let mut room = vec![0; limit.min(65536)];

@@ -1,6 +1,7 @@
 //! Answers as JSON: one object for each, numbers whole, as the program printed them.
 
 use crate::answers::lines;
+use crate::explain::schedule::{Row, Speed};
 use serde_json::{json, Map, Number, Value};
 use std::str::FromStr;
 
@@ -66,6 +67,26 @@ pub fn sheet(command: &str, answer: &[u8], name: Option<String>, why: Option<&st
     }
     out.extend(why.map(|why| ("why".to_string(), Value::String(why.to_string()))));
     written(out)
+}
+
+/// A plan sheet, and who gets which file when.
+pub fn recall(answer: &[u8], rows: &[Row], speed: Speed) -> String {
+    let row = |row: &Row| {
+        let mut out = Map::new();
+        out.insert("time".to_string(), json!(row.time));
+        if let Some(seconds) = speed.seconds(row.time) {
+            out.insert("seconds".to_string(), json!(seconds));
+            out.extend(speed.moment(seconds).map(|moment| ("at".to_string(), Value::String(moment.replace(' ', "T")))));
+        }
+        out.insert("leg".to_string(), json!(row.leg));
+        out.insert("reads".to_string(), value(&row.reads));
+        out.insert("file".to_string(), json!(row.file));
+        out.extend(row.path.map(|path| ("path".to_string(), Value::String(String::from_utf8_lossy(path).into_owned()))));
+        Value::Object(out)
+    };
+    let sheet = sheet("plan", answer, None, None);
+    let rows = Value::Array(rows.iter().map(row).collect());
+    format!("{},\"files\":{rows}}}\n", sheet.trim_end().trim_end_matches('}'))
 }
 
 pub fn check(answer: &[u8], why: Option<&str>) -> String {

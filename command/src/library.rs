@@ -1,5 +1,6 @@
-//! The two proved calls of the library for C that the server makes (`violstream`), behind a trait, so that its own tests need no library. Where this command was
-//! compiled before the library was there, there is no `Library` either, and `serve` says so.
+//! The proved calls of the library for C that this command makes (`violstream`): the two of the server, behind a trait, so that its own tests need no library, and
+//! those of `pick` and `recall`. Where this command was compiled before the library was there, there is no `Library` either, and `serve` says so; `pick` and
+//! `recall` are not offered then.
 
 use crate::answers::Refusal;
 
@@ -38,6 +39,61 @@ pub trait Calls {
     fn event(&mut self, tape: &Tape, table: &mut Table, line: &[u8]) -> Told;
     /// Who waits, in lines.
     fn waiting(&mut self, table: &Table) -> Told;
+}
+
+/// What is picked from, and in which unit; a head place and a turn price where they are given.
+#[cfg_attr(not(feature = "pick"), allow(dead_code))]
+pub struct Picking<'a> {
+    pub tape: &'a [u8],
+    pub label: &'a [u8],
+    pub index: &'a [u8],
+    pub list: &'a [u8],
+    pub blocks: bool,
+    pub head: Option<u64>,
+    pub turn: Option<u64>,
+}
+
+/// The run sheet and the text of names.
+pub struct Picked {
+    pub run: Vec<u8>,
+    pub names: Vec<u8>,
+}
+
+/// Whether the call is there.
+pub const PICKS: bool = cfg!(feature = "pick");
+
+#[cfg(not(feature = "pick"))]
+pub fn pick(_: &Picking) -> Result<Picked, Refusal> {
+    unreachable!("nobody is offered a call that is not there")
+}
+
+/// A run sheet's plan sheet, for any run: 64 wants with 1,024 reads have their room.
+#[cfg(not(feature = "pick"))]
+pub fn plan(_: &[u8]) -> Result<Vec<u8>, Refusal> {
+    unreachable!("nobody is offered a call that is not there")
+}
+
+#[cfg(feature = "pick")]
+pub use picking::{pick, plan};
+
+#[cfg(feature = "pick")]
+mod picking {
+    use super::{Picked, Picking, Refusal};
+    use crate::violstream::{Library, Refused};
+
+    fn refusal(refused: Refused) -> Refusal {
+        Refusal { number: refused.number, place: refused.place }
+    }
+
+    pub fn pick(asked: &Picking) -> Result<Picked, Refusal> {
+        let (head, turn): (Vec<u64>, Vec<u64>) = (asked.head.into_iter().collect(), asked.turn.into_iter().collect());
+        let picked = Library::pick([asked.tape, asked.label, asked.index, asked.list], u64::from(asked.blocks), &head, &turn);
+        picked.map(|(run, names)| Picked { run, names }).map_err(refusal)
+    }
+
+    pub fn plan(sheet: &[u8]) -> Result<Vec<u8>, Refusal> {
+        Library::new().answer(sheet).map_err(refusal)
+    }
 }
 
 #[cfg(feature = "library")]

@@ -1,7 +1,9 @@
 //! What must be asked of the system in its own terms: beside `library` the only file with `unsafe` in it.
 
+use memmap2::Mmap;
 use nix::libc;
 use nix::sys::signal::{raise, Signal};
+use std::fs::File;
 use std::os::unix::io::RawFd;
 use std::os::unix::process::CommandExt;
 use std::process::Command;
@@ -78,6 +80,12 @@ pub fn other_end(socket: RawFd) -> std::io::Result<(u32, i32)> {
         0 => Ok((who.uid, who.pid)),
         _ => Err(std::io::Error::last_os_error()),
     }
+}
+
+/// A file as it lies in memory, whatever its length. Whoever cuts it off while it is looked at ends this call.
+pub fn map(file: &File) -> std::io::Result<Mmap> {
+    // SAFETY: it is looked at as bytes alone, and nothing that is found there is taken for granted.
+    unsafe { Mmap::map(file) }
 }
 
 /// However this call ends, what it has started ends with it.

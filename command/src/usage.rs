@@ -2,8 +2,9 @@
 
 use crate::book::is_name;
 use crate::clock;
-use crate::commands::{Asked, Explain, Serve, Sought};
+use crate::commands::{Asked, Explain, Pick, Recall, Serve, Sought};
 use crate::explain::schedule::Speed;
+use crate::library::PICKS;
 use crate::places::Places;
 use crate::say::quoted;
 use crate::status::Stop;
@@ -34,7 +35,7 @@ const fn known(name: &'static str, synopsis: &'static str, about: &'static str, 
     Known { name, synopsis, about, options, words }
 }
 
-pub const COMMANDS: [Known; 23] = [
+pub const COMMANDS: [Known; 25] = [
     known("plan", "[--any] [--json] [FILE...]", "the plan sheet of each run sheet", &["any", "json"], Words::Files),
     known("field", "[FILE...]", "the same by the plain engine, for at most eight wants", &[], Words::Files),
     known("buys", "[--any] [--json] [FILE...]", "what each detour of a plan buys", &["any", "json"], Words::Files),
@@ -51,6 +52,20 @@ pub const COMMANDS: [Known; 23] = [
     known("mend", "[FILE...]", "each run sheet put in order", &[], Words::Files),
     known("month", "[--json] [FILE...]", "one page over up to 1,000 run sheets", &["json"], Words::Files),
     known("ltfs", "NAME LABEL INDEX", "the run sheet of a tape from its LTFS label and index", &[], Words::Files),
+    known(
+        "pick",
+        "[--blocks] [--head PLACE] [--turn PRICE] [--names FILE] TAPE LABEL INDEX [LIST]",
+        "the run sheet of the files that a list names",
+        &["blocks", "head", "turn", "names"],
+        Words::Files,
+    ),
+    known(
+        "recall",
+        "[--blocks] [--head PLACE] [--turn PRICE] [--speed UNITS [--begin TIME]] [--svg FILE] [--keep FOLDER] [--book BOOK] [--json] TAPE LABEL INDEX [LIST]",
+        "when each file that a list names is there",
+        &["blocks", "head", "turn", "speed", "begin", "svg", "keep", "book", "json"],
+        Words::Files,
+    ),
     known("desk", "SHEET [EVENTS] | --replay JOURNAL [--keep FOLDER]", "a day at the desk of two offices", &["replay", "keep"], Words::Files),
     known(
         "serve",
@@ -78,18 +93,34 @@ pub const COMMANDS: [Known; 23] = [
     known("help", "[COMMAND]", "all commands, or one", &[], Words::Other),
 ];
 
+/// Commands that need a call of the library.
+const BY_NAME: [&str; 2] = ["pick", "recall"];
+
+/// Whether files by name are offered: the call is linked, or in this checkout it can be.
+pub fn by_name(places: &Places) -> bool {
+    PICKS || !places.installed && places.root.join("crates/boundary_pick").is_dir()
+}
+
+/// The commands that there are.
+pub fn offered(places: &Places) -> impl Iterator<Item = &'static Known> {
+    let by_name = by_name(places);
+    COMMANDS.iter().filter(move |known| by_name || !BY_NAME.contains(&known.name))
+}
+
 /// Commands that need the sources.
 pub const FOR_CHECKOUTS: [&str; 4] = ["build", "test", "install", "deb"];
 
 // ---- For clap ----
 
 /// Options that take a value, and what it is.
-const VALUES: [(&str, &str); 8] = [
+const VALUES: [(&str, &str); 10] = [
     ("--svg", "the name of a file"),
     ("--html", "the name of a file"),
     ("--names", "the name of a file"),
     ("--speed", "a whole number of units of tape in a second, 1 or more"),
     ("--begin", "a time like 2026-11-16T08:00:00, from 1970 on"),
+    ("--head", "a whole number below 2^64, the head's place"),
+    ("--turn", "a whole number below 2^64, the price of a turn"),
     ("--by", "a name of whoever asks, on one line"),
     ("--tape", "the name of a tape, 1 to 16 of A-Z and 0-9"),
     ("--file", "the number of a file, 1 to 256"),
@@ -105,6 +136,9 @@ fn option(name: &str) -> Arg {
         "any" => Arg::new("any").long("any").action(ArgAction::SetTrue).help("any run: the head anywhere, and more room"),
         "json" => Arg::new("json").long("json").action(ArgAction::SetTrue).help("one object of JSON for each answer"),
         "svg" => valued("svg", "FILE", ValueHint::FilePath, "a picture too"),
+        "blocks" => Arg::new("blocks").long("blocks").action(ArgAction::SetTrue).help("positions in blocks of the tape, not in bytes"),
+        "head" => valued("head", "PLACE", ValueHint::Other, "where the head stands; without it at the end of the last file"),
+        "turn" => valued("turn", "PRICE", ValueHint::Other, "the price of a turn; without it the drives' own"),
         "names" => valued("names", "FILE", ValueHint::FilePath, "the names of the files, as pick writes them"),
         "speed" => valued("speed", "UNITS", ValueHint::Other, "units of tape in a second: times by the clock too"),
         "begin" => valued("begin", "TIME", ValueHint::Other, "when the run begins: the time of day too"),
@@ -120,7 +154,7 @@ fn option(name: &str) -> Arg {
         "group2" => valued("group2", "NAME", ValueHint::Other, "who may speak for office 2"),
         "group" => valued("group", "NAME", ValueHint::Other, "who may speak for the operator"),
         "replay" => valued("replay", "JOURNAL", ValueHint::FilePath, "the journal of a server once more"),
-        "keep" => valued("keep", "FOLDER", ValueHint::DirPath, "with the run sheet and the plan sheet of each boarding"),
+        "keep" => valued("keep", "FOLDER", ValueHint::DirPath, "a folder where the sheets are left, for check"),
         _ => unreachable!("no option {name}"),
     }
 }
@@ -149,8 +183,8 @@ fn definition(known: &Known) -> Command {
 }
 
 /// All commands, for completions.
-pub fn whole() -> Command {
-    Command::new("violstream").disable_help_subcommand(true).subcommands(COMMANDS.iter().map(|known| definition(known).no_binary_name(false)))
+pub fn whole(places: &Places) -> Command {
+    Command::new("violstream").disable_help_subcommand(true).subcommands(offered(places).map(|known| definition(known).no_binary_name(false)))
 }
 
 // ---- Reading ----
@@ -173,7 +207,7 @@ pub fn read(words: impl Iterator<Item = OsString>, places: &Places) -> Result<As
     if first == "--version" {
         return Ok(Asked::Version);
     }
-    match COMMANDS.iter().find(|known| first == known.name) {
+    match offered(places).find(|known| first == known.name) {
         Some(known) => Usage { known, places }.read(words.collect()),
         None => Err(misused(format!("unknown command '{}'", quoted(&first)), places.me(), &every_name(places))),
     }
@@ -181,7 +215,7 @@ pub fn read(words: impl Iterator<Item = OsString>, places: &Places) -> Result<As
 
 fn every_name(places: &Places) -> String {
     let here = |known: &&Known| known.name != "completions" && !(places.installed && FOR_CHECKOUTS.contains(&known.name));
-    COMMANDS.iter().filter(here).map(|known| known.name).collect::<Vec<_>>().join(" | ")
+    offered(places).filter(here).map(|known| known.name).collect::<Vec<_>>().join(" | ")
 }
 
 fn misused(sentence: String, me: &str, synopsis: &str) -> Stop {
@@ -230,7 +264,7 @@ impl Usage<'_> {
         let (any, json) = (given("any"), given("json"));
         let value = |option: &str| matches.get_one::<OsString>(option).cloned();
         // A tape's name is judged by the program, and an event by the server.
-        let names = words.iter().skip(usize::from(name == "ltfs")).take(if name == "ask" { 1 } else { words.len() });
+        let names = words.iter().skip(usize::from(["ltfs", "pick", "recall"].contains(&name))).take(if name == "ask" { 1 } else { words.len() });
         if names.into_iter().any(|word| word.is_empty()) {
             return self.misused("an empty word is no name");
         }
@@ -239,6 +273,11 @@ impl Usage<'_> {
             "month" => self.month(words, json),
             "price" | "check" => self.pair(words, json),
             "explain" => self.explain(words, value),
+            "pick" => {
+                let names = self.named("names", &value)?;
+                Ok(Asked::Pick { pick: self.pick(words, given("blocks"), &value)?, names })
+            }
+            "recall" => self.recall(words, given("blocks"), json, &value),
             "ltfs" => self.ltfs(words),
             "desk" => self.desk(words, value("replay"), value("keep")),
             "serve" => self.serve(words, value),
@@ -289,12 +328,7 @@ impl Usage<'_> {
     }
 
     fn explain(&self, words: Vec<OsString>, value: impl Fn(&str) -> Option<OsString>) -> Result<Asked, Stop> {
-        for option in ["svg", "names"] {
-            if value(option).map_or(false, |name| name.is_empty()) {
-                return self.misused(needs(&format!("--{option}")));
-            }
-        }
-        let (picture, names, speed) = (value("svg"), value("names"), self.speed(&value)?);
+        let (picture, names, speed) = (self.named("svg", &value)?, self.named("names", &value)?, self.speed(&value)?);
         match <[OsString; 1]>::try_from(words) {
             Ok([run]) => {
                 self.only_once(&[&run].into_iter().chain(&names).collect::<Vec<_>>())?;
@@ -304,11 +338,46 @@ impl Usage<'_> {
         }
     }
 
+    /// A value that is the name of something.
+    fn named(&self, option: &str, value: &impl Fn(&str) -> Option<OsString>) -> Result<Option<OsString>, Stop> {
+        match value(option) {
+            Some(name) if name.is_empty() => self.misused(needs(&format!("--{option}"))),
+            name => Ok(name),
+        }
+    }
+
+    fn number(&self, option: &str, value: &impl Fn(&str) -> Option<OsString>) -> Result<Option<u64>, Stop> {
+        match value(option).map(|text| text.to_str().filter(|text| is_number(text)).and_then(|text| text.parse::<u64>().ok())) {
+            Some(None) => self.misused(needs(&format!("--{option}"))),
+            number => Ok(number.flatten()),
+        }
+    }
+
+    fn pick(&self, words: Vec<OsString>, blocks: bool, value: &impl Fn(&str) -> Option<OsString>) -> Result<Pick, Stop> {
+        let mut words = words.into_iter();
+        match (words.next(), words.next(), words.next(), words.next(), words.next()) {
+            (Some(tape), Some(label), Some(index), list, None) => {
+                let list = list.unwrap_or_else(|| "-".into());
+                self.only_once(&[&label, &index, &list])?;
+                Ok(Pick { tape, label, index, list, blocks, head: self.number("head", value)?, turn: self.number("turn", value)? })
+            }
+            _ => self.misused(format!(
+                "{} takes a tape name, a file with the label, one with the index and, if not standard input, one with a list of paths",
+                self.known.name
+            )),
+        }
+    }
+
+    fn recall(&self, words: Vec<OsString>, blocks: bool, json: bool, value: &impl Fn(&str) -> Option<OsString>) -> Result<Asked, Stop> {
+        let pick = self.pick(words, blocks, value)?;
+        let (picture, keep, book) = (self.named("svg", value)?, self.named("keep", value)?, self.named("book", value)?);
+        Ok(Asked::Recall(Recall { pick, speed: self.speed(value)?, picture, keep, book, json }))
+    }
+
     fn speed(&self, value: &impl Fn(&str) -> Option<OsString>) -> Result<Speed, Stop> {
-        let whole = |text: &OsString| text.to_str().filter(|text| is_number(text)).and_then(|text| text.parse::<u64>().ok());
-        let units = match value("speed").map(|text| whole(&text).filter(|&units| units > 0)) {
-            Some(None) => return self.misused(needs("--speed")),
-            units => units.flatten(),
+        let units = match self.number("speed", value)? {
+            Some(0) => return self.misused(needs("--speed")),
+            units => units,
         };
         match (units, value("begin").map(|text| text.to_str().and_then(clock::seconds))) {
             (_, Some(None)) => self.misused(needs("--begin")),
@@ -446,7 +515,7 @@ impl Usage<'_> {
     fn help(&self, words: Vec<OsString>) -> Result<Asked, Stop> {
         match words.first() {
             None => Ok(Asked::Help(None)),
-            Some(word) => match COMMANDS.iter().find(|known| word == known.name) {
+            Some(word) => match offered(self.places).find(|known| word == known.name) {
                 Some(known) if words.len() == 1 => Ok(Asked::Help(Some(known.name))),
                 _ => self.misused("help takes the name of one command"),
             },
@@ -470,9 +539,12 @@ impl Usage<'_> {
 #[cfg(test)]
 mod tests {
     use super::*;
+    use std::path::Path;
 
     #[test]
     fn clap_finds_no_fault_in_the_definitions() {
-        whole().debug_assert();
+        let places = Places { installed: false, root: Path::new(env!("CARGO_MANIFEST_DIR")).join("..") };
+        whole(&places).debug_assert();
+        COMMANDS.iter().for_each(|known| definition(known).debug_assert());
     }
 }

@@ -14,6 +14,8 @@ const PLAN_MOST: usize = 7644;
 const CHECK_MOST: usize = 24115;
 const SHEET_MOST: usize = 16384;
 const CHANGES_MOST: usize = 98424;
+/// Before a path in the names stand a word and two numbers; a list has at most 1,024 lines.
+const NAMES_MOST: usize = 1024 * 32;
 const TEXT_MOST: usize = 2677;
 
 /// A ticket; all zero where nobody waits.
@@ -65,6 +67,12 @@ mod calls {
         ) -> u64;
         pub fn violstream_mend(
             sheet: *const u8, sheet_len: usize, out: *mut u8, out_len: usize, changes: *mut u8, changes_len: usize, sizes: *mut u64, sizes_len: usize,
+        ) -> u64;
+        #[cfg(feature = "pick")]
+        pub fn violstream_pick(
+            tape: *const u8, tape_len: usize, label: *const u8, label_len: usize, index: *const u8, index_len: usize, list: *const u8, list_len: usize,
+            unit: u64, head: *const u64, head_len: usize, turn: *const u64, turn_len: usize, out: *mut u8, out_len: usize, names: *mut u8, names_len: usize,
+            sizes: *mut u64, sizes_len: usize,
         ) -> u64;
         pub fn violstream_file(
             tickets: *mut Ticket, tickets_len: usize, lasts: *mut u64, lasts_len: usize, office: u64, file: u64, count: u64, files: u64,
@@ -287,6 +295,25 @@ impl Library {
             )
         })?;
         Ok((self.text(sizes[0]), self.changes.iter().copied().take(sizes[1] as usize).collect()))
+    }
+
+    /// The run sheet of the files that a list asks for by their paths, and their names: from a tape's name, label and index, and the list.
+    #[cfg(feature = "pick")]
+    pub fn pick(texts: [&[u8]; 4], unit: u64, head: &[u64], turn: &[u64]) -> Result<(Vec<u8>, Vec<u8>), Refused> {
+        let [tape, label, index, list] = texts;
+        let (mut out, mut names, mut sizes) = (vec![0; SHEET_MOST], vec![0; list.len() + NAMES_MOST], [0_u64; 2]);
+        // SAFETY: every row is lent with its own length, and no two of them overlap.
+        let result = unsafe {
+            calls::violstream_pick(
+                tape.as_ptr(), tape.len(), label.as_ptr(), label.len(), index.as_ptr(), index.len(), list.as_ptr(), list.len(),
+                unit, head.as_ptr(), head.len(), turn.as_ptr(), turn.len(), out.as_mut_ptr(), out.len(), names.as_mut_ptr(), names.len(),
+                sizes.as_mut_ptr(), sizes.len(),
+            )
+        };
+        judged(result)?;
+        out.truncate(sizes[0] as usize);
+        names.truncate(sizes[1] as usize);
+        Ok((out, names))
     }
 
     /// A ticket filed at an office of a tape with so many files; its number.

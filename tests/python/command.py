@@ -812,7 +812,7 @@ def manual(at):
     if f'"{version}"' not in page:
         raise Wrong(f"docs/violstream.1 is not of {version}")
     text = " ".join(at.shell("./violstream help")[0].decode().split())
-    for number in (2, 3, 4, 5, 6, 7, 9, 10, 11, 12, 13, 15, 16, 17, 18, 19, 20, 21, 22, 23, 24, 25, 43):
+    for number in (2, 3, 4, 5, 6, 7, 9, 10, 11, 12, 13, 15, 16, 17, 18, 19, 20, 21, 22, 23, 24, 25, 43) + ((41, 42, 44) if "pick" in text else ()):
         words = re.search(r"\n%d\n([^.]*)\n\." % number, page)
         if words is None or " ".join(words[1].split()) not in text:
             raise Wrong(f"docs/violstream.1 does not say of refusal {number} what the help says: {words and words[1]!r}")

@@ -7,6 +7,8 @@ mod explain;
 mod ltfs;
 mod month;
 mod pair;
+mod pick;
+mod recall;
 mod record;
 mod replay;
 mod serve;
@@ -23,6 +25,8 @@ use crate::places::Places;
 use crate::say::say;
 use crate::status::{Status, Stop};
 use crate::system::Began;
+pub use pick::Pick;
+pub use recall::Recall;
 use std::ffi::OsString;
 
 /// What every command may look at.
@@ -37,6 +41,8 @@ pub enum Asked {
     Pair { command: &'static str, run: OsString, other: OsString, json: bool },
     Explain(Explain),
     Month { files: Vec<OsString>, json: bool },
+    Pick { pick: Pick, names: Option<OsString> },
+    Recall(Recall),
     Ltfs { tape: OsString, label: OsString, index: OsString },
     Desk { sheet: OsString, events: OsString },
     Record { book: OsString, by: Option<String>, files: Vec<OsString> },
@@ -86,6 +92,8 @@ pub fn answer(asked: &Asked, call: &Call) -> Result<Status, Stop> {
         Asked::Pair { command, run, other, json } => pair::answer(command, run, other, *json, call),
         Asked::Explain(asked) => explain::answer(asked, call),
         Asked::Month { files, json } => month::answer(files, *json, call),
+        Asked::Pick { pick, names } => pick::answer(pick, names.as_deref(), call),
+        Asked::Recall(asked) => recall::answer(asked, call),
         Asked::Ltfs { tape, label, index } => ltfs::answer(tape, label, index, call),
         Asked::Desk { sheet, events } => desk::answer(sheet, events, call),
         Asked::Record { book, by, files } => record::answer(book, by.as_deref(), files, call),
@@ -96,7 +104,7 @@ pub fn answer(asked: &Asked, call: &Call) -> Result<Status, Stop> {
         Asked::Version => print(&help::version(&call.places)?),
         Asked::Help(None) => print(&help::whole(&call.places)),
         Asked::Help(Some(command)) => print(&help::of(command, &call.places)),
-        Asked::Completions { shell } => print(&help::completions(shell)),
+        Asked::Completions { shell } => print(&help::completions(shell, &call.places)),
         Asked::Build => {
             build::everything(call)?;
             say("built: what plan, field, buys, price, check, explain, rewrite, mend, month, ltfs, desk, serve, record, audit and install need");

@@ -49,7 +49,7 @@ pub fn everything(prefix: &Path, call: &Call) -> Result<Vec<Item>, Stop> {
         ("zsh", "share/zsh/site-functions/_violstream"),
         ("fish", "share/fish/vendor_completions.d/violstream.fish"),
     ];
-    items.extend(completions.map(|(shell, to)| item(to, 0o644, help::completions(shell).into_bytes())));
+    items.extend(completions.map(|(shell, to)| item(to, 0o644, help::completions(shell, &call.places).into_bytes())));
     library(&mut items, prefix, &version, call)?;
     Ok(items)
 }

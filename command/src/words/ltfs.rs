@@ -1,6 +1,7 @@
 //! A refused LTFS label or index in words.
 
 mod files;
+pub mod list;
 mod text;
 
 use super::table;

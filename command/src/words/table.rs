@@ -1,6 +1,6 @@
 //! What each refusal says, as the help has it: the words where the reason itself was not found.
 
-pub const REFUSALS: [(u64, &str); 23] = [
+pub const REFUSALS: [(u64, &str); 26] = [
     (2, "a file of length 0, before the end of the one before it, or ending above 2^40; an aggregate number above 4,096, or one that returns after a file with another or none; place: the file"),
     (3, "over 64 wants left"),
     (4, "a want that is not in the table or not ascending, or a count of 0; place: the want"),
@@ -23,7 +23,10 @@ pub const REFUSALS: [(u64, &str); 23] = [
     (23, "over 256 files left, or a file that ends above 2^40 (in bytes 1.1 TB, less than a large cartridge holds)"),
     (24, "over eight wants, as they stand on the sheet"),
     (25, "a byte count that is not a number and an LF or runs past the input, or a sheet numbered 1,001; place: the sheet"),
+    (41, "a name of the list that is that of no file of the index, or of several; place: its line"),
+    (42, "a name of the list whose file has no bytes, or some of them in the other partition; place: its line"),
     (43, "an event that is not for this window"),
+    (44, "label and index are of different volumes"),
 ];
 
 pub fn words(number: u64) -> String {

@@ -10,6 +10,11 @@ const LIMIT: u128 = 1 << 40;
 #[derive(Default)]
 struct File {
     name: Option<Vec<u8>>,
+    /// The folders around it, by their places among all folders.
+    folders: Vec<usize>,
+    has_bytes: bool,
+    /// A partition that is not the label's, where some of its bytes lie.
+    elsewhere: Option<Vec<u8>>,
     line: usize,
     extents: usize,
     partition: Vec<u8>,
@@ -22,7 +27,12 @@ struct File {
 pub struct Files {
     pub block_size: Option<Vec<u8>>,
     pub data: Option<Vec<u8>>,
+    /// Of which volume label and index are, as written.
+    pub volumes: [Option<Vec<u8>>; 2],
     files: Vec<File>,
+    /// The names of all folders, and those that are open, the volume itself first.
+    folders: Vec<Option<Vec<u8>>>,
+    open: Vec<usize>,
     /// The path of the file that is being read.
     inside: Option<Vec<u8>>,
     given: HashMap<String, Vec<u8>>,
@@ -45,14 +55,18 @@ pub fn shown(text: &[u8]) -> String {
 }
 
 fn is_file(path: &[u8]) -> bool {
-    let mut rest = match path.strip_prefix(b"/ltfsindex/directory/contents") {
+    path.strip_suffix(b"/contents/file").map_or(false, is_folder)
+}
+
+fn is_folder(path: &[u8]) -> bool {
+    let mut rest = match path.strip_prefix(b"/ltfsindex/directory") {
         Some(rest) => rest,
         None => return false,
     };
-    while let Some(inner) = rest.strip_prefix(b"/directory/contents") {
+    while let Some(inner) = rest.strip_prefix(b"/contents/directory") {
         rest = inner;
     }
-    rest == b"/file"
+    rest.is_empty()
 }
 
 impl File {
@@ -77,9 +91,13 @@ impl Files {
     }
 
     pub fn begin(&mut self, path: &[u8], line: usize) {
+        if self.inside.is_none() && is_folder(path) {
+            self.open.push(self.folders.len());
+            self.folders.push(None);
+        }
         if self.inside.is_none() && is_file(path) {
             self.inside = Some(path.to_vec());
-            self.files.push(File { line, ..File::default() });
+            self.files.push(File { line, folders: self.open.get(1..).unwrap_or_default().to_vec(), ..File::default() });
         }
         if self.below(path) == Some(&b"/extentinfo/extent"[..]) {
             self.given.clear();
@@ -101,6 +119,12 @@ impl Files {
 
     /// An element is over, other than a value of an extent; of an extent, the first value that it has not.
     pub fn end(&mut self, path: &[u8], text: &[u8]) -> Option<&'static str> {
+        if path == b"/ltfsindex/volumeuuid" {
+            self.volumes[1].get_or_insert_with(|| text.to_vec());
+        }
+        if self.inside.is_none() {
+            self.end_in_folder(path, text);
+        }
         let missing = match self.below(path)? {
             b"" => {
                 self.inside = None;
@@ -117,12 +141,25 @@ impl Files {
         missing
     }
 
+    fn end_in_folder(&mut self, path: &[u8], text: &[u8]) {
+        if is_folder(path) {
+            self.open.pop();
+        }
+        if let (Some(true), Some(&last)) = (path.strip_suffix(b"/name").map(is_folder), self.open.last()) {
+            self.folders[last].get_or_insert_with(|| text.to_vec());
+        }
+    }
+
     fn keep_extent(&mut self) {
         let number = |text: Option<&Vec<u8>>| text.and_then(|text| std::str::from_utf8(text).ok()?.parse::<u128>().ok()).unwrap_or(0);
         let given = |key: &str| number(self.given.get(key));
         let start = given("startblock").saturating_mul(number(self.block_size.as_ref())).saturating_add(given("byteoffset"));
         let bytes = given("bytecount");
         let partition = self.given.get("partition").cloned().unwrap_or_default();
+        if let (Some(file), true) = (self.files.last_mut(), bytes > 0) {
+            file.has_bytes = true;
+            file.elsewhere = file.elsewhere.take().or_else(|| Some(partition.clone()).filter(|partition| Some(partition) != self.data.as_ref()));
+        }
         match self.files.last_mut() {
             Some(file) if file.extents == 1 => {
                 file.start = start;
@@ -135,6 +172,28 @@ impl Files {
 
     pub fn called_last(&self) -> String {
         self.files.last().map_or(String::new(), File::called)
+    }
+
+    // ---- 41 and 42: the files by their paths ----
+
+    /// The paths of all files, in the order of the index.
+    pub fn paths(&self) -> impl Iterator<Item = Vec<u8>> + '_ {
+        let name = |name: &Option<Vec<u8>>| name.as_ref().map_or(Vec::new(), |name| decoded(name));
+        self.files.iter().map(move |file| {
+            let folders = file.folders.iter().map(|&folder| name(&self.folders[folder]));
+            folders.chain([name(&file.name)]).collect::<Vec<_>>().join(&b'/')
+        })
+    }
+
+    /// Why the file at such a place among them cannot be read.
+    pub fn no_bytes(&self, at: usize) -> Option<String> {
+        let file = self.files.get(at)?;
+        let data = self.data.as_ref().map_or(String::new(), |data| String::from_utf8_lossy(data).into_owned());
+        match &file.elsewhere {
+            Some(partition) => Some(format!("bytes of it lie in partition {}, and those that can be planned in {data}", shown(partition))),
+            None if !file.has_bytes => Some("it has no bytes on the tape".to_string()),
+            None => None,
+        }
     }
 
     // ---- 21 to 23: the files as a whole ----
@@ -168,5 +227,60 @@ impl Files {
         }
         let far = left.into_iter().find(|file| file.end() > LIMIT)?;
         Some(format!("{} ends above byte {LIMIT} (2^40, 1.1 TB)", far.called()))
+    }
+}
+
+/// What a name stands for: the references in it mean their characters.
+fn decoded(name: &[u8]) -> Vec<u8> {
+    let (mut out, mut rest) = (Vec::with_capacity(name.len()), name);
+    while let Some((&first, behind)) = rest.split_first() {
+        let end = if first == b'&' { behind.iter().position(|&byte| byte == b';') } else { None };
+        match end.and_then(|end| Some((character(&behind[..end])?, end))) {
+            Some((character, end)) => {
+                out.extend_from_slice(character.encode_utf8(&mut [0; 4]).as_bytes());
+                rest = &behind[end + 1..];
+            }
+            None => {
+                out.push(first);
+                rest = behind;
+            }
+        }
+    }
+    out
+}
+
+fn character(reference: &[u8]) -> Option<char> {
+    let number = |digits: &[u8], base: u32| {
+        let digits = std::str::from_utf8(digits).ok().filter(|digits| !digits.is_empty() && digits.chars().all(|digit| digit.is_digit(base)))?;
+        u32::from_str_radix(digits.trim_start_matches('0'), base).ok().filter(|&number| number > 0).and_then(char::from_u32)
+    };
+    match reference {
+        b"amp" => Some('&'),
+        b"lt" => Some('<'),
+        b"gt" => Some('>'),
+        b"quot" => Some('"'),
+        b"apos" => Some('\''),
+        [b'#', b'x', digits @ ..] => number(digits, 16),
+        [b'#', digits @ ..] => number(digits, 10),
+        _ => None,
+    }
+}
+
+#[cfg(test)]
+mod tests {
+    use super::*;
+
+    #[test]
+    fn references() {
+        let names: [(&str, &str); 5] = [
+            ("a&amp;amp;&lt;&#65;&#x000e4;", "a&amp;<A\u{e4}"),
+            ("&", "&"),
+            ("&x;&#;&#xD800;&#0;", "&x;&#;&#xD800;&#0;"),
+            ("&&amp;", "&&"),
+            ("&#x110000;&quot;", "&#x110000;\""),
+        ];
+        for (written, name) in names {
+            assert_eq!(decoded(written.as_bytes()), name.as_bytes());
+        }
     }
 }

@@ -251,6 +251,9 @@ impl<'a> Text<'a> {
     }
 
     fn label_value(&mut self, text: &[u8]) {
+        if self.path == b"/ltfslabel/volumeuuid" {
+            self.files.volumes[0].get_or_insert_with(|| text.to_vec());
+        }
         if self.path == b"/ltfslabel/blocksize" {
             self.must_be_number("blocksize", text, "");
             self.files.block_size.get_or_insert_with(|| text.to_vec());
