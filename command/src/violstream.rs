@@ -299,6 +299,7 @@ impl Library {
 
     /// The run sheet of the files that a list asks for by their paths, and their names: from a tape's name, label and index, and the list.
     #[cfg(feature = "pick")]
+    #[rustfmt::skip]
     pub fn pick(texts: [&[u8]; 4], unit: u64, head: &[u64], turn: &[u64]) -> Result<(Vec<u8>, Vec<u8>), Refused> {
         let [tape, label, index, list] = texts;
         let (mut out, mut names, mut sizes) = (vec![0; SHEET_MOST], vec![0; list.len() + NAMES_MOST], [0_u64; 2]);
