@@ -12,7 +12,8 @@ use Rattle.tape_markup.specs.Steps.{behindText}
 use Rattle.tape_markup.proofs.Meets.{begins-fewer}
 use Rattle.tape_markup.proofs.Texts.{text-told, told-fewer, frames-chars}
 use Rattle.tape_markup.specs.Places.{part, NameIn, PlaceIn, placeAt, tokensAt, Begins, Passes}
-use Rattle.tape_files.specs.Elements.{framesAt, inside, Left, bare, ElementMet, NoElement}
+use Rattle.tape_files.specs.declared.Child.{Child}
+use Rattle.tape_files.specs.Elements.{framesAt, inside, Left, bare, ElementMet, NoElement, ChildMet}
 
 -- What is left, by the tokens from a place on.
 pub frames-none : (text : List ℕ) (here : Place) → tokensAt text here ≡ [] → framesAt text here ≡ []
@@ -135,37 +136,100 @@ pub leaving-none : (text : List ℕ) (place : Place) → PlaceIn text place → 
 unfolding outwards
 leaving-none text place p = record { within = p; outer = refl; deep = omega arith }
 
+outwards-none : (n : ℕ) → outwards n [] ≡ []
+unfolding outwards
+outwards-none zero = refl
+outwards-none (suc n) = outwards-none n
+
 module _ (text : List ℕ) (place here : Place) (depth : ℕ) (p : Leaving text place here depth) where
-  pub leave-deeper : (from to : ℕ) (next : Place) → ElementMet text here from to next → Leaving text place next (depth + 1)
+  -- Where the text ends too early, nothing is left of any element.
+  pub leave-over : framesAt text here ≡ [] → Left text place here
+  leave-over e =
+      record {
+        outer = e ∙ sym (outwards-none depth) ∙ ap (λ (l : List Forest). outwards depth (enclosing l)) (sym e) ∙ p .outer;
+        within = p .within;
+        fewer = omega (arith, p .deep);
+      }
+
+  -- What is no tag leaves the elements around it as they are.
+  leave-same : (next : Place) → enclosing (framesAt text here) ≡ enclosing (framesAt text next) → PlaceIn text next → length (tokensAt text next) ≤ length (tokensAt text here) → Leaving text place next depth
+  leave-same next e w l =
+      record { within = w; outer = ap (outwards depth) (sym e) ∙ p .outer; deep = omega (arith, p .deep, l) }
+
+  pub leave-text : (next : Place) → next ≡ behindText text here → Leaving text place next depth
+  unfolding framesAt
+  leave-text next e =
+      let t = text-told text here next (p .within) e in
+      leave-same next
+      (ap (λ (l : List Token). enclosing (frames l)) (t .same) ∙ frames-chars (t .bytes) (tokensAt text next))
+      (t .within)
+      (told-fewer text here next t)
+
+  pub leave-byte : (b : ℕ) (next : Place) → Begins (tokensAt text here) text (Char b) next → Leaving text place next depth
+  leave-byte b next q =
+      let f = begins-fewer text here next (Char b) q in
+      leave-same next (ap enclosing (frames-first text here next (Char b) q)) (q .within) (omega arith)
+
+  pub leave-past : (next : Place) → Passes (tokensAt text here) text (placeAt here) next → Leaving text place next depth
+  leave-past next q =
+      let s = ap length (q .same) in
+      leave-same next (ap enclosing (frames-past text here next q)) (q .within) (omega arith)
+
+  -- A start tag goes one element in, an end tag one out.
+  pub leave-start : (name : List ℕ) (next : Place) → Begins (tokensAt text here) text (Open name) next → Leaving text place next (depth + 1)
   unfolding outwards
-  leave-deeper from to next q =
+  leave-start name next q =
       record {
         within = q .within;
-        outer = rw (add-one depth) (ap (outwards depth) (sym (q .outer)) ∙ p .outer);
-        deep = omega (arith, q .fewer, p .deep);
+        outer = rw (add-one depth) (ap (outwards depth) (sym (ap enclosing (frames-first text here next (Open name) q))) ∙ p .outer);
+        deep = omega (arith, begins-fewer text here next (Open name) q, p .deep);
       }
 
-  pub leave-out : (next : Place) → NoElement text here next → (depth ≡ 0 → ⊥) → Leaving text place next (depth - 1)
-  unfolding outwards
-  leave-out next q n =
+  module _ (name : List ℕ) (next : Place) (q : Begins (tokensAt text here) text (Close name) next) where
+    out : framesAt text next ≡ enclosing (framesAt text here)
+    out = sym (ap enclosing (frames-first text here next (Close name) q))
+
+    pub leave-finish : (depth ≡ 0 → ⊥) → Leaving text place next (depth - 1)
+    unfolding outwards
+    leave-finish n =
+        record {
+          within = q .within;
+          outer = by-depth depth n (p .outer);
+          deep = omega (arith, begins-fewer text here next (Close name) q, p .deep);
+        }
+      where
+        step : (d : ℕ) → suc d - 1 ≡ d
+        step d = omega arith
+
+        by-depth : (d : ℕ) → (d ≡ 0 → ⊥) → outwards d (enclosing (framesAt text here)) ≡ enclosing (framesAt text place) → outwards (d - 1) (enclosing (framesAt text next)) ≡ enclosing (framesAt text place)
+        by-depth zero m e = absurd (omega arith)
+        by-depth (suc d) m e = rw (step d) (ap (λ (l : List Forest). outwards d (enclosing l)) out ∙ e)
+
+    pub leave-last : depth ≡ 0 → Left text place next
+    unfolding outwards
+    leave-last z =
+        record {
+          outer = out ∙ ap (λ (d : ℕ). outwards d (enclosing (framesAt text here))) (sym z) ∙ p .outer;
+          within = q .within;
+          fewer = omega (arith, begins-fewer text here next (Close name) q, p .deep);
+        }
+
+-- What is met behind the bytes of text at a place is met from that place on.
+module _ (text : List ℕ) (place here : Place) (w : PlaceIn text place) (e : here ≡ behindText text place) where
+  behind : Seeking text place here
+  behind = seek-text text place place (seeking-none text place w) here e
+
+  pub left-behind : (next : Place) → Left text here next → Left text place next
+  left-behind next l =
+      record { outer = l .outer ∙ sym (behind .outer); within = l .within; fewer = omega (arith, l .fewer, behind .fewer) }
+
+  pub child-behind : (child : Child) → ChildMet text here child → ChildMet text place child
+  child-behind (Child.Element from to next) m =
       record {
-        within = q .left .within;
-        outer = by-depth depth n (p .outer);
-        deep = omega (arith, q .left .fewer, p .deep);
+        name = m .name;
+        within = m .within;
+        here = behind .held ∙ m .here;
+        outer = behind .outer ∙ m .outer;
+        fewer = omega (arith, m .fewer, behind .fewer);
       }
-    where
-      step : (d : ℕ) → suc d - 1 ≡ d
-      step d = omega arith
-
-      by-depth : (d : ℕ) → (d ≡ 0 → ⊥) → outwards d (enclosing (framesAt text here)) ≡ enclosing (framesAt text place) → outwards (d - 1) (enclosing (framesAt text next)) ≡ enclosing (framesAt text place)
-      by-depth zero m e = absurd (omega arith)
-      by-depth (suc d) m e = rw (step d) (ap (λ (l : List Forest). outwards d (enclosing l)) (q .left .outer) ∙ e)
-
-  pub leave-done : (next : Place) → NoElement text here next → depth ≡ 0 → Left text place next
-  unfolding outwards
-  leave-done next q z =
-      record {
-        outer = q .left .outer ∙ ap (λ (d : ℕ). outwards d (enclosing (framesAt text here))) (sym z) ∙ p .outer;
-        within = q .left .within;
-        fewer = omega (arith, q .left .fewer, p .deep);
-      }
+  child-behind (Child.Done next) m = record { none = behind .held ∙ m .none; left = left-behind next (m .left) }

@@ -30,7 +30,8 @@ pub fn is_named(text: &[u8], from: usize, to: usize, name: &[u8]) -> bool
     text_bytes::same(&text[start..end], name)
 }
 
-pub(crate) fn child_from(text: &[u8], place: Place) -> Child
+// The next element inside the one that the reader stands in, tag by tag.
+fn tag_from(text: &[u8], place: Place) -> Child
     requires { ⌜ PlaceIn (now text) place ⌝ }
     ensures { λ r. ⌜ ChildMet (now (text .entry)) place r ⌝ }
 {
@@ -52,33 +53,59 @@ pub(crate) fn child_from(text: &[u8], place: Place) -> Child
     }
 }
 
-// Past the end of the element that the reader stands in.
-pub(crate) fn past_end(text: &[u8], place: Place) -> Place
+// The same. Most elements stand behind blanks.
+pub(crate) fn child_from(text: &[u8], place: Place) -> Child
+    requires { ⌜ PlaceIn (now text) place ⌝ }
+    ensures { λ r. ⌜ ChildMet (now (text .entry)) place r ⌝ }
+{
+    let here = behind_text(text, place);
+    tag_from(text, here)
+}
+
+// Past the end of the element that the reader stands in, tag by tag: how many elements inside of it the reader stands is counted.
+fn end_from(text: &[u8], place: Place) -> Place
     requires { ⌜ PlaceIn (now text) place ⌝ }
     ensures { λ r. ⌜ Left (now (text .entry)) place r ⌝ }
 {
     let mut here = place;
     let mut depth: usize = 0;
     loop {
-        let child = child_from(text, here);
-        match child {
-            Child::Element {
+        let step = step_from(text, here);
+        match step {
+            Step::End => return here,
+            Step::Broken => return here,
+            Step::Byte { byte: _, next } => here = behind_text(text, next),
+            Step::Start {
                 from: _,
                 to: _,
                 next,
             } => {
                 depth += 1;
-                here = next;
+                here = behind_text(text, next);
             }
-            Child::Done(next) => {
+            Step::Finish {
+                from: _,
+                to: _,
+                next,
+            } => {
                 if depth == 0 {
                     return next;
                 }
                 depth -= 1;
-                here = next;
+                here = behind_text(text, next);
             }
+            Step::Past(next) => here = behind_text(text, next),
         }
     }
+}
+
+// The same. Most elements that are left hold text and nothing else.
+pub(crate) fn past_end(text: &[u8], place: Place) -> Place
+    requires { ⌜ PlaceIn (now text) place ⌝ }
+    ensures { λ r. ⌜ Left (now (text .entry)) place r ⌝ }
+{
+    let here = behind_text(text, place);
+    end_from(text, here)
 }
 
 // The next element of a name. Those of other names are passed over.
