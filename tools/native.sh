@@ -5,11 +5,12 @@
 #
 #   tools/native.sh CRATE OUT [ABOVE]     OUT: a program; for a library crate an archive
 #
-# ABOVE: a folder of a crate above CRATE, in no repository, with nothing but src/: that one is compiled, and may name CRATE and what CRATE names.
+# ABOVE: a folder of a crate above CRATE, in no repository, with nothing but src/: that one is compiled, and may name CRATE and what CRATE names. CRATE
+# may be several names in one word then.
 #
 # The crates below CRATE must be proved already (rt check CRATE).
 set -eu
-unset -v CDPATH above clang crate here kit layout library out own source tool triple work
+unset -v CDPATH above clang crate here kit layout library made name out own source tool triple work
 here=$(cd "$(dirname "$0")/.." && pwd)
 . "$here/tools/machine.sh"
 
@@ -18,8 +19,17 @@ fail() {
     exit 1
 }
 
+# What is linked: what CRATE names; of a crate above it also CRATE.
+named() {
+    for name in $crate; do
+        [ -z "$above" ] || printf '%s\n' "$name"
+        sed -n "s/^$name://p" "$here/crates.txt" | tr ' ' '\n'
+    done | sort -u
+}
+
 [ $# -eq 2 ] || [ $# -eq 3 ] || fail "usage: tools/native.sh CRATE OUT [ABOVE]"
-crate=$1 out=$2 above=${3:-}
+crate=$1 out=$2 above=${3:-} made=$1
+[ -z "$above" ] || made=above
 source=${above:-$here/crates/$crate}/src
 kit=$(kit) && own=$kit/on/$machine && clang=$own/toolchain/bin/clang
 [ -x "$clang" ] || fail "no Rattle kit for this machine beside rt"
@@ -44,14 +54,14 @@ if [ -f "$source/main.rt" ]; then
 else
     set -- "$source/lib.rt" --crate-type staticlib
 fi
-for library in std ${above:+"$crate"} $(sed -n "s/^$crate://p" "$here/crates.txt"); do
+for library in std $(named); do
     if [ -d "$here/target/rlib/$library.rlib" ]; then
         set -- "$@" --extern "$library=$here/target/rlib/$library.rlib"
     else
         set -- "$@" --extern "$library=$own/rlib/$library.rlib"
     fi
 done
-"$own/bin/rattle" build --crate-name "${above:+above_}$crate" "$@" -L "dependency=$here/target/rlib" -L "dependency=$own/rlib" \
+"$own/bin/rattle" build --crate-name "$made" "$@" -L "dependency=$here/target/rlib" -L "dependency=$own/rlib" \
     --antt-project "$kit/logic/antt-project.json" --logic-built "$own/logic-built" --toolchain "$work/tools" \
     -o "$work/made" > "$work/log" 2>&1 || { tail -n 5 "$work/log" >&2; fail "$crate was not built"; }
 

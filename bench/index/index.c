@@ -3,7 +3,7 @@
  *   index INDEX LIST [ROUNDS]
  *
  * The time is the processor's, the best of ROUNDS (default 5), the readers in turn. Both texts lie in memory. bench/index/run.sh links the proved
- * functions, which it names bench_balanced and bench_ltfs. */
+ * functions, which it names bench_balanced, bench_ltfs and bench_picks. */
 #include "index.h"
 
 #include <stdio.h>
@@ -13,12 +13,19 @@
 
 uint64_t bench_balanced(const uint8_t *index, size_t index_len);
 uint64_t bench_ltfs(const uint8_t *label, size_t label_len, const uint8_t *index, size_t index_len);
+uint64_t bench_picks(const uint8_t *index, size_t index_len, const uint8_t *list, size_t list_len, uint64_t *states, size_t states_len,
+                     uint64_t *starts, size_t starts_len, uint64_t *ends, size_t ends_len);
 
 static const char label[] = "<ltfslabel><partitions><index>a</index><data>b</data></partitions><blocksize>524288</blocksize></ltfslabel>";
 
-enum { EXPAT, BALANCED, LTFS, READERS };
+enum { EXPAT, BALANCED, LTFS, PICKS, READERS };
 
-static const char *const names[READERS] = {"expat", "balanced", "ltfs"};
+enum { MOST_LINES = 1024, ONE_FILE = 1 };
+
+static const char *const names[READERS] = {"expat", "balanced", "ltfs", "picks"};
+
+/* What bench_picks finds for each line of the list: how many files, and from where to where the one lies. */
+static uint64_t states[MOST_LINES], starts[MOST_LINES], ends[MOST_LINES];
 
 void fail(const char *what)
 {
@@ -47,13 +54,14 @@ static struct text read_text(const char *name)
     return text;
 }
 
-/* Each line feed of the list becomes the end of a path. */
+/* The list is copied: each line feed of the copy becomes the end of a path. */
 static struct lines lines_of(struct text list)
 {
     struct lines lines = {calloc(list.size + 1, sizeof *lines.rows), 0};
-    if (lines.rows == NULL)
+    char *path = malloc(list.size + 1);
+    if (lines.rows == NULL || path == NULL)
         fail("no memory");
-    char *path = list.bytes;
+    memcpy(path, list.bytes, list.size + 1);
     for (char *end = strchr(path, '\n'); end != NULL; end = strchr(path, '\n')) {
         *end = 0;
         lines.rows[lines.count++].path = path;
@@ -70,14 +78,41 @@ static double seconds(void)
     return (double)t.tv_sec + (double)t.tv_nsec * 1e-9;
 }
 
-static uint64_t one_call(int reader, struct text index, struct lines *lines)
+static uint64_t one_call(int reader, struct text index, struct text list, struct lines *lines)
 {
     const uint8_t *bytes = (const uint8_t *)index.bytes;
     if (reader == EXPAT)
         return files_by_expat(index, lines);
     if (reader == BALANCED)
         return bench_balanced(bytes, index.size);
-    return bench_ltfs((const uint8_t *)label, sizeof label - 1, bytes, index.size);
+    if (reader == LTFS)
+        return bench_ltfs((const uint8_t *)label, sizeof label - 1, bytes, index.size);
+    return bench_picks(bytes, index.size, (const uint8_t *)list.bytes, list.size, states, MOST_LINES, starts, MOST_LINES, ends, MOST_LINES);
+}
+
+/* The line of a path at a place of the list. */
+static const struct line *line_at(const char *path, const struct lines *lines)
+{
+    char copy[4096];
+    size_t size = strcspn(path, "\n");
+    if (size >= sizeof copy)
+        fail("a path is too long");
+    memcpy(copy, path, size);
+    copy[size] = 0;
+    struct line wanted = {copy, 0, 0, 0};
+    return bsearch(&wanted, lines->rows, lines->count, sizeof wanted, compare_lines);
+}
+
+/* For every line of the list expat and bench_picks have found one file, and the same range. */
+static void must_find_the_same(struct text list, const struct lines *lines)
+{
+    const char *path = list.bytes;
+    for (size_t i = 0; i < lines->count; i++) {
+        const struct line *line = line_at(path, lines);
+        if (line == NULL || states[i] != ONE_FILE || starts[i] != line->start || ends[i] != line->end)
+            fail("expat and picks differ");
+        path = strchr(path, '\n') + 1;
+    }
 }
 
 /* A reader that stopped early would look fast: each must say what the whole index says. */
@@ -86,7 +121,7 @@ static void must_agree(const uint64_t *said, const struct lines *lines)
     for (size_t i = 0; i < lines->count; i++)
         if (lines->rows[i].files == 0)
             fail("a line of the list is of no file");
-    if (said[EXPAT] < lines->count || said[BALANCED] != 1 || said[LTFS] != 21)
+    if (said[EXPAT] < lines->count || said[BALANCED] != 1 || said[LTFS] != 21 || said[PICKS] != 1)
         fail("a reader did not say what the index says");
 }
 
@@ -94,20 +129,21 @@ int main(int argc, char **argv)
 {
     if (argc < 3)
         fail("usage: index INDEX LIST [ROUNDS]");
-    struct text index = read_text(argv[1]);
-    struct lines lines = lines_of(read_text(argv[2]));
+    struct text index = read_text(argv[1]), list = read_text(argv[2]);
+    struct lines lines = lines_of(list);
     int rounds = argc > 3 ? atoi(argv[3]) : 5;
     double best[READERS];
     uint64_t said[READERS] = {0};
     for (int round = 0; round < rounds; round++)
         for (int reader = 0; reader < READERS; reader++) {
             double before = seconds();
-            said[reader] = one_call(reader, index, &lines);
+            said[reader] = one_call(reader, index, list, &lines);
             double taken = seconds() - before;
             if (round == 0 || taken < best[reader])
                 best[reader] = taken;
         }
     must_agree(said, &lines);
+    must_find_the_same(list, &lines);
     printf("%llu files, %zu bytes, %zu lines; the best of %d\n", (unsigned long long)said[EXPAT], index.size, lines.count, rounds);
     for (int reader = 0; reader < READERS; reader++)
         printf("%-9s %7.1f ms %7.1f MB/s %6.2f of expat's time\n", names[reader], best[reader] * 1e3, (double)index.size / best[reader] / 1e6, best[reader] / best[EXPAT]);

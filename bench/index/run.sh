@@ -3,8 +3,8 @@
 #
 #   bench/index/run.sh [--rounds N] [WORDS of make.py: --files N, --lines N, --indent N]
 #
-# The library for C has no function for an index. So a crate of two functions that hand their text on is made here, in a temporary folder, and
-# compiled for this machine over the proved crates by tools/native.sh: `rt check answer_ltfs` comes first. CC and CFLAGS as for bench/run.sh.
+# A crate of three functions that hand their texts on is made here, in a temporary folder, and compiled for this machine over the proved crates by
+# tools/native.sh: `rt check answer_ltfs tape_picks` comes first. CC and CFLAGS as for bench/run.sh.
 set -eu
 unset -v CDPATH
 
@@ -26,7 +26,9 @@ fi
 for tool in python3 "${CC:-gcc}"; do
     command -v "$tool" > /dev/null || fail "no $tool"
 done
-[ -e "$here/target/stamp/answer_ltfs" ] || fail "answer_ltfs is not proved; 'rt check answer_ltfs' proves it"
+for crate in answer_ltfs tape_picks; do
+    [ -e "$here/target/stamp/$crate" ] || fail "$crate is not proved; 'rt check $crate' proves it"
+done
 
 mkdir -p "$out/above/src"
 cat > "$out/above/src/lib.rt" << 'END'
@@ -46,8 +48,16 @@ pub extern "C" fn bench_ltfs(label: &[u8], index: &[u8]) -> u64 {
     let refusal = report.refusal;
     refusals::number(refusal)
 }
+
+#[no_mangle]
+pub extern "C" fn bench_picks(index: &[u8], list: &[u8], states: &mut [u64], starts: &mut [u64], ends: &mut [u64]) -> u64 {
+    if tape_picks::find_files(index, list, 0, 524288, 98, states, starts, ends) {
+        return 1;
+    }
+    0
+}
 END
-"$here/tools/native.sh" answer_ltfs "$out/readers.a" "$out/above" > "$out/log" || { cat "$out/log" >&2; fail "the readers were not compiled"; }
+"$here/tools/native.sh" 'answer_ltfs tape_picks' "$out/readers.a" "$out/above" > "$out/log" || { cat "$out/log" >&2; fail "the readers were not compiled"; }
 # shellcheck disable=SC2086  # flags are words
 "${CC:-gcc}" -std=c11 -D_POSIX_C_SOURCE=200809L ${CFLAGS:--O3} -Wall -Wextra "$here"/bench/index/*.c "$out/readers.a" -lexpat -o "$out/index" \
     || fail "no bench: libexpat's header is in Debian's libexpat1-dev"
