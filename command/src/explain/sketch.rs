@@ -1,13 +1,15 @@
 //! A plan's picture for a page with many: place from left to right, clock from top to bottom, as `picture` has it. It is short, takes its colours
 //! from the page's own style, and says nothing by colour alone; the numbers stand in a table beside it.
 
-use super::measure::{spaced, step_for};
+use super::measure::{room_of, spaced, step_of};
 use super::Plan;
 use std::fmt::Write as _;
 
 const LEFT: f64 = 84.0;
 const WIDE: f64 = 480.0;
 const TOP: f64 = 60.0;
+/// How much larger than those of a picture letters are on a telephone.
+const TELEPHONE: f64 = 19.0 / 12.0;
 /// With more files than this, or longer times, their dots have no words.
 const NAMED: usize = 8;
 const LONG: usize = 9;
@@ -26,13 +28,22 @@ pub fn draw(plan: &Plan) -> String {
 }
 
 /// The step between the numbers of an axis, and how many thousands it is of: the numbers stay short.
-fn steps(length: i64) -> (i64, i64) {
-    let step = step_for(length) * 2;
+fn steps(length: i64, most: f64) -> (i64, i64) {
+    let step = step_of(length, most);
     let mut unit = 1;
     while step % (unit * 1000) == 0 {
         unit *= 1000;
     }
     (step, unit)
+}
+
+/// The same for an axis up to a number, so that each number has its room there, on a telephone too, where letters are larger.
+fn roomy_steps(length: i64, high: i64) -> (i64, i64) {
+    let fits = |(step, unit): &(i64, i64)| {
+        let room = room_of(&spaced(high / unit)) * TELEPHONE + 10.0;
+        *step as f64 * WIDE / length as f64 >= room
+    };
+    (1..=5).rev().map(|most| steps(length, f64::from(most))).find(fits).unwrap_or_else(|| steps(length, 1.0))
 }
 
 fn in_units(unit: i64) -> String {
@@ -100,14 +111,14 @@ impl Sketch<'_> {
     fn axes(&mut self) {
         let (bottom, right) = (TOP + self.tall, LEFT + WIDE);
         let mut lines = format!("M{LEFT} {TOP}V{bottom:.0}H{right:.0}");
-        let (step, unit) = steps(self.plan.finish.max(1));
+        let (step, unit) = steps(self.plan.finish.max(1), 5.0);
         for clock in (0..=self.plan.finish).step_by(step as usize) {
             let y = self.y(clock);
             let _ = write!(lines, "M{:.0} {y:.0}h5", LEFT - 5.0);
             self.text((LEFT - 9.0, y + 4.0), "end", "st", &spaced(clock / unit));
         }
         self.text((4.0, 18.0), "start", "st", &format!("clock{}", in_units(unit)));
-        let (step, unit) = steps(self.high - self.low);
+        let (step, unit) = roomy_steps(self.high - self.low, self.high);
         let first = step * ((self.low + step - 1) / step);
         for place in (first..=self.high).step_by(step as usize) {
             let x = self.x(place);
