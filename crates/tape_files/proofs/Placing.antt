@@ -12,11 +12,11 @@ use Rattle.text_bytes.proofs.Bytes.{and-true-both}
 use Rattle.tape_markup.specs.declared.Place.{Place}
 use Rattle.tape_markup.specs.Places.{part, NameIn, PlaceIn}
 use Rattle.tape_files.specs.declared.ExtentSaid.{ExtentSaid}
-use Rattle.tape_files.specs.Elements.{liesIn, placed, inside, Left, ElementMet, NoElement, NamedAt, NoneNamed}
+use Rattle.tape_files.specs.Elements.{liesIn, takenFor, inside, Left, ElementMet, NoElement, NamedAt, NoneNamed}
 use Rattle.tape_files.specs.Values.{extentOf}
 
-pub placed-in : (text : List ℕ) (place : Place) → PlaceIn text place → placed text place ≡ place
-unfolding placed
+pub placed-in : (text : List ℕ) (place : Place) → PlaceIn text place → takenFor text place ≡ place
+unfolding takenFor
 placed-in text (Place.Text at) p = rw (le-leb at (length text) p)
 placed-in text (Place.Plain at end) p = rw (le-leb (at + 3) end (p .0), le-leb end (length text) (p .1))
 placed-in text (Place.Shut from to at) p =
@@ -33,8 +33,8 @@ lies-within text (Place.Shut from to at) e =
     let a = and-true-both _ _ (b .0) in
     (record { ordered = leb-true _ _ (a .0); within = leb-true _ _ (a .1) }, ltb-true _ _ (b .1), leb-true _ _ (c .1))
 
-pub placed-within : (text : List ℕ) (place : Place) → PlaceIn text (placed text place)
-unfolding placed
+pub placed-within : (text : List ℕ) (place : Place) → PlaceIn text (takenFor text place)
+unfolding takenFor
 placed-within text place = by-test (liesIn text place) refl
   where
     by-test : (b : Bool) → liesIn text place ≡ b → PlaceIn text (cond b place (Place.Text (length text)))
@@ -43,25 +43,25 @@ placed-within text place = by-test (liesIn text place) refl
 
 -- What is met from a place in a text on, where it is told of what the place is taken for.
 module _ (text : List ℕ) (place : Place) (p : PlaceIn text place) where
-  same-place : placed text place ≡ place
+  same-place : takenFor text place ≡ place
   same-place = placed-in text place p
 
-  pub element-here : (from to : ℕ) (next : Place) → ElementMet text (placed text place) from to next → ElementMet text place from to next
+  pub element-here : (from to : ℕ) (next : Place) → ElementMet text (takenFor text place) from to next → ElementMet text place from to next
   element-here from to next = subst (λ (x : Place). ElementMet text x from to next) same-place
 
-  pub nothing-here : (next : Place) → NoElement text (placed text place) next → NoElement text place next
+  pub nothing-here : (next : Place) → NoElement text (takenFor text place) next → NoElement text place next
   nothing-here next = subst (λ (x : Place). NoElement text x next) same-place
 
-  pub named-here : (name : List ℕ) (next : Place) → NamedAt text (placed text place) name next → NamedAt text place name next
+  pub named-here : (name : List ℕ) (next : Place) → NamedAt text (takenFor text place) name next → NamedAt text place name next
   named-here name next = subst (λ (x : Place). NamedAt text x name next) same-place
 
-  pub unnamed-here : (name : List ℕ) (next : Place) → NoneNamed text (placed text place) name next → NoneNamed text place name next
+  pub unnamed-here : (name : List ℕ) (next : Place) → NoneNamed text (takenFor text place) name next → NoneNamed text place name next
   unnamed-here name next = subst (λ (x : Place). NoneNamed text x name next) same-place
 
-  pub left-here : (next : Place) → Left text (placed text place) next → Left text place next
+  pub left-here : (next : Place) → Left text (takenFor text place) next → Left text place next
   left-here next = subst (λ (x : Place). Left text x next) same-place
 
-  pub extent-here : (next : Place) → Left text (placed text place) next → (e : ExtentSaid) → e ≡ extentOf (inside text (placed text place)) → e ≡ extentOf (inside text place)
+  pub extent-here : (next : Place) → Left text (takenFor text place) next → (e : ExtentSaid) → e ≡ extentOf (inside text (takenFor text place)) → e ≡ extentOf (inside text place)
   extent-here next l e = subst (λ (x : Place). e ≡ extentOf (inside text x)) same-place
 
 nothing-taken : (n : ℕ) (l : List ℕ) → n ≡ 0 → take n l ≡ []

@@ -20,8 +20,8 @@ liesIn text (Place.Text at) = leb at (length text)
 liesIn text (Place.Plain at end) = leb (at + 3) end && leb end (length text)
 liesIn text (Place.Shut from to at) = leb from to && leb to (length text) && ltb 0 at && leb at (length text)
 
-unfoldable pub placed : List ℕ → Place → Place
-placed text place = cond (liesIn text place) place (Place.Text (length text))
+unfoldable pub takenFor : List ℕ → Place → Place
+takenFor text place = cond (liesIn text place) place (Place.Text (length text))
 
 -- What is left from a place on: in the element around it, and outwards.
 unfoldable pub framesAt : List ℕ → Place → List Forest

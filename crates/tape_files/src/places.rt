@@ -3,7 +3,7 @@ ghost use mathlib.Core.Path.{_≡_};
 ghost use mathlib.Core.Bool.{_&&_};
 ghost use Prim.Native.Nat.{_+_};
 ghost use lib.Dec.{leb, ltb};
-ghost use Rattle.tape_files.specs.Elements.{liesIn, placed, inside, Left, ChildMet, NamedMet, ByteMet};
+ghost use Rattle.tape_files.specs.Elements.{liesIn, takenFor, inside, Left, ChildMet, NamedMet, ByteMet};
 ghost use Rattle.tape_files.specs.Values.{extentOf};
 use crate::Child;
 use crate::ExtentRead;
@@ -57,7 +57,7 @@ fn lies_in(text: &[u8], place: Place) -> bool
 }
 
 fn place_in(text: &[u8], place: Place) -> Place
-    ensures { λ r. ⌜ r ≡ placed (now (text .entry)) place ⌝ }
+    ensures { λ r. ⌜ r ≡ takenFor (now (text .entry)) place ⌝ }
 {
     if lies_in(text, place) {
         return place;
@@ -67,35 +67,35 @@ fn place_in(text: &[u8], place: Place) -> Place
 
 // The next element inside the element that the reader stands in.
 pub fn next_child(text: &[u8], place: Place) -> Child
-    ensures { λ r. ⌜ ChildMet (now (text .entry)) (placed (now (text .entry)) place) r ⌝ }
+    ensures { λ r. ⌜ ChildMet (now (text .entry)) (takenFor (now (text .entry)) place) r ⌝ }
 {
     child_from(text, place_in(text, place))
 }
 
 // Past the end of the element that the reader stands in.
 pub fn leave(text: &[u8], place: Place) -> Place
-    ensures { λ r. ⌜ Left (now (text .entry)) (placed (now (text .entry)) place) r ⌝ }
+    ensures { λ r. ⌜ Left (now (text .entry)) (takenFor (now (text .entry)) place) r ⌝ }
 {
     past_end(text, place_in(text, place))
 }
 
 // The next element of a name. Those of other names are passed over.
 pub fn next_named(text: &[u8], place: Place, name: &[u8]) -> Named
-    ensures { λ r. ⌜ NamedMet (now (name .entry)) (now (text .entry)) (placed (now (text .entry)) place) r ⌝ }
+    ensures { λ r. ⌜ NamedMet (now (name .entry)) (now (text .entry)) (takenFor (now (text .entry)) place) r ⌝ }
 {
     named_from(text, place_in(text, place), name)
 }
 
 // The next byte directly in the element that the reader stands in. Elements in it are passed over.
 pub fn next_byte(text: &[u8], place: Place) -> NextByte
-    ensures { λ r. ⌜ ByteMet (now (text .entry)) (placed (now (text .entry)) place) r ⌝ }
+    ensures { λ r. ⌜ ByteMet (now (text .entry)) (takenFor (now (text .entry)) place) r ⌝ }
 {
     byte_from(text, place_in(text, place))
 }
 
 // The extent that an `extent` element says.
 pub fn read_extent(text: &[u8], place: Place) -> ExtentRead
-    ensures { λ r. ⌜ (r .extent ≡ extentOf (inside (now (text .entry)) (placed (now (text .entry)) place))) × Left (now (text .entry)) (placed (now (text .entry)) place) (r .next) ⌝ }
+    ensures { λ r. ⌜ (r .extent ≡ extentOf (inside (now (text .entry)) (takenFor (now (text .entry)) place))) × Left (now (text .entry)) (takenFor (now (text .entry)) place) (r .next) ⌝ }
 {
     extent_from(text, place_in(text, place))
 }

@@ -5,7 +5,7 @@ ghost use mathlib.Core.Path.{_≡_};
 ghost use Rattle.text_references.specs.References.{utf8, decoded};
 ghost use Rattle.tape_markup.specs.Places.{PlaceIn};
 ghost use Rattle.tape_files.specs.Index.{charsOf};
-ghost use Rattle.tape_files.specs.Elements.{placed, inside};
+ghost use Rattle.tape_files.specs.Elements.{takenFor, inside};
 ghost use Rattle.tape_files.specs.NamedFiles.{ownName};
 ghost use Rattle.text_order.specs.Order.{narrowedAll};
 ghost use Rattle.tape_names.specs.Private.{saidFrom, withByte};
@@ -183,7 +183,7 @@ pub fn own_name(
     order: &[usize],
     range: Range,
 ) -> Range
-    ensures { λ r. ⌜ r ≡ narrowedAll (now (list .entry)) (now (starts .entry)) (now (ends .entry)) (now (order .entry)) range (ownName (inside (now (text .entry)) (placed (now (text .entry)) place))) ⌝ }
+    ensures { λ r. ⌜ r ≡ narrowedAll (now (list .entry)) (now (starts .entry)) (now (ends .entry)) (now (order .entry)) range (ownName (inside (now (text .entry)) (takenFor (now (text .entry)) place))) ⌝ }
 {
     let met = next_named(text, place, b"name");
     let Named::At(next) = met else {

@@ -2,7 +2,7 @@
 -- Assumes nothing.
 use mathlib.Core.Path.{sym, _∙_}
 use borrow.Author.Needs.{needs}
-use Rattle.tape_files.specs.Elements.{placed}
+use Rattle.tape_files.specs.Elements.{takenFor}
 use Rattle.tape_files.proofs.places.place_in.Statement.{statement}
 use Rattle.tape_files.proofs.places.place_in.Tie as tie
 
@@ -10,11 +10,11 @@ lies-in-requires : tie.Need-lies-in-requires
 lies-in-requires c κs = search needs
 
 returns : tie.Need-returns
-unfolding placed
+unfolding takenFor
 returns c = simp (sym (c .before .lies-in .ensures) ∙ c .if1 .taken)
 
 returns-2 : tie.Need-returns-2
-unfolding placed
+unfolding takenFor
 returns-2 c = simp (sym (c .before .lies-in .ensures) ∙ c .if1 .left)
 
 pub place-in-spec : {M : Type 1} → statement M
