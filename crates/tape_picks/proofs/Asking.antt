@@ -19,9 +19,9 @@ use Rattle.text_lines.proofs.Filling.{length-each}
 use Rattle.text_paths.specs.Paths.{namesFrom, slashesOf, askedPath, isAsked, lineCount, pathAfter, mostLines, pathsVerdict}
 use Rattle.text_paths.specs.Rows.{pathStart, pathEnd, pathsFilled, PathsRead}
 use Rattle.text_paths.proofs.Positions.{path-stands}
-use Rattle.text_order.specs.Order.{noLater, lineAt, pathAt}
+use Rattle.text_order.specs.Order.{lineAt}
 use Rattle.text_order.specs.Rows.{linesInOrder, orderFilled}
-use Rattle.text_order.specs.Promises.{PathsInOrder, LinesOrdered}
+use Rattle.text_order.specs.Promises.{LinesOrdered}
 use Rattle.text_order.proofs.Sorted.{lines-stand-in-order}
 use Rattle.tape_picks.specs.declared.Tape.{Tape}
 use Rattle.tape_picks.specs.declared.Pick.{Pick}

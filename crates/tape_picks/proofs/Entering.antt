@@ -1,7 +1,7 @@
 -- The range around a place, with a name, and below an element.
 use Prim.Native.Nat.{ℕ}
-use mathlib.Core.Path.{_≡_, refl, ap, sym, _∙_}
-use mathlib.Core.List.{List, _∷_, _++_}
+use mathlib.Core.Path.{_≡_}
+use mathlib.Core.List.{List, _++_}
 use lib.ListN.{length, getD}
 use Rattle.text_order.specs.declared.Range.{Range}
 use Rattle.text_order.specs.Order.{pathAt}
@@ -9,7 +9,7 @@ use Rattle.text_order.specs.Promises.{RangeHolds}
 use Rattle.tape_markup.specs.declared.Place.{Place}
 use Rattle.tape_markup.specs.Places.{PlaceIn}
 use Rattle.tape_files.specs.NamedFiles.{ownName, pathBelow}
-use Rattle.tape_files.specs.Elements.{placed, inside, levelAt}
+use Rattle.tape_files.specs.Elements.{takenFor, inside, levelAt}
 use Rattle.tape_picks.specs.declared.walk.Walk.{Walk}
 use Rattle.tape_picks.specs.Private.{ListHeld, WalkAt, noRange, namedRange, belowRange}
 use Rattle.tape_picks.proofs.Extents.{inside-place}
@@ -20,7 +20,7 @@ module _ (text list starts ends order : List ℕ) (count : ℕ) (held : ListHeld
   around : RangeHolds (pathAt list starts ends order) count own range
   around = rw (is, w .deep) (w .ranges .0)
 
-  pub below-held : (r : Range) → r ≡ belowRange list starts ends order range (walk .depth) (inside text (placed text next))
+  pub below-held : (r : Range) → r ≡ belowRange list starts ends order range (walk .depth) (inside text (takenFor text next))
       → RangeHolds (pathAt list starts ends order) count (pathBelow (levelAt (length outer)) own (inside text next)) r
   below-held r e = rw (e, inside-place text next p, w .deep) (range-below list starts ends order count held own range around (length outer) (inside text next))
 

@@ -1,6 +1,6 @@
 -- Files extent by extent: what those read so far come to, with those left, is what all come to; good extents say the range of the file.
 use Prim.Native.Nat.{ℕ}
-use mathlib.Core.Path.{_≡_, refl, ap, sym, _∙_, subst}
+use mathlib.Core.Path.{_≡_, refl, ap, sym, _∙_}
 use mathlib.Core.Bool.{Bool, true, _&&_, and-true, and-assoc}
 use mathlib.Core.List.{List, [], _∷_, _++_, map}
 use Rattle.text_bytes.proofs.Bytes.{and-true-both}
@@ -8,10 +8,9 @@ use Rattle.tape_markup.specs.declared.Place.{Place}
 use Rattle.tape_markup.specs.Tree.{Forest}
 use Rattle.tape_markup.specs.Places.{PlaceIn}
 use Rattle.tape_spans.specs.declared.Extent.{Extent}
-use Rattle.tape_spans.specs.declared.Span.{Span}
 use Rattle.tape_spans.specs.Spans.{spanWith, spanFrom}
 use Rattle.tape_files.specs.Index.{flattened, every, insides, under, extentInfoName, extentName, extentsOf, isGoodExtent}
-use Rattle.tape_files.specs.Elements.{placed, inside, Left, ElementMet, NoElement, NamedAt, NoneNamed}
+use Rattle.tape_files.specs.Elements.{takenFor, inside}
 use Rattle.tape_files.specs.Values.{extentOf, extentIsGood}
 use Rattle.tape_files.proofs.Placing.{placed-in}
 use Rattle.tape_files.proofs.Bare.{folded}
@@ -21,25 +20,9 @@ use Rattle.tape_picks.specs.declared.files.Ranged.{Ranged}
 use Rattle.tape_picks.specs.Picks.{extentIn}
 use Rattle.tape_picks.specs.Private.{saidExtent, rangedWith, rangedFrom}
 
--- What is met from a place in the text on.
-module _ (text : List ℕ) (place : Place) (p : PlaceIn text place) where
-  pub at-place : (name : List ℕ) (next : Place) → NamedAt text (placed text place) name next → NamedAt text place name next
-  at-place name next = subst (λ (x : Place). NamedAt text x name next) (placed-in text place p)
-
-  pub none-at-place : (name : List ℕ) (next : Place) → NoneNamed text (placed text place) name next → NoneNamed text place name next
-  none-at-place name next = subst (λ (x : Place). NoneNamed text x name next) (placed-in text place p)
-
-  pub left-place : (next : Place) → Left text (placed text place) next → Left text place next
-  left-place next = subst (λ (x : Place). Left text x next) (placed-in text place p)
-
-  pub element-place : (from to : ℕ) (next : Place) → ElementMet text (placed text place) from to next → ElementMet text place from to next
-  element-place from to next = subst (λ (x : Place). ElementMet text x from to next) (placed-in text place p)
-
-  pub over-place : (next : Place) → NoElement text (placed text place) next → NoElement text place next
-  over-place next = subst (λ (x : Place). NoElement text x next) (placed-in text place p)
-
-  pub inside-place : inside text (placed text place) ≡ inside text place
-  inside-place = ap (inside text) (placed-in text place p)
+-- What stands in the element around a place in the text.
+pub inside-place : (text : List ℕ) (place : Place) → PlaceIn text place → inside text (takenFor text place) ≡ inside text place
+inside-place text place p = ap (inside text) (placed-in text place p)
 
 -- The extents in an `extentinfo` element, and in a file.
 abbrev pub extentStep : Tape → Ranged → Forest → Ranged

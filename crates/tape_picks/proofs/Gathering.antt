@@ -1,13 +1,13 @@
 -- All files of an index noted one by one: each line has what the files met so far come to, and those left are the others.
-use Prim.Native.Nat.{ℕ, _+_, _-_, _≤_, _<_}
-use mathlib.Core.Path.{_≡_, refl, ap, sym, _∙_, subst}
-use mathlib.Core.Bool.{Bool, true, false, cond, not, _&&_, _||_, true≢false, false≢true, and-true, and-false, and-assoc}
+use Prim.Native.Nat.{ℕ, _+_, _≤_, _<_}
+use mathlib.Core.Path.{_≡_, refl, ap, sym, _∙_}
+use mathlib.Core.Bool.{Bool, true, false, cond, _&&_, true≢false, and-true, and-assoc}
 use mathlib.Core.List.{List, [], _∷_, _++_, map, append-nil, append-assoc}
 use mathlib.Core.Logic.{by-cases}
 use native.Mathlib.Omega.{arith}
 use native.Mathlib.Decide.{decLe, decLt}
-use lib.ListN.{length, getD, drop}
-use lib.Dec.{eqb, leb}
+use lib.ListN.{length, getD}
+use lib.Dec.{eqb}
 use borrow.Author.Tests.{eqb-true, eq-eqb, le-leb, lt-leb}
 use Rattle.text_bytes.specs.Text.{startsWith, isText}
 use Rattle.text_bytes.proofs.Bytes.{and-true-both, begun-long}
@@ -16,7 +16,6 @@ use Rattle.text_order.specs.declared.Range.{Range}
 use Rattle.text_order.specs.Order.{pathAt}
 use Rattle.text_order.specs.Promises.{RangeHolds}
 use Rattle.text_order.proofs.Prefixes.{holds-all}
-use Rattle.tape_markup.specs.declared.Place.{Place}
 use Rattle.tape_markup.specs.Places.{tokensAt}
 use Rattle.tape_markup.specs.Tree.{isBalanced, treeOf}
 use Rattle.tape_markup.specs.Promises.{depth}

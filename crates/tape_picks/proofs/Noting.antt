@@ -1,16 +1,15 @@
 -- A file noted at the lines of its path, place by place of the order.
 use Prim.Native.Nat.{ℕ, _+_, _-_, _≤_, _<_, max}
-use mathlib.Core.Path.{_≡_, refl, ap, sym, _∙_}
-use mathlib.Core.Bool.{Bool, true, false, cond}
-use mathlib.Core.List.{List, [], _∷_}
+use mathlib.Core.Path.{_≡_, refl, sym, _∙_}
+use mathlib.Core.Bool.{Bool, true}
+use mathlib.Core.List.{List}
 use mathlib.Core.Logic.{by-cases}
 use native.Mathlib.Omega.{arith}
-use native.Mathlib.Decide.{ℕ-discrete, decLt}
+use native.Mathlib.Decide.{ℕ-discrete}
 use lib.ListN.{length, getD, set, length-set}
 use lib.Seq.{getD-set-same, getD-set-other}
 use lib.Dec.{leb}
 use borrow.Author.Tests.{le-leb}
-use Rattle.text_order.specs.declared.Range.{Range}
 use Rattle.tape_spans.specs.declared.Span.{Span}
 use Rattle.tape_picks.specs.declared.Pick.{Pick}
 use Rattle.tape_picks.specs.Private.{pickIn, notedPick, endsAt, OrderHeld, AllFit, FileNoted}

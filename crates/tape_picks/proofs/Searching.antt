@@ -1,20 +1,19 @@
 -- The rows handed over, by line: of an index that cannot be read nothing, of one that can what each line comes to.
 use Prim.Native.Nat.{ℕ, zero, suc, _≤_, _<_}
-use mathlib.Core.Path.{_≡_, refl, ap, sym, _∙_, subst}
-use mathlib.Core.Bool.{Bool, true, false, cond, _&&_}
-use mathlib.Core.List.{List, [], _∷_, _++_}
+use mathlib.Core.Path.{_≡_, refl, ap, _∙_, subst}
+use mathlib.Core.Bool.{Bool, true, false, cond}
+use mathlib.Core.List.{List, _++_}
 use native.Mathlib.Omega.{arith}
 use lib.ListN.{length, getD, take, drop, replicate, length-replicate}
-use Rattle.text_lines.specs.Lines.{eachOf, firstBadOf}
-use Rattle.text_paths.specs.Paths.{isAsked}
+use Rattle.text_lines.specs.Lines.{eachOf}
 use Rattle.text_paths.specs.Rows.{PathsRead}
-use Rattle.text_order.specs.Order.{lineAt, pathAt}
+use Rattle.text_order.specs.Order.{lineAt}
 use Rattle.tape_markup.specs.Tree.{isBalanced, treeOf}
 use Rattle.tape_files.specs.Index.{every, isGoodExtent, indexFiles}
 use Rattle.tape_picks.specs.declared.Tape.{Tape}
 use Rattle.tape_picks.specs.declared.Pick.{Pick}
-use Rattle.tape_picks.specs.Picks.{noPick, askedPick, isReadable, linesAsked, answeredRow, FilesFound}
-use Rattle.tape_picks.specs.Private.{pickIn, AllFit, OrderHeld, ListHeld, NoneNoted, pickAt, Gathered, Searched}
+use Rattle.tape_picks.specs.Picks.{askedPick, isReadable, linesAsked, answeredRow, FilesFound}
+use Rattle.tape_picks.specs.Private.{pickIn, AllFit, ListHeld, NoneNoted, pickAt, Gathered, Searched}
 use Rattle.tape_picks.proofs.Asking.{taken-each, LinesFit, lines-fit, rows-same}
 
 -- Rows of zeros: nothing is noted in them.

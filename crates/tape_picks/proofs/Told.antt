@@ -8,7 +8,7 @@ use lib.ListN.{length}
 use lib.Dec.{eqb}
 use borrow.Author.Tests.{ne-eqb, eqb-true}
 use Rattle.tape_picks.specs.Picks.{fileSpan, hasNoBytes, pickOf}
-use Rattle.tape_picks.specs.Promises.{PickSays, PicksSay}
+use Rattle.tape_picks.specs.Promises.{PicksSay}
 
 pub picks-say : PicksSay
 unfolding pickOf

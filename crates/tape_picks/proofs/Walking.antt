@@ -1,19 +1,17 @@
 -- The walk through an index: the files left, here and outwards, are those left before; no more than 32 elements are open; each element around has its range.
-use Prim.Native.Nat.{ℕ, zero, suc, _+_, _-_, _≤_, _<_, max}
+use Prim.Native.Nat.{ℕ, suc, _+_, _≤_, _<_, max}
 use mathlib.Core.Path.{_≡_, refl, ap, sym, _∙_, subst}
-use mathlib.Core.Bool.{Bool, true, false, cond, true≢false}
+use mathlib.Core.Bool.{true, false, true≢false}
 use mathlib.Core.List.{List, [], _∷_, _++_, append-assoc}
 use native.Mathlib.Omega.{arith}
-use native.Mathlib.Numerals.{add-one}
-use lib.ListN.{length, getD, set, length-set}
+use lib.ListN.{length, set, length-set}
 use lib.Seq.{getD-set-same, getD-set-other}
-use lib.Dec.{eqb}
 use borrow.Author.Tests.{eq-eqb, ne-eqb}
 use Rattle.text_order.specs.declared.Range.{Range}
 use Rattle.text_order.specs.Promises.{RangeHolds}
 use Rattle.tape_markup.specs.declared.Place.{Place}
-use Rattle.tape_markup.specs.Places.{part, PlaceIn, tokensAt}
-use Rattle.tape_markup.specs.Tree.{Forest, none, char, element, innermost, enclosing, mostOpen}
+use Rattle.tape_markup.specs.Places.{part, tokensAt}
+use Rattle.tape_markup.specs.Tree.{Forest, none, char, element, innermost, enclosing}
 use Rattle.tape_markup.specs.Promises.{depth}
 use Rattle.tape_files.specs.Index.{Level, Role, holds, file, other, roleOf, extentsOf}
 use Rattle.tape_files.specs.NamedFiles.{NamedFile, ownName, pathBelow, namedOfRole, namedIn}
@@ -21,7 +19,7 @@ use Rattle.tape_files.specs.Elements.{framesAt, inside, Left, bare, ElementMet,
 use Rattle.tape_picks.specs.declared.Tape.{Tape}
 use Rattle.tape_picks.specs.declared.walk.Walk.{Walk}
 use Rattle.tape_picks.specs.declared.walk.Met.{Met}
-use Rattle.tape_picks.specs.Private.{movedTo, overAt, outAt, leftTo, enteredAt, noRange, passedBy, namedUnder, namedLeft, Shallow, RangesFor, WalkAt, walkSize, FileRead, FileMet, MetAt}
+use Rattle.tape_picks.specs.Private.{movedTo, overAt, outAt, leftTo, enteredAt, noRange, passedBy, namedUnder, namedLeft, Shallow, RangesFor, WalkAt, walkSize, FileRead, MetAt}
 
 -- Bytes before the first element hold no file, and are not deep.
 named-bare : (f : Forest) (level : Level) (path : List ℕ) → namedIn (bare f) level path ≡ namedIn f level path

@@ -4,7 +4,7 @@ ghost use mathlib.Core.Bool.{false};
 ghost use Prim.Native.Nat.{_<_};
 ghost use Rattle.tape_markup.specs.Places.{PlaceIn};
 ghost use Rattle.text_order.specs.Order.{pathAt};
-ghost use Rattle.tape_files.specs.Elements.{placed, inside, levelAt};
+ghost use Rattle.tape_files.specs.Elements.{takenFor, inside, levelAt};
 ghost use Rattle.tape_picks.specs.Private.{walkStart, isContents, namedRange, belowRange, movedTo, leftTo, enteredAt, passedBy, FileRead, ListHeld, SomeWalk, MeetsAt};
 use crate::Tape;
 use crate::files::Ranged;
@@ -74,7 +74,7 @@ fn named_range(
     order: &[usize],
     range: Range,
 ) -> Range
-    ensures { λ r. ⌜ r ≡ namedRange (now (list .entry)) (now (starts .entry)) (now (ends .entry)) (now (order .entry)) range (inside (now (text .entry)) (placed (now (text .entry)) place)) ⌝ }
+    ensures { λ r. ⌜ r ≡ namedRange (now (list .entry)) (now (starts .entry)) (now (ends .entry)) (now (order .entry)) range (inside (now (text .entry)) (takenFor (now (text .entry)) place)) ⌝ }
 {
     if range.high <= range.low {
         return range;
@@ -93,7 +93,7 @@ fn below(
     range: Range,
     depth: usize,
 ) -> Range
-    ensures { λ r. ⌜ r ≡ belowRange (now (list .entry)) (now (starts .entry)) (now (ends .entry)) (now (order .entry)) range depth (inside (now (text .entry)) (placed (now (text .entry)) place)) ⌝ }
+    ensures { λ r. ⌜ r ≡ belowRange (now (list .entry)) (now (starts .entry)) (now (ends .entry)) (now (order .entry)) range depth (inside (now (text .entry)) (takenFor (now (text .entry)) place)) ⌝ }
 {
     if !in_contents(depth) {
         return range;

@@ -7,7 +7,8 @@ use Rattle.tape_files.specs.Index.{extentName}
 use Rattle.tape_files.specs.Values.{extentOf}
 use Rattle.tape_files.proofs.Bare.{ReadTo, read-none, read-more, read-over, read-less}
 use Rattle.tape_picks.specs.Private.{rangedWith}
-use Rattle.tape_picks.proofs.Extents.{at-place, none-at-place, left-place, inside-place, extentStep, extents-read}
+use Rattle.tape_files.proofs.Placing.{named-here, unnamed-here, left-here}
+use Rattle.tape_picks.proofs.Extents.{inside-place, extentStep, extents-read}
 use borrow.Author.Needs.{needs}
 use Rattle.tape_picks.proofs.files.read_extents.Statement.{statement}
 use Rattle.tape_picks.proofs.files.read_extents.Tie as tie
@@ -36,7 +37,7 @@ at-loop c = c .before .before .before .before .before .before
 
 returns : tie.Need-returns Inv-loop μ-loop
 returns c = let i = c .before .before .before .before .before .loop .inv in
-    let r = read-over (extentStep _) _ _ _ _ _ _ i _ (none-at-place _ _ (i .around .within) _ _ (rw (c .before .met .given .1) at (c .before .before .before .next-named .ensures))) in
+    let r = read-over (extentStep _) _ _ _ _ _ _ i _ (unnamed-here _ _ (i .around .within) _ _ (rw (c .before .met .given .1) at (c .before .before .before .next-named .ensures))) in
     (r .0 ∙ extents-read _ _ _, r .1)
 
 enum-known-met-2 : tie.Need-enum-known-met-2 Inv-loop μ-loop
@@ -52,17 +53,17 @@ loop-less : tie.Need-loop-less Inv-loop μ-loop
 loop-less c =
     let re = c .before .before in
     let i = at-loop re .loop .inv in
-    let m = at-place _ _ (i .around .within) _ _ (rw (c .before .before .before .before .met2 .given .1) at (c .before .before .before .before .before .before .next-named .ensures)) in
-    read-less _ _ _ _ _ m (left-place _ _ (m .within) _ (re .read-extent .ensures .1))
+    let m = named-here _ _ (i .around .within) _ _ (rw (c .before .before .before .before .met2 .given .1) at (c .before .before .before .before .before .before .next-named .ensures)) in
+    read-less _ _ _ _ _ m (left-here _ _ (m .within) _ (re .read-extent .ensures .1))
 
 loop-again : tie.Need-loop-again Inv-loop μ-loop
 loop-again c =
     let re = c .before .before in
     let al = at-loop re in
     let i = al .loop .inv in
-    let m = at-place _ _ (i .around .within) _ _ (rw (c .before .before .before .before .met2 .given .1) at (c .before .before .before .before .before .before .next-named .ensures)) in
+    let m = named-here _ _ (i .around .within) _ _ (rw (c .before .before .before .before .met2 .given .1) at (c .before .before .before .before .before .before .next-named .ensures)) in
     let e = re .read-extent .ensures in
-    read-more (extentStep _) _ _ _ _ _ _ i _ _ _ m (left-place _ _ (m .within) _ (e .1))
+    read-more (extentStep _) _ _ _ _ _ _ i _ _ _ m (left-here _ _ (m .within) _ (e .1))
     (c .add-extent .ensures ∙ ap (rangedWith (al .before .before .args .tape) (al .loop .known)) (e .0 ∙ ap extentOf (inside-place _ _ (m .within))))
 
 pub read-extents-spec : {M : Type 1} → statement M

@@ -7,7 +7,8 @@ use Rattle.tape_files.specs.Index.{extentInfoName, extentsOf}
 use Rattle.tape_files.specs.Elements.{inside}
 use Rattle.tape_picks.specs.Private.{rangedFrom}
 use Rattle.tape_files.proofs.Bare.{ReadTo, read-none, read-more, read-over, read-less}
-use Rattle.tape_picks.proofs.Extents.{at-place, none-at-place, left-place, infoStep, file-read}
+use Rattle.tape_files.proofs.Placing.{named-here, unnamed-here}
+use Rattle.tape_picks.proofs.Extents.{infoStep, file-read}
 use borrow.Author.Needs.{needs}
 use Rattle.tape_picks.proofs.files.read_file.Statement.{statement}
 use Rattle.tape_picks.proofs.files.read_file.Tie as tie
@@ -42,7 +43,7 @@ returns c =
     let al = c .before .before .before .before .before in
     let s = al .before .before .before in
     let i = al .loop .inv in
-    let r = read-over (infoStep _) _ _ _ _ _ _ i _ (none-at-place _ _ (i .around .within) _ _ (rw (c .before .met .given .1) at (c .before .before .before .next-named .ensures))) in
+    let r = read-over (infoStep _) _ _ _ _ _ _ i _ (unnamed-here _ _ (i .around .within) _ _ (rw (c .before .met .given .1) at (c .before .before .before .next-named .ensures))) in
     (r .0 ∙ file-read _ _ _ ∙ ap (λ f. rangedFrom (s .args .tape) f (extentsOf (inside (s .args .text .now) (s .args .place)))) (al .before .no-file .ensures), r .1)
 
 enum-known-met-2 : tie.Need-enum-known-met-2 Inv-loop μ-loop
@@ -50,16 +51,16 @@ enum-known-met-2 c = search needs
 
 read-extents-requires : tie.Need-read-extents-requires Inv-loop μ-loop
 read-extents-requires c κs = let i = c .before .before .before .before .before .loop .inv in
-    let m = at-place _ _ (i .around .within) _ _ (rw (c .before .met2 .given .1) at (c .before .before .before .next-named .ensures)) in m .within
+    let m = named-here _ _ (i .around .within) _ _ (rw (c .before .met2 .given .1) at (c .before .before .before .next-named .ensures)) in m .within
 
 loop-less : tie.Need-loop-less Inv-loop μ-loop
 loop-less c = let i = at-loop c .loop .inv in
-    let m = at-place _ _ (i .around .within) _ _ (rw (c .before .before .before .met2 .given .1) at (c .before .before .before .before .before .next-named .ensures)) in
+    let m = named-here _ _ (i .around .within) _ _ (rw (c .before .before .before .met2 .given .1) at (c .before .before .before .before .before .next-named .ensures)) in
     read-less _ _ _ _ _ m (c .before .read-extents .ensures .1)
 
 loop-again : tie.Need-loop-again Inv-loop μ-loop
 loop-again c = let i = at-loop c .loop .inv in
-    let m = at-place _ _ (i .around .within) _ _ (rw (c .before .before .before .met2 .given .1) at (c .before .before .before .before .before .next-named .ensures)) in
+    let m = named-here _ _ (i .around .within) _ _ (rw (c .before .before .before .met2 .given .1) at (c .before .before .before .before .before .next-named .ensures)) in
     let e = c .before .read-extents .ensures in
     read-more (infoStep _) _ _ _ _ _ _ i _ _ _ m (e .1) (e .0)
 

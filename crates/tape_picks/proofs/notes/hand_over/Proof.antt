@@ -5,7 +5,7 @@ use native.Mathlib.Omega.{arith}
 use Prim.Native.Nat.{_-_, _≤_}
 use mathlib.Core.Path.{_≡_, refl, ap, _∙_}
 use mathlib.Core.List.{_++_}
-use lib.ListN.{length, take, drop, set, getD}
+use lib.ListN.{length, take, drop}
 use Rattle.tape_picks.proofs.Handing.{handed-long, handed-more}
 use Rattle.tape_picks.proofs.notes.hand_over.Statement.{statement}
 use Rattle.tape_picks.proofs.notes.hand_over.Tie as tie

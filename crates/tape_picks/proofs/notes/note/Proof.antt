@@ -3,7 +3,7 @@
 use borrow.Author.Needs.{needs}
 use native.Mathlib.Omega.{arith}
 use Prim.Native.Nat.{_-_}
-use mathlib.Core.Path.{_≡_, refl, _∙_}
+use mathlib.Core.Path.{_≡_, refl}
 use lib.ListN.{length}
 use Rattle.tape_picks.specs.Private.{pickIn}
 use Rattle.tape_picks.proofs.Noting.{set-long, Noting, noting-none, noting-more, noting-done}

@@ -1,7 +1,6 @@
 -- `tape_picks::walk::in_contents` meets its contract: directories and their contents take turns.
 -- Assumes nothing.
 use Rattle.tape_picks.proofs.Ranges.{shallow-level, deep-level}
-use borrow.Author.Needs.{needs}
 use Rattle.tape_picks.proofs.walk.in_contents.Statement.{statement}
 use Rattle.tape_picks.proofs.walk.in_contents.Tie as tie
 

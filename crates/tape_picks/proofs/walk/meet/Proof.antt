@@ -1,7 +1,7 @@
 -- `tape_picks::walk::meet` meets its contract: whatever the paths so far, the files left are those left before, but for the file met.
 -- Assumes nothing.
 use mathlib.Core.Path.{refl}
-use Rattle.tape_picks.proofs.Extents.{left-place, element-place, over-place}
+use Rattle.tape_files.proofs.Placing.{left-here, element-here, nothing-here}
 use Rattle.tape_picks.proofs.Walking.{deep-enough, met-left, met-entered, met-read, met-moved}
 use Rattle.tape_picks.proofs.Entering.{below-held, named-held}
 use borrow.Author.Needs.{needs}
@@ -49,7 +49,7 @@ entered-requires : tie.Need-entered-requires
 entered-requires c κs =
     let s = at-start (c .before .before .before) in
     let w = s .pre .1 .1 .at in
-    let m = element-place _ _ (w .within) _ _ _
+    let m = element-here _ _ (w .within) _ _ _
     (rw (c .before .before .before .before .before .child2 .given .1) at (c .before .before .before .before .before .before .before .next-child .ensures)) in
     deep-enough _ _ _ (s .args .tape) _ (s .pre .1 .0) _ _ w _ _ _ m
 
@@ -61,7 +61,7 @@ enum-told-2 c = search needs
 
 met-file-requires : tie.Need-met-file-requires
 met-file-requires c κs = let w = at-start (c .before .before) .pre .1 .1 .at in
-    let m = element-place _ _ (w .within) _ _ _ (rw (c .before .before .before .before .child2 .given .1) at (c .before .before .before .before .before .before .next-child .ensures)) in m .within
+    let m = element-here _ _ (w .within) _ _ _ (rw (c .before .before .before .before .child2 .given .1) at (c .before .before .before .before .before .before .next-child .ensures)) in m .within
 
 enum-told-3 : tie.Need-enum-told-3
 enum-told-3 c = search needs
@@ -77,7 +77,7 @@ passed-requires-3 c κs = search needs
 
 returns : tie.Need-returns
 returns c = λ own outer w.
-    let n = over-place _ _ (w .within) _ (rw (c .before .before .before .child .given .1) at (c .before .before .before .before .before .next-child .ensures)) in
+    let n = nothing-here _ _ (w .within) _ (rw (c .before .before .before .child .given .1) at (c .before .before .before .before .before .next-child .ensures)) in
     rw (c .passed .ensures, c .before .left .ensures) (met-left _ _ _ _ _ (at-start-from-passed c .pre .1 .0) own outer w _ n)
 
 returns-2 : tie.Need-returns-2
@@ -85,7 +85,7 @@ returns-2 c =
     let c2 = c .before .before .before .before .before .before .before in
     λ own outer w.
     let s = at-start (c .before .before .before .before .before) in
-    let m = element-place _ _ (w .within) _ _ _ (rw (c2 .child2 .given .1) at (c2 .before .before .next-child .ensures)) in
+    let m = element-here _ _ (w .within) _ _ _ (rw (c2 .child2 .given .1) at (c2 .before .before .next-child .ensures)) in
     let u = rw (c .before .before .before .enum-told .given .1) at (c .before .before .before .before .before .role-at .ensures) in
     rw (c .passed2 .ensures, c .before .entered .ensures)
     (met-entered _ _ _ _ _ (s .pre .1 .0) own outer w _ _ _ m u _ (below-held _ _ _ _ _ _ (s .pre .0) own outer _ w _ refl _ (m .within) _ (c .before .before .below .ensures)))
@@ -93,7 +93,7 @@ returns-2 c =
 returns-3 : tie.Need-returns-3
 returns-3 c = λ own outer w.
     let s = at-start (c .before .before .before) in
-    let m = element-place _ _ (w .within) _ _ _
+    let m = element-here _ _ (w .within) _ _ _
     (rw (c .before .before .before .before .before .child2 .given .1) at (c .before .before .before .before .before .before .before .next-child .ensures)) in
     let u = rw (c .before .enum-told2 .given .1) at (c .before .before .before .role-at .ensures) in
     met-read _ _ _ _ _ (s .pre .1 .0) own outer w _ _ _ m u _ (named-held _ _ _ _ _ _ (s .pre .0) own outer _ w _ refl _ (m .within)) _ (c .met-file .ensures)
@@ -102,11 +102,11 @@ returns-4 : tie.Need-returns-4
 returns-4 c =
     let c2 = c .before .before .before .before .before .before .before in
     λ own outer w.
-    let m = element-place _ _ (w .within) _ _ _ (rw (c2 .child2 .given .1) at (c2 .before .before .next-child .ensures)) in
+    let m = element-here _ _ (w .within) _ _ _ (rw (c2 .child2 .given .1) at (c2 .before .before .next-child .ensures)) in
     let u = rw (c .before .before .before .enum-told3 .given .1) at (c .before .before .before .before .before .role-at .ensures) in
     rw (c .passed3 .ensures, c .before .moved .ensures)
     (met-moved _ _ _ _ _ (at-start (c .before .before .before .before .before) .pre .1 .0) own outer w _ _ _ m _
-    (left-place _ _ (m .within) _ (c .before .before .leave .ensures)) u)
+    (left-here _ _ (m .within) _ (c .before .before .leave .ensures)) u)
 
 pub meet-spec : {M : Type 1} → statement M
 meet-spec =
