@@ -13,7 +13,7 @@ tag-from-requires : tie.Need-tag-from-requires
 tag-from-requires c κs = (text-told _ _ _ (c .before .before .pre) (c .behind-text .ensures)) .within
 
 returns : tie.Need-returns
-returns c = child-behind _ _ _ (c .before .before .before .pre) (c .before .behind-text .ensures) _ (c .tag-from .ensures)
+returns c = child-behind _ _ _ (c .before .before .before .pre) (c .before .behind-text .ensures) (c .tag-from .result) (c .tag-from .ensures)
 
 pub child-from-spec : {M : Type 1} → statement M
 child-from-spec = tie.close (tie.spec behind-text-requires tag-from-requires returns)
