@@ -114,6 +114,13 @@ static void end_extent(struct reader *r)
         r->end = end;
 }
 
+/* All places above 2^40 count as one, as find_files says them. */
+static uint64_t counted(uint64_t place)
+{
+    const uint64_t last = (uint64_t)1 << 40;
+    return place > last ? last + 1 : place;
+}
+
 static void end_file(struct reader *r)
 {
     r->path[r->path_size] = 0;
@@ -122,8 +129,8 @@ static void end_file(struct reader *r)
     struct line *found = bsearch(&wanted, r->lines->rows, r->lines->count, sizeof wanted, compare_lines);
     if (found != NULL) {
         found->files++;
-        found->start = r->start;
-        found->end = r->end;
+        found->start = counted(r->start);
+        found->end = counted(r->end);
     }
 }
 
