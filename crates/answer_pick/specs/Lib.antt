@@ -1,3 +1,6 @@
--- What pick answers: the files of an index by their paths, which of them the lines of a list ask for, what is refused, and the two texts.
+-- What pick answers: which files the lines of a list ask for, what is refused, and the answer with its two texts; and Private, which only private contracts cite.
 pub mod Picks
-pub mod Sheets
+pub mod Answer
+pub mod Promises
+pub mod Applies
+pub mod Private
