@@ -24,7 +24,7 @@ use Rattle.sheet_picks.specs.declared.Picks.{Picks}
 use Rattle.sheet_picks.specs.Entries.{mostEntries, EntriesOf}
 use Rattle.sheet_picks.specs.Sheets.{pickedSheet}
 use Rattle.sheet_picks.specs.Names.{namesText}
-use Rattle.sheet_picks.specs.Writing.{picksVerdict, rowsVerdict, PicksHanded, HandedFor, PicksWritten}
+use Rattle.sheet_picks.specs.Writing.{picksVerdict, textRowsVerdict, PicksHanded, HandedFor, PicksWritten}
 use Rattle.sheet_picks.proofs.Stands.{lines-few}
 use Rattle.answer_pick.specs.declared.Refused.{Refused}
 use Rattle.answer_pick.specs.declared.Picked.{Picked}
@@ -199,7 +199,7 @@ module _ (unit : ℕ) (name label index list head turn out names : List ℕ) whe
               let text = namesText list (askedStarts unit label index list) (q .firsts) (q .lasts) in
               let a = ltb mostEntries (length (q .firsts)) in
               let s = ltb (length out) (length sheet) || ltb (length names) (length text) in
-              let e : firstOf (picksVerdict name list (length (q .firsts)) ∷ rowsVerdict sheet text out names ∷ []) ≡ firstOf (refuseIf a WantRows ∷ refuseIf s ShortRow ∷ []) = rw (verdict-is name list (length (q .firsts)) named list-good) (two-checks a s) in
+              let e : firstOf (picksVerdict name list (length (q .firsts)) ∷ textRowsVerdict sheet text out names ∷ []) ≡ firstOf (refuseIf a WantRows ∷ refuseIf s ShortRow ∷ []) = rw (verdict-is name list (length (q .firsts)) named list-good) (two-checks a s) in
               let h = both sheet text out names (p .picks) out′ names′ a s (rw e at (q .handed)) in
               record {
                 firsts = q .firsts;

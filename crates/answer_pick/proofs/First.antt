@@ -29,7 +29,7 @@ use Rattle.answer_pick.specs.declared.Picked.{Picked}
 use Rattle.answer_pick.specs.Picks.{areReadable, tapeOf, askedFiles, askedSpan, isUnknown, isWithout, isTooFar, refusedIf, refusedAt, firstRefused, firstLine, listRefused, inputChecks, lineChecks, pickRefused}
 use Rattle.answer_pick.specs.Answer.{askedStarts, entriesRefused, rowsRefused, answerOf, PickAnswered}
 use Rattle.answer_pick.specs.Promises.{OnlyFile}
-use Rattle.answer_pick.specs.Applies.{FirstLineThat, HasNoFile, CannotBeRead, EndsTooFar, PickApplies, pickOrder, FirstThatApplies, none, here, later, bad-name, bad-text, other-volume, bad-line, many-lines, unknown-path, no-bytes, far-file, many-entries, short-row, RefusesTheFirst}
+use Rattle.answer_pick.specs.Applies.{FirstLineThat, HasNoFile, CannotBeRead, EndsTooFar, PickApplies, pickOrder, FirstToApply, none, here, later, bad-name, bad-text, other-volume, bad-line, many-lines, unknown-path, no-bytes, far-file, many-entries, short-row, RefusesTheFirst}
 use Rattle.answer_pick.proofs.Promised.{one-named, only-one}
 
 -- A check of one number: where it accepts its condition fails, where it refuses the condition holds at its place.
@@ -43,7 +43,7 @@ AllChecks applies [] (v ∷ vs) = ⊥
 AllChecks applies (n ∷ ns) [] = ⊥
 AllChecks applies (n ∷ ns) (v ∷ vs) = Check applies n v × AllChecks applies ns vs
 
-first-applies : (applies : ℕ → ℕ → Type 0) (ns : List ℕ) (vs : List Refused) → AllChecks applies ns vs → FirstThatApplies applies ns (firstRefused vs .number) (firstRefused vs .place)
+first-applies : (applies : ℕ → ℕ → Type 0) (ns : List ℕ) (vs : List Refused) → AllChecks applies ns vs → FirstToApply applies ns (firstRefused vs .number) (firstRefused vs .place)
 first-applies applies [] [] c = none
 first-applies applies [] (v ∷ vs) c = absurd c
 first-applies applies (n ∷ ns) [] c = absurd c
@@ -53,7 +53,7 @@ first-applies applies (n ∷ ns) (v ∷ vs) c =
       | no h ↦ let z : v .number ≡ 0 = omega arith in rw z (later (c .0 .accepts z) (first-applies applies ns vs (c .1)))
     ]
   where
-    found : (v .number ≡ n) × applies n (v .place) → FirstThatApplies applies (n ∷ ns) (v .number) (v .place)
+    found : (v .number ≡ n) × applies n (v .place) → FirstToApply applies (n ∷ ns) (v .number) (v .place)
     found q = rw (q .0) (here (q .1))
 
 -- Checks in checks.
@@ -292,7 +292,7 @@ module _ (unit : ℕ) (name label index list firsts sheet named out names : List
   all-checks : AllChecks Applies pickOrder inARow
   all-checks = (name-check, (text-check, (volume-check, (bad-check, (many-check, (unknown-check, (without-check, (far-check, (entries-check, (rows-check, tt))))))))))
 
-  pub first-of-all : FirstThatApplies Applies pickOrder (firstRefused inARow .number) (firstRefused inARow .place)
+  pub first-of-all : FirstToApply Applies pickOrder (firstRefused inARow .number) (firstRefused inARow .place)
   first-of-all = first-applies Applies pickOrder inARow all-checks
 
 -- A check that accepts names no place, so the answer has number and place of the first that applies.

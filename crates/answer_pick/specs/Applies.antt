@@ -55,11 +55,11 @@ abbrev pub pickOrder : List ℕ
 pickOrder = 13 ∷ 20 ∷ 44 ∷ 11 ∷ 5 ∷ 41 ∷ 42 ∷ 23 ∷ 3 ∷ 8 ∷ []
 
 -- The first of an order of numbers that applies, with its place; 0 and place 0 where none does.
-pub data FirstThatApplies (applies : ℕ → ℕ → Type 0) : List ℕ → ℕ → ℕ → Type 0 where
-  none : FirstThatApplies applies [] 0 0
-  here : {number place : ℕ} {rest : List ℕ} → applies number place → FirstThatApplies applies (number ∷ rest) number place
+pub data FirstToApply (applies : ℕ → ℕ → Type 0) : List ℕ → ℕ → ℕ → Type 0 where
+  none : FirstToApply applies [] 0 0
+  here : {number place : ℕ} {rest : List ℕ} → applies number place → FirstToApply applies (number ∷ rest) number place
   later : {skipped number place : ℕ} {rest : List ℕ}
-      → ((p : ℕ) → applies skipped p → ⊥) → FirstThatApplies applies rest number place → FirstThatApplies applies (skipped ∷ rest) number place
+      → ((p : ℕ) → applies skipped p → ⊥) → FirstToApply applies rest number place → FirstToApply applies (skipped ∷ rest) number place
 
 abbrev pub AppliesTo : (unit : ℕ) (name label index list head turn out names firsts lasts : List ℕ) → ℕ → ℕ → Type 0
 AppliesTo unit name label index list head turn out names firsts lasts =
@@ -69,4 +69,4 @@ AppliesTo unit name label index list head turn out names firsts lasts =
 abbrev pub RefusesTheFirst : Type 0
 RefusesTheFirst = (unit : ℕ) (name label index list head turn out names : List ℕ) (r : Picked) (out′ names′ : List ℕ)
     → (p : PickAnswered unit name label index list head turn out names r out′ names′)
-    → FirstThatApplies (AppliesTo unit name label index list head turn out names (p .firsts) (p .lasts)) pickOrder (r .number) (r .place)
+    → FirstToApply (AppliesTo unit name label index list head turn out names (p .firsts) (p .lasts)) pickOrder (r .number) (r .place)

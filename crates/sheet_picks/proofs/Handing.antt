@@ -24,7 +24,7 @@ use Rattle.sheet_picks.specs.declared.Picks.{Picks}
 use Rattle.sheet_picks.specs.Entries.{mostEntries, EntriesOf}
 use Rattle.sheet_picks.specs.Sheets.{pickedSheet}
 use Rattle.sheet_picks.specs.Names.{namesText}
-use Rattle.sheet_picks.specs.Writing.{picksVerdict, rowsVerdict, refusedPicks, PicksHanded, HandedFor, PicksWritten}
+use Rattle.sheet_picks.specs.Writing.{picksVerdict, textRowsVerdict, refusedPicks, PicksHanded, HandedFor, PicksWritten}
 use Rattle.sheet_picks.specs.Private.{PathRows, EntryRows, EntriesFilled, Laid, NextAt}
 use Rattle.sheet_picks.proofs.InTurn.{in-turn-rows}
 
@@ -87,13 +87,13 @@ module _ (sheet named out names page page′ : List ℕ) (most bytes : ℕ) (w :
   bytes-are : bytes ≡ length sheet
   bytes-are = omega (arith, w .after)
 
-  verdict-is : v ≡ rowsVerdict sheet named out names
+  verdict-is : v ≡ textRowsVerdict sheet named out names
   verdict-is = is ∙ rw (same-names, bytes-are, measured-same (length names) (length named) size (m .measured))
 
-  pub both-none : f ≡ true → (r : Picks) → r ≡ refusedPicks v → PicksHanded (rowsVerdict sheet named out names) sheet named out names r out names₁
+  pub both-none : f ≡ true → (r : Picks) → r ≡ refusedPicks v → PicksHanded (textRowsVerdict sheet named out names) sheet named out names r out names₁
   unfolding writtenRow
   both-none e r r-is =
-      let t : refuses (rowsVerdict sheet named out names) ≡ true = ap refuses (sym verdict-is) ∙ sym says ∙ e in
+      let t : refuses (textRowsVerdict sheet named out names) ≡ true = ap refuses (sym verdict-is) ∙ sym says ∙ e in
       record {
         answer = r-is ∙ rw (verdict-is) (sym (rw t));
         sheet-left = rw t;
@@ -101,7 +101,7 @@ module _ (sheet named out names page page′ : List ℕ) (most bytes : ℕ) (w :
       }
 
   module _ (e : f ≡ false) where
-    passes-rows : refuses (rowsVerdict sheet named out names) ≡ false
+    passes-rows : refuses (textRowsVerdict sheet named out names) ≡ false
     passes-rows = ap refuses (sym verdict-is) ∙ sym says ∙ e
 
     no-short : (length sheet ≤ length out) × (length named ≤ length names)
@@ -110,7 +110,7 @@ module _ (sheet named out names page page′ : List ℕ) (most bytes : ℕ) (w :
         (ltb-false (length out) (length sheet) (o .0), ltb-false (length names) (length named) (o .1))
 
     pub both-put : (out′ : List ℕ) (next : ℕ) → Put out 0 (take bytes page′) (length (take bytes page′)) out′ next → (names₂ : List ℕ) (size₂ : ℕ) → Laid true names₁ 0 named names₂ size₂
-        → (r : Picks) → r ≡ record { refusal = Accepted; place = 0; bytes = bytes; named = size } → PicksHanded (rowsVerdict sheet named out names) sheet named out names r out′ names₂
+        → (r : Picks) → r ≡ record { refusal = Accepted; place = 0; bytes = bytes; named = size } → PicksHanded (textRowsVerdict sheet named out names) sheet named out names r out′ names₂
     unfolding writtenRow
     both-put out′ next p names₂ size₂ q r r-is =
         let fits = no-short in
@@ -144,7 +144,7 @@ module _ (name list starts ends head turn out names : List ℕ) (entries : ℕ) 
       let ls = take entries lasts in
       let u = picksVerdict name list (length fs) in
       let t : refuses u ≡ true = ap refuses (sym judged) ∙ sym says ∙ e in
-      let h : firstOf (u ∷ rowsVerdict (pickedSheet name starts fs ls head turn) (namesText list starts fs ls) out names ∷ []) ≡ u = sym (first-refuses u (rowsVerdict (pickedSheet name starts fs ls head turn) (namesText list starts fs ls) out names ∷ []) t) in
+      let h : firstOf (u ∷ textRowsVerdict (pickedSheet name starts fs ls head turn) (namesText list starts fs ls) out names ∷ []) ≡ u = sym (first-refuses u (textRowsVerdict (pickedSheet name starts fs ls head turn) (namesText list starts fs ls) out names ∷ []) t) in
       record {
         firsts = fs;
         lasts = ls;
@@ -163,13 +163,13 @@ module _ (name list starts ends head turn out names : List ℕ) (entries : ℕ) 
     picks-few = rw entries-are (picks-pass .few)
 
     pub picks-written : (r : Picks) (out′ names′ : List ℕ)
-        → PicksHanded (rowsVerdict (pickedSheet name starts (take entries firsts) (take entries lasts) head turn) (namesText list starts (take entries firsts) (take entries lasts)) out names) (pickedSheet name starts (take entries firsts) (take entries lasts) head turn) (namesText list starts (take entries firsts) (take entries lasts)) out names r out′ names′
+        → PicksHanded (textRowsVerdict (pickedSheet name starts (take entries firsts) (take entries lasts) head turn) (namesText list starts (take entries firsts) (take entries lasts)) out names) (pickedSheet name starts (take entries firsts) (take entries lasts) head turn) (namesText list starts (take entries firsts) (take entries lasts)) out names r out′ names′
         → PicksWritten name list starts ends head turn out names r out′ names′
     picks-written r out′ names′ q =
         let fs = take entries firsts in
         let ls = take entries lasts in
         let u = picksVerdict name list (length fs) in
-        let rows = rowsVerdict (pickedSheet name starts fs ls head turn) (namesText list starts fs ls) out names in
+        let rows = textRowsVerdict (pickedSheet name starts fs ls head turn) (namesText list starts fs ls) out names in
         let t : refuses u ≡ false = ap refuses (sym judged) ∙ sym says ∙ e in
         let h : firstOf (u ∷ rows ∷ []) ≡ rows = first-passes u (rows ∷ []) t ∙ last-alone (ltb (length out) (length (pickedSheet name starts fs ls head turn)) || ltb (length names) (length (namesText list starts fs ls))) in
         record {

@@ -12,7 +12,7 @@ use Rattle.text_bytes.specs.Text.{bytes, comma, lineFeed}
 use Rattle.text_pages.specs.Printing.{line, pairText, Wrote, Put}
 use Rattle.text_pages.proofs.Pages.{wrote-long, wrote-within, wrote-on, wrote-both}
 use Rattle.text_paths.specs.Paths.{lineCount, pathAfter}
-use Rattle.sheet_picks.specs.Names.{nameLine, samePath, isFirstLine, linesWhere, textsOf, liesInEntry, nameOfLine, namesOfEntry, namesFrom, namesText}
+use Rattle.sheet_picks.specs.Names.{nameLine, samePath, isFirstLine, linesWhere, textsOf, liesInEntry, nameOfLine, namesOfEntry, namesOnward, namesText}
 use Rattle.sheet_picks.specs.Private.{PathStands, PathRows, EntryRows, firstReads, NextAt, nameHead, Laid}
 use Rattle.sheet_picks.proofs.Lines.{reads-first, reads-later}
 
@@ -181,7 +181,7 @@ module _ (list starts : List ℕ) (number first last : ℕ) (writing : Bool) (ro
 pub record NamesSoFar (list starts firsts lasts : List ℕ) (writing : Bool) (row₀ row : List ℕ) (next k : ℕ) : Type 0 where
   pub few : k ≤ length firsts
   pub text : List ℕ
-  pub whole : text ++ namesFrom list starts (suc k) (drop k firsts) (drop k lasts) ≡ namesText list starts firsts lasts
+  pub whole : text ++ namesOnward list starts (suc k) (drop k firsts) (drop k lasts) ≡ namesText list starts firsts lasts
   pub so-far : Laid writing row₀ 0 text row next
 
 module _ (list starts firsts lasts : List ℕ) (writing : Bool) (row₀ : List ℕ) where
@@ -189,9 +189,9 @@ module _ (list starts firsts lasts : List ℕ) (writing : Bool) (row₀ : List �
   names-none = record { few = omega arith; text = []; whole = refl; so-far = laid-none writing row₀ 0 }
 
   module _ (rows : EntryRows firsts lasts) (row : List ℕ) (next k : ℕ) (p : NamesSoFar list starts firsts lasts writing row₀ row next k) where
-    names-left : k < length firsts → namesFrom list starts (suc k) (drop k firsts) (drop k lasts)
-        ≡ namesOfEntry list starts (suc k) (getD firsts k 0) (getD lasts k 0) ++ namesFrom list starts (suc (suc k)) (drop (suc k) firsts) (drop (suc k) lasts)
-    unfolding namesFrom
+    names-left : k < length firsts → namesOnward list starts (suc k) (drop k firsts) (drop k lasts)
+        ≡ namesOfEntry list starts (suc k) (getD firsts k 0) (getD lasts k 0) ++ namesOnward list starts (suc (suc k)) (drop (suc k) firsts) (drop (suc k) lasts)
+    unfolding namesOnward
     names-left l = rw (drop-cons firsts k 0 l, drop-cons lasts k 0 (omega (arith, rows .even)))
 
     pub names-more : k < length firsts → (row′ : List ℕ) (next′ : ℕ) → Laid writing row next (namesOfEntry list starts (k + 1) (getD firsts k 0) (getD lasts k 0)) row′ next′
@@ -206,8 +206,8 @@ module _ (list starts firsts lasts : List ℕ) (writing : Bool) (row₀ : List �
         }
 
     pub names-all : length firsts ≤ k → Laid writing row₀ 0 (namesText list starts firsts lasts) row next
-    unfolding namesFrom
+    unfolding namesOnward
     names-all l =
-        let none : namesFrom list starts (suc k) (drop k firsts) (drop k lasts) ≡ [] = rw (drop-of-length-le firsts {i = k} l) in
+        let none : namesOnward list starts (suc k) (drop k firsts) (drop k lasts) ≡ [] = rw (drop-of-length-le firsts {i = k} l) in
         let e : p .text ≡ namesText list starts firsts lasts = sym (append-nil (p .text)) ∙ ap (λ x. p .text ++ x) (sym none) ∙ p .whole in
         subst (λ x. Laid writing row₀ 0 x row next) e (p .so-far)

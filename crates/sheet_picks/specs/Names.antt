@@ -41,10 +41,10 @@ unfoldable pub namesOfEntry : List ℕ → List ℕ → ℕ → ℕ → ℕ → 
 namesOfEntry list starts number first last = textsOf (nameOfLine list starts number first last) (lineCount list)
 
 -- The names of the entries from a number on.
-unfoldable pub namesFrom : List ℕ → List ℕ → ℕ → List ℕ → List ℕ → List ℕ
-namesFrom list starts number [] lasts = []
-namesFrom list starts number (first ∷ firsts) [] = []
-namesFrom list starts number (first ∷ firsts) (last ∷ lasts) = namesOfEntry list starts number first last ++ namesFrom list starts (suc number) firsts lasts
+unfoldable pub namesOnward : List ℕ → List ℕ → ℕ → List ℕ → List ℕ → List ℕ
+namesOnward list starts number [] lasts = []
+namesOnward list starts number (first ∷ firsts) [] = []
+namesOnward list starts number (first ∷ firsts) (last ∷ lasts) = namesOfEntry list starts number first last ++ namesOnward list starts (suc number) firsts lasts
 
 abbrev pub namesText : List ℕ → List ℕ → List ℕ → List ℕ → List ℕ
-namesText list starts firsts lasts = namesFrom list starts 1 firsts lasts
+namesText list starts firsts lasts = namesOnward list starts 1 firsts lasts

@@ -21,8 +21,8 @@ unfoldable pub picksVerdict : List ℕ → List ℕ → ℕ → Verdict
 picksVerdict name list entries = firstOf (refuseIf (not (isName name)) BadName ∷ pathsVerdict list ∷ refuseIf (ltb mostEntries entries) WantRows ∷ [])
 
 -- 8 last, when either row is shorter than its text.
-abbrev pub rowsVerdict : List ℕ → List ℕ → List ℕ → List ℕ → Verdict
-rowsVerdict sheet named out names = refuseIf (ltb (length out) (length sheet) || ltb (length names) (length named)) ShortRow
+abbrev pub textRowsVerdict : List ℕ → List ℕ → List ℕ → List ℕ → Verdict
+textRowsVerdict sheet named out names = refuseIf (ltb (length out) (length sheet) || ltb (length names) (length named)) ShortRow
 
 -- A refusal's answer: kind and place, and 0 bytes of either text.
 abbrev pub refusedPicks : Verdict → Picks
@@ -35,7 +35,7 @@ pub record PicksHanded (v : Verdict) (sheet named out names : List ℕ) (r : Pic
   pub names-left : names′ ≡ writtenRow v named names
 
 abbrev pub HandedFor : Verdict → List ℕ → List ℕ → List ℕ → List ℕ → Picks → List ℕ → List ℕ → Type 0
-HandedFor v sheet named out names r out′ names′ = PicksHanded (firstOf (v ∷ rowsVerdict sheet named out names ∷ [])) sheet named out names r out′ names′
+HandedFor v sheet named out names r out′ names′ = PicksHanded (firstOf (v ∷ textRowsVerdict sheet named out names ∷ [])) sheet named out names r out′ names′
 
 -- The writer: the entries of the wanted files, and the answer for them.
 pub record PicksWritten (name list starts ends head turn out names : List ℕ) (r : Picks) (out′ names′ : List ℕ) : Type 0 where

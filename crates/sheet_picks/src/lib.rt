@@ -17,7 +17,7 @@ ghost use Rattle.text_bytes.specs.Text.{isName};
 ghost use Rattle.text_paths.specs.Paths.{lineCount};
 ghost use Rattle.sheet_picks.specs.Sheets.{pickedSheet};
 ghost use Rattle.sheet_picks.specs.Names.{namesText};
-ghost use Rattle.sheet_picks.specs.Writing.{picksVerdict, rowsVerdict, refusedPicks, PicksHanded, PicksWritten};
+ghost use Rattle.sheet_picks.specs.Writing.{picksVerdict, textRowsVerdict, refusedPicks, PicksHanded, PicksWritten};
 ghost use Rattle.sheet_picks.specs.Private.{PathRows, EntryRows};
 use entries::fill_entries;
 use names::put_names;
@@ -98,7 +98,7 @@ fn hand_both(
     requires { ⌜ PathRows (now list) (now froms) (now tos) ⌝ }
     requires { ⌜ EntryRows (now firsts) (now lasts) ⌝ }
     requires { ⌜ length (now firsts) ≤ 64 ⌝ }
-    ensures { λ r. ⌜ PicksHanded (rowsVerdict (pickedSheet (now (name .entry)) (now (starts .entry)) (now (firsts .entry)) (now (lasts .entry)) (now (head .entry)) (now (turn .entry))) (namesText (now (list .entry)) (now (starts .entry)) (now (firsts .entry)) (now (lasts .entry))) (now (out .entry)) (now (names .entry))) (pickedSheet (now (name .entry)) (now (starts .entry)) (now (firsts .entry)) (now (lasts .entry)) (now (head .entry)) (now (turn .entry))) (namesText (now (list .entry)) (now (starts .entry)) (now (firsts .entry)) (now (lasts .entry))) (now (out .entry)) (now (names .entry)) r (now (out .exit)) (now (names .exit)) ⌝ }
+    ensures { λ r. ⌜ PicksHanded (textRowsVerdict (pickedSheet (now (name .entry)) (now (starts .entry)) (now (firsts .entry)) (now (lasts .entry)) (now (head .entry)) (now (turn .entry))) (namesText (now (list .entry)) (now (starts .entry)) (now (firsts .entry)) (now (lasts .entry))) (now (out .entry)) (now (names .entry))) (pickedSheet (now (name .entry)) (now (starts .entry)) (now (firsts .entry)) (now (lasts .entry)) (now (head .entry)) (now (turn .entry))) (namesText (now (list .entry)) (now (starts .entry)) (now (firsts .entry)) (now (lasts .entry))) (now (out .entry)) (now (names .entry)) r (now (out .exit)) (now (names .exit)) ⌝ }
 {
     let mut page = blank_page();
     let bytes = put_sheet(&mut page, name, starts, firsts, lasts, head, turn);
