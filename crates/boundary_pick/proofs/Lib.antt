@@ -1,0 +1,2 @@
+-- Laws that this crate's proofs share.
+pub mod Calling
