@@ -471,36 +471,38 @@ def groups(at):
 
 
 def faults(at):
-    """Each call of the system fails in turn while the server starts and files a ticket: it serves all the same, or says why and ends with 1."""
+    """Each call of the system fails in turn while the server starts, files a ticket and boards it, with a book: it serves all the same, or says why and ends with 1."""
     shim = os.path.join(at.folder, "faults.so")
     source = os.path.join(programs.ROOT, "tests/c/faults.c")
     subprocess.run([os.environ.get("CC", "cc"), "-O1", "-shared", "-fPIC", source, "-o", shim, "-ldl"], check=True)
     tried = 0
-    for kind, error in (("open", errno.EMFILE), ("read", errno.EIO), ("fcntl", errno.EBADF), ("flock", errno.ENOLCK), ("fsync", errno.EIO), ("poll", errno.ENOMEM), ("unlink", errno.EACCES)):
+    for kind, error in (("open", errno.EMFILE), ("read", errno.EIO), ("fcntl", errno.EBADF), ("flock", errno.ENOLCK), ("fsync", errno.EIO), ("poll", errno.ENOMEM), ("unlink", errno.EACCES), ("linkat", errno.EPERM), ("mkdir", errno.EACCES)):
         for number in range(1, 60):
-            server = Server(os.path.join(at.folder, f"{kind}{number}"))
+            server = Server(os.path.join(at.folder, f"{kind}{number}"), book=os.path.join(at.folder, f"{kind}{number}", "book"))
             counted = os.path.join(server.folder, "counted")
             surroundings = dict(os.environ, LD_PRELOAD=shim, VIOLSTREAM_FAULT=f"{kind}:{number}:{error}", VIOLSTREAM_FAULT_COUNT=counted)
             call = subprocess.Popen(server.words(), stdin=subprocess.DEVNULL, stdout=subprocess.DEVNULL, stderr=subprocess.PIPE, env=surroundings)
-            said, told = call.stderr.readline(), b""
+            said, told, boarded = call.stderr.readline(), b"", b""
             if b"serving at" in said:
                 try:
                     told = server.at("office1").ask(b"file=1,1")
+                    boarded = server.at("operator").ask(b"board=60,1")
                 except (EOFError, OSError):
                     pass
                 call.send_signal(signal.SIGTERM)
             said += call.stderr.read()
             call.stderr.close()
             status = call.wait(LIMIT)
-            tell = f"with {kind} number {number} failing the server said {said!r}, answered {told!r} and ended with {status}"
-            must(status == 0 and told == b"filed=1,1\n" or status == 1 and b"violstream: " in said, f"{tell}; it must serve, or say why and end with 1")
+            tell = f"with {kind} number {number} failing the server said {said!r}, answered {told!r} and {boarded!r} and ended with {status}"
+            must(status == 0 and told == b"filed=1,1\n" and boarded.startswith(b"boarded=1,0\n") or status == 1 and b"violstream: " in said, f"{tell}; it must serve, or say why and end with 1")
             tried += 1
             met = int(contents(counted)) if os.path.exists(counted) else 0
-            # What was answered is there.
+            # What was answered is there, and in the book once.
             server.begin()
             waiting = server.at("operator").ask(b"waiting")
             server.end()
-            must(told != b"filed=1,1\n" or waiting.endswith(b"waiting=1,0\n"), f"{tell}; then {waiting!r}")
+            must(told != b"filed=1,1\n" or waiting.endswith(b"waiting=0,0\n" if boarded else b"waiting=1,0\n"), f"{tell}; then {waiting!r}")
+            must(len(lined_up(server)[1]) >= boarded.startswith(b"boarded="), f"{tell}; then the book has it not")
             if met < number:
                 break
     print(f"serve.py: {tried} faults of the system")
