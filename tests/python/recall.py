@@ -248,8 +248,12 @@ def kept(at):
     [os.remove(os.path.join(at.folder, "kept", "VX0041." + kind)) for kind in ("list", "run", "plan")]
     done = tape.call("recall", "--keep", "kept")
     must(done.returncode == 1 and os.listdir(os.path.join(at.folder, "kept")) == ["VX0041.names"] and tape.contents("kept/VX0041.names") == names, f"recall leaves a part: {done}")
+    # What cannot be recorded is not kept, and not told.
+    [os.remove(os.path.join(at.folder, "kept", name)) for name in os.listdir(os.path.join(at.folder, "kept"))]
+    with open(os.path.join(at.folder, "no-book"), "wb"):
+        done = tape.call("recall", "--keep", "kept", "--book", "no-book")
+    must((done.stdout, done.returncode) == (b"", 1) and os.listdir(os.path.join(at.folder, "kept")) == [] and b"the book no-book" in done.stderr, f"without a book recall gives {done}")
     # A refused list keeps and records nothing; a refused run is an entry.
-    os.remove(os.path.join(at.folder, "kept", "VX0041.names"))
     must(tape.call("recall", "--keep", "kept", "--book", "book", files=("label", "index"), data=b"nowhere\n").returncode == 3, "a refused list is taken")
     must(os.listdir(os.path.join(at.folder, "kept")) == [] and len(os.listdir(os.path.join(at.folder, "book"))) == 1, "a refused list leaves something")
     must(tape.call("recall", "--keep", "kept", "--book", "book", f"--turn={2**32 + 1}").returncode == 3 and os.listdir(os.path.join(at.folder, "kept")) == [], "a refused run is kept")

@@ -42,22 +42,31 @@ pub fn answer(asked: &Recall, call: &Call) -> Result<Status, Stop> {
         Err(refused) => return asked.refuse(&refused, &asked.pick.words(&refused, &texts)),
     };
     let book = asked.book.as_ref().map(|book| Book::of(book, None, call)).transpose()?;
-    let answer = plan(&picked.run);
-    let printed = match &answer {
-        Ok(sheet) => sheet.clone(),
-        Err(refused) => refused.text(),
+    let add = |answer: &[u8]| book.as_ref().map_or(Ok(0), |book| book.add(&picked.run, answer));
+    let sheet = match plan(&picked.run) {
+        Ok(sheet) => sheet,
+        Err(refused) => {
+            add(&refused.text()).or_else(failed)?;
+            return asked.refuse(&refused, &words::of_plan(&refused, &picked.run, By::PlanAny));
+        }
     };
-    // What is kept is kept before anybody is told.
-    if let (Some(folder), Ok(sheet)) = (&asked.keep, &answer) {
-        keep(folder, &asked.pick.tape, [("list", &texts.list), ("run", &picked.run), ("names", &picked.names), ("plan", sheet)])?;
+    let table = match asked.table(&picked, &sheet, call)? {
+        Ok(table) => table,
+        Err(sentence) => return Ok(told(&sentence)),
+    };
+    // What is kept is kept before anybody is told; what is not in the book is not kept either.
+    let kept = match &asked.keep {
+        Some(folder) => {
+            Kept::write(folder, &asked.pick.tape, [("list", &texts.list), ("run", &picked.run), ("names", &picked.names), ("plan", &sheet)])?
+        }
+        None => Kept::default(),
+    };
+    if let Err(sentence) = add(&sheet) {
+        kept.remove();
+        return failed(sentence);
     }
-    if let Some(book) = book {
-        book.add(&picked.run, &printed).or_else(failed)?;
-    }
-    match answer {
-        Err(refused) => asked.refuse(&refused, &words::of_plan(&refused, &picked.run, By::PlanAny)),
-        Ok(sheet) => asked.tell(&picked, &sheet, call),
-    }
+    put(table.as_bytes())?;
+    Ok(Status::Answered)
 }
 
 impl Recall {
@@ -71,7 +80,8 @@ impl Recall {
         Ok(Status::Refused)
     }
 
-    fn tell(&self, picked: &Picked, sheet: &[u8], call: &Call) -> Result<Status, Stop> {
+    /// What is printed, once the picture is written; or why that is not.
+    fn table(&self, picked: &Picked, sheet: &[u8], call: &Call) -> Result<Result<String, String>, Stop> {
         let sweep = match self.picture {
             Some(_) => Program::ready("cmd_price", call)?.ask(&frame_pair(&picked.run, b"")).or_else(failed)?.answer,
             None => Vec::new(),
@@ -81,35 +91,43 @@ impl Recall {
         if let Some(file) = &self.picture {
             let drawn = picture::draw(&plan, &Beside { names: &names, speed: self.speed, in_bytes: !self.pick.blocks });
             if let Err(error) = fs::write(file, drawn) {
-                return Ok(told(&format!("cannot write {}: {}", shown(file), reason(&error))));
+                return Ok(Err(format!("cannot write {}: {}", shown(file), reason(&error))));
             }
         }
-        if self.json {
-            put(json::recall(sheet, &schedule::rows(&plan, &names), self.speed).as_bytes())?;
-        } else {
-            put(schedule::draw(&plan, &names, self.speed).as_bytes())?;
-        }
-        Ok(Status::Answered)
+        Ok(Ok(match self.json {
+            true => json::recall(sheet, &schedule::rows(&plan, &names), self.speed),
+            false => schedule::draw(&plan, &names, self.speed),
+        }))
     }
 }
 
-/// TAPE.list and so on, all or none; nothing that is there already is overwritten.
-fn keep(folder: &OsStr, tape: &OsStr, texts: [(&str, &[u8]); 4]) -> Result<(), Stop> {
-    let path = |kind: &str| Path::new(folder).join(format!("{}.{kind}", tape.to_string_lossy()));
-    let mut made: Vec<PathBuf> = Vec::new();
-    for (kind, text) in texts {
-        let path = path(kind);
-        let opened = OpenOptions::new().write(true).create_new(true).open(&path);
-        let written = opened.and_then(|mut file| {
-            made.push(path.clone());
-            file.write_all(text)?;
-            file.sync_all()
-        });
-        if let Err(error) = written {
-            made.iter().for_each(|path| drop(fs::remove_file(path)));
-            let kept = if error.kind() == io::ErrorKind::AlreadyExists { "; nothing was written" } else { "" };
-            return failed(format!("cannot write {}: {}{kept}", quoted(path.as_os_str()), reason(&error)));
+/// The files that were made: TAPE.list and so on, all or none; nothing that is there already is overwritten.
+#[derive(Default)]
+struct Kept(Vec<PathBuf>);
+
+impl Kept {
+    fn write(folder: &OsStr, tape: &OsStr, texts: [(&str, &[u8]); 4]) -> Result<Kept, Stop> {
+        let mut kept = Kept::default();
+        for (kind, text) in texts {
+            let path = Path::new(folder).join(format!("{}.{kind}", tape.to_string_lossy()));
+            if let Err(error) = kept.add(&path, text) {
+                kept.remove();
+                return failed(format!("cannot write {}: {}; nothing is kept", quoted(path.as_os_str()), reason(&error)));
+            }
+        }
+        Ok(kept)
+    }
+
+    fn add(&mut self, path: &Path, text: &[u8]) -> io::Result<()> {
+        let mut file = OpenOptions::new().write(true).create_new(true).open(path)?;
+        self.0.push(path.to_path_buf());
+        file.write_all(text)?;
+        file.sync_all()
+    }
+
+    fn remove(&self) {
+        for path in &self.0 {
+            let _ = fs::remove_file(path);
         }
     }
-    Ok(())
 }
