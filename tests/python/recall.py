@@ -7,6 +7,7 @@ Where the command was compiled without the library's call for files by name, it 
 """
 import argparse
 import datetime
+import errno
 import json
 import os
 import random
@@ -260,7 +261,33 @@ def kept(at):
     must(subprocess.run([COMMAND, "audit", "book"], cwd=at.folder, capture_output=True).stdout.startswith(b"entries=2\nplans=1\nrefusals=1\n"), "a refused run is no entry")
 
 
-TESTS = (picks, inputs, words, told, largest, kept)
+def faults(at):
+    """Each call of the system fails in turn: the whole answer, or a sentence and status 1, and of what is kept all or nothing."""
+    os.makedirs(at.folder)
+    shim, tried = os.path.join(at.folder, "faults.so"), 0
+    source = os.path.join(programs.ROOT, "tests/c/faults.c")
+    subprocess.run([os.environ.get("CC", "cc"), "-O1", "-shared", "-fPIC", source, "-o", shim, "-ldl"], check=True)
+    for command, options in (("pick", ("--names", "names")), ("recall", ("--keep", "kept", "--book", "book")), ("recall", ("--svg", "picture", "--json"))):
+        expected = None
+        for kind, error in ((None, 0), ("open", errno.EMFILE), ("read", errno.EIO), ("write", errno.ENOSPC), ("close", errno.EIO), ("fcntl", errno.EBADF), ("fsync", errno.EIO), ("linkat", errno.EPERM),
+                            ("mkdir", errno.EACCES), ("unlink", errno.EACCES), ("poll", errno.ENOMEM), ("pipe2", errno.EMFILE), ("fork", errno.EAGAIN)):
+            for number in range(1, 80):
+                tape = Tape(os.path.join(at.folder, f"{command}{len(options)}{kind}{number}"), label(), index(*REELS), b"reel_03/scan_0041.dpx\nreel_04/scan_0041.dpx\n")
+                os.makedirs(os.path.join(tape.folder, "kept"))
+                counted = os.path.join(tape.folder, "counted")
+                surroundings = dict(os.environ, LD_PRELOAD=shim, VIOLSTREAM_FAULT=f"{kind}:{number}:{error}", VIOLSTREAM_FAULT_COUNT=counted)
+                done = subprocess.run([COMMAND, command, *options, "VX0041", "label", "index", "list"], cwd=tape.folder, stdin=subprocess.DEVNULL, capture_output=True, env=surroundings, timeout=LIMIT)
+                expected = expected or done
+                tell = f"with {kind} number {number} failing {command} gives {done}"
+                must(expected.returncode == 0 and (done.stdout, done.returncode) == (expected.stdout, 0) or done.returncode == 1 and b"violstream: " in done.stderr, tell)
+                must(len(os.listdir(os.path.join(tape.folder, "kept"))) in (0, 4) or kind == "unlink", f"{tell}, and keeps {os.listdir(os.path.join(tape.folder, 'kept'))}")
+                tried += 1
+                if not os.path.exists(counted) or int(tape.contents("counted")) < number:
+                    break
+    print(f"recall.py: {tried} faults of the system")
+
+
+TESTS = (picks, inputs, words, told, largest, kept, faults)
 
 
 class At:
