@@ -41,7 +41,7 @@ class Writer:
 
 
 def write_file(w, r, uid, name, block):
-    sizes = [r.randint(1, 1 << 26) for _ in range(2 if uid % 20 == 0 else 1)]
+    sizes = [r.randint(1, 1 << 22) for _ in range(2 if uid % 20 == 0 else 1)]
     w.open("file")
     w.value("name", name)
     w.value("length", sum(sizes))
