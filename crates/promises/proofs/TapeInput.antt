@@ -45,6 +45,10 @@ answer-refused : (input : List ℕ) (v : Verdict) → tapeInputVerdict input ≡
 unfolding answerText
 answer-refused input v e r = rw (e, r)
 
+report-refused : (input : List ℕ) (v : Verdict) → tapeInputVerdict input ≡ v → refuses v ≡ true → reportText input ≡ []
+unfolding reportText
+report-refused input v e r = rw (e, r)
+
 lines-of-13 : refusalText (record { refusal = BadName; place = 0 }) ≡ bytes "refused=13\nplace=0\n"
 unfolding refusalText decimalIn
 lines-of-13 = refl
@@ -150,21 +154,26 @@ input-whole input s e =
     let more : behind lineFeed input ≡ s .rest = ap (behind lineFeed) first ∙ line-behind tapeKey (s .value) (s .rest) refl (name-flat (s .value) (s .kind)) in
     first ∙ ap (λ t. line tapeKey (s .value) ++ t) (sym more ∙ frame-whole (behind lineFeed input) e)
 
-other-frame : (input : List ℕ) → Stands tapeKey Name input 0 → ((name label index : List ℕ) → input ≡ inputText name label index → ⊥) → badFrame input (behind lineFeed input) ≡ true
+other-frame : (input : List ℕ) → Stands tapeKey Name input 0 → ((name label index : List ℕ) → isName name ≡ true → input ≡ inputText name label index → ⊥) → badFrame input (behind lineFeed input) ≡ true
 other-frame input s n =
-    ⊎-elim (λ (e : isFramed (behind lineFeed input) ≡ true). absurd (n (s .value) (framedLabel (behind lineFeed input)) (framedIndex (behind lineFeed input)) (input-whole input s e)))
+    ⊎-elim (λ (e : isFramed (behind lineFeed input) ≡ true). absurd (n (s .value) (framedLabel (behind lineFeed input)) (framedIndex (behind lineFeed input)) (s .kind) (input-whole input s e)))
     (λ (e : isFramed (behind lineFeed input) ≡ false). rw e (mathlib.Core.Bool.or-true (ltb mostTapeInput (length input))))
     (true-or-false (isFramed (behind lineFeed input)))
 
 pub other-tapes-refused : OtherTapesRefused
 other-tapes-refused input out notes r out′ notes′ h wide room =
-    let text = tape-is-whole input out notes r out′ notes′ h wide room .text in
-    let by-20 : isTapeLine (lineOf input) ≡ true → badFrame input (behind lineFeed input) ≡ true → take (r .bytes) out′ ≡ bytes "refused=20\nplace=0\n" =
-    λ e f. text ∙ answer-refused input (record { refusal = BadText; place = 0 }) (unframed-refused input e f) refl ∙ lines-of-20 in
+    let whole = tape-is-whole input out notes r out′ notes′ h wide room in
+    let by-13 : Verdict = record { refusal = BadName; place = 0 } in
+    let by-20 : Verdict = record { refusal = BadText; place = 0 } in
+    let so : (v : Verdict) → tapeInputVerdict input ≡ v → refuses v ≡ true → (take (r .bytes) out′ ≡ refusalText v) × (take (r .noted) notes′ ≡ []) =
+    λ v e f. (whole .text ∙ answer-refused input v e f, whole .report ∙ report-refused input v e f) in
+    let two : isTapeLine (lineOf input) ≡ true → badFrame input (behind lineFeed input) ≡ true
+    → (take (r .bytes) out′ ≡ bytes "refused=20\nplace=0\n") × (take (r .noted) notes′ ≡ []) =
+    λ e f. let b = so by-20 (unframed-refused input e f) refl in (b .0 ∙ lines-of-20, b .1) in
     record {
-      unnamed = λ n. text ∙ answer-refused input (record { refusal = BadName; place = 0 }) (unnamed-refused input (not-named input n)) refl ∙ lines-of-13;
-      long = λ s l. by-20 (named input s) (long-frame input l);
-      unframed = λ s n. by-20 (named input s) (other-frame input s n);
+      unnamed = λ n. let b = so by-13 (unnamed-refused input (not-named input n)) refl in (b .0 ∙ lines-of-13, b .1);
+      long = λ s l. two (named input s) (long-frame input l);
+      unframed = λ s n. two (named input s) (other-frame input s n);
     }
 
 -- An input that is put together as described.

@@ -45,11 +45,13 @@ TapeByItsTable =
     → reportRow ≤ length notes
     → TapePrinted name label index out (take (r .bytes) out′) (take (r .noted) notes′)
 
--- No tape line first; a longer input; one that is put together from no name, label and index.
-pub record OthersRefused (input printed : List ℕ) : Type 0 where
-  pub unnamed : (Stands tapeKey Name input 0 → ⊥) → printed ≡ bytes "refused=13\nplace=0\n"
-  pub long : Stands tapeKey Name input 0 → 524288 < length input → printed ≡ bytes "refused=20\nplace=0\n"
-  pub unframed : Stands tapeKey Name input 0 → ((name label index : List ℕ) → input ≡ inputText name label index → ⊥) → printed ≡ bytes "refused=20\nplace=0\n"
+-- No tape line first; a longer input; one that is put together from no name, label and index. Nothing is reported beside the two lines.
+pub record OthersRefused (input printed noted : List ℕ) : Type 0 where
+  pub unnamed : (Stands tapeKey Name input 0 → ⊥) → (printed ≡ bytes "refused=13\nplace=0\n") × (noted ≡ [])
+  pub long : Stands tapeKey Name input 0 → 524288 < length input → (printed ≡ bytes "refused=20\nplace=0\n") × (noted ≡ [])
+  pub unframed : Stands tapeKey Name input 0
+      → ((name label index : List ℕ) → isName name ≡ true → input ≡ inputText name label index → ⊥)
+      → (printed ≡ bytes "refused=20\nplace=0\n") × (noted ≡ [])
 
 abbrev pub OtherTapesRefused : Type 0
 OtherTapesRefused =
@@ -57,4 +59,4 @@ OtherTapesRefused =
     → InputAnswered input out notes r out′ notes′
     → sheetRow ≤ length out
     → reportRow ≤ length notes
-    → OthersRefused input (take (r .bytes) out′)
+    → OthersRefused input (take (r .bytes) out′) (take (r .noted) notes′)
