@@ -10,7 +10,7 @@ use lib.Dec.{eqb, ltb}
 use borrow.Author.Tests.{eq-eqb, ne-eqb, eqb-true}
 use Rattle.runs.specs.Run.{mostWants, mostReads, total}
 use Rattle.runs.proofs.Search.{any-here}
-use Rattle.text_bytes.specs.Text.{comma, lineFeed, has, before, behind, valueOf}
+use Rattle.text_bytes.specs.Text.{comma, lineFeed, has, before, behind, valueOf, decimal}
 use Rattle.text_bytes.proofs.Split.{before-here, behind-here}
 use Rattle.text_lines.specs.Lines.{lineOf, afterLines, lineAfter, valueText, numberBehind, firstIn, secondIn}
 use Rattle.sheet_reader.specs.Lines.{filesKey, wantsKey, wantKey}
@@ -23,6 +23,7 @@ use Rattle.answer_mend.specs.Mending.{sheetRemaining}
 use Rattle.demands.proofs.Tests.{Tells, tells-equal, tells-below, tells-not, tells-some, tells-reworded}
 use Rattle.demands.specs.Lines.{Stands, Number}
 use Rattle.demands.proofs.SheetLines.{each-value}
+use Rattle.demands.proofs.Canonical.{number-text}
 use Rattle.demands.proofs.Lines.{tells-number, number-flat, pair-flat, line-read}
 use Rattle.promises.specs.Mender.{WantLine, Asks, HasReads, WantsRemain, CountsFrom, end, want, other, PartsRead, PartsAreRead}
 use Rattle.promises.proofs.Gathered.{Rising, remaining-rising, rising-least, rising-at, isIn, in-at, find-in, asks, in-remaining}
@@ -90,10 +91,10 @@ no-more-files b (g ∷ row) (f ∷ files) rising up each =
         rw (ne-eqb (getD files i 0) g (λ e. omega (arith, least))) at here
 
 -- The number on a line.
-said : (key : List ℕ) → has lineFeed key ≡ false → (sheet : List ℕ) (i n : ℕ) → n ≡ numberBehind key (lineAfter i sheet) → Stands key Number sheet i → Stands key (λ value. valueOf value ≡ n) sheet i
+said : (key : List ℕ) → has lineFeed key ≡ false → (sheet : List ℕ) (i n : ℕ) → n ≡ numberBehind key (lineAfter i sheet) → Stands key Number sheet i → Stands key (λ value. value ≡ decimal n) sheet i
 said key plain sheet i n is s =
     let line = line-read key (s .value) (s .rest) (afterLines i sheet) plain (number-flat lineFeed refl (s .value) (s .kind)) (s .is) in
-    record { value = s .value; rest = s .rest; is = s .is; kind = sym (is ∙ ap (numberBehind key) line ∙ ap valueOf (key-value key (s .value))) }
+    record { value = s .value; rest = s .rest; is = s .is; kind = sym (ap decimal (is ∙ ap (numberBehind key) line ∙ ap valueOf (key-value key (s .value))) ∙ number-text (s .value) (s .kind)) }
 
 module _ (sheet : List ℕ) (good : firstBadLoose sheet ≡ 0) where
   abbrev F : ℕ

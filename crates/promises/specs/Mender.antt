@@ -7,7 +7,7 @@ use mathlib.Core.List.{List, [], _∷_}
 use lib.ListN.{length, getD}
 use Rattle.refusals.specs.declared.Refusal.{Refusal}
 use Rattle.refusals.specs.declared.Refusal.the-variants.{Accepted, WantRows, TooManyReads, ShortRow, BadLine, LongSheet}
-use Rattle.text_bytes.specs.Text.{bytes, valueOf}
+use Rattle.text_bytes.specs.Text.{bytes, valueOf, decimal}
 use Rattle.text_lines.specs.Lines.{afterLines, lineAfter, valueText}
 use Rattle.sheet_reader.specs.Lines.{tapeKey, headKey, turnKey, ruleKey, filesKey, fileKey, wantsKey, wantKey}
 use Rattle.sheet_reader.specs.Sheet.{sheetFiles}
@@ -142,8 +142,8 @@ pub record PartsRead (sheet : List ℕ) : Type 0 where
   pub wants : Come (WantLine sheet) (6 + looseFiles sheet) (looseWants sheet)
   pub even : (length (wantedFiles sheet) ≡ looseWants sheet) × (length (wantedCounts sheet) ≡ looseWants sheet)
   pub each : (k : ℕ) → k < looseWants sheet → Asks sheet (6 + looseFiles sheet + k) (getD (wantedFiles sheet) k 0) (getD (wantedCounts sheet) k 0)
-  pub files-said : Stands filesKey (λ value. valueOf value ≡ sheetFiles sheet) sheet 4
-  pub wants-said : Stands wantsKey (λ value. valueOf value ≡ wantsSaid sheet) sheet (5 + looseFiles sheet)
+  pub files-said : Stands filesKey (λ value. value ≡ decimal (sheetFiles sheet)) sheet 4
+  pub wants-said : Stands wantsKey (λ value. value ≡ decimal (wantsSaid sheet)) sheet (5 + looseFiles sheet)
 
 abbrev pub PartsAreRead : Type 0
 PartsAreRead = (sheet : List ℕ) → firstBadLoose sheet ≡ 0 → PartsRead sheet
