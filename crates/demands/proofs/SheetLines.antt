@@ -300,6 +300,8 @@ module _ (sheet : List ℕ) (before : RunRows) (answer : Reading) (after : RunRo
   behind-read : BehindRead answer before after
   behind-read =
       record {
+        files = sym (of-files (firstIn fileKey)) ∙ ap length (sym (front-is (run .starts) (before .starts) (after .starts) (answer .files) (of-files (firstIn fileKey)) starts-filled));
+        wants = sym (of-wants (firstIn wantKey)) ∙ ap length (sym (front-is (run .numbers) (before .numbers) (after .numbers) (answer .wants) (of-wants (firstIn wantKey)) numbers-filled));
         starts = later-is (run .starts) (before .starts) (after .starts) (answer .files) (of-files (firstIn fileKey)) starts-filled;
         lengths = later-is (run .lengths) (before .lengths) (after .lengths) (answer .files) (of-files (middleIn fileKey)) lengths-filled;
         aggregates = later-is (run .aggregates) (before .aggregates) (after .aggregates) (answer .files) (of-files (thirdIn fileKey)) aggregates-filled;

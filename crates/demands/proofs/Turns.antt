@@ -126,6 +126,7 @@ rewritten-bytes sheet row answer out says accepts =
           let e = is-empty sheet p in
           record { above = upper sheet readable e; back = afterLines 3 sheet; third = rest-is sheet readable e; old = old-cut sheet readable e; new = text ∙ new-cut sheet readable e };
       given = λ p. text ∙ unchanged sheet readable (is-given sheet p);
+      counted = ap (λ (w : Written). w .bytes) (answer-is sheet row answer out says accepts) ∙ ap length (sym text);
       later = later-is sheet row answer out says accepts;
     }
 

@@ -60,6 +60,7 @@ module _ (applies : Refusal → ℕ → Type 0) (order : List Refusal) (vs : Lis
         holds = λ a.
             let e = written-passes (firstOf vs) sheet answer (says .answer) a in
             ap (λ (w : Written). take (w .bytes) out) (is-written e) ∙ ap (take (length sheet)) (is-left e) ∙ take-append-seam sheet (drop (length sheet) row);
+        counted = λ a. ap (λ (w : Written). w .bytes) (is-written (written-passes (firstOf vs) sheet answer (says .answer) a));
         behind = stays-behind (refuses (firstOf vs)) refl;
       }
 

@@ -4,7 +4,7 @@ use Prim.Native.Nat.{ℕ, _+_, _≤_, _<_}
 use mathlib.Core.Path.{_≡_}
 use mathlib.Core.Logic.{_⊎_}
 use mathlib.Core.List.{List, [], _∷_, _++_}
-use lib.ListN.{length, getD, drop}
+use lib.ListN.{length, getD, take, drop}
 use Rattle.refusals.specs.declared.Refusal.the-variants.{Accepted}
 use Rattle.runs.specs.Run.{Run}
 use Rattle.text_bytes.specs.Text.{comma, valueOf, decimal}
@@ -41,8 +41,10 @@ pub record OnItsLines (sheet name : List ℕ) (r : Run) : Type 0 where
   pub aggregates : length (r .aggregates) ≡ length (r .starts)
   pub counts : length (r .counts) ≡ length (r .numbers)
 
--- Behind the entries that are filled every row is as it was.
+-- As many entries are filled as are told, and behind them every row is as it was.
 pub record BehindRead (answer : Reading) (before after : RunRows) : Type 0 where
+  pub files : answer .files ≡ length (take (answer .files) (after .starts))
+  pub wants : answer .wants ≡ length (take (answer .wants) (after .numbers))
   pub starts : drop (answer .files) (after .starts) ≡ drop (answer .files) (before .starts)
   pub lengths : drop (answer .files) (after .lengths) ≡ drop (answer .files) (before .lengths)
   pub aggregates : drop (answer .files) (after .aggregates) ≡ drop (answer .files) (before .aggregates)

@@ -47,11 +47,12 @@ pub record ZeroPutIn (sheet result : List ℕ) : Type 0 where
   pub old : sheet ≡ (above ++ turnKey) ++ (lineFeed ∷ back)
   pub new : result ≡ (above ++ turnKey) ++ (code "0" ∷ (lineFeed ∷ back))
 
--- An accepted rewriting: one of the two stands there; the bytes for each, with the later ones of the row as they were.
+-- An accepted rewriting: one of the two stands there; the bytes for each, as many as are told, with the later ones of the row as they were.
 pub record Rewrites (sheet row : List ℕ) (answer : Written) (out : List ℕ) : Type 0 where
   pub either : EmptyPrice sheet ⊎ GivenPrice sheet
   pub empty : EmptyPrice sheet → ZeroPutIn sheet (take (answer .bytes) out)
   pub given : GivenPrice sheet → take (answer .bytes) out ≡ sheet
+  pub counted : answer .bytes ≡ length (take (answer .bytes) out)
   pub later : drop (answer .bytes) out ≡ drop (answer .bytes) row
 
 abbrev pub RewrittenBytes : Type 0

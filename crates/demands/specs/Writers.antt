@@ -21,6 +21,7 @@ use Rattle.demands.specs.AnyHead.{RunAppliesAny, ListIsBadAny}
 pub record WritesItsSheet (applies : Refusal → ℕ → Type 0) (order : List Refusal) (sheet row : List ℕ) (answer : Written) (out : List ℕ) : Type 0 where
   pub answers : WriteAnswers applies order row answer out
   pub holds : answer .refusal ≡ Accepted → take (answer .bytes) out ≡ sheet
+  pub counted : answer .refusal ≡ Accepted → answer .bytes ≡ length sheet
   pub behind : drop (answer .bytes) out ≡ drop (answer .bytes) row
 
 abbrev pub RunSheetWriter : Type 0

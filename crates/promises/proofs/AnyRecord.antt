@@ -130,6 +130,7 @@ module _ (sheet row room : List ℕ) (w : Written) (row′ room′ : List ℕ) (
         first = rw (p .says) (found (length room) sheet row roomOrder (ShortRow ∷ []) no-eight (λ is. no (kind ∙ is)) (any-finds (length room) sheet));
         unwritten = λ n. (ap (λ x. x .bytes) (p .says), p .kept);
         text = λ is. absurd (no is);
+        counted = let z : w .bytes ≡ 0 = ap (λ x. x .bytes) (p .says) in rw z;
         behind = rw (p .kept);
         kept = λ n m. c .cleared ∙ room-kept v (sheetRun sheet) room e;
         cleared = λ stops s is. absurd (⊎-elim no other is);
@@ -161,6 +162,7 @@ module _ (sheet row room : List ℕ) (w : Written) (row′ room′ : List ℕ) (
           first = rw says (passed (length room) sheet row roomOrder (ShortRow ∷ []) no-eight room-all none-before (here (short-row (plan .text) printed (ltb-true (length row) (length (plan .text)) t))));
           unwritten = λ n. (ap (λ x. x .bytes) says, stays);
           text = λ is. absurd (apart (sym (ap (λ x. x .refusal) says) ∙ is));
+          counted = let z : w .bytes ≡ 0 = ap (λ x. x .bytes) says in rw z;
           behind = rw stays;
           kept = λ n m. absurd (m (ap (λ x. x .refusal) says));
           cleared = λ stops s is. left stops s;
@@ -180,6 +182,9 @@ module _ (sheet row room : List ℕ) (w : Written) (row′ room′ : List ℕ) (
           text = λ is.
               subst (PlanAnyPrinted (sheetName sheet) (sheetRun sheet))
               (sym (ap (λ x. take (x .bytes) row′) says ∙ ap (take (length (plan .text))) holds ∙ take-append-seam (plan .text) (drop (length (plan .text)) row))) printed;
+          counted =
+              ap (λ x. x .bytes) says
+              ∙ ap length (sym (ap (λ x. take (x .bytes) row′) says ∙ ap (take (length (plan .text))) holds ∙ take-append-seam (plan .text) (drop (length (plan .text)) row)));
           behind =
               ap (λ x. drop (x .bytes) row′) says ∙ ap (drop (length (plan .text))) holds ∙ drop-append-seam (plan .text) (drop (length (plan .text)) row)
               ∙ sym (ap (λ x. drop (x .bytes) row) says);

@@ -64,6 +64,7 @@ mended-rows sheet out notes answer out′ notes′ h e = go (isRefusal (v .refus
         let row : out′ ≡ mendedText sheet ++ drop (length (mendedText sheet)) out = h .sheet ∙ rw passed in
         let list : notes′ ≡ changesText sheet ++ drop (length (changesText sheet)) notes = h .listed ∙ rw passed in
         record {
+          counted = (bytes, noted);
           text = rw (bytes, row) (take-append-seam (mendedText sheet) (drop (length (mendedText sheet)) out));
           below = rw (bytes, row) (drop-append-seam (mendedText sheet) (drop (length (mendedText sheet)) out));
           changes = rw (noted, list) (take-append-seam (changesText sheet) (drop (length (changesText sheet)) notes));

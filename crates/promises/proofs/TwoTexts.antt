@@ -257,6 +257,7 @@ module _ (sheet plan row room out : List ℕ) (w : Written) (row′ room′ : Li
       let kind : w .refusal ≡ said .refusal = ap (λ x. x .refusal) (p .says) in
       record {
         text = λ is. absurd (true≢false (sym e ∙ ap isRefusal (sym kind ∙ is)));
+        counted = λ is. absurd (true≢false (sym e ∙ ap isRefusal (sym kind ∙ is)));
         short = λ is. absurd (not-short (sym kind ∙ is));
         lines = λ a b. whole ∙ d .given .answers .refused e ∙ lines-are said ∙ ap (λ x. twoLines (x .refusal) (x .place)) (sym (p .says));
         unwritten = λ a. (ap (λ x. x .bytes) (p .says), p .kept);
@@ -280,6 +281,7 @@ module _ (sheet plan row room out : List ℕ) (w : Written) (row′ room′ : Li
         let stays : row′ ≡ row = asked .handed .left ∙ rw t in
         record {
           text = λ is. absurd (apart (sym (ap (λ x. x .refusal) says) ∙ is));
+          counted = λ is. absurd (apart (sym (ap (λ x. x .refusal) says) ∙ is));
           short = λ is. (ap (λ x. x .place) says, subst (λ x. length row < length x) one-text (ltb-true (length row) (length (asked .text)) t), check-prints-all sheet plan out room n out′ room″ d wide e);
           lines = λ a b. absurd (b (ap (λ x. x .refusal) says));
           unwritten = λ a. (ap (λ x. x .bytes) says, stays);
@@ -294,6 +296,7 @@ module _ (sheet plan row room out : List ℕ) (w : Written) (row′ room′ : Li
         let front : take (w .bytes) row′ ≡ asked .text = ap (λ x. take (x .bytes) row′) says ∙ ap (take (length (asked .text))) holds ∙ take-append-seam (asked .text) (drop (length (asked .text)) row) in
         record {
           text = λ is. (front ∙ one-text, check-prints-all sheet plan out room n out′ room″ d wide e);
+          counted = λ is. ap (λ x. x .bytes) says ∙ ap length one-text;
           short = λ is. absurd (apart (sym is ∙ ap (λ x. x .refusal) says));
           lines = λ a b. absurd (a (ap (λ x. x .refusal) says));
           unwritten = λ a. absurd (a (ap (λ x. x .refusal) says));

@@ -69,6 +69,7 @@ pub record RecordByTheTable (sheet row room : List ℕ) (w : Written) (row′ ro
   pub first : FirstThatApplies (RecordApplies (length room) sheet row) recordOrder (w .refusal) (w .place)
   pub unwritten : (w .refusal ≡ Accepted → ⊥) → (w .bytes ≡ 0) × (row′ ≡ row)
   pub text : w .refusal ≡ Accepted → PlanAnyPrinted (sheetName sheet) (sheetRun sheet) (take (w .bytes) row′)
+  pub counted : w .bytes ≡ length (take (w .bytes) row′)
   pub behind : drop (w .bytes) row′ ≡ drop (w .bytes) row
   pub kept : (w .refusal ≡ Accepted → ⊥) → (w .refusal ≡ ShortRow → ⊥) → room′ ≡ room
   pub cleared : (stops : ℕ) → HasStops (sheetRun sheet) stops → (w .refusal ≡ Accepted) ⊎ (w .refusal ≡ ShortRow)

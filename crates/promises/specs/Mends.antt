@@ -23,6 +23,7 @@ use Rattle.promises.specs.TwoTexts.{EarlyApplies, earlyOrder}
 
 -- An accepted mending: the mended sheet and the changes stand in the first bytes of the rows, and the later bytes are as they were.
 pub record InRows (sheet out notes : List ℕ) (answer : Mended) (out′ notes′ : List ℕ) : Type 0 where
+  pub counted : (answer .bytes ≡ length (mendedText sheet)) × (answer .noted ≡ length (changesText sheet))
   pub text : take (answer .bytes) out′ ≡ mendedText sheet
   pub below : drop (answer .bytes) out′ ≡ drop (answer .bytes) out
   pub changes : take (answer .noted) notes′ ≡ changesText sheet
