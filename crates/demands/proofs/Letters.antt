@@ -1,19 +1,21 @@
 -- Digits, numbers, names and lines by their conditions.
 use Prim.Native.Nat.{ℕ, zero, suc, _+_, _^_, _≤_, _<_}
 use mathlib.Core.Path.{_≡_, refl, sym, ap, _∙_}
-use mathlib.Core.Bool.{Bool, true, false, not, _&&_, _||_}
-use mathlib.Core.Logic.{_⊎_, inl, inr}
+use mathlib.Core.Bool.{Bool, true, false, not, _&&_, _||_, true≢false}
+use mathlib.Core.Logic.{_⊎_, _↔_, inl, inr}
 use mathlib.Core.List.{List, [], _∷_}
 use native.Mathlib.Omega.{arith}
 use lib.ListN.{length, getD}
-use lib.Dec.{leb, ltb}
-use borrow.Author.Tests.{lt-ltb, ltb-true, leb-true, le-leb, ne-eqb}
-use Rattle.text_bytes.specs.Text.{lineFeed, has, behind, allOf, between, isDigit, isNameByte, isEmpty, leadingZero, isNumber, isName, valueOf, decimalIn, decimal}
+use lib.Dec.{leb, ltb, eqb}
+use borrow.Author.Tests.{lt-ltb, ltb-true, leb-true, le-leb, eq-eqb, ne-eqb}
+use Rattle.runs.proofs.Search.{or-false-both}
+use Rattle.text_bytes.specs.Text.{lineFeed, has, before, behind, allOf, between, isDigit, isNameByte, isEmpty, leadingZero, isNumber, isName, valueOf, decimalIn, decimal}
 use Rattle.text_bytes.proofs.Bytes.{and-true-both}
 use Rattle.text_bytes.proofs.Split.{before-here, behind-here}
 use Rattle.text_bytes.proofs.Decimals.{has-append, decimal-value, decimal-number}
 use Rattle.text_lines.specs.Lines.{lineOf, afterLines}
-use Rattle.demands.specs.Letters.{Digits, IsTextOfANumber, NumbersAreTexts, IsTapeName, NamesByTheirBytes, NoFeed, LinesByTheirFeeds}
+use Rattle.sheet_writer.proofs.Reread.{key-value}
+use Rattle.demands.specs.Letters.{Digits, IsTextOfANumber, NumbersAreTexts, IsTapeName, NamesByTheirBytes, Without, NoFeed, TextsAreCut, LinesByTheirFeeds}
 use Rattle.demands.proofs.Canonical.{decimal-step, number-text}
 use Rattle.demands.proofs.Lines.{behind-none}
 
@@ -83,11 +85,46 @@ names-by-their-bytes text = (
   λ (n : IsTapeName text). rw (le-leb 1 (length text) (n .some), le-leb (length text) 16 (n .few), all-told text (n .each)),
 )
 
--- Lines.
-no-feed : (text : List ℕ) → NoFeed text → has lineFeed text ≡ false
+-- A text that is cut at a byte.
+without : (b : ℕ) (text : List ℕ) → Without b text → has b text ≡ false
 unfolding has
-no-feed [] none = refl
-no-feed (b ∷ text) none = rw (ne-eqb b 10 (none 0 (omega arith)), no-feed text (λ i l. none (suc i) (omega arith)))
+without b [] none = refl
+without b (c ∷ text) none = rw (ne-eqb c b (none 0 (omega arith)), without b text (λ i l. none (suc i) (omega arith)))
+
+pub none-fed : (text : List ℕ) → has lineFeed text ≡ false → NoFeed text
+unfolding has
+none-fed [] e i l = absurd (omega (arith, l))
+none-fed (b ∷ text) e zero l = λ (is : b ≡ 10). true≢false (sym (eq-eqb b 10 is) ∙ or-false-both (eqb b 10) (has lineFeed text) e .0)
+none-fed (b ∷ text) e (suc i) l = none-fed text (or-false-both (eqb b 10) (has lineFeed text) e .1) i (omega (arith, l))
+
+before-all : (b : ℕ) (text : List ℕ) → Without b text → before b text ≡ text
+unfolding before
+before-all b [] none = refl
+before-all b (c ∷ text) none = rw (ne-eqb c b (none 0 (omega arith))) (ap (λ t. c ∷ t) (before-all b text (λ i l. none (suc i) (omega arith))))
+
+has-itself : (b : ℕ) (rest : List ℕ) → has b (b ∷ rest) ≡ true
+unfolding has
+has-itself b rest = rw (eq-eqb b b refl)
+
+empty-text : (text : List ℕ) → (isEmpty text ≡ true) ↔ (text ≡ [])
+empty-text [] = (λ e. refl, λ e. refl)
+empty-text (b ∷ text) = (λ e. absurd (true≢false (sym e)), λ is. absurd (let z : suc (length text) ≡ 0 = ap length is in omega (arith, z)))
+
+pub texts-are-cut : TextsAreCut
+texts-are-cut =
+    record {
+      found = λ b front rest none.
+          let plain = without b front none in
+          (has-append b front (b ∷ rest) ∙ rw (plain, has-itself b rest), (before-here b front rest plain, behind-here b front rest plain));
+      missing = λ b text none. let plain = without b text none in (plain, (before-all b text none, behind-none b text plain));
+      empty = empty-text;
+      value = key-value;
+      letters = refl;
+    }
+
+-- Lines.
+pub no-feed : (text : List ℕ) → NoFeed text → has lineFeed text ≡ false
+no-feed text none = without lineFeed text none
 
 pub lines-by-their-feeds : LinesByTheirFeeds
 unfolding afterLines lineOf has

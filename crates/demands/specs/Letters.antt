@@ -1,13 +1,13 @@
--- The words that every statement on a text uses, each by conditions of its own: the digits of a number, what text is a number and its value, a tape name, and where
--- the lines of a text are cut. The definitions that the contracts use nobody need believe.
+-- The words that every statement on a text uses, each by conditions of its own: the digits of a number, what text is a number and its value, a tape name, where a
+-- text is cut at a byte, and where its lines are. The definitions that the contracts use nobody need believe.
 use Prim.Native.Nat.{ℕ, suc, _+_, _*_, _^_, _≤_, _<_}
 use mathlib.Core.Path.{_≡_}
-use mathlib.Core.Bool.{true}
+use mathlib.Core.Bool.{true, false}
 use mathlib.Core.Logic.{_⊎_, _↔_}
 use mathlib.Core.List.{List, [], _∷_, _++_}
 use lib.ListN.{length, getD}
-use Rattle.text_bytes.specs.Text.{isNumber, isName, valueOf, decimal}
-use Rattle.text_lines.specs.Lines.{afterLines, lineAfter}
+use Rattle.text_bytes.specs.Text.{bytes, isEmpty, has, before, behind, isNumber, isName, valueOf, decimal}
+use Rattle.text_lines.specs.Lines.{afterLines, lineAfter, valueText}
 
 -- The text of a number: one digit, whose byte is 48 and the digit; or that of its tenth part, and then its last digit.
 pub record Digits : Type 0 where
@@ -33,9 +33,21 @@ pub record IsTapeName (text : List ℕ) : Type 0 where
 abbrev pub NamesByTheirBytes : Type 0
 NamesByTheirBytes = (text : List ℕ) → (isName text ≡ true) ↔ IsTapeName text
 
--- No byte of a text is a line feed.
+-- No byte of a text is b; none is a line feed.
+abbrev pub Without : ℕ → List ℕ → Type 0
+Without b text = (i : ℕ) → i < length text → getD text i 0 ≡ b → ⊥
+
 abbrev pub NoFeed : List ℕ → Type 0
-NoFeed text = (i : ℕ) → i < length text → getD text i 0 ≡ 10 → ⊥
+NoFeed text = Without 10 text
+
+-- A text is cut at the first b in it: what stands before that, and what stands behind it. Where there is none, all stands before it. A value stands behind its key.
+-- The text of a string is its letters, one byte each.
+pub record TextsAreCut : Type 0 where
+  pub found : (b : ℕ) (front rest : List ℕ) → Without b front → (has b (front ++ (b ∷ rest)) ≡ true) × ((before b (front ++ (b ∷ rest)) ≡ front) × (behind b (front ++ (b ∷ rest)) ≡ rest))
+  pub missing : (b : ℕ) (text : List ℕ) → Without b text → (has b text ≡ false) × ((before b text ≡ text) × (behind b text ≡ []))
+  pub empty : (text : List ℕ) → (isEmpty text ≡ true) ↔ (text ≡ [])
+  pub value : (key text : List ℕ) → valueText key (key ++ text) ≡ text
+  pub letters : bytes "az=AZ,09\n" ≡ 97 ∷ 122 ∷ 61 ∷ 65 ∷ 90 ∷ 44 ∷ 48 ∷ 57 ∷ 10 ∷ []
 
 -- Behind no line stands the text; where a line and its feed stand behind i lines, that is line i, and the rest stands behind one line more; where no feed is left there
 -- is no line and nothing behind it.
