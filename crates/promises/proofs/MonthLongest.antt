@@ -142,6 +142,7 @@ module _ (sheet : List ℕ) (o : Outcome) (list : List Detour) (p : OutcomeOf sh
   tape-is = ap (λ (x : Outcome). take (x .letters) (x .tape)) is ∙ letters-back (sheetName sheet)
 
 pub longest-inside : LongestInside
+unfolding pricedTimes
 longest-inside sheet o list p e some least =
     record {
       want = rw (time-is sheet o list p e least, file-is sheet o list p e least) (first-longest (sheetRun sheet .numbers) (pricedTimes (sheetRun sheet) list) (long sheet o list p e least) (rw (time-is sheet o list p e least) at some));
@@ -171,6 +172,7 @@ all-shorter runs m (inr l) =
     (every-wider (λ r. longestTime r ≤ top) (λ r. longestTime r ≤ m .time) (l .later) (λ x h. omega (arith, h, l .time)) (l .longest)))
 
 each-shorter : (bound : ℕ) (sheets : List (List ℕ)) (runs : List Outcome) → Outcomes sheets runs → Every (λ r. longestTime r ≤ bound) runs → OneByOne (NoneLonger bound) sheets runs
+unfolding pricedTimes
 each-shorter bound [] [] o e = tt
 each-shorter bound [] (r ∷ runs) o e = absurd o
 each-shorter bound (s ∷ sheets) [] o e = absurd o

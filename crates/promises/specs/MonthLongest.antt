@@ -4,9 +4,10 @@ use mathlib.Core.Path.{_≡_}
 use mathlib.Core.List.{List}
 use lib.ListN.{length, getD, take}
 use Rattle.refusals.specs.declared.Refusal.the-variants.{Accepted}
-use Rattle.runs.specs.Run.{Run}
+use Rattle.runs.specs.Run.{Run, stopsOf, wantStopsOf}
 use Rattle.runs.specs.Lists.{Detour}
-use Rattle.walk.specs.Price.{pricedTimes}
+use Rattle.walk.specs.Walk.{headAt, timesOf}
+use Rattle.walk.specs.Detours.{legsOf}
 use Rattle.least.specs.Least.{LeastForRun}
 use Rattle.sheet_reader.specs.Sheet.{sheetRun, sheetName}
 use Rattle.answer_outcome.specs.declared.Outcome.{Outcome}
@@ -23,9 +24,13 @@ pub record FirstOfLongest (files times : List ℕ) (time file : ℕ) : Type 0 wh
   pub shorter : (i : ℕ) → i < want → getD times i 0 < time
   pub longest : (i : ℕ) → i < length files → getD times i 0 ≤ time
 
+-- The times of a run's wants by the walk of a list, as demand 2 has them.
+abbrev pub timesByWalk : Run → List Detour → List ℕ
+timesByWalk r list = timesOf (r .turn) (headAt (r .head)) (legsOf (stopsOf r) list) (wantStopsOf r)
+
 -- The longest time of an accepted run that has one, with its file and tape, by the times of its least list.
 pub record LongestOfRun (name : List ℕ) (run : Run) (list : List Detour) (o : Outcome) : Type 0 where
-  pub want : FirstOfLongest (run .numbers) (pricedTimes run list) (o .time) (o .file)
+  pub want : FirstOfLongest (run .numbers) (timesByWalk run list) (o .time) (o .file)
   pub tape : take (o .letters) (o .tape) ≡ name
 
 abbrev pub LongestInside : Type 0
@@ -45,7 +50,7 @@ NoneLonger time sheet o =
     → LeastForRun (sheetRun sheet) list
     → (want : ℕ)
     → want < length (sheetRun sheet .numbers)
-    → getD (pricedTimes (sheetRun sheet) list) want 0 ≤ time
+    → getD (timesByWalk (sheetRun sheet) list) want 0 ≤ time
 
 abbrev pub NoWantIsLonger : Type 0
 NoWantIsLonger =
