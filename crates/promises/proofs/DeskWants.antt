@@ -31,7 +31,7 @@ use Rattle.desk_boardings.proofs.Adding.{by-order, add-longer, add-total}
 use Rattle.desk_boardings.proofs.Who.{share-within, shares-fit}
 use Rattle.demands.proofs.Judged.{table-judged}
 use Rattle.promises.specs.Desk.{IsTable}
-use Rattle.promises.specs.DeskWants.{asked, WantsAdded, noWantsOn, OnlyTheRun, nothing, turn-price, head-place, short-row, short-room, RefusedForTheRun}
+use Rattle.promises.specs.DeskWants.{asked, WantsAdded, WantsInOrder, noWantsOn, OnlyTheRun, nothing, turn-price, head-place, short-row, short-room, RefusedForTheRun}
 
 -- The reads of one file, with one want more.
 reads-added : (w : Want) (ws : List Want) (f : ℕ) → readsOfFile (fileNumbers (addWant w ws)) (readCounts (addWant w ws)) f ≡ cond (eqb (w .file) f) (w .count) 0 + readsOfFile (fileNumbers ws) (readCounts ws) f
@@ -204,6 +204,30 @@ module _ (files : ℕ) (lasts : Lasts) (row : List Ticket) (table : IsTable (rec
   boarded-wants-pass =
       let few = with-few files [] (boarders row) boarders-fit in
       wants-pass files (withWants [] (boarders row)) (with-ascends files [] (boarders row) tt boarders-fit) (omega (arith, few .0, boarders-few)) (omega (arith, few .1, boarders-few))
+
+file-known : (office last : ℕ) (t : Ticket) → isTicket office last t ≡ true → t .file ≤ mostFiles
+file-known office last t is =
+    let a = and-true-both (eqb (t .office) office && upTo mostFiles (t .file) && upTo mostCount (t .count)) (upTo last (t .number)) is .0 in
+    let c = and-true-both (eqb (t .office) office && upTo mostFiles (t .file)) (upTo mostCount (t .count)) a in
+    let f = and-true-both (eqb (t .office) office) (upTo mostFiles (t .file)) (c .0) .1 in
+    leb-true (t .file) mostFiles (and-true-both (not (eqb (t .file) 0)) (leb (t .file) mostFiles) f .1)
+
+pub wants-in-order : WantsInOrder
+unfolding wantsOf Ascend before
+wants-in-order tape row b table =
+    let ws = withWants [] (boarders row) in
+    let l = b .lasts in
+    let fit =
+    boarders-fit mostFiles l row table (λ i h. file-known 1 (l .one) (getD (waiting 1 row) i noTicket) (table .one .each i h))
+    (λ i h. file-known 2 (l .two) (getD (waiting 2 row) i noTicket) (table .two .each i h)) in
+    let up = with-ascends mostFiles [] (boarders row) tt fit in
+    let m : length (fileNumbers ws) ≡ length ws = length-map ws (λ w. w .file) in
+    let n : length (readCounts ws) ≡ length ws = length-map ws (λ w. w .count) in
+    record {
+      rise = λ i h. ascends-at mostFiles ws 0 up (suc i) (omega (arith, h, m)) .above;
+      even = n ∙ sym m;
+      reads = λ i h. ascends-at mostFiles ws 0 up i (omega (arith, h, n)) .reads;
+    }
 
 -- The kinds that are left.
 run-kinds : (b c s q : Bool) → OnlyTheRun (firstOf (firstOf (accepted ∷ accepted ∷ firstOf (refuseIf b TurnPrice ∷ refuseIf c HeadPlace ∷ []) ∷ []) ∷ refuseIf s ShortRow ∷ refuseIf q ShortRoom ∷ []) .refusal)

@@ -1,6 +1,6 @@
 -- Request L6: the wants of a boarding are the counts of the tickets taken, added by file; and for a tape table that 1 and 2 accept, whose files the
 -- tickets name, a boarding is refused only by 6, 7, 8 or 9.
-use Prim.Native.Nat.{ℕ, _+_, _≤_, _<_}
+use Prim.Native.Nat.{ℕ, suc, _+_, _≤_, _<_}
 use mathlib.Core.Path.{_≡_}
 use mathlib.Core.Bool.{cond}
 use mathlib.Core.List.{List, [], _∷_}
@@ -29,6 +29,15 @@ abbrev pub WantsAdded : Type 0
 WantsAdded =
     (tape : Tape) (row : List Ticket) (b : Boarding) (f : ℕ)
     → readsOfFile (boardRun tape row b .numbers) (boardRun tape row b .counts) f ≡ asked f (boarders row)
+
+-- They stand in order of their files, each with a count that is not 0.
+pub record InFileOrder (run : Run) : Type 0 where
+  pub rise : (i : ℕ) → suc i < length (run .numbers) → getD (run .numbers) i 0 < getD (run .numbers) (suc i) 0
+  pub even : length (run .counts) ≡ length (run .numbers)
+  pub reads : (i : ℕ) → i < length (run .counts) → 0 < getD (run .counts) i 0
+
+abbrev pub WantsInOrder : Type 0
+WantsInOrder = (tape : Tape) (row : List Ticket) (b : Boarding) → IsTable (record { row = row; lasts = b .lasts }) → InFileOrder (boardRun tape row b)
 
 -- Neither 1 nor 2 applies to the tape table, with no wants on it; and every ticket that waits names one of its files.
 abbrev pub noWantsOn : Tape → Run
