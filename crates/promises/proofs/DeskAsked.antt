@@ -29,7 +29,7 @@ use Rattle.demands.specs.Lines.{Stands, Pair, Triple}
 use Rattle.demands.proofs.Lines.{number-flat, pair-flat, triple-flat, line-read, tells-pair-line, tells-triple-line}
 use Rattle.promises.specs.Desk.{Kept, IsOffice, filing, withdrawal, Fits, withdraws, over, then, joining, takesBack}
 use Rattle.promises.specs.DeskCases.{ticket}
-use Rattle.promises.specs.DeskAsked.{FilingAdds, WithdrawalRemoves, BoardsOnTheTape, TableIsFirst32, LineHolds, EventIsItsLine}
+use Rattle.promises.specs.DeskAsked.{FilingAdds, WithdrawalRemoves, BoardsOnTheTape, TableIsFirst32, LastsByOffice, LineHolds, EventIsItsLine}
 use Rattle.promises.proofs.Desk.{in-order, filed-behind}
 use Rattle.promises.proofs.DeskRefusals.{withdrawn-verdict}
 
@@ -111,6 +111,9 @@ unfolding tableIn
 table-is-first-32 ts long =
     let none : 32 - length ts ≡ 0 = omega arith in
     ap (λ (n : ℕ). take 32 ts ++ replicate n noTicket) none ∙ append-nil (take 32 ts)
+
+pub lasts-by-office : LastsByOffice
+lasts-by-office row l = (refl, (refl, refl))
 
 -- The numbers that are read on a line are those behind its key.
 module _ (line : List ℕ) where

@@ -29,7 +29,8 @@ use Rattle.sheet_writer.specs.RefusalLines.{refusalText}
 use Rattle.answer_plan.specs.Recall.{verdictBy}
 use Rattle.answer_check.specs.RunRules.{headAnywhere}
 use Rattle.answer_check.specs.Pricing.{RowHolds, pricingVerdict, priceText, SheetPriced}
-use Rattle.answer_check.specs.Checking.{CheckGiven, roomChecked, SheetChecked}
+use Rattle.answer_any.proofs.Planned.{room-kept}
+use Rattle.answer_check.specs.Checking.{CheckGiven, verdictOn, roomChecked, SheetChecked}
 use Rattle.answer_check.specs.Inputs.{mostInput, framedInput, badInput, AnsweredIn, roomIn, InputChecked}
 use Rattle.demands.proofs.Lines.{nothing-no-number}
 use Rattle.promises.specs.InputTexts.{Counts, InputIsItsTexts, NoTwoTexts, Prints, OtherInputsRefused, CutInputsRefused}
@@ -165,8 +166,13 @@ bad-printed Answers input none row n row′ h wide =
     held-printed (refusalText badInput) (bytes "refused=25\nplace=1\n") row n row′ held lines-of-25 wide
 
 pub other-inputs-refused : OtherInputsRefused
-other-inputs-refused input room none =
-    (bad-printed SheetPriced input none, λ row n row′ h wide. bad-printed (CheckGiven headAnywhere (length room)) input none row n row′ (h .1 .given) wide)
+other-inputs-refused input room none = (
+  bad-printed SheetPriced input none,
+  (
+    λ row n row′ h wide. bad-printed (CheckGiven headAnywhere (length room)) input none row n row′ (h .1 .given) wide,
+    λ row n row′ room′ h. h .cleared ∙ ap (λ f. roomIn input f room) (framed-bad input none),
+  ),
+)
 
 -- A run sheet that is too long.
 abbrev tooLong : Verdict
@@ -202,9 +208,19 @@ module _ (input : List ℕ) (count : ℕ) (rest : List ℕ) (c : Counts input co
       let other = partIn input (length (decimal count) + 1 + length rest) (length input) in
       says other row n row′ (subst (λ x. Answers x other row n row′) (all-behind input count rest c) (subst (λ f. AnsweredIn Answers input f row n row′) cut-so h)) wide
 
+  cut-room : (room : List ℕ) → roomIn input (framedInput input) room ≡ room
+  cut-room room =
+      let start = length (decimal count) + 1 in
+      let other = partIn input (start + length rest) (length input) in
+      ap (λ f. roomIn input f room) cut-so ∙ ap (λ x. roomChecked x other room) (all-behind input count rest c)
+      ∙ room-kept (verdictOn (length room) rest other) (sheetRun rest) room (ap refuses (long-refused _ rest long))
+
 pub cut-inputs-refused : CutInputsRefused
 cut-inputs-refused input room count rest c few all =
     let l = long input count rest c few all in (
       cut-printed input count rest c few all SheetPriced (λ other. priced-long rest other l),
-      λ row n row′ h wide. cut-printed input count rest c few all (CheckGiven headAnywhere (length room)) (λ other. checked-long (length room) rest other l) row n row′ (h .1 .given) wide,
+      (
+        λ row n row′ h wide. cut-printed input count rest c few all (CheckGiven headAnywhere (length room)) (λ other. checked-long (length room) rest other l) row n row′ (h .1 .given) wide,
+        λ row n row′ room′ h. h .cleared ∙ cut-room input count rest c few all room,
+      ),
     )

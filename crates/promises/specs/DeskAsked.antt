@@ -13,12 +13,14 @@ use Rattle.desk_tickets.specs.declared.Filing.{Filing}
 use Rattle.desk_tickets.specs.declared.FiledRow.{FiledRow}
 use Rattle.desk_tickets.specs.declared.Withdrawal.{Withdrawal}
 use Rattle.desk_tickets.specs.declared.WithdrawnRow.{WithdrawnRow}
-use Rattle.desk_tickets.specs.WaitingTable.{waiting}
+use Rattle.desk_tickets.specs.declared.Lasts.{Lasts}
+use Rattle.desk_tickets.specs.WaitingTable.{lastOf, waiting}
 use Rattle.desk_boardings.specs.declared.Boarding.{Boarding}
 use Rattle.desk_boardings.specs.Boardings.{Tape, boardRun}
 use Rattle.answer_desk.specs.declared.Event.{Event}
 use Rattle.answer_desk.specs.Events.{eventOf}
 use Rattle.desk_rows.specs.Desk.{tableIn}
+use Rattle.desk_rows.specs.Events.{dayOf}
 use Rattle.demands.specs.Lines.{Stands, Pair, Triple}
 use Rattle.promises.specs.Desk.{Kept, IsTable, IsOffice, filing, withdrawal, Fits}
 use Rattle.promises.specs.DeskCases.{ticket}
@@ -72,6 +74,10 @@ BoardsOnTheTape = (tape : Tape) (row : List Ticket) (b : Boarding) → IsRunOn t
 -- The table in a lent row.
 abbrev pub TableIsFirst32 : Type 0
 TableIsFirst32 = (ts : List Ticket) → 32 ≤ length ts → tableIn ts ≡ take 32 ts
+
+-- An office's last number, and the table and the last numbers as a day.
+abbrev pub LastsByOffice : Type 0
+LastsByOffice = (row : List Ticket) (l : Lasts) → (lastOf 1 l ≡ l .one) × ((lastOf 2 l ≡ l .two) × (dayOf row l ≡ record { row = row; lasts = l }))
 
 -- What a line holds: the numbers behind its key, in their order; no event where it is none of these three.
 pub data LineHolds (line : List ℕ) : Event → Type 0 where

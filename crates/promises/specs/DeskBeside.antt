@@ -3,11 +3,10 @@
 use Prim.Native.Nat.{ℕ, _-_, _≤_, _<_}
 use mathlib.Core.Path.{_≡_}
 use mathlib.Core.List.{List}
-use lib.ListN.{length, take, drop}
+use lib.ListN.{length, take, drop, replicate}
 use Rattle.refusals.specs.declared.Refusal.the-variants.{Accepted, ShortRow}
 use Rattle.refusals.specs.declared.Verdict.{Verdict}
 use Rattle.runs.specs.Run.{Run}
-use Rattle.runs.specs.Alone.{zeros}
 use Rattle.planner.specs.Rows.{Rows}
 use Rattle.desk_tickets.specs.declared.Ticket.{Ticket}
 use Rattle.desk_tickets.specs.declared.Lasts.{Lasts}
@@ -51,7 +50,7 @@ ShortRowsAnswered =
 pub record NothingBoards (before after : Rows) (b : Boarded) : Type 0 where
   pub plan : OnlyPlace (b .answer)
   pub taken : (b .taken .one ≡ 0) × (b .taken .two ≡ 0)
-  pub wants : b .wants ≡ record { k = 0; numbers = zeros 8; counts = zeros 8 }
+  pub wants : b .wants ≡ record { k = 0; numbers = replicate 8 0; counts = replicate 8 0 }
   pub rows : after ≡ before
 
 -- A refused filing gives no number.
@@ -72,8 +71,8 @@ pub record WantsHandedOut (run : Run) (w : Wants) : Type 0 where
   pub many : w .k ≡ length (run .numbers)
   pub numbers : take (w .k) (w .numbers) ≡ run .numbers
   pub counts : take (w .k) (w .counts) ≡ run .counts
-  pub numbers-behind : drop (w .k) (w .numbers) ≡ zeros (8 - w .k)
-  pub counts-behind : drop (w .k) (w .counts) ≡ zeros (8 - w .k)
+  pub numbers-behind : drop (w .k) (w .numbers) ≡ replicate (8 - w .k) 0
+  pub counts-behind : drop (w .k) (w .counts) ≡ replicate (8 - w .k) 0
 
 abbrev pub BoardingHandsOutWants : Type 0
 BoardingHandsOutWants =

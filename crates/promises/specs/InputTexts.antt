@@ -26,7 +26,7 @@ pub data NoTwoTexts (input : List ℕ) : Type 0 where
   no-count : ((count : ℕ) (rest : List ℕ) → Counts input count rest → ⊥) → NoTwoTexts input
   too-few : {count : ℕ} {rest : List ℕ} → Counts input count rest → length rest < count → length input < 32791 → NoTwoTexts input
 
--- What `check` answers to an input in some working room, whatever is left of that.
+-- What `check` answers to an input in some working room.
 abbrev pub ChecksIn : List ℕ → List ℕ → List ℕ → ℕ → List ℕ → Type 0
 ChecksIn input room row n row′ = (room′ : List ℕ) × InputChecked input row room n row′ room′
 
@@ -34,11 +34,15 @@ ChecksIn input room row n row′ = (room′ : List ℕ) × InputChecked input ro
 abbrev pub Prints : (List ℕ → ℕ → List ℕ → Type 0) → List ℕ → Type 0
 Prints Answers text = (row : List ℕ) (n : ℕ) (row′ : List ℕ) → Answers row n row′ → length text ≤ length row → take n row′ ≡ text
 
+-- The room is left as it was.
+abbrev pub RoomStays : List ℕ → List ℕ → Type 0
+RoomStays input room = (row : List ℕ) (n : ℕ) (row′ room′ : List ℕ) → InputChecked input row room n row′ room′ → room′ ≡ room
+
 abbrev pub OtherInputsRefused : Type 0
 OtherInputsRefused =
     (input room : List ℕ)
     → NoTwoTexts input
-    → Prints (InputPriced input) (bytes "refused=25\nplace=1\n") × Prints (ChecksIn input room) (bytes "refused=25\nplace=1\n")
+    → Prints (InputPriced input) (bytes "refused=25\nplace=1\n") × (Prints (ChecksIn input room) (bytes "refused=25\nplace=1\n") × RoomStays input room)
 
 abbrev pub CutInputsRefused : Type 0
 CutInputsRefused =
@@ -46,4 +50,4 @@ CutInputsRefused =
     → Counts input count rest
     → length rest < count
     → 32791 ≤ length input
-    → Prints (InputPriced input) (bytes "refused=12\nplace=0\n") × Prints (ChecksIn input room) (bytes "refused=12\nplace=0\n")
+    → Prints (InputPriced input) (bytes "refused=12\nplace=0\n") × (Prints (ChecksIn input room) (bytes "refused=12\nplace=0\n") × RoomStays input room)
