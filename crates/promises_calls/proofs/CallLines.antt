@@ -16,6 +16,7 @@ use Rattle.answer_desk.specs.declared.Event.{Event}
 use Rattle.answer_desk.specs.Events.{pairEventOf, eventOf}
 use Rattle.desk_waits.specs.Waits.{waitsLines, waitingText}
 use Rattle.boundary_desk.specs.Calls.{isLine}
+use Rattle.demands.proofs.Letters.{no-feed, none-fed}
 use Rattle.promises_calls.specs.CallLines.{IsOneLine, OneLineIsTaken, WaitOn, WaitingByItsLines}
 
 -- The lines of who waits.
@@ -40,11 +41,13 @@ empty-so (b ∷ rest) e = absurd (true≢false (sym e))
 line-so : (line : List ℕ) → isLine line ≡ true → IsOneLine line
 line-so line e =
     let both = and-true-both (has lineFeed line) (isEmpty (behind lineFeed line)) e in
-    record { text = before lineFeed line; plain = none-before lineFeed line; is = split-at lineFeed line (both .0) ∙ ap (λ t. before lineFeed line ++ (lineFeed ∷ t)) (empty-so (behind lineFeed line) (both .1)) }
+    record { text = before lineFeed line; plain = none-fed (before lineFeed line) (none-before lineFeed line); is = split-at lineFeed line (both .0) ∙ ap (λ t. before lineFeed line ++ (lineFeed ∷ t)) (empty-so (behind lineFeed line) (both .1)) }
 
 so-line : (line : List ℕ) → IsOneLine line → isLine line ≡ true
 unfolding has
-so-line line one = rw (one .is, has-append lineFeed (one .text) (lineFeed ∷ []), one .plain, behind-here lineFeed (one .text) [] (one .plain))
+so-line line one =
+    let plain = no-feed (one .text) (one .plain) in
+    rw (one .is, has-append lineFeed (one .text) (lineFeed ∷ []), plain, behind-here lineFeed (one .text) [] plain)
 
 nothing-is-no-event : eventOf (lineOf []) ≡ Event.Bad
 unfolding eventOf pairEventOf lineOf isTripleLine isPairLine startsWith has

@@ -1,10 +1,9 @@
 -- What counts as one line of an event, and who waits, line by line.
 use Prim.Native.Nat.{ℕ, suc, _+_, _/_}
 use mathlib.Core.Path.{_≡_}
-use mathlib.Core.Bool.{false}
 use mathlib.Core.List.{List, [], _∷_, _++_}
 use lib.ListN.{length}
-use Rattle.text_bytes.specs.Text.{bytes, lineFeed, has, decimal}
+use Rattle.text_bytes.specs.Text.{bytes, decimal}
 use Rattle.text_lines.specs.Lines.{lineOf}
 use Rattle.desk_tickets.specs.declared.Ticket.{Ticket}
 use Rattle.desk_tickets.specs.WaitingTable.{waiting}
@@ -12,13 +11,14 @@ use Rattle.answer_desk.specs.declared.Event.{Event}
 use Rattle.answer_desk.specs.Events.{eventOf}
 use Rattle.desk_waits.specs.Waits.{waitingText}
 use Rattle.boundary_desk.specs.Calls.{oneLine}
+use Rattle.demands.specs.Letters.{NoFeed}
 use Rattle.promises.specs.Texts.{pair, triple}
 
 -- Bytes that are one line with its LF are taken as they are; any others are no event.
 pub record IsOneLine (bytes : List ℕ) : Type 0 where
   pub text : List ℕ
-  pub plain : has lineFeed text ≡ false
-  pub is : bytes ≡ text ++ (lineFeed ∷ [])
+  pub plain : NoFeed text
+  pub is : bytes ≡ text ++ (10 ∷ [])
 
 abbrev pub OneLineIsTaken : Type 0
 OneLineIsTaken = (line : List ℕ) → (IsOneLine line → oneLine line ≡ line) × ((IsOneLine line → ⊥) → eventOf (lineOf (oneLine line)) ≡ Event.Bad)
