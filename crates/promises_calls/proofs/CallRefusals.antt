@@ -2,7 +2,7 @@
 use Prim.Native.Nat.{ℕ, _+_, _*_, _≤_, _<_}
 use mathlib.Core.Path.{_≡_, refl, sym, ap, _∙_}
 use mathlib.Core.Bool.{Bool, true, false, not, cond}
-use mathlib.Core.Logic.{⊎-elim, _⊎_, inl, inr}
+use mathlib.Core.Logic.{⊎-elim, _⊎_, _↔_, inl, inr}
 use mathlib.Core.List.{List, [], _∷_}
 use native.Mathlib.Omega.{arith}
 use lib.ListN.{length}
@@ -39,11 +39,11 @@ use Rattle.promises.proofs.Desk.{refusal-keeps}
 use Rattle.promises.proofs.DeskDays.{accepts, refused-event-changes-nothing}
 use Rattle.promises.proofs.DeskRefusals.{row-finds, filing-answers, withdrawal-answers, boarding-answers}
 use Rattle.promises.proofs.DeskVerdicts.{event-verdicts}
-use Rattle.promises_calls.specs.CallRefusals.{ShortCounts, CodeSays, FileCallAnswers, WithdrawCallAnswers, BoardCallAnswers, EventCallAnswers, anyNumbers, WaitingCallAnswers, RefusedFileKeeps, RefusedWithdrawKeeps, RefusedBoardKeeps, RefusedEventKeeps}
+use Rattle.promises_calls.specs.CallRefusals.{ShortCounts, BoardCounts, CodeSays, FileCallAnswers, WithdrawCallAnswers, BoardCallAnswers, EventCallAnswers, anyNumbers, WaitingCallAnswers, RefusedFileKeeps, RefusedWithdrawKeeps, RefusedBoardKeeps, RefusedEventKeeps}
 use Rattle.promises_calls.proofs.SheetCalls.{some-refuses, none-passes, says-so}
 
-pub short-counts : ShortCounts
-short-counts least words len =
+counts-few : (least : ℕ) (words : List ℕ) (len : ℕ) → (placesIf least words len < 32) ↔ ((length words < least) ⊎ (len < 32))
+counts-few least words len =
     ⊎-elim
     (λ (h : ltb (length words) least ≡ true). (λ _. inl (ltb-true (length words) least h), λ _. rw h (omega arith)))
     (λ (h : ltb (length words) least ≡ false). (
@@ -51,6 +51,25 @@ short-counts least words len =
       λ s. rw h (⊎-elim (λ (short : length words < least). absurd (let long = ltb-false (length words) least h in omega arith)) (λ (few : len < 32). few) s),
     ))
     (true-or-false (ltb (length words) least))
+
+pub short-counts : ShortCounts
+short-counts = counts-few
+
+pub board-counts : BoardCounts
+board-counts rows lasts taken sums =
+    let all = placesIf 10 taken (placesIf 2 lasts (length rows)) in
+    let one = counts-few 4 sums all in
+    let two = counts-few 10 taken (placesIf 2 lasts (length rows)) in
+    let three = counts-few 2 lasts (length rows) in (
+      λ few.
+          ⊎-elim (λ (s : length sums < 4). inl s)
+          (λ s. inr (⊎-elim (λ (t : length taken < 10). inl t) (λ t. inr (three .0 t)) (two .0 s)))
+          (one .0 few),
+      λ some.
+          one .1 (⊎-elim (λ (s : length sums < 4). inl s)
+          (λ s. inr (two .1 (⊎-elim (λ (t : length taken < 10). inl t) (λ t. inr (three .1 t)) s)))
+          some),
+    )
 
 pub file-call-answers : FileCallAnswers
 unfolding fileCall

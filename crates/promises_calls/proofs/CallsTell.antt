@@ -134,6 +134,7 @@ module _ (v : Verdict) (row : List Ticket) (out out′ sizes sizes′ : List ℕ
       let holds : out′ ≡ waitingText row ++ drop (length (waitingText row)) out = out-is ∙ rw e in
       record {
         text = rw (n, holds) (take-append-seam (waitingText row) (drop (length (waitingText row)) out));
+        counted = n;
         behind = rw (n, holds) (drop-append-seam (waitingText row) (drop (length (waitingText row)) out));
         later = ap (drop 1) is;
       }

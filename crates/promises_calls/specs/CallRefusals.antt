@@ -2,7 +2,7 @@
 -- short row at one place in the order; and refused, a call leaves everything that was lent as it was.
 use Prim.Native.Nat.{ℕ, _+_, _*_, _≤_, _<_}
 use mathlib.Core.Path.{_≡_}
-use mathlib.Core.Logic.{_⊎_}
+use mathlib.Core.Logic.{_⊎_, _↔_}
 use mathlib.Core.List.{List}
 use lib.ListN.{length}
 use Rattle.refusals.specs.declared.Refusal.{Refusal}
@@ -18,16 +18,23 @@ use Rattle.desk_tickets.specs.declared.Ticket.{Ticket}
 use Rattle.desk_tickets.specs.declared.Lasts.{Lasts}
 use Rattle.answer_desk.specs.Events.{eventOf}
 use Rattle.desk_waits.specs.Waits.{waitingText}
-use Rattle.boundary_desk.specs.Calls.{FileCalled, WithdrawCalled, boardingOf, boardPlaces, BoardCalled, oneLine, dayAt, EventCalled, WaitingCalled}
+use Rattle.boundary_desk.specs.Calls.{FileCalled, WithdrawCalled, boardingOf, boardPlaces, BoardCalled, oneLine, EventCalled, WaitingCalled}
 use Rattle.demands.specs.RefusalTable.{FirstThatApplies, SomeApplies}
 use Rattle.promises.specs.DeskRefusals.{RowApplies, rowOrder, FilingApplies, filingOrder, WithdrawalApplies, withdrawalOrder, BoardAnswers}
 use Rattle.promises.specs.DeskVerdicts.{OwnVerdict, RowTooShort}
+use Rattle.promises_calls.specs.DeskCalls.{dayInC}
 
 -- The places that a row of records counts for are too few exactly where the row beside it is too short, or the records themselves are.
 abbrev pub ShortCounts : Type 0
 ShortCounts =
     (least : ℕ) (words : List ℕ) (len : ℕ)
     → (placesIf least words len < 32 → (length words < least) ⊎ (len < 32)) × ((length words < least) ⊎ (len < 32) → placesIf least words len < 32)
+
+-- So for a boarding: too few exactly where there are fewer than 32 records, two last numbers, ten words for who has left or four for the sums.
+abbrev pub BoardCounts : Type 0
+BoardCounts =
+    (rows : List (List ℕ)) (lasts taken sums : List ℕ)
+    → (boardPlaces rows lasts taken sums < 32) ↔ ((length sums < 4) ⊎ ((length taken < 10) ⊎ ((length lasts < 2) ⊎ (length rows < 32))))
 
 -- A code, as a refusal and its place.
 pub record CodeSays (Applies : Refusal → ℕ → Type 0) (order : List Refusal) (code : ℕ) : Type 0 where
@@ -62,8 +69,8 @@ EventCallAnswers =
     (rows rows′ : List (List ℕ)) (lasts lasts′ line out out′ room room′ sizes sizes′ : List ℕ) (tape : Tape) (code : ℕ)
     → (called : EventCalled rows lasts tape line out room sizes code rows′ lasts′ out′ room′ sizes′)
     → (code ≡ numberOf (called .done .verdict .refusal) + 256 * (called .done .verdict .place))
-    × (OwnVerdict (placesIf 1 sizes (placesIf 2 lasts (length rows))) tape (dayAt rows lasts) room (eventOf (lineOf (oneLine line))) (called .done .verdict)
-    ⊎ RowTooShort (placesIf 1 sizes (placesIf 2 lasts (length rows))) tape (dayAt rows lasts) room out (eventOf (lineOf (oneLine line))) (called .done .verdict))
+    × (OwnVerdict (placesIf 1 sizes (placesIf 2 lasts (length rows))) tape (dayInC rows lasts) room (eventOf (lineOf (oneLine line))) (called .done .verdict)
+    ⊎ RowTooShort (placesIf 1 sizes (placesIf 2 lasts (length rows))) tape (dayInC rows lasts) room out (eventOf (lineOf (oneLine line))) (called .done .verdict))
 
 -- Who waits: 8 and 26 of the records, of which every number up to 65,535 may have been given; then 8 of a row shorter than the text.
 abbrev pub anyNumbers : Lasts

@@ -19,13 +19,13 @@ use Rattle.answer_desk.specs.declared.Event.{Event}
 use Rattle.answer_desk.specs.Events.{eventOf}
 use Rattle.desk_waits.specs.Waits.{waitingText}
 use Rattle.boundary_desk.specs.Records.{tableAt, lastsIn, placesIf}
-use Rattle.boundary_desk.specs.Calls.{FileCalled, boardingOf, BoardCalled, oneLine, dayAt, EventCalled, WaitingCalled}
+use Rattle.boundary_desk.specs.Calls.{FileCalled, boardingOf, BoardCalled, oneLine, EventCalled, WaitingCalled}
 use Rattle.demands.specs.Behind.{BehindPlan}
 use Rattle.promises.specs.Desk.{Call, filing, withdrawal, boarding, Fits}
 use Rattle.promises.specs.DeskDays.{IsCall}
 use Rattle.promises.specs.DeskTells.{TextStands}
 use Rattle.promises.specs.DeskRoom.{RoomLeft}
-use Rattle.promises_calls.specs.DeskCalls.{keptInC}
+use Rattle.promises_calls.specs.DeskCalls.{keptInC, dayInC}
 
 -- A filing is given the last number of its office, as the row of last numbers then has it.
 abbrev pub FileCallTells : Type 0
@@ -71,7 +71,7 @@ EventCallTells =
     (rows rows′ : List (List ℕ)) (lasts lasts′ line out out′ room room′ sizes sizes′ : List ℕ) (tape : Tape) (code : ℕ)
     → (called : EventCalled rows lasts tape line out room sizes code rows′ lasts′ out′ room′ sizes′)
     → code ≡ 0
-    → TextStands (placesIf 1 sizes (placesIf 2 lasts (length rows))) tape (dayAt rows lasts) room out (eventOf (lineOf (oneLine line))) (called .done .day) (getD sizes′ 0 0) out′
+    → TextStands (placesIf 1 sizes (placesIf 2 lasts (length rows))) tape (dayInC rows lasts) room out (eventOf (lineOf (oneLine line))) (called .done .day) (getD sizes′ 0 0) out′
     × (drop 1 sizes′ ≡ drop 1 sizes)
 
 -- The room that it was lent is left as the event leaves it: a filing's and a withdrawal's as it was, a boarding's as its plan does.
@@ -80,7 +80,7 @@ EventCallLeavesTheRoom =
     (rows rows′ : List (List ℕ)) (lasts lasts′ line out out′ room room′ sizes sizes′ : List ℕ) (tape : Tape) (code : ℕ)
     → EventCalled rows lasts tape line out room sizes code rows′ lasts′ out′ room′ sizes′
     → code ≡ 0
-    → RoomLeft tape (dayAt rows lasts) room (eventOf (lineOf (oneLine line))) room′
+    → RoomLeft tape (dayInC rows lasts) room (eventOf (lineOf (oneLine line))) room′
 
 -- It is a call on the table in the row, which is accepted: what it leaves there is what the call leaves, and later records and words stay.
 abbrev pub CallAccepts : Call → Type 0
@@ -114,6 +114,7 @@ NoEventCalled =
 -- Who waits: the text of the table in the row's first bytes, and how long it is; refused, both rows as they were.
 pub record WaitingTells (row : List Ticket) (out sizes out′ sizes′ : List ℕ) : Type 0 where
   pub text : take (getD sizes′ 0 0) out′ ≡ waitingText row
+  pub counted : getD sizes′ 0 0 ≡ length (waitingText row)
   pub behind : drop (getD sizes′ 0 0) out′ ≡ drop (getD sizes′ 0 0) out
   pub later : drop 1 sizes′ ≡ drop 1 sizes
 

@@ -1,11 +1,13 @@
 -- Requests L6 and L7 for a daemon in C. Calls of violstream_file, violstream_withdraw and violstream_board on one row of records and one row of last numbers, one
 -- after the other, are a day on the table in the row: so every promise over days holds of them. Later records and later words stay as they were.
-use Prim.Native.Nat.{ℕ}
+use Prim.Native.Nat.{ℕ, _≤_}
 use mathlib.Core.Path.{_≡_}
-use mathlib.Core.List.{List, [], _∷_}
-use lib.ListN.{length, drop}
+use mathlib.Core.List.{List, [], _∷_, map}
+use lib.ListN.{length, getD, take, drop}
 use Rattle.planner.specs.Rows.{Rows}
+use Rattle.desk_tickets.specs.declared.Ticket.{Ticket}
 use Rattle.desk_boardings.specs.Boardings.{Tape}
+use Rattle.answer_desk.specs.declared.Day as desk
 use Rattle.boundary_desk.specs.Records.{tableAt, lastsIn, placesIf}
 use Rattle.boundary_desk.specs.Calls.{filingOf, fileCall, FileCalled, withdrawalOf, withdrawCall, WithdrawCalled, boardingOf, boardPlaces, BoardCalled}
 use Rattle.promises.specs.Desk.{Kept, Call, filing, withdrawal, boarding, Day}
@@ -13,6 +15,21 @@ use Rattle.promises.specs.Desk.{Kept, Call, filing, withdrawal, boarding, Day}
 -- The table and the last numbers that two of C's rows hold.
 abbrev pub keptInC : List (List ℕ) → List ℕ → Kept
 keptInC rows lasts = record { row = tableAt rows; lasts = lastsIn lasts }
+
+-- The same as the day that an event is answered on.
+abbrev pub dayInC : List (List ℕ) → List ℕ → desk.Day
+dayInC rows lasts = record { row = tableAt rows; lasts = lastsIn lasts }
+
+-- What two of C's rows hold, of a row of records that is long enough: each of its first 32 records is a ticket, with office, file, count and number in this order; the
+-- first word of the other is the last number of office 1, its second that of office 2.
+abbrev pub ticketOn : List ℕ → Ticket
+ticketOn words = record { office = getD words 0 0; file = getD words 1 0; count = getD words 2 0; number = getD words 3 0 }
+
+abbrev pub RecordsAreTickets : Type 0
+RecordsAreTickets =
+    (rows : List (List ℕ)) (lasts : List ℕ)
+    → 32 ≤ length rows
+    → (tableAt rows ≡ map ticketOn (take 32 rows)) × (lastsIn lasts ≡ record { one = getD lasts 0 0; two = getD lasts 1 0 })
 
 -- A call that fits its contract, as a call on the table: what was handed in, what came back, and both rows afterwards.
 pub data CallFits : List (List ℕ) → List ℕ → Call → List (List ℕ) → List ℕ → Type 0 where
