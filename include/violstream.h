@@ -1,6 +1,6 @@
 /*
- * violstream.h - plan and price the recall of files from tape, keep the waiting tickets of two offices, and answer, check and
- * mend sheets. First what a run is, then the calls.
+ * violstream.h - plan and price the recall of files from tape, keep the waiting tickets of two offices, find files by their
+ * paths, and answer, check and mend sheets. First what a run is, then the calls.
  *
  * THE RUN
  *
@@ -46,6 +46,8 @@
  *
  * THE CALLS, in the order in which a daemon meets them, with the program below in which each is made
  *
+ *   violstream_pick       a tape's LTFS label and index, and a list of paths, to the run sheet of these
+ *                         files and their names: what `violstream pick` prints                                    (paths.c)
  *   violstream_version    the version of the library that is linked                                            (anywhere.c)
  *   violstream_mend       a run sheet from mail put in order, and a line for each change: what
  *                         `violstream mend` prints                                                                (sheet.c)
@@ -74,11 +76,12 @@
  *   violstream_plan, violstream_plan_any                                                    6,144
  *   violstream_file, violstream_withdraw, violstream_board, violstream_waiting             16,384
  *   violstream_answer                                                                      32,768
+ *   violstream_pick                                                                        86,016  (84 KiB)
  *   violstream_check                                                                      147,456  (144 KiB)
  *   violstream_mend                                                                       167,936  (164 KiB)
  *   violstream_event                                                                      557,056  (544 KiB)
  *
- * Mind the last three where a thread has a small stack. C99 or later, or C++. Link with libviolstream.a (x86-64), which needs
+ * Mind the last four where a thread has a small stack. C99 or later, or C++. Link with libviolstream.a (x86-64), which needs
  * the C library and nothing else:
  *
  *   cc example.c $(pkg-config --cflags --libs violstream)
@@ -279,6 +282,69 @@
  *     least=yes
  * ---- end of sheet ----
  *
+ * ANOTHER, with files by path: a tape's label and index as LTFS software writes them, here cut down to what is read
+ *
+ * ---- paths.c ----
+ *     #include <inttypes.h>
+ *     #include <stdio.h>
+ *     #include <string.h>
+ *     #include <violstream.h>
+ *
+ *     int main(void)
+ *     {
+ *         const char *label = "<ltfslabel><partitions><index>a</index><data>b</data></partitions>"
+ *                             "<blocksize>10</blocksize></ltfslabel>";
+ *         const char *index = "<ltfsindex><directory><name>VX0041</name><contents>"
+ *                             "<directory><name>reel 1</name><contents>"
+ *                             "<file><name>a.dpx</name><extentinfo><extent><partition>b</partition><startblock>4</startblock>"
+ *                             "<byteoffset>0</byteoffset><bytecount>25</bytecount></extent></extentinfo></file>"
+ *                             "<file><name>b.dpx</name><extentinfo><extent><partition>b</partition><startblock>9</startblock>"
+ *                             "<byteoffset>0</byteoffset><bytecount>10</bytecount></extent></extentinfo></file>"
+ *                             "</contents></directory></contents></directory></ltfsindex>";
+ *         const char *list = "reel 1/b.dpx\nreel 1/a.dpx\n/reel 1/b.dpx\n"; // two read b.dpx
+ *         const uint64_t head = 0;                                    // the tape was just mounted
+ *         static uint8_t sheet_bytes[VIOLSTREAM_SHEET_MOST], name_bytes[VIOLSTREAM_NAMES_MOST(40)];
+ *         struct violstream_paths paths;
+ *         struct violstream_text sheet, names;
+ *
+ *         paths.tape = "VX0041", paths.tape_len = 6;
+ *         paths.label = label, paths.label_len = strlen(label);
+ *         paths.index = index, paths.index_len = strlen(index);
+ *         paths.list = list, paths.list_len = strlen(list);           // 40 bytes
+ *         paths.unit = VIOLSTREAM_BYTES, paths.head = &head, paths.turn = NULL;
+ *         sheet.bytes = sheet_bytes, sheet.room = sizeof sheet_bytes;
+ *         names.bytes = name_bytes, names.room = sizeof name_bytes;
+ *         uint64_t result = violstream_pick_rows(&paths, &sheet, &names);
+ *         if (result != 0) {
+ *             fprintf(stderr, "refused: %s (place %" PRIu64 ")\n", violstream_reason(result), violstream_place(result));
+ *             return 1;
+ *         }
+ *         fwrite(sheet.bytes, 1, VIOLSTREAM_AS(size_t, sheet.size), stdout); // for violstream_answer
+ *         fwrite(names.bytes, 1, VIOLSTREAM_AS(size_t, names.size), stdout);
+ *         paths.list = "reel 1/c.dpx\n", paths.list_len = 13;
+ *         printf("refused: %s\n", violstream_reason(violstream_pick_rows(&paths, &sheet, &names)));
+ *         return 0;
+ *     }
+ * ---- end of paths.c ----
+ *
+ * It prints
+ *
+ * ---- paths ----
+ *     tape=VX0041
+ *     head=0
+ *     turn=12000
+ *     rule=least
+ *     files=2
+ *     file=40,25,0
+ *     file=90,10,0
+ *     wants=2
+ *     want=1,1
+ *     want=2,2
+ *     name=1,1,reel 1/a.dpx
+ *     name=2,2,reel 1/b.dpx
+ *     refused: path of no file of the index, or of several
+ * ---- end of paths ----
+ *
  * ANOTHER, with tickets
  *
  * ---- tickets.c ----
@@ -376,6 +442,8 @@
 #define VIOLSTREAM_CHECK_MOST 24115                     /* no text of violstream_check is longer */
 #define VIOLSTREAM_SHEET_MOST 16384                     /* no run sheet is longer */
 #define VIOLSTREAM_CHANGES_MOST 98424                   /* no text of changes is longer */
+#define VIOLSTREAM_NAMES_MOST(list_len) \
+    (VIOLSTREAM_AS(size_t, list_len) + 10240)           /* no text of names is longer: ten bytes more for each of 1,024 lines */
 #define VIOLSTREAM_TEXT_MOST 2677                       /* no text of violstream_event or violstream_waiting is longer */
 
 /*
@@ -396,6 +464,12 @@ extern "C" {
 /* What to plan by: the one value of `rule`. What a sweep without detours costs, violstream_price says of the empty list. */
 enum violstream_rule {
     VIOLSTREAM_LEAST = 1 /* the well-formed list of smallest sum, the first of those with that sum */
+};
+
+/* In what a sheet that violstream_pick writes counts positions: `unit`. */
+enum violstream_unit {
+    VIOLSTREAM_BYTES = 0,
+    VIOLSTREAM_BLOCKS = 1 /* of the label's block size */
 };
 
 /* Places in the row `sums`. Every sum of an accepted run is below 2^58. */
@@ -445,9 +519,19 @@ enum violstream_refusal {
     VIOLSTREAM_OFFICE_FULL = 16,   /* that office has 16 waiting; place 0 */
     VIOLSTREAM_NOT_WAITING = 17,   /* no ticket of that office and number waits; place 0 */
     VIOLSTREAM_NUMBERS_SPENT = 18, /* that office has been given number 65,535; place 0 */
-    VIOLSTREAM_BAD_RECORD = 26     /* a record that is neither empty nor a ticket of its place's office with a number up to the
+    VIOLSTREAM_BAD_RECORD = 26,    /* a record that is neither empty nor a ticket of its place's office with a number up to the
                                       last given, or a ticket behind an empty place or a number not below its own;
                                       place: the first such record */
+
+    /* Of violstream_pick. Its 3 is over 64 entries, its 5 over 1,024 lines, its 11 a line that is no path. */
+    VIOLSTREAM_BAD_TAPE = 13,      /* a tape name that is not 1 to 16 of A to Z and 0 to 9; place 0 */
+    VIOLSTREAM_BAD_INDEX = 20,     /* a label or index that is not balanced, is over 32 elements deep, lacks a needed element,
+                                      or has a value that is none; block size 0 where blocks are counted; place 0 */
+    VIOLSTREAM_HIGH_END = 23,      /* a wanted file that ends above 2^40; place: the first such line */
+    VIOLSTREAM_NO_FILE = 41,       /* a path of no file of the index, or of several; place: the first such line */
+    VIOLSTREAM_NO_RANGE = 42,      /* a file without bytes, or with some in the other partition; place: the first such line */
+    VIOLSTREAM_OTHER_WINDOW = 43,  /* no call's: at a window of `violstream serve` an event of another window; place 0 */
+    VIOLSTREAM_OTHER_VOLUME = 44   /* label and index are of different volumes; place 0 */
 };
 
 /* The refusal's number in a result; VIOLSTREAM_ACCEPTED for 0. */
@@ -456,7 +540,7 @@ static inline enum violstream_refusal violstream_number(uint64_t result)
     return VIOLSTREAM_AS(enum violstream_refusal, result % 256);
 }
 
-/* The file, want or entry that a refusal names, counted from 1; 0 if it names none. */
+/* The file, want, entry, line or record that a refusal names, counted from 1; 0 if it names none. */
 static inline uint64_t violstream_place(uint64_t result)
 {
     return result / 256;
@@ -487,6 +571,13 @@ static inline const char *violstream_reason(uint64_t result)
     case VIOLSTREAM_NOT_WAITING: return "no such ticket waits";
     case VIOLSTREAM_NUMBERS_SPENT: return "that office has been given its last number";
     case VIOLSTREAM_BAD_RECORD: return "record of the waiting table that no ticket can have left there";
+    case VIOLSTREAM_BAD_TAPE: return "tape name that is none";
+    case VIOLSTREAM_BAD_INDEX: return "label or index not balanced, too deep, or without a value that is needed";
+    case VIOLSTREAM_HIGH_END: return "wanted file that ends above 2^40";
+    case VIOLSTREAM_NO_FILE: return "path of no file of the index, or of several";
+    case VIOLSTREAM_NO_RANGE: return "file without bytes, or with some in the other partition";
+    case VIOLSTREAM_OTHER_WINDOW: return "event that is not for this window";
+    case VIOLSTREAM_OTHER_VOLUME: return "label and index of different volumes";
     }
     return "no refusal of this library";
 }
@@ -569,6 +660,37 @@ uint64_t violstream_plan_any(const uint64_t *starts, size_t starts_len,
                              uint64_t *legs, size_t legs_len,
                              uint64_t *sums, size_t sums_len,
                              uint64_t *room, size_t room_len);
+
+/*
+ * The run sheet of the files that a list asks for by their paths, and their names.
+ *
+ *   tape          the tape's name
+ *   label, index  the bytes of the tape's LTFS label and of an index of it, of any length and with any number of files
+ *   list          a path on each line, ended by LF, each line a read: names joined by `/`, one more `/` before them or none. The
+ *                 name of the volume is not in a path
+ *   unit          VIOLSTREAM_BYTES, or any other for blocks
+ *   head, turn    the sheet's: rows of one word, or of none for the end of the last entry and for 12,000. Whether they fit, the
+ *                 planner says
+ *   out           for the run sheet, at least as many bytes as it has; VIOLSTREAM_SHEET_MOST do for every sheet
+ *   names         for the names, at least as many bytes as they have; VIOLSTREAM_NAMES_MOST(list_len) do for every list
+ *   sizes         for the bytes of both texts, at least 2 words
+ *
+ * The sheet holds the wanted files alone; those that overlap are one entry, from the first start to the last end. Written as
+ * names is a line name=ENTRY,READS,PATH for each different path, by entry, then by its first line in the list. No 0 byte ends a
+ * text.
+ *
+ * Checks: 13, 20, 44, 11, 5, 41, 42, 23, 3, and last 8 for out, names and sizes.
+ */
+uint64_t violstream_pick(const uint8_t *tape, size_t tape_len,
+                         const uint8_t *label, size_t label_len,
+                         const uint8_t *index, size_t index_len,
+                         const uint8_t *list, size_t list_len,
+                         uint64_t unit,
+                         const uint64_t *head, size_t head_len,
+                         const uint64_t *turn, size_t turn_len,
+                         uint8_t *out, size_t out_len,
+                         uint8_t *names, size_t names_len,
+                         uint64_t *sizes, size_t sizes_len);
 
 /*
  * A run sheet to its plan sheet, for a head anywhere.
@@ -812,6 +934,35 @@ static inline uint64_t violstream_mend_rows(const void *sheet, size_t sheet_len,
                                       changes->room, sizes, 2);
     if (result == 0)
         text->size = sizes[0], changes->size = sizes[1];
+    return result;
+}
+
+/* A tape with its label and index, and a list of paths. `head` and `turn` point to a word, or are null where none is given. */
+struct violstream_paths {
+    const void *tape;
+    size_t tape_len;
+    const void *label;
+    size_t label_len;
+    const void *index;
+    size_t index_len;
+    const void *list;
+    size_t list_len;
+    uint64_t unit;
+    const uint64_t *head, *turn;
+};
+
+static inline uint64_t violstream_pick_rows(const struct violstream_paths *paths, struct violstream_text *text,
+                                            struct violstream_text *names)
+{
+    uint64_t sizes[2] = {0, 0};
+    uint64_t result = violstream_pick(VIOLSTREAM_AS(const uint8_t *, paths->tape), paths->tape_len,
+                                      VIOLSTREAM_AS(const uint8_t *, paths->label), paths->label_len,
+                                      VIOLSTREAM_AS(const uint8_t *, paths->index), paths->index_len,
+                                      VIOLSTREAM_AS(const uint8_t *, paths->list), paths->list_len, paths->unit, paths->head,
+                                      paths->head ? 1 : 0, paths->turn, paths->turn ? 1 : 0, text->bytes, text->room,
+                                      names->bytes, names->room, sizes, 2);
+    if (result == 0)
+        text->size = sizes[0], names->size = sizes[1];
     return result;
 }
 

@@ -41,13 +41,20 @@ _REASONS = {
     10: "list of detours not well formed",
     11: "line that is not as described",
     12: "sheet of over 16,384 bytes",
+    13: "tape name that is none",
     14: "rule number other than 1",
     15: "office, file or count of a ticket out of range",
     16: "that office has 16 tickets waiting",
     17: "no such ticket waits",
     18: "that office has been given its last number",
     19: "the sheet names the retired rule sweep",
+    20: "label or index not balanced, too deep, or without a value that is needed",
+    23: "wanted file that ends above 2^40",
     26: "record of the waiting table that no ticket can have left there",
+    41: "path of no file of the index, or of several",
+    42: "file without bytes, or with some in the other partition",
+    43: "event that is not for this window",
+    44: "label and index of different volumes",
 }
 
 

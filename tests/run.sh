@@ -84,7 +84,7 @@ make_rust() {
 # ---- Tests that are more than one program ----
 
 header_example() {
-    for name in example anywhere sheet tickets; do
+    for name in example anywhere sheet paths tickets; do
         make_c "${name}_c" "${name}_c++"
         if command -v clang > /dev/null; then
             strictly="-fsyntax-only -Wall -Wextra -Wpedantic -Wconversion -Werror -I $here/include"
