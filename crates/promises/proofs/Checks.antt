@@ -54,7 +54,7 @@ use Rattle.answer_check.specs.Pricing.{priceChecks, pricingVerdict, priceText, 
 use Rattle.answer_check.specs.Checking.{formedYes, formedNo, walkYes, walkNo, leastYes, leastNo, firstDifference, walkLine, differenceLines, sameList, leastLine, verdictLines, checkText, verdictOn, SheetChecked}
 use Rattle.answer_check.proofs.Same.{priced-as-01, checked-as-01}
 use Rattle.promises.proofs.Differs.{first-differs}
-use Rattle.promises.specs.Checks.{Larger, FirstDiffers, FormedFor, Told, CheckTells, CheckPrinted, ChecksAsAll, PriceTells, PriceStays, CheckStays}
+use Rattle.promises.specs.Checks.{Larger, FirstDiffers, FormedFor, CheckSaid, CheckTells, CheckPrinted, ChecksAsAll, PriceTells, PriceStays, CheckStays}
 
 -- Two texts are the same exactly where the test says so.
 pub text-same : (a b : List ℕ) → isText a b ≡ true → b ≡ a
@@ -227,7 +227,7 @@ module _ (name : List ℕ) (run : Run) (plan froms tos : List ℕ) (even : lengt
 pub check-tells : CheckTells
 check-tells sheet plan row room n row′ room′ c e =
     let v = c .given .answers .checked e in
-    subst (λ t. Told (sheetName sheet) (sheetRun sheet) plan (planFroms plan) (planTos plan) t) (sym (v .says))
+    subst (λ t. CheckSaid (sheetName sheet) (sheetRun sheet) plan (planFroms plan) (planTos plan) t) (sym (v .says))
     (record {
       formed = tells-formed (sheetName sheet) (sheetRun sheet) plan (planFroms plan) (planTos plan) (even-plan plan) (v .list) (v .least);
       walk = tells-walk (sheetName sheet) (sheetRun sheet) plan (planFroms plan) (planTos plan) (even-plan plan) (v .list) (v .least);

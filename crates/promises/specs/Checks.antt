@@ -46,7 +46,7 @@ abbrev pub FormedFor : Run → List ℕ → List ℕ → Type 0
 FormedFor run froms tos = WellFormedAny (run .head) (stopsOf run) (listOf froms tos)
 
 -- What the lines of a verdict say of a plan sheet, for a tape name and a run.
-pub record Told (name : List ℕ) (run : Run) (plan froms tos text : List ℕ) : Type 0 where
+pub record CheckSaid (name : List ℕ) (run : Run) (plan froms tos text : List ℕ) : Type 0 where
   pub formed : (lineAfter 0 text ≡ bytes "formed=yes") ↔ FormedFor run froms tos
   pub walk : FormedFor run froms tos → ((lineAfter 1 text ≡ bytes "walk=yes") ↔ (plan ≡ planAnyText name run froms tos))
   pub differs : FormedFor run froms tos → (n : ℕ) → lineAfter 1 text ≡ bytes "walk=no," ++ decimal n → FirstDiffers plan (planAnyText name run froms tos) n
@@ -58,7 +58,7 @@ abbrev pub CheckTells : Type 0
 CheckTells =
     (sheet plan row room : List ℕ) (n : ℕ) (row′ room′ : List ℕ) (c : SheetChecked sheet plan row room n row′ room′)
     → isRefusal (verdictOn (length room) sheet plan .refusal) ≡ false
-    → Told (sheetName sheet) (sheetRun sheet) plan (planFroms plan) (planTos plan) (c .given .text)
+    → CheckSaid (sheetName sheet) (sheetRun sheet) plan (planFroms plan) (planTos plan) (c .given .text)
 
 -- That text is what a row with room for it begins with.
 abbrev pub CheckPrinted : Type 0
