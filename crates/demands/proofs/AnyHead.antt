@@ -117,7 +117,7 @@ module _ (r : Run) (list : List Detour) (before : Rows) (answer : Answer) (after
   unfolding pricedAnyAnswer
   any-ends-in-rows = rw (says, rows) (take-at (map (λ d. d .to) list) (drop (length list) (before .tos)) (length list) (length-map list (λ d. d .to)))
 
-  list-in-rows : listIn answer after ≡ list
+  pub list-in-rows : listIn answer after ≡ list
   list-in-rows = ap₂ listOf any-starts-in-rows any-ends-in-rows ∙ list-of-halves list
 
 -- The planner.

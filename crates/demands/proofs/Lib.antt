@@ -22,6 +22,9 @@ pub mod AnyCalls
 pub mod Offices
 pub mod Plain
 pub mod Stops
+pub mod Renamed
+pub mod Kept
+pub mod Unwanted
 pub mod Ends
 pub mod Nothing
 pub mod AnyChain
@@ -50,3 +53,4 @@ pub mod Range
 pub mod Instances
 pub mod Sharing
 pub mod AnyInstances
+pub mod UnwantedInstances

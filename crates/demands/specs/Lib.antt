@@ -29,3 +29,4 @@ pub mod Writers
 pub mod Tapes
 pub mod Turns
 pub mod Plain
+pub mod Unwanted
