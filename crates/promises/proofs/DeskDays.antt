@@ -245,9 +245,12 @@ held-so {tape} {day} {last} (Held.goes-on {next = next} {x = x} {xs = xs} t rest
         (one-line (t .len) tape day next x (t .room) (t .room′) (t .out) (t .out′) (t .result) (t .bytes) (t .says) (t .leaves) (eventOf (lineOf (x .line))) (t .fits))
 
 pub day-at-the-desk : DayAtTheDesk
-day-at-the-desk tape xs last held =
-    let c = held-so held in
-    record { calls = c .calls; are = c .are; day = c .day-so; one-tape = c .one-tape }
+day-at-the-desk = (
+  refl,
+  λ tape first last xs held.
+      let c = held-so held in
+      record { calls = c .calls; are = c .are; day = c .day-so; one-tape = c .one-tape },
+)
 
 -- A boarding at the desk.
 table-passes : (len : ℕ) (k : Kept) → 32 ≤ len → IsTable k → refuses (recordsVerdict len (k .row) (k .lasts)) ≡ false

@@ -45,7 +45,7 @@ pub program-holds-a-day : ProgramHoldsADay
 program-holds-a-day tape row last l m xs held = by-the-program held
 
 pub program-makes-calls : ProgramMakesCalls
-program-makes-calls tape last m xs held = day-at-the-desk tape xs (dayOf last m) (by-the-program held)
+program-makes-calls tape first last l m xs held = day-at-the-desk .1 tape (dayOf first l) (dayOf last m) xs (by-the-program held)
 
 pub program-tells : ProgramTells
 program-tells row l tape room out e r room′ out′ f served =

@@ -95,14 +95,17 @@ pub data AreCalls (tape : Tape) : List Exchange → List Call → Type 0 where
 abbrev pub keptAt : desk.Day → Kept
 keptAt day = record { row = day .row; lasts = day .lasts }
 
-pub record IsADay (tape : Tape) (xs : List Exchange) (last : desk.Day) : Type 0 where
+-- Lines are a day of calls on what was kept before the first of them: the empty table in the morning, or any other.
+pub record IsADay (tape : Tape) (first : desk.Day) (xs : List Exchange) (last : desk.Day) : Type 0 where
   pub calls : List Call
   pub are : AreCalls tape xs calls
-  pub day : Day atFirst calls (keptAt last)
+  pub day : Day (keptAt first) calls (keptAt last)
   pub one-tape : ForTape tape calls
 
 abbrev pub DayAtTheDesk : Type 0
-DayAtTheDesk = (tape : Tape) (xs : List Exchange) (last : desk.Day) → Held tape morningDay xs last → IsADay tape xs last
+DayAtTheDesk =
+    (keptAt morningDay ≡ atFirst)
+    × ((tape : Tape) (first last : desk.Day) (xs : List Exchange) → Held tape first xs last → IsADay tape first xs last)
 
 -- The same on a lent row of records, by `desk_rows::answer`: the lines of a day, each on the row and the last numbers that the one before it left.
 pub record TurnedOn (tape : Tape) (ts : List Ticket) (l : Lasts) (x : Exchange) (next : List Ticket) (m : Lasts) : Type 0 where

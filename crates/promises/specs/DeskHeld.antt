@@ -13,7 +13,6 @@ use Rattle.answer_desk.specs.Events.{eventOf}
 use Rattle.desk_rows.specs.declared.Told.{Told}
 use Rattle.desk_rows.specs.declared.ToldRow.{ToldRow}
 use Rattle.desk_rows.specs.Events.{dayOf, LentAnswered, HeldAnswered}
-use Rattle.promises.specs.Desk.{atFirst}
 use Rattle.promises.specs.DeskDays.{Exchange, Held, IsADay}
 use Rattle.promises.specs.DeskTells.{TextStands}
 
@@ -45,9 +44,9 @@ ProgramHoldsADay =
 
 abbrev pub ProgramMakesCalls : Type 0
 ProgramMakesCalls =
-    (tape : Tape) (last : List Ticket) (m : Lasts) (xs : List Exchange)
-    → HeldByTheProgram tape (atFirst .row) (atFirst .lasts) xs last m
-    → IsADay tape xs (dayOf last m)
+    (tape : Tape) (first last : List Ticket) (l m : Lasts) (xs : List Exchange)
+    → HeldByTheProgram tape first l xs last m
+    → IsADay tape (dayOf first l) xs (dayOf last m)
 
 -- What it tells of one line: the text of an accepted event; of a refusal no byte, and all is as it was.
 abbrev pub ProgramTells : Type 0
