@@ -120,6 +120,7 @@ texts-are-cut =
       empty = empty-text;
       value = key-value;
       letters = refl;
+      marks = (refl, refl);
     }
 
 -- Lines.

@@ -6,7 +6,7 @@ use mathlib.Core.Bool.{true, false}
 use mathlib.Core.Logic.{_⊎_, _↔_}
 use mathlib.Core.List.{List, [], _∷_, _++_}
 use lib.ListN.{length, getD}
-use Rattle.text_bytes.specs.Text.{bytes, isEmpty, has, before, behind, isNumber, isName, valueOf, decimal}
+use Rattle.text_bytes.specs.Text.{bytes, lineFeed, comma, isEmpty, has, before, behind, isNumber, isName, valueOf, decimal}
 use Rattle.text_lines.specs.Lines.{afterLines, lineAfter, valueText}
 
 -- The text of a number: one digit, whose byte is 48 and the digit; or that of its tenth part, and then its last digit.
@@ -41,13 +41,14 @@ abbrev pub NoFeed : List ℕ → Type 0
 NoFeed text = Without 10 text
 
 -- A text is cut at the first b in it: what stands before that, and what stands behind it. Where there is none, all stands before it. A value stands behind its key.
--- The text of a string is its letters, one byte each.
+-- The text of a string is its letters, one byte each; a line feed is the byte 10, a comma 44.
 pub record TextsAreCut : Type 0 where
   pub found : (b : ℕ) (front rest : List ℕ) → Without b front → (has b (front ++ (b ∷ rest)) ≡ true) × ((before b (front ++ (b ∷ rest)) ≡ front) × (behind b (front ++ (b ∷ rest)) ≡ rest))
   pub missing : (b : ℕ) (text : List ℕ) → Without b text → (has b text ≡ false) × ((before b text ≡ text) × (behind b text ≡ []))
   pub empty : (text : List ℕ) → (isEmpty text ≡ true) ↔ (text ≡ [])
   pub value : (key text : List ℕ) → valueText key (key ++ text) ≡ text
   pub letters : bytes "az=AZ,09\n" ≡ 97 ∷ 122 ∷ 61 ∷ 65 ∷ 90 ∷ 44 ∷ 48 ∷ 57 ∷ 10 ∷ []
+  pub marks : (lineFeed ≡ 10) × (comma ≡ 44)
 
 -- Behind no line stands the text; where a line and its feed stand behind i lines, that is line i, and the rest stands behind one line more; where no feed is left there
 -- is no line and nothing behind it.
