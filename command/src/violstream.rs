@@ -68,7 +68,6 @@ mod calls {
         pub fn violstream_mend(
             sheet: *const u8, sheet_len: usize, out: *mut u8, out_len: usize, changes: *mut u8, changes_len: usize, sizes: *mut u64, sizes_len: usize,
         ) -> u64;
-        #[cfg(feature = "pick")]
         pub fn violstream_pick(
             tape: *const u8, tape_len: usize, label: *const u8, label_len: usize, index: *const u8, index_len: usize, list: *const u8, list_len: usize,
             unit: u64, head: *const u64, head_len: usize, turn: *const u64, turn_len: usize, out: *mut u8, out_len: usize, names: *mut u8, names_len: usize,
@@ -298,7 +297,6 @@ impl Library {
     }
 
     /// The run sheet of the files that a list asks for by their paths, and their names: from a tape's name, label and index, and the list.
-    #[cfg(feature = "pick")]
     #[rustfmt::skip]
     pub fn pick(texts: [&[u8]; 4], unit: u64, head: &[u64], turn: &[u64]) -> Result<(Vec<u8>, Vec<u8>), Refused> {
         let [tape, label, index, list] = texts;

@@ -47,6 +47,28 @@ fn sheets(library: &mut Library) {
     assert_eq!(library.mend(b"x"), Err(Refused { number: 11, place: 1 }));
 }
 
+/// As in violstream.h.
+fn paths() {
+    let label = b"<ltfslabel><partitions><index>a</index><data>b</data></partitions><blocksize>10</blocksize></ltfslabel>";
+    let file = |name: &str, block: u64, bytes: u64| {
+        let extent = format!("<partition>b</partition><startblock>{block}</startblock><byteoffset>0</byteoffset><bytecount>{bytes}</bytecount>");
+        format!("<file><name>{name}</name><extentinfo><extent>{extent}</extent></extentinfo></file>")
+    };
+    let files = file("a.dpx", 4, 25) + &file("b.dpx", 9, 10);
+    let folder = format!("<directory><name>reel 1</name><contents>{files}</contents></directory>");
+    let index = format!("<ltfsindex><directory><name>VX0041</name><contents>{folder}</contents></directory></ltfsindex>");
+    let pick = |list: &str, unit, head: &[u64], turn: &[u64]| Library::pick([b"VX0041", label, index.as_bytes(), list.as_bytes()], unit, head, turn);
+    let told = |sheet: &str, names: &str| Ok((sheet.as_bytes().to_vec(), names.as_bytes().to_vec()));
+    let names = "name=1,1,reel 1/a.dpx\nname=2,2,reel 1/b.dpx\n";
+    let (list, wants) = ("reel 1/b.dpx\nreel 1/a.dpx\n/reel 1/b.dpx\n", "wants=2\nwant=1,1\nwant=2,2\n");
+    let sheet = format!("tape=VX0041\nhead=0\nturn=12000\nrule=least\nfiles=2\nfile=40,25,0\nfile=90,10,0\n{wants}");
+    assert_eq!(pick(list, 0, &[0], &[]), told(&sheet, names));
+    let sheet = format!("tape=VX0041\nhead=10\nturn=7\nrule=least\nfiles=2\nfile=4,3,0\nfile=9,1,0\n{wants}");
+    assert_eq!(pick(list, 1, &[], &[7]), told(&sheet, names));
+    assert_eq!(pick("reel 1/a.dpx\nreel 1/c.dpx\n", 0, &[], &[]), Err(Refused { number: 41, place: 2 }));
+    assert_eq!(pick("reel 1/a.dpx", 0, &[], &[]), Err(Refused { number: 11, place: 1 }));
+}
+
 /// A whole day by events, each answered as the desk answers it.
 fn events(library: &mut Library) {
     let (mut desk, mut said) = (Desk::default(), String::new());
@@ -93,6 +115,7 @@ fn main() {
     let mut library = Library::new();
     runs(&mut library);
     sheets(&mut library);
+    paths();
     events(&mut library);
     tickets(&mut library);
     println!("rust/calls: every call as it must be");
