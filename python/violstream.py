@@ -1,4 +1,4 @@
-"""Plans and prices the recall of files from tape, and keeps the waiting tickets of two offices: the proved library for Python.
+"""Plans and prices the recall of files from tape, by number or by path, and keeps the waiting tickets of two offices: the proved library for Python.
 
     import violstream
 
@@ -21,12 +21,12 @@ import threading
 from dataclasses import dataclass, field
 from typing import Iterable, Mapping, Optional, Sequence
 
-__all__ = ["Closed", "Desk", "Boarding", "Mended", "Plan", "Refused", "Run", "Tape", "Ticket", "answer", "check", "mend", "plan", "price", "reason", "version"]
+__all__ = ["Closed", "Desk", "Boarding", "Mended", "Plan", "Refused", "Run", "Tape", "Ticket", "answer", "check", "mend", "pick", "plan", "price", "reason", "version"]
 
 MAJOR = 4
 _PLACES, _SUMS, _TAKEN, _BOARDERS = 32, 4, 10, 8
 _MOST_WANTS, _MOST_READS = 64, 1024
-_PLAN_MOST, _CHECK_MOST, _SHEET_MOST, _CHANGES_MOST, _TEXT_MOST = 7644, 24115, 16384, 98424, 2677
+_PLAN_MOST, _CHECK_MOST, _SHEET_MOST, _CHANGES_MOST, _TEXT_MOST, _NAMES_MORE = 7644, 24115, 16384, 98424, 2677, 10240
 
 _REASONS = {
     1: "over 4,096 files, or starts, lengths and aggregates of unequal number",
@@ -315,6 +315,19 @@ def mend(sheet: bytes) -> Mended:
     out, changes, sizes = (ctypes.c_uint8 * _SHEET_MOST)(), (ctypes.c_uint8 * _CHANGES_MOST)(), _words(2)
     _call("mend", *_bytes(sheet), *_lent(out), *_lent(changes), *_lent(sizes))
     return Mended(_text(out, sizes[0]), _text(changes, sizes[1]))
+
+
+# ---- Files by path
+
+
+def pick(tape: bytes, label: bytes, index: bytes, list: bytes, blocks: bool = False, head: Optional[int] = None, turn: Optional[int] = None) -> tuple[bytes, bytes]:
+    """The run sheet of the files that a list asks for by their paths, a path and its LF for each read, and a line name=ENTRY,READS,PATH for each different path.
+    Label and index are the tape's, as LTFS writes them; positions count bytes or, with `blocks`, blocks. Without `head` it stands at the end of the last entry, and
+    without `turn` the price is 12,000."""
+    out, names, sizes = (ctypes.c_uint8 * _SHEET_MOST)(), (ctypes.c_uint8 * (len(list) + _NAMES_MORE))(), _words(2)
+    given = [_row([] if word is None else [word]) for word in (head, turn)]
+    _call("pick", *_bytes(tape), *_bytes(label), *_bytes(index), *_bytes(list), _word(int(blocks)), *given[0], *given[1], *_lent(out), *_lent(names), *_lent(sizes))
+    return _text(out, sizes[0]), _text(names, sizes[1])
 
 
 # ---- Tickets

@@ -85,6 +85,36 @@ def sheets():
     refused("mend of no sheet", 11, 1, violstream.mend, b"x\n")
 
 
+def paths():
+    """As in violstream.h; in blocks, with a head and a price; and each refusal that violstream_pick alone has."""
+    label = b"<ltfslabel><partitions><index>a</index><data>b</data></partitions><blocksize>10</blocksize></ltfslabel>"
+
+    def file(name, block, count, partition=b"b"):
+        extent = b"<partition>%s</partition><startblock>%d</startblock><byteoffset>0</byteoffset><bytecount>%d</bytecount>" % (partition, block, count)
+        return b"<file><name>%s</name><extentinfo><extent>%s</extent></extentinfo></file>" % (name, extent)
+
+    inside = file(b"a.dpx", 4, 25) + file(b"b.dpx", 9, 10) + file(b"none", 9, 0) + file(b"high", 2**40, 1)
+    index = (b"<ltfsindex><volumeuuid>1</volumeuuid><directory><name>VX0041</name><contents><directory><name>reel 1</name><contents>%s</contents></directory>"
+             b"</contents></directory></ltfsindex>" % inside)
+    asked = b"reel 1/b.dpx\nreel 1/a.dpx\n/reel 1/b.dpx\n"
+    sheet, names = b"tape=VX0041\nhead=%d\nturn=%d\nrule=least\nfiles=2\n%swants=2\nwant=1,1\nwant=2,2\n", b"name=1,1,reel 1/a.dpx\nname=2,2,reel 1/b.dpx\n"
+    must("pick", violstream.pick(b"VX0041", label, index, asked, head=0), (sheet % (0, 12000, b"file=40,25,0\nfile=90,10,0\n"), names))
+    must("pick in blocks", violstream.pick(b"VX0041", label, index, asked, True, turn=7), (sheet % (10, 7, b"file=4,3,0\nfile=9,1,0\n"), names))
+    must("the plan of a picked sheet", violstream.answer(violstream.pick(b"VX0041", label, index, asked, head=0)[0])[:12], b"tape=VX0041\n")
+    refused("pick for no tape name", 13, 0, violstream.pick, b"vx", label, index, asked)
+    refused("pick without a label", 20, 0, violstream.pick, b"VX0041", b"", index, asked)
+    other = label.replace(b"<ltfslabel>", b"<ltfslabel><volumeuuid>2</volumeuuid>")
+    refused("pick of another volume", 44, 0, violstream.pick, b"VX0041", other, index, asked)
+    refused("pick of no path", 11, 4, violstream.pick, b"VX0041", label, index, asked + b"a//b\n")
+    refused("pick of too many reads", 5, 0, violstream.pick, b"VX0041", label, index, b"x\n" * 1025)
+    refused("pick of no file", 41, 4, violstream.pick, b"VX0041", label, index, asked + b"reel 1/c.dpx\n")
+    refused("pick of no bytes", 42, 4, violstream.pick, b"VX0041", label, index, asked + b"reel 1/none\n")
+    refused("pick of a high file", 23, 4, violstream.pick, b"VX0041", label, index, asked + b"reel 1/high\n")
+    many = b"".join(file(b"%d" % i, 2 * i, 1) for i in range(65))
+    index = b"<ltfsindex><directory><contents>%s</contents></directory></ltfsindex>" % many
+    refused("pick of 65 entries", 3, 0, violstream.pick, b"VX0041", label, index, b"".join(b"%d\n" % i for i in range(65)))
+
+
 def tickets():
     tape = Tape([0, 10, 14, 20, 30, 45], [10, 4, 2, 5, 10, 5], [0, 7, 7, 0, 0, 0])
     desk, said = Desk(tape), b""
@@ -142,6 +172,7 @@ def at_once():
             for _ in range(3):
                 runs()
                 sheets()
+                paths()
                 tickets()
         except BaseException as error:  # a thread's own end is not the test's
             wrong.append(error)
@@ -161,6 +192,7 @@ def main():
         sys.exit("module.py: the module does not find the library that was installed with it")
     runs()
     sheets()
+    paths()
     tickets()
     same_words()
     at_once()
