@@ -231,6 +231,7 @@ shared_installed() {
         step "the module for Python, where it was installed" python3 "$here/tests/python/module.py" "$prefix/lib/libviolstream.so" "$prefix/lib/python3/dist-packages"
         step "the calls for tickets against a model" python3 "$here/tests/python/desk_calls.py" "$prefix/lib/libviolstream.so" --calls 30000
         step "the calls for sheets against models" python3 "$here/tests/python/answer_calls.py" "$prefix/lib/libviolstream.so"
+        step "the call for files by path against readers" python3 "$here/tests/python/pick_calls.py" "$prefix/lib/libviolstream.so"
     fi
 }
 
