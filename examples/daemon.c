@@ -3,8 +3,10 @@
  * started again: no ticket is lost, no number is given twice, and every request has one answer.
  *
  *   daemon STATE TAPE.run REQUESTS ANSWERS [--end-at STEP]
+ *   daemon STATE LIST REQUESTS ANSWERS --pick NAME LABEL INDEX [--end-at STEP]
  *
- * A line of REQUESTS is one of
+ * The tape's files are those of a run sheet, or those that a list asks for by path: NAME is then the tape's, LABEL and INDEX are files with its LTFS label and an index, and
+ * file N is entry N of what violstream_pick makes of them. A line of REQUESTS is one of
  *
  *   file=OFFICE,FILE,COUNT    filed=OFFICE,NUMBER
  *   withdraw=OFFICE,NUMBER    withdrawn=OFFICE,NUMBER
@@ -48,6 +50,7 @@ static const char KIND[8] = "viols-1";
 
 static struct {
     const char *state, *tape, *requests, *answers;
+    const char *name, *label, *index;       /* with --pick */
     long end_at, steps;
 } daemon_;
 static struct state kept;
@@ -315,14 +318,44 @@ static int serve_one(void)
 
 /* ---- The tape, and where the day goes on ---- */
 
-/* The tape's files, from a run sheet; its wants are the tickets'.
- *
- * PICK: a daemon that is handed paths lends label, index and list of paths to violstream_pick here, once the library has that call, and reads the sheet that it
- * writes in the same way. */
+/* A whole file, which may be long. */
+static char *whole(const char *path, size_t *bytes)
+{
+    struct stat about;
+    if (stat(path, &about) != 0)
+        fail("cannot find", path);
+    char *text = malloc((size_t)about.st_size + 1);
+    if (text == NULL)
+        fail("no memory for", path);
+    *bytes = read_at(path, 0, text, (size_t)about.st_size);
+    return text;
+}
+
+/* The run sheet of the files that the list asks for by path; how many bytes it has. The names beside it say which path is which file: an office that asks by path is
+ * given the number from there. */
+static size_t pick_files(char sheet[SHEET_MOST])
+{
+    struct violstream_paths paths = {.tape = daemon_.name, .tape_len = strlen(daemon_.name), .unit = VIOLSTREAM_BYTES};
+    char *label = whole(daemon_.label, &paths.label_len), *index = whole(daemon_.index, &paths.index_len), *list = whole(daemon_.tape, &paths.list_len);
+    struct violstream_text text = {.bytes = (uint8_t *)sheet, .room = SHEET_MOST}, names = {.room = VIOLSTREAM_NAMES_MOST(paths.list_len)};
+    paths.label = label, paths.index = index, paths.list = list;
+    names.bytes = malloc(names.room);
+    if (names.bytes == NULL)
+        fail("no memory for the names of", daemon_.tape);
+    uint64_t result = violstream_pick_rows(&paths, &text, &names);
+    if (result != 0) {
+        fprintf(stderr, "daemon: %s: refused=%d,%" PRIu64 " %s\n", daemon_.tape, (int)violstream_number(result), violstream_place(result), violstream_reason(result));
+        exit(1);
+    }
+    free(label), free(index), free(list), free(names.bytes);
+    return (size_t)text.size;
+}
+
+/* The tape's files, from a run sheet; its wants are the tickets'. */
 static void mount_tape(void)
 {
     static char sheet[SHEET_MOST + 1];
-    size_t have = read_at(daemon_.tape, 0, sheet, SHEET_MOST);
+    size_t have = daemon_.name != NULL ? pick_files(sheet) : read_at(daemon_.tape, 0, sheet, SHEET_MOST);
     sheet[have] = '\0';
     for (char *line = strtok(sheet, "\n"); line != NULL; line = strtok(NULL, "\n")) {
         uint64_t n[3];
@@ -359,10 +392,15 @@ static void go_on(void)
 
 int main(int words, char **word)
 {
-    if (words == 7 && strcmp(word[5], "--end-at") == 0)
-        daemon_.end_at = atol(word[6]);
-    else if (words != 5) {
-        fprintf(stderr, "usage: daemon STATE TAPE.run REQUESTS ANSWERS [--end-at STEP]\n");
+    int at = 5;
+    if (words >= at + 4 && strcmp(word[at], "--pick") == 0) {
+        daemon_.name = word[at + 1], daemon_.label = word[at + 2], daemon_.index = word[at + 3];
+        at += 4;
+    }
+    if (words == at + 2 && strcmp(word[at], "--end-at") == 0)
+        daemon_.end_at = atol(word[at + 1]);
+    else if (words != at) {
+        fprintf(stderr, "usage: daemon STATE TAPE.run REQUESTS ANSWERS [--end-at STEP]\n       daemon STATE LIST REQUESTS ANSWERS --pick NAME LABEL INDEX [--end-at STEP]\n");
         return 2;
     }
     if (violstream_version() / 10000 != VIOLSTREAM_VERSION_NUMBER / 10000)

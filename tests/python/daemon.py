@@ -6,7 +6,8 @@ usage: tests/python/daemon.py WORD..    (the compiled daemon; before it, on anot
 Without an end its answers must be examples/daemon.answers. Then it is ended at its first step, at its second and so on until it goes through; and each time it is started
 again, ended once more at a step drawn, and started again. The answers and the state must then be, byte for byte, those of a daemon that was never ended: so no
 ticket is lost and no number given twice. Requests that come while it is down are answered when it is started again, half a line not before its end. A line that is no request
-is unreadable, however long. A state that is none is not taken.
+is unreadable, however long. A state that is none is not taken. With --pick, a label, an index and a list of paths it answers as with the sheet that the readers of pick.py make
+of them, ended and started again too; a list that is refused it does not take.
 """
 import os
 import random
@@ -14,6 +15,9 @@ import re
 import subprocess
 import sys
 import tempfile
+
+import pick_cases
+from pick_readers import answer, by_tree
 
 ROOT = os.path.join(os.path.dirname(os.path.abspath(__file__)), "../..")
 ENDED = 70
@@ -34,13 +38,14 @@ class Daemon:
 
     def __init__(self, start, folder):
         self.start, self.folder = start, folder
+        self.tape, self.pick = os.path.join(ROOT, "examples/day.run"), []
         self.requests = os.path.join(folder, "requests")
 
     def path(self, name):
         return os.path.join(self.folder, name)
 
     def run(self, end_at=None):
-        words = [self.path("state"), os.path.join(ROOT, "examples/day.run"), self.requests, self.path("answers")]
+        words = [self.path("state"), self.tape, self.requests, self.path("answers")] + self.pick
         ran = subprocess.run(self.start + words + (["--end-at", str(end_at)] if end_at else []), capture_output=True)
         if ran.returncode not in (0, ENDED) or ran.stdout or ran.stderr:
             sys.exit(f"daemon.py: ended at {end_at}, the daemon says {ran.stderr!r} with status {ran.returncode}")
@@ -48,6 +53,29 @@ class Daemon:
 
     def left(self):
         return contents(self.path("answers")), contents(self.path("state"))
+
+
+def by_paths(fresh, requests, draw):
+    """The tape's files by path, and by the sheet that a reader outside makes of the same texts."""
+    places = ((0, 10), (10, 4), (14, 2), (20, 5), (30, 10), (45, 5), (60, 7))
+    files = [pick_cases.one_file([b"reel", b"%d" % i], pick_cases.an_extent(start, 0, count)) for i, (start, count) in enumerate(places)]
+    label, index, asked = pick_cases.a_label(), pick_cases.an_index(*files), b"".join(b"reel/%d\n" % i for i in (5, 0, 3, 1, 4, 2, 0))
+    code, _, sheet, _ = answer(b"VX0041", by_tree, label, index, asked)
+    by_sheet, by_list = fresh("by-sheet", requests), fresh("by-list", requests)
+    by_sheet.tape, by_list.tape = by_sheet.path("tape.run"), by_list.path("list")
+    by_list.pick = ["--pick", "VX0041", by_list.path("label"), by_list.path("index")]
+    for path, text in ((by_sheet.tape, sheet), (by_list.tape, asked), (by_list.path("label"), label), (by_list.path("index"), index)):
+        put(path, text)
+    by_sheet.run()
+    while by_list.run(draw.randrange(1, 60)) == ENDED:
+        pass
+    if code != 0 or sheet.count(b"file=") != 6 or b"closed=" not in by_list.left()[0] or by_list.left() != by_sheet.left():
+        sys.exit(f"daemon.py: by paths the answers or the state are others than by their sheet:\n{by_list.left()[0].decode()}")
+    before = by_list.left()
+    put(by_list.tape, asked + b"reel/9\n")
+    ran = subprocess.run(by_list.start + [by_list.path("state"), by_list.tape, by_list.requests, by_list.path("answers")] + by_list.pick, capture_output=True)
+    if ran.returncode != 1 or not ran.stderr.endswith(b": refused=41,8 path of no file of the index, or of several\n") or by_list.left() != before:
+        sys.exit(f"daemon.py: a list with a path of no file: {ran.stderr!r}, status {ran.returncode}")
 
 
 def main():
@@ -92,6 +120,7 @@ def main():
             one.run()
             if one.left()[0] != b"unreadable\nfiled=1,1\n":
                 sys.exit(f"daemon.py: {odd[:40]!r}, a filing and half a line are answered by {one.left()[0]!r}")
+        by_paths(fresh, requests, draw)
         damaged = bytearray(must[1])
         damaged[8] ^= 3
         for text in (b"", b"x" * len(must[1]), must[1][:-1], bytes(damaged)):
