@@ -1,4 +1,4 @@
-/* The calls for tickets and for sheets from several threads at once, each with rows of its own: every thread goes through the same days and the same sheets, over and over,
+/* The calls for tickets, for sheets and for files by path from several threads at once, each with rows of its own: every thread goes through the same days, sheets and tapes, over and over,
  * and every result, table and text must be what one thread alone got before.
  *
  * make -C tests/c threads_calls    (Makefile beside this file says against what)
@@ -16,13 +16,15 @@ enum { THREADS = 4, ROUNDS = 300, DAYS = 8, EVENTS = 12, FILES = 6, ROOM = VIOLS
 static const uint64_t starts[FILES] = {0, 10, 14, 20, 30, 45}, lengths[FILES] = {10, 4, 2, 5, 10, 5}, aggregates[FILES] = {0, 7, 7, 0, 0, 0};
 static char lines[DAYS][EVENTS][40];
 static char mail[DAYS][400];
+static const char label[] = "<ltfslabel><partitions><index>a</index><data>b</data></partitions><blocksize>10</blocksize></ltfslabel>";
+static char indexes[DAYS][2000], lists[DAYS][200];
 
 /* What a day leaves, in words and bytes without a gap. */
 struct left {
-    uint64_t codes[EVENTS], sizes[EVENTS], lasts[2], waiting_code, waiting_size, sheet_codes[3], sheet_sizes[4];
+    uint64_t codes[EVENTS], sizes[EVENTS], lasts[2], waiting_code, waiting_size, sheet_codes[3], sheet_sizes[4], pick_code, pick_sizes[2];
     struct violstream_ticket tickets[VIOLSTREAM_PLACES];
     uint8_t texts[EVENTS][VIOLSTREAM_TEXT_MOST + 3], waiting[VIOLSTREAM_TEXT_MOST + 3];
-    uint8_t mended[1024], changes[1024], plan[VIOLSTREAM_PLAN_MOST + 4], verdict[1024];
+    uint8_t mended[1024], changes[1024], plan[VIOLSTREAM_PLAN_MOST + 4], verdict[1024], picked[1024], names[1024];
 };
 
 static struct worker {
@@ -59,6 +61,20 @@ static void draw(unsigned day)
              upto(60), upto(5), upto(3), upto(3));
 }
 
+/* A tape of six files in a folder, and a list of nine lines. */
+static void draw_tape(unsigned day)
+{
+    int have = snprintf(indexes[day], sizeof indexes[day], "<ltfsindex><directory><contents><directory><name>d%u</name><contents>", day);
+    for (int i = 1; i <= FILES; i++)
+        have += snprintf(indexes[day] + have, sizeof indexes[day] - (size_t)have,
+                         "<file><name>%d</name><extentinfo><extent><partition>b</partition><startblock>%" PRIu64 "</startblock><byteoffset>0</byteoffset><bytecount>%" PRIu64
+                         "</bytecount></extent></extentinfo></file>", i, upto(20), upto(40));
+    snprintf(indexes[day] + have, sizeof indexes[day] - (size_t)have, "</contents></directory></contents></directory></ltfsindex>");
+    have = 0;
+    for (int i = 0; i < 9; i++)
+        have += snprintf(lists[day] + have, sizeof lists[day] - (size_t)have, "d%u/%" PRIu64 "\n", day, upto(FILES));
+}
+
 static void go_through(unsigned day, struct worker *worker)
 {
     struct left *left = &worker->left;
@@ -70,6 +86,8 @@ static void go_through(unsigned day, struct worker *worker)
     left->sheet_codes[0] = violstream_mend((const uint8_t *)mail[day], strlen(mail[day]), left->mended, sizeof left->mended, left->changes, sizeof left->changes, left->sheet_sizes, 2);
     left->sheet_codes[1] = violstream_answer(left->mended, left->sheet_sizes[0], left->plan, sizeof left->plan, worker->room, ROOM, &left->sheet_sizes[2], 1);
     left->sheet_codes[2] = violstream_check(left->mended, left->sheet_sizes[0], left->plan, left->sheet_sizes[2], left->verdict, sizeof left->verdict, worker->room, ROOM, &left->sheet_sizes[3], 1);
+    left->pick_code = violstream_pick((const uint8_t *)"T", 1, (const uint8_t *)label, sizeof label - 1, (const uint8_t *)indexes[day], strlen(indexes[day]), (const uint8_t *)lists[day],
+                                      strlen(lists[day]), day % 2, NULL, 0, NULL, 0, left->picked, sizeof left->picked, left->names, sizeof left->names, left->pick_sizes, 2);
 }
 
 static void *work(void *given)
@@ -93,12 +111,13 @@ int main(void)
         return 1;
     for (unsigned day = 0; day < DAYS; day++) {
         draw(day);
+        draw_tape(day);
         go_through(day, &workers[0]);
         for (int i = 0; i < THREADS; i++)
             workers[i].alone[day] = workers[0].left;
         for (int i = 0; i < EVENTS; i++)
             accepted += workers[0].left.codes[i] == 0;
-        if (workers[0].left.sheet_codes[0] + workers[0].left.sheet_codes[1] + workers[0].left.sheet_codes[2] + workers[0].left.waiting_code != 0)
+        if (workers[0].left.sheet_codes[0] + workers[0].left.sheet_codes[1] + workers[0].left.sheet_codes[2] + workers[0].left.waiting_code + workers[0].left.pick_code != 0)
             differences++;
     }
     for (int i = 0; i < THREADS; i++)
