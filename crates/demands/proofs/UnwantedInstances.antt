@@ -22,7 +22,7 @@ use Rattle.planner.specs.Rows.{Rows, rowsOf}
 use Rattle.demands.specs.RefusalTable.{IsFile, Together, WantedWith, NothingApplies}
 use Rattle.demands.specs.Demand2.{IsFormed}
 use Rattle.demands.specs.AnyHead.{NothingAppliesAny, IsFormedAny}
-use Rattle.demands.specs.Unwanted.{SameFile, LeavesOut, TableInOrder, SameLists, SamePlans}
+use Rattle.demands.specs.Unwanted.{FileKept, LeavesOut, TableInOrder, SameLists, SamePlans}
 use Rattle.demands.proofs.Judged.{judged-table, judged-nothing}
 use Rattle.demands.proofs.AnyJudged.{takes-what-01-takes}
 use Rattle.demands.proofs.Unwanted.{unwanted-judged, unwanted-judged-any, unwanted-lists, unwanted-lists-any, unwanted-plans, unwanted-plans-any}
@@ -49,7 +49,7 @@ one-step (suc (suc zero)) = omega arith
 one-step (suc (suc (suc zero))) = omega arith
 one-step (suc (suc (suc (suc n)))) = omega arith
 
-same-files : (f : ℕ) → IsFile picked f → SameFile whole picked (had f) f
+same-files : (f : ℕ) → IsFile picked f → FileKept whole picked (had f) f
 same-files zero a = absurd (omega (arith, a .least))
 same-files (suc zero) a = record { file = record { least = omega arith; most = omega arith }; start = refl; span = refl; aggregate = refl }
 same-files (suc (suc zero)) a = record { file = record { least = omega arith; most = omega arith }; start = refl; span = refl; aggregate = refl }

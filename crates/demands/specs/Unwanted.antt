@@ -34,7 +34,7 @@ RenumbersGoOn =
     → (all : ℕ → ℕ) × Renumbers all × ((f : ℕ) → 0 < f → f ≤ files → all f ≡ old f)
 
 -- A number of the one table is a file there, with the start, the length and the aggregate number of a file of the other.
-pub record SameFile (more less : Run) (there here : ℕ) : Type 0 where
+pub record FileKept (more less : Run) (there here : ℕ) : Type 0 where
   pub file : IsFile more there
   pub start : getD (more .starts) (there - 1) 0 ≡ getD (less .starts) (here - 1) 0
   pub span : getD (more .lengths) (there - 1) 0 ≡ getD (less .lengths) (here - 1) 0
@@ -46,7 +46,7 @@ pub record LeavesOut (old : ℕ → ℕ) (more less : Run) : Type 0 where
   pub names : Renumbers old
   pub rows : length (less .starts) ≡ length (less .lengths)
   pub numbered : length (less .starts) ≡ length (less .aggregates)
-  pub same : (f : ℕ) → IsFile less f → SameFile more less (old f) f
+  pub same : (f : ℕ) → IsFile less f → FileKept more less (old f) f
   pub kept : (g : ℕ) → IsFile more g → WantedWith more g → (f : ℕ) × IsFile less f × (old f ≡ g)
   pub numbers : more .numbers ≡ map old (less .numbers)
   pub counts : more .counts ≡ less .counts
