@@ -32,7 +32,6 @@ use Rattle.planner.specs.Plan.{roomFor}
 use Rattle.text_bytes.specs.Text.{bytes, lineFeed, has, behind, isText, startsWith, isName, valueOf, decimal}
 use Rattle.text_bytes.proofs.Bytes.{and-true-both}
 use Rattle.text_bytes.proofs.Decimals.{decimal-without, decimal-value}
-use Rattle.text_bytes.proofs.Split.{whole-key}
 use Rattle.text_lines.specs.Lines.{lineOf, afterLines, lineAfter, firstIn, secondIn}
 use Rattle.text_pages.specs.Printing.{line, numberLine}
 use Rattle.sheet_reader.specs.Sheet.{sheetRun, sheetName}
@@ -53,20 +52,9 @@ use Rattle.answer_check.specs.RunRules.{headAnywhere}
 use Rattle.answer_check.specs.Pricing.{priceChecks, pricingVerdict, priceText, SheetPriced}
 use Rattle.answer_check.specs.Checking.{formedYes, formedNo, walkYes, walkNo, leastYes, leastNo, firstDifference, walkLine, differenceLines, sameList, leastLine, verdictLines, checkText, verdictOn, SheetChecked}
 use Rattle.answer_check.proofs.Same.{priced-as-01, checked-as-01}
+use Rattle.demands.proofs.Letters.{text-same, same-text}
 use Rattle.promises.proofs.Differs.{first-differs}
 use Rattle.promises.specs.Checks.{Larger, FirstDiffers, FormedFor, CheckSaid, CheckTells, CheckPrinted, ChecksAsAll, PriceTells, PriceStays, CheckStays}
-
--- Two texts are the same exactly where the test says so.
-pub text-same : (a b : List ℕ) → isText a b ≡ true → b ≡ a
-text-same a b e = let both = and-true-both (eqb (length a) (length b)) (startsWith a b) e in whole-key a b (eqb-true (length a) (length b) (both .0)) (both .1)
-
-starts-itself : (a : List ℕ) → startsWith a a ≡ true
-unfolding startsWith
-starts-itself [] = refl
-starts-itself (x ∷ a) = rw (eq-eqb x x refl, starts-itself a)
-
-pub same-text : (a b : List ℕ) → b ≡ a → isText a b ≡ true
-same-text a b e = rw (e, eq-eqb (length a) (length a) refl, starts-itself a)
 
 -- Two rows of one length and the list that they hold.
 pub starts-of : (froms tos : List ℕ) → length froms ≡ length tos → map (λ d. d .from) (listOf froms tos) ≡ froms

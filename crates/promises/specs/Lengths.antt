@@ -8,7 +8,7 @@ use lib.ListN.{length, take, drop, getD}
 use Rattle.refusals.specs.declared.Refusal.the-variants.{Accepted, ShortRow}
 use Rattle.refusals.specs.declared.Verdict.{Verdict}
 use Rattle.text_bytes.specs.Text.{bytes}
-use Rattle.text_pages.specs.Printing.{pairLine, Put}
+use Rattle.text_pages.specs.Printing.{Put}
 use Rattle.sheet_writer.specs.declared.Written.{Written}
 use Rattle.sheet_writer.specs.RefusalLines.{RefusalWritten}
 use Rattle.answer_rewrite.specs.Rewriting.{rewritten, SheetRewritten}
@@ -136,7 +136,7 @@ waitingRow = 50
 abbrev pub WaitingIsWhole : Type 0
 WaitingIsWhole =
     (ones twos : ℕ) (row : List ℕ) (n : ℕ) (row′ : List ℕ)
-    → Put row 0 (pairLine (bytes "waiting=") ones twos) 50 row′ n
+    → Put row 0 (bytes "waiting=" ++ pair ones twos ++ bytes "\n") 50 row′ n
     → waitingRow ≤ length row
     → take n row′ ≡ bytes "waiting=" ++ pair ones twos ++ bytes "\n"
 
