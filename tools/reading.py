@@ -192,10 +192,14 @@ def whole(text):
     return {"crates/%s.antt" % re.findall(r"`([^`]+)`", part)[0] for cell in cells(text, 0) for part in re.split(r";\s*", cell) if part.count("`") == 2}
 
 
+def in_audit():
+    """What AUDIT's tables have: formulas and words that a statement says by conditions; behind them what must be read."""
+    return section(open(AUDIT, encoding="utf-8").read(), "### What you need not read", "### What the demands say").split("**You must read**")
+
+
 def all_words():
     """Every definition that is met, with what cites it; those that are pinned, and those that must be read; the files of which all is listed."""
-    specs, page = Specs(), section(open(AUDIT, encoding="utf-8").read(), "### What you need not read", "### What the demands say")
-    formulas, must = page.split("**You must read**")
+    specs, (formulas, must) = Specs(), in_audit()
     pinned, read = listed(specs, formulas), listed(specs, must)
     todo = [(found, "a contract") for cell in cells(formulas, 1) for crate, name in FUNCTION.findall(cell) for found in specs.in_contract(crate, name)]
     todo += [((path, name), path) for pattern in STATEMENTS for path in sorted(glob.glob(pattern)) for name in specs.file(path)[0]]
@@ -208,14 +212,25 @@ def all_words():
     return specs, {found: by for found, by in met.items() if found not in statements}, pinned, read, whole(must)
 
 
+def lines_of(specs, words):
+    return sum(len(specs.file(path)[0][name]) for path, name in words)
+
+
+def rows_to_read():
+    """For each row of what must be read: its first cell, the lines that it says, and those that there are."""
+    specs, met, pinned, _, _ = all_words()
+    rows = [line for line in in_audit()[1].split("\n") if line.startswith("| `")]
+    return [(cells(row, 0)[0], cells(row, 1)[0], lines_of(specs, (listed(specs, row) & set(met)) - pinned)) for row in rows]
+
+
 def print_all():
     specs, met, pinned, read, _ = all_words()
     for path, name in sorted(met):
         state = "pinned" if (path, name) in pinned else "must be read" if (path, name) in read else "neither"
         print("%-36s %-20s %s" % (path[len("crates/"):].replace(".antt", ""), name, state))
-    lines = sum(len(specs.file(path)[0][name]) for path, name in read & set(met))
+    to_read = (read & set(met)) - pinned
     print("%d words: %d pinned, %d must be read (%d lines), %d neither" % (
-        len(met), len(pinned & set(met)), len((read - pinned) & set(met)), lines, len(set(met) - pinned - read)))
+        len(met), len(pinned & set(met)), len(to_read), lines_of(specs, to_read), len(set(met) - pinned - read)))
 
 
 def main():

@@ -30,6 +30,7 @@ use Rattle.answer_pick.specs.Picks.{areReadable, tapeOf, askedFiles, ask
 use Rattle.answer_pick.specs.Answer.{askedStarts, entriesRefused, rowsRefused, answerOf, PickAnswered}
 use Rattle.answer_pick.specs.Promises.{OnlyFile}
 use Rattle.answer_pick.specs.Applies.{FirstLineThat, HasNoFile, CannotBeRead, EndsTooFar, PickApplies, pickOrder, FirstToApply, none, here, later, bad-name, bad-text, other-volume, bad-line, many-lines, unknown-path, no-bytes, far-file, many-entries, short-row, RefusesTheFirst}
+use Rattle.answer_pick.proofs.Readable.{readable-good, good-readable}
 use Rattle.answer_pick.proofs.Promised.{one-named, only-one}
 
 -- A check of one number: where it accepts its condition fails, where it refuses the condition holds at its place.
@@ -211,10 +212,11 @@ module _ (unit : ℕ) (name label index list firsts sheet named out names : List
       back p (bad-name n) = flip (isName name) n
 
   text-check : Check Applies 20 textCheck
-  text-check = if-check Applies 20 (omega arith) (not (areReadable unit label index)) (λ e. bad-text (λ t. false≢true (sym (not-true (areReadable unit label index) e) ∙ t))) (λ p a. back p a)
+  text-check =
+      if-check Applies 20 (omega arith) (not (areReadable unit label index)) (λ e. bad-text (λ t. false≢true (sym (not-true (areReadable unit label index) e) ∙ good-readable unit label index t))) (λ p a. back p a)
     where
       back : (p : ℕ) → Applies 20 p → not (areReadable unit label index) ≡ true
-      back p (bad-text n) = flip (areReadable unit label index) n
+      back p (bad-text n) = flip (areReadable unit label index) (λ e. n (readable-good unit label index e))
 
   volume-check : Check Applies 44 volumeCheck
   volume-check = if-check Applies 44 (omega arith) (otherVolume (treeOf label) (treeOf index)) other-volume (λ p a. back p a)
