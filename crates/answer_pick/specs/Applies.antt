@@ -4,7 +4,7 @@ use mathlib.Core.Path.{_≡_}
 use mathlib.Core.Bool.{true}
 use mathlib.Core.Logic.{_⊎_}
 use mathlib.Core.List.{List, [], _∷_}
-use lib.ListN.{length}
+use lib.ListN.{length, getD}
 use Rattle.runs.specs.Run.{lastPlace}
 use Rattle.text_bytes.specs.Text.{isName}
 use Rattle.text_lines.specs.Lines.{lineAfter}
@@ -15,12 +15,12 @@ use Rattle.tape_markup.specs.Promises.{spelled, depth}
 use Rattle.tape_files.specs.Index.{isGoodLabel, isGoodIndex, blockSizeOf}
 use Rattle.tape_files.specs.Volumes.{otherVolume}
 use Rattle.tape_files.specs.NamedFiles.{NamedFile, namedFiles}
-use Rattle.sheet_picks.specs.Entries.{mostEntries}
+use Rattle.sheet_picks.specs.Entries.{mostEntries, EntriesOf}
 use Rattle.sheet_picks.specs.Sheets.{pickedSheet}
 use Rattle.sheet_picks.specs.Names.{namesText}
 use Rattle.answer_pick.specs.declared.Picked.{Picked}
 use Rattle.answer_pick.specs.Picks.{tapeOf, askedSpan}
-use Rattle.answer_pick.specs.Answer.{askedStarts, PickAnswered}
+use Rattle.answer_pick.specs.Answer.{askedStarts, askedEnds, PickAnswered}
 use Rattle.answer_pick.specs.Promises.{OnlyFile}
 
 -- The first line that is so, counted from 1.
@@ -81,3 +81,10 @@ abbrev pub RefusesTheFirst : Type 0
 RefusesTheFirst = (unit : ℕ) (name label index list head turn out names : List ℕ) (r : Picked) (out′ names′ : List ℕ)
     → (p : PickAnswered unit name label index list head turn out names r out′ names′)
     → FirstToApply (AppliesTo unit name label index list head turn out names (p .firsts) (p .lasts)) pickOrder (r .number) (r .place)
+
+-- Where none of the refusals before 3 applies, the entries that 3 counts are those of the files that are asked for.
+abbrev pub EntriesArePicked : Type 0
+EntriesArePicked = (unit : ℕ) (name label index list head turn out names : List ℕ) (r : Picked) (out′ names′ : List ℕ)
+    → (p : PickAnswered unit name label index list head turn out names r out′ names′)
+    → ((i place : ℕ) → i < 8 → AppliesTo unit name label index list head turn out names (p .firsts) (p .lasts) (getD pickOrder i 0) place → ⊥)
+    → EntriesOf (askedStarts unit label index list) (askedEnds unit label index list) (p .firsts) (p .lasts)
