@@ -216,6 +216,22 @@ def lines_of(specs, words):
     return sum(len(specs.file(path)[0][name]) for path, name in words)
 
 
+def said_elsewhere():
+    """The words that AUDIT says some statements determine, and that none of these statements cites."""
+    specs, found = Specs(), []
+    for row in (line for line in in_audit()[0].split("\n") if line.startswith("| `")):
+        todo, seen, path = [], set(), None
+        for name in re.findall(r"`([^`]+)`", cells(row, -1)[0]):
+            path = "crates/%s.antt" % name if "/specs/" in name else path
+            todo += [] if "/specs/" in name else [(path, name)]
+        while todo:
+            word = todo.pop()
+            todo += [] if word in seen else list(specs.cited(*word))
+            seen.add(word)
+        found += [(word, cells(row, -1)[0]) for word in sorted(listed(specs, row) - seen)]
+    return found
+
+
 def rows_to_read():
     """For each row of what must be read: its first cell, the lines that it says, and those that there are."""
     specs, met, pinned, _, _ = all_words()

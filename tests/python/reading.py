@@ -6,7 +6,8 @@ usage: tests/python/reading.py
 Fails where tools/reading.py counts 500 lines or more for demands 1 to 3; where that reading passes through a file Private, which holds what no
 statement cites; where a file of demands/specs or promises/specs holds a proof and not statements alone; where two public files of specs/, of
 any crates, define one name; where a word that some statement rests on is neither in AUDIT's tables of what a statement says by conditions nor in
-its list of what must be read; where a word stands there that no statement rests on, or that stands in both; and where the list misstates its lines.
+its list of what must be read; where a word stands there that no statement rests on, that stands in both, or that the statements beside it do not
+cite; and where the list misstates its lines.
 
 So that a reader that sees nothing does not pass, each of these is then planted in a copy, and must be found.
 """
@@ -73,11 +74,15 @@ def words_uncited():
     return found + [f"{reading.AUDIT} lists {name} in {path} as said and as to be read" for path, name in sorted(pinned & read) if path not in whole]
 
 
+def said_by_another():
+    return [f"{reading.AUDIT}: {name} in {path} is cited by none of: {by}" for (path, name), by in reading.said_elsewhere()]
+
+
 def lines_misstated():
     return [f"{reading.AUDIT} says {said} lines, and there are {lines}: {cell[:60]}" for cell, said, lines in reading.rows_to_read() if said != str(lines)]
 
 
-CHECKS = (too_long, through_private, proofs_among_statements, names_twice, words_unlisted, words_uncited, lines_misstated)
+CHECKS = (too_long, through_private, proofs_among_statements, names_twice, words_unlisted, words_uncited, said_by_another, lines_misstated)
 
 # What is planted: the check that must find it, the file, and pairs of a text that stands there once and what is put in its place.
 DEMAND, OTHER, FIRST = "crates/demands/specs/Demand3.antt", "crates/demands/specs/Alone.antt", "abbrev pub AloneAsBefore : Type 0\n"
@@ -95,6 +100,7 @@ PLANTED = (
     (words_uncited, reading.AUDIT, [("`text_bytes/specs/Text`: `lineFeed`, `comma`", "`text_bytes/specs/Text`: `lineFeed`, `comma`, `decimalIn`")]),
     (words_uncited, reading.AUDIT, [("| `walk/specs/Walk`; ", "| `walk/specs/Walk`; `least/specs/Slopes`; ")]),
     (words_uncited, reading.AUDIT, [("| `runs/specs/Lists`: `Detour`, ", "| `text_bytes/specs/Text`: `comma`; `runs/specs/Lists`: `Detour`, ")]),
+    (said_by_another, reading.AUDIT, [("| `demands/specs/Letters`: `KeysAreSpelled` |", "| `demands/specs/Letters`: `Digits` |")]),
     (lines_misstated, reading.AUDIT, [("`boardingOf` | 9 |", "`boardingOf` | 8 |")]),
 )
 
