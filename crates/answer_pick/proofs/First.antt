@@ -29,8 +29,9 @@ use Rattle.answer_pick.specs.declared.Picked.{Picked}
 use Rattle.answer_pick.specs.Picks.{areReadable, tapeOf, askedFiles, askedSpan, isUnknown, isWithout, isTooFar, refusedIf, refusedAt, firstRefused, firstLine, listRefused, inputChecks, lineChecks, pickRefused}
 use Rattle.answer_pick.specs.Answer.{askedStarts, entriesRefused, rowsRefused, answerOf, PickAnswered}
 use Rattle.answer_pick.specs.Promises.{OnlyFile}
-use Rattle.answer_pick.specs.Applies.{FirstLineThat, HasNoFile, CannotBeRead, EndsTooFar, PickApplies, pickOrder, FirstToApply, none, here, later, bad-name, bad-text, other-volume, bad-line, many-lines, unknown-path, no-bytes, far-file, many-entries, short-row, RefusesTheFirst}
-use Rattle.answer_pick.proofs.Promised.{one-named, only-one}
+use Rattle.answer_pick.specs.Applies.{FirstLineThat, HasNoFile, CannotBeRead, EndsTooFar, PickApplies, pickOrder, FirstToApply, none, here, later, bad-name, bad-text, other-volume, bad-line, many-lines, unknown-path, no-bytes, far-file, many-entries, short-row, RefusesTheFirst, EntriesArePicked}
+use Rattle.answer_pick.proofs.Readable.{readable-good, good-readable}
+use Rattle.answer_pick.proofs.Promised.{first-parts, one-named, only-one}
 
 -- A check of one number: where it accepts its condition fails, where it refuses the condition holds at its place.
 record Check (applies : ℕ → ℕ → Type 0) (number : ℕ) (v : Refused) : Type 0 where
@@ -172,9 +173,6 @@ module _ (unit : ℕ) (name label index list firsts sheet named out names : List
   abbrev linesChecks : List Refused
   linesChecks = unknownCheck ∷ withoutCheck ∷ farCheck ∷ []
 
-  abbrev lastChecks : List Refused
-  lastChecks = entriesRefused firsts ∷ rowsRefused sheet named out names ∷ []
-
   input-flat : inputChecks unit name label index list ≡ firstRefused (nameCheck ∷ textCheck ∷ volumeCheck ∷ listChecks)
   unfolding inputChecks
   input-flat =
@@ -182,17 +180,18 @@ module _ (unit : ℕ) (name label index list firsts sheet named out names : List
       ∙ skip nameCheck (textCheck ∷ volumeCheck ∷ firstRefused listChecks ∷ []) (textCheck ∷ volumeCheck ∷ listChecks)
       (skip textCheck (volumeCheck ∷ firstRefused listChecks ∷ []) (volumeCheck ∷ listChecks) (skip volumeCheck (firstRefused listChecks ∷ []) listChecks (flat listChecks [])))
 
-  all-flat : firstRefused (pickRefused unit name label index list ∷ lastChecks) ≡ firstRefused inARow
+  all-flat : (last : List Refused)
+      → firstRefused (pickRefused unit name label index list ∷ last) ≡ firstRefused (nameCheck ∷ textCheck ∷ volumeCheck ∷ badCheck ∷ manyCheck ∷ linesChecks ++ last)
   unfolding pickRefused lineChecks
-  all-flat =
-      flat (inputChecks unit name label index list ∷ firstRefused linesChecks ∷ []) lastChecks
-      ∙ ap (λ v. firstRefused (v ∷ firstRefused linesChecks ∷ lastChecks)) input-flat
-      ∙ flat (nameCheck ∷ textCheck ∷ volumeCheck ∷ listChecks) (firstRefused linesChecks ∷ lastChecks)
-      ∙ skip nameCheck (textCheck ∷ volumeCheck ∷ badCheck ∷ manyCheck ∷ firstRefused linesChecks ∷ lastChecks) (textCheck ∷ volumeCheck ∷ badCheck ∷ manyCheck ∷ linesChecks ++ lastChecks)
-      (skip textCheck (volumeCheck ∷ badCheck ∷ manyCheck ∷ firstRefused linesChecks ∷ lastChecks) (volumeCheck ∷ badCheck ∷ manyCheck ∷ linesChecks ++ lastChecks)
-      (skip volumeCheck (badCheck ∷ manyCheck ∷ firstRefused linesChecks ∷ lastChecks) (badCheck ∷ manyCheck ∷ linesChecks ++ lastChecks)
-      (skip badCheck (manyCheck ∷ firstRefused linesChecks ∷ lastChecks) (manyCheck ∷ linesChecks ++ lastChecks)
-      (skip manyCheck (firstRefused linesChecks ∷ lastChecks) (linesChecks ++ lastChecks) (flat linesChecks lastChecks)))))
+  all-flat last =
+      flat (inputChecks unit name label index list ∷ firstRefused linesChecks ∷ []) last
+      ∙ ap (λ v. firstRefused (v ∷ firstRefused linesChecks ∷ last)) input-flat
+      ∙ flat (nameCheck ∷ textCheck ∷ volumeCheck ∷ listChecks) (firstRefused linesChecks ∷ last)
+      ∙ skip nameCheck (textCheck ∷ volumeCheck ∷ badCheck ∷ manyCheck ∷ firstRefused linesChecks ∷ last) (textCheck ∷ volumeCheck ∷ badCheck ∷ manyCheck ∷ linesChecks ++ last)
+      (skip textCheck (volumeCheck ∷ badCheck ∷ manyCheck ∷ firstRefused linesChecks ∷ last) (volumeCheck ∷ badCheck ∷ manyCheck ∷ linesChecks ++ last)
+      (skip volumeCheck (badCheck ∷ manyCheck ∷ firstRefused linesChecks ∷ last) (badCheck ∷ manyCheck ∷ linesChecks ++ last)
+      (skip badCheck (manyCheck ∷ firstRefused linesChecks ∷ last) (manyCheck ∷ linesChecks ++ last)
+      (skip manyCheck (firstRefused linesChecks ∷ last) (linesChecks ++ last) (flat linesChecks last)))))
 
   -- A line without its one file.
   no-file : (i : ℕ) → isUnknown index list i ≡ true → HasNoFile index list i
@@ -211,10 +210,11 @@ module _ (unit : ℕ) (name label index list firsts sheet named out names : List
       back p (bad-name n) = flip (isName name) n
 
   text-check : Check Applies 20 textCheck
-  text-check = if-check Applies 20 (omega arith) (not (areReadable unit label index)) (λ e. bad-text (λ t. false≢true (sym (not-true (areReadable unit label index) e) ∙ t))) (λ p a. back p a)
+  text-check =
+      if-check Applies 20 (omega arith) (not (areReadable unit label index)) (λ e. bad-text (λ t. false≢true (sym (not-true (areReadable unit label index) e) ∙ good-readable unit label index t))) (λ p a. back p a)
     where
       back : (p : ℕ) → Applies 20 p → not (areReadable unit label index) ≡ true
-      back p (bad-text n) = flip (areReadable unit label index) n
+      back p (bad-text n) = flip (areReadable unit label index) (λ e. n (readable-good unit label index e))
 
   volume-check : Check Applies 44 volumeCheck
   volume-check = if-check Applies 44 (omega arith) (otherVolume (treeOf label) (treeOf index)) other-volume (λ p a. back p a)
@@ -295,6 +295,28 @@ module _ (unit : ℕ) (name label index list firsts sheet named out names : List
   pub first-of-all : FirstToApply Applies pickOrder (firstRefused inARow .number) (firstRefused inARow .place)
   first-of-all = first-applies Applies pickOrder inARow all-checks
 
+  -- A check whose number does not apply accepts.
+  accepts-so : (number : ℕ) (v : Refused) → Check Applies number v → ((place : ℕ) → Applies number place → ⊥) → v .number ≡ 0
+  accepts-so number v c clear = elim (decLt 0 (v .number)) [ yes h ↦ absurd (clear (v .place) (c .refuses (λ z. omega (arith, h, z)) .1)) | no h ↦ omega (arith, h) ]
+
+  -- Where none of the first eight applies, nothing is refused up to 23.
+  pub none-refused : ((i place : ℕ) → i < 8 → Applies (getD pickOrder i 0) place → ⊥) → pickRefused unit name label index list .number ≡ 0
+  none-refused clear =
+      let early = all-flat [] in
+      let zero : firstRefused (pickRefused unit name label index list ∷ []) .number ≡ 0 =
+      ap (λ (x : Refused). x .number) early
+      ∙ rw (
+        accepts-so 13 nameCheck name-check (λ place. clear 0 place (omega arith)),
+        accepts-so 20 textCheck text-check (λ place. clear 1 place (omega arith)),
+        accepts-so 44 volumeCheck volume-check (λ place. clear 2 place (omega arith)),
+        accepts-so 11 badCheck bad-check (λ place. clear 3 place (omega arith)),
+        accepts-so 5 manyCheck many-check (λ place. clear 4 place (omega arith)),
+        accepts-so 41 unknownCheck unknown-check (λ place. clear 5 place (omega arith)),
+        accepts-so 42 withoutCheck without-check (λ place. clear 6 place (omega arith)),
+        accepts-so 23 farCheck far-check (λ place. clear 7 place (omega arith)),
+      ) in
+      first-parts (pickRefused unit name label index list) [] zero .0
+
 -- A check that accepts names no place, so the answer has number and place of the first that applies.
 placed : (vs : List Refused) → firstRefused vs .number ≡ 0 → firstRefused vs .place ≡ 0
 placed [] e = refl
@@ -318,7 +340,12 @@ refuses-the-first unit name label index list head turn out names r out′ names�
     let named = namesText list starts (p .firsts) (p .lasts) in
     let vs = pickRefused unit name label index list ∷ entriesRefused (p .firsts) ∷ rowsRefused sheet named out names ∷ [] in
     let a = answered vs sheet named in
-    let f = all-flat unit name label index list (p .firsts) sheet named out names in
+    let f = all-flat unit name label index list (p .firsts) sheet named out names (entriesRefused (p .firsts) ∷ rowsRefused sheet named out names ∷ []) in
     let number : r .number ≡ firstRefused (inARow unit name label index list (p .firsts) sheet named out names) .number = ap (λ (x : Picked). x .number) (p .handed .answer) ∙ a .0 ∙ ap (λ (x : Refused). x .number) f in
     let place : r .place ≡ firstRefused (inARow unit name label index list (p .firsts) sheet named out names) .place = ap (λ (x : Picked). x .place) (p .handed .answer) ∙ a .1 ∙ ap (λ (x : Refused). x .place) f in
     rw (number, place) (first-of-all unit name label index list (p .firsts) sheet named out names)
+
+pub entries-are-picked : EntriesArePicked
+entries-are-picked unit name label index list head turn out names r out′ names′ p clear =
+    let starts = askedStarts unit label index list in
+    p .entries (none-refused unit name label index list (p .firsts) (pickedSheet name starts (p .firsts) (p .lasts) head turn) (namesText list starts (p .firsts) (p .lasts)) out names clear)

@@ -5,4 +5,5 @@ pub mod Labels
 pub mod Answering
 pub mod Spans
 pub mod Promised
+pub mod Readable
 pub mod First

@@ -1,11 +1,12 @@
--- Two answers that fit are equal; each line asks for one file and no other; and the files are such as a run takes.
+-- Two answers that fit are equal; each line asks for one file and no other; the files are such as a run takes; and the sheet of their entries is told and reads back.
 use Prim.Native.Nat.{ℕ, zero, suc, _+_, _≤_, _<_}
-use mathlib.Core.Path.{_≡_, refl, ap, sym, _∙_}
+use mathlib.Core.Path.{_≡_, refl, ap, sym, _∙_, subst}
 use mathlib.Core.Bool.{Bool, true, false, cond, not, _&&_, _||_, true≢false, false≢true}
 use mathlib.Core.List.{List, [], _∷_, _++_, map}
 use native.Mathlib.Omega.{arith}
 use native.Mathlib.Decide.{decLt}
-use lib.ListN.{length, getD, drop}
+use lib.ListN.{length, getD, take, drop}
+use lib.Seq.{take-append-seam}
 use lib.Dec.{eqb, ltb}
 use borrow.Author.Tests.{ne-eqb, eq-eqb, eqb-true, ltb-false, not-false, not-true}
 use Rattle.refusals.specs.declared.OwnRefusal.the-variants.{UnknownPath, NoBytes, OtherVolume}
@@ -28,9 +29,10 @@ use Rattle.tape_picks.specs.declared.Tape.{Tape}
 use Rattle.tape_files.specs.Volumes.{otherVolume}
 use Rattle.tape_picks.specs.Picks.{filesNamed, extentIn, fileSpan, hasNoBytes, isReadable}
 use Rattle.sheet_picks.specs.Entries.{mostEntries, EntriesOf}
-use Rattle.sheet_picks.specs.Sheets.{pickedSheet}
+use Rattle.sheet_picks.specs.Sheets.{pickedRun, pickedSheet}
 use Rattle.sheet_picks.specs.Names.{namesText}
-use Rattle.sheet_picks.specs.Promises.{Wanted}
+use Rattle.sheet_picks.specs.Promises.{Wanted, ReadAgain}
+use Rattle.sheet_picks.proofs.Fitting.{picked-runs-fit, sheets-read-back}
 use Rattle.sheet_picks.proofs.InTurn.{entries-are-one}
 use Rattle.sheet_picks.proofs.Lines.{begins-itself}
 use Rattle.sheet_picks.proofs.Stands.{each-at, lines-few}
@@ -39,7 +41,7 @@ use Rattle.answer_pick.specs.declared.Picked.{Picked}
 use Rattle.answer_pick.specs.Picks.{isLabel, areReadable, tapeOf, askedFiles, firstSpan, askedSpan, isUnknown, isWithout, isTooFar, refusedIf, refusedAt, firstRefused, firstLine, listRefused, inputChecks, lineChecks, pickRefused}
 use Rattle.answer_pick.specs.Answer.{askedStarts, askedEnds, entriesRefused, rowsRefused, answerOf, rowAfter, PickHanded, PickAnswered}
 use Rattle.answer_pick.specs.Private.{refusedAnswer}
-use Rattle.answer_pick.specs.Promises.{PickIsOne, noFile, OnlyFile, FileOfLine, LinesHaveFiles, PickedAreWanted}
+use Rattle.answer_pick.specs.Promises.{PickIsOne, noFile, OnlyFile, FileOfLine, LinesHaveFiles, PickedAreWanted, PickTold, PickTells, PickReadsBack}
 use Rattle.answer_pick.proofs.Judging.{list-accepts}
 use Rattle.answer_pick.proofs.Spans.{span-long}
 
@@ -213,6 +215,13 @@ module _ (unit : ℕ) (name label index list : List ℕ) (z : pickRefused unit n
       let a = first-parts (inputChecks unit name label index list) (lineChecks (tapeOf unit label) index list ∷ []) z in
       (a .0, first-parts (lineChecks (tapeOf unit label) index list) [] (a .1) .0)
 
+  named : isName name ≡ true
+  unfolding inputChecks
+  named =
+      let others = refusedIf (not (areReadable unit label index)) (numberOf BadText) ∷ refusedIf (otherVolume (treeOf label) (treeOf index)) (ownNumberOf OtherVolume) ∷ listRefused list ∷ [] in
+      let a = first-parts (refusedIf (not (isName name)) (numberOf BadName)) others (input-lines .0) in
+      not-false (isName name) (if-not (not (isName name)) (numberOf BadName) (omega arith) (a .0))
+
   texts-good : (areReadable unit label index ≡ true) × (listRefused list .number ≡ 0)
   unfolding inputChecks
   texts-good =
@@ -275,34 +284,88 @@ module _ (unit : ℕ) (name label index list : List ℕ) (z : pickRefused unit n
         let near : fileSpan (tapeOf unit label) (f .file) .end ≤ lastPlace = rw (f .range) at ends-near in
         rw (f .range) (span-long unit (blockSizeOf (treeOf label)) (tapeOf unit label .partition) counted (map extentIn (f .file .extents)) some near)
 
-pub lines-have-files : LinesHaveFiles
-lines-have-files unit name label index list z i l = file-of-line unit name label index list z i l
-
 -- An answer that refuses nothing.
 pub accepts-all : (v : Refused) (sheet named : List ℕ) → answerOf v sheet named .number ≡ 0 → v .number ≡ 0
 accepts-all v sheet named e =
     elim (decLt 0 (v .number)) [ yes h ↦ absurd (omega (arith, rw (ne-eqb (v .number) 0 (λ z. omega arith)) at e)) | no h ↦ omega arith ]
 
-pub picked-are-wanted : PickedAreWanted
-picked-are-wanted unit name label index list head turn out names r out′ names′ p e =
-    let starts = askedStarts unit label index list in
-    let sheet = pickedSheet name starts (p .firsts) (p .lasts) head turn in
-    let text = namesText list starts (p .firsts) (p .lasts) in
-    let rows = rowsRefused sheet text out names in
-    let v = firstRefused (pickRefused unit name label index list ∷ entriesRefused (p .firsts) ∷ rows ∷ []) in
-    let a : v .number ≡ 0 = accepts-all v sheet text (ap (λ (x : Picked). x .number) (sym (p .handed .answer)) ∙ e) in
-    let b = first-parts (pickRefused unit name label index list) (entriesRefused (p .firsts) ∷ rows ∷ []) a in
-    let d = first-parts (entriesRefused (p .firsts)) (rows ∷ []) (b .1) in
-    let z = b .0 in
-    let start-at : (i : ℕ) → i < lineCount list → getD (askedStarts unit label index list) i 0 ≡ askedSpan (tapeOf unit label) index list i .start = λ i l. each-at (λ k. askedSpan (tapeOf unit label) index list k .start) (lineCount list) i l in
-    let end-at : (i : ℕ) → i < lineCount list → getD (askedEnds unit label index list) i 0 ≡ askedSpan (tapeOf unit label) index list i .end = λ i l. each-at (λ k. askedSpan (tapeOf unit label) index list k .end) (lineCount list) i l in
-    let many : length (askedStarts unit label index list) ≡ lineCount list = length-each (λ k. askedSpan (tapeOf unit label) index list k .start) (lineCount list) in
-    let ended : length (askedEnds unit label index list) ≡ lineCount list = length-each (λ k. askedSpan (tapeOf unit label) index list k .end) (lineCount list) in
+-- What is told of two texts.
+told-by : (v : Refused) (sheet named out names : List ℕ) (r : Picked) (out′ names′ : List ℕ) → PickHanded v sheet named out names r out′ names′ → PickTold sheet named out names r out′ names′
+told-by v sheet named out names r out′ names′ h =
     record {
-      even = many ∙ sym ended;
-      long = λ i l. let k : i < lineCount list = omega arith in rw (start-at i k, end-at i k) (starts-before unit name label index list z i k);
-      near = λ i l. let k : i < lineCount list = omega arith in rw (end-at i k) (ends-near unit name label index list z i k);
-      lines = rw many (lines-few list (list-accepts list (texts-good unit name label index list z .1)));
-      entries = p .entries z;
-      few = ltb-false mostEntries (length (p .firsts)) (if-not (ltb mostEntries (length (p .firsts))) (numberOf WantRows) (omega arith) (d .0));
+      refused = λ n.
+          let f = ne-eqb (v .number) 0 (λ z. n (ap (λ (x : Picked). x .number) (h .answer) ∙ rw z)) in
+          ((ap (λ (x : Picked). x .bytes) (h .answer) ∙ rw f, ap (λ (x : Picked). x .named) (h .answer) ∙ rw f), (h .sheet-left ∙ rw f, h .names-left ∙ rw f));
+      counted = λ e. (ap (λ (x : Picked). x .bytes) (h .answer) ∙ rw (passes e), ap (λ (x : Picked). x .named) (h .answer) ∙ rw (passes e));
+      written = λ e. (h .sheet-left ∙ rw (passes e), h .names-left ∙ rw (passes e));
     }
+  where
+    passes : r .number ≡ 0 → eqb (v .number) 0 ≡ true
+    passes e = eq-eqb (v .number) 0 (accepts-all v sheet named (ap (λ (x : Picked). x .number) (sym (h .answer)) ∙ e))
+
+module _ (unit : ℕ) (name label index list head turn out names : List ℕ) (r : Picked) (out′ names′ : List ℕ) (p : PickAnswered unit name label index list head turn out names r out′ names′) where
+  abbrev starts : List ℕ
+  starts = askedStarts unit label index list
+
+  abbrev ends : List ℕ
+  ends = askedEnds unit label index list
+
+  abbrev sheet : List ℕ
+  sheet = pickedSheet name starts (p .firsts) (p .lasts) head turn
+
+  abbrev text : List ℕ
+  text = namesText list starts (p .firsts) (p .lasts)
+
+  told : PickTold sheet text out names r out′ names′
+  told =
+      told-by (firstRefused (pickRefused unit name label index list ∷ entriesRefused (p .firsts) ∷ rowsRefused sheet text out names ∷ [])) sheet text out names r out′ names′ (p .handed)
+
+  module _ (e : r .number ≡ 0) where
+    -- Nothing is refused up to 23, and there are no more entries than a run takes.
+    passed : (pickRefused unit name label index list .number ≡ 0) × (entriesRefused (p .firsts) .number ≡ 0)
+    passed =
+        let rows = rowsRefused sheet text out names in
+        let v = firstRefused (pickRefused unit name label index list ∷ entriesRefused (p .firsts) ∷ rows ∷ []) in
+        let a : v .number ≡ 0 = accepts-all v sheet text (ap (λ (x : Picked). x .number) (sym (p .handed .answer)) ∙ e) in
+        let b = first-parts (pickRefused unit name label index list) (entriesRefused (p .firsts) ∷ rows ∷ []) a in
+        (b .0, first-parts (entriesRefused (p .firsts)) (rows ∷ []) (b .1) .0)
+
+    wanted : Wanted starts ends (p .firsts) (p .lasts)
+    wanted =
+        let z = passed .0 in
+        let start-at : (i : ℕ) → i < lineCount list → getD starts i 0 ≡ askedSpan (tapeOf unit label) index list i .start = λ i l. each-at (λ k. askedSpan (tapeOf unit label) index list k .start) (lineCount list) i l in
+        let end-at : (i : ℕ) → i < lineCount list → getD ends i 0 ≡ askedSpan (tapeOf unit label) index list i .end = λ i l. each-at (λ k. askedSpan (tapeOf unit label) index list k .end) (lineCount list) i l in
+        let many : length starts ≡ lineCount list = length-each (λ k. askedSpan (tapeOf unit label) index list k .start) (lineCount list) in
+        let ended : length ends ≡ lineCount list = length-each (λ k. askedSpan (tapeOf unit label) index list k .end) (lineCount list) in
+        record {
+          even = many ∙ sym ended;
+          long = λ i l. let k : i < lineCount list = omega arith in rw (start-at i k, end-at i k) (starts-before unit name label index list z i k);
+          near = λ i l. let k : i < lineCount list = omega arith in rw (end-at i k) (ends-near unit name label index list z i k);
+          lines = rw many (lines-few list (list-accepts list (texts-good unit name label index list z .1)));
+          entries = p .entries z;
+          few = ltb-false mostEntries (length (p .firsts)) (if-not (ltb mostEntries (length (p .firsts))) (numberOf WantRows) (omega arith) (passed .1));
+        }
+
+    sheet-told : take (r .bytes) out′ ≡ sheet
+    sheet-told = rw (told .counted e .0, told .written e .0) (take-append-seam sheet (drop (length sheet) out))
+
+pub lines-have-files : LinesHaveFiles
+lines-have-files unit name label index list head turn out names r out′ names′ p e i l =
+    file-of-line unit name label index list (passed unit name label index list head turn out names r out′ names′ p e .0) i l
+
+pub picked-are-wanted : PickedAreWanted
+picked-are-wanted unit name label index list head turn out names r out′ names′ p e = wanted unit name label index list head turn out names r out′ names′ p e
+
+pub pick-tells : PickTells
+pick-tells unit name label index list head turn out names r out′ names′ p = told unit name label index list head turn out names r out′ names′ p
+
+pub pick-reads-back : PickReadsBack
+pick-reads-back unit name label index list head turn out names r out′ names′ p e h t =
+    let starts = askedStarts unit label index list in
+    let ends = askedEnds unit label index list in
+    let w = picked-are-wanted unit name label index list head turn out names r out′ names′ p e in
+    let z = passed unit name label index list head turn out names r out′ names′ p e .0 in
+    let back = sheets-read-back name starts ends (p .firsts) (p .lasts) head turn (named unit name label index list z) w h t in (
+      subst (λ x. ReadAgain name x (pickedRun starts (p .firsts) (p .lasts) head turn)) (sym (sheet-told unit name label index list head turn out names r out′ names′ p e)) back,
+      picked-runs-fit starts ends (p .firsts) (p .lasts) head turn w,
+    )

@@ -32,7 +32,7 @@ use Rattle.runs.proofs.Judged.{GoodRun, accepted-run}
 use Rattle.demands.specs.RefusalTable.{RunApplies, FirstThatApplies, here, later}
 use Rattle.demands.specs.Demand1.{ByTheTable}
 use Rattle.demands.specs.Demand2.{listIn, IsTheWalk, IsLeast}
-use Rattle.demands.specs.Plain.{withRoom, plainOrder, PlainApplies, SameAnswer, PlainWalks, Demand1Plain, Demand1PlainIff, PlainAsPlanned, PlannerWithRoom, Demand2Plain, Demand2PlainOne, Demand3Plain}
+use Rattle.demands.specs.Plain.{withRoom, wordsFor, plainOrder, PlainApplies, SameAnswer, PlainWalks, Demand1Plain, Demand1PlainIff, PlainAsPlanned, PlannerWithRoom, Demand2Plain, Demand2PlainOne, Demand3Plain}
 use Rattle.demands.proofs.Counted.{has-stops, stops-one}
 use Rattle.demands.proofs.Tests.{Tells, tells-below, tells-either, tells-regrouped}
 use Rattle.demands.proofs.Checks.{refused-iff, decides-if, decides-reworded, Finds, finds-none, finds-first}
@@ -217,8 +217,10 @@ plain-as-planned r before answer after lent planned rows plans accepts plans′ 
     lists-are = plain-list r before answer after plans accepts ∙ one ∙ sym (list-in-rows r (q .list) lent planned rows (q .says) (q .rows))
 
 pub planner-with-room : PlannerWithRoom
-planner-with-room r before answer after room planned rows plans accepts enough plans′ =
-    plan-determined r (withRoom before room) planned answer rows _ plans′ (as-plan r before answer after plans accepts room enough)
+planner-with-room r before answer after stops room planned rows plans accepts has enough plans′ =
+    let passes = plain-accepts-run r before (plain-passes r before answer after plans accepts) in
+    let words : wordsFor r stops ≡ roomFor r = ap (wordsFor r) (stops-one r (accepted-run r passes) has) in
+    rw words (plan-determined r (withRoom before room) planned answer rows _ plans′ (as-plan r before answer after plans accepts room (rw words at enough)))
 
 pub demand2-plain : Demand2Plain
 demand2-plain r before answer after plans accepts =

@@ -1,6 +1,6 @@
 -- Demand 1 for the tape tables of LTFS indexes.
 use Prim.Native.Nat.{ℕ, _<_}
-use mathlib.Core.Path.{_≡_, refl, sym, _∙_}
+use mathlib.Core.Path.{_≡_, refl, sym, ap, _∙_}
 use mathlib.Core.Bool.{Bool, true, false, not, _&&_, true≢false}
 use mathlib.Core.Logic.{_⊎_, inl, inr, ⊎-elim}
 use mathlib.Core.List.{List, [], _∷_}
@@ -9,19 +9,18 @@ use lib.Dec.{ltb}
 use Rattle.refusals.specs.declared.Refusal.{Refusal}
 use Rattle.refusals.specs.declared.Refusal.the-variants.{ShortRow, BadName, BadText, ManyExtents, Overlap, FarFile}
 use Rattle.refusals.specs.declared.Verdict.{Verdict}
-use Rattle.refusals.specs.Refusals.{accepted, refuseIf}
+use Rattle.refusals.specs.Refusals.{accepted, isRefusal, refuseIf}
 use Rattle.runs.specs.Run.{lastPlace}
 use Rattle.refusals.proofs.Verdicts.{none-refuses, refuses}
 use Rattle.text_bytes.specs.Text.{isName}
 use Rattle.sheet_reader.specs.Sheet.{mostSheetFiles}
 use Rattle.sheet_writer.specs.Writing.{rowVerdict, writtenRow}
 use Rattle.tape_markup.specs.Tree.{isBalanced, treeOf}
-use Rattle.tape_markup.specs.Promises.{SaysForest}
 use Rattle.tape_markup.proofs.Balanced.{balanced-exactly}
 use Rattle.tape_files.specs.Index.{some, isGoodLabel, isGoodIndex, indexFiles}
 use Rattle.tape_ranges.specs.Ranges.{endOfRange}
 use Rattle.answer_ltfs.specs.TapeTable.{inSeveral, areFar, someOverlap, rangesIn, tapeTable, areGoodTexts, ltfsSheet, ltfsVerdict, ltfsReport, ltfsRow}
-use Rattle.demands.specs.Tapes.{TapeApplies, tapeOrder, TapeAnswers, Demand1Tape}
+use Rattle.demands.specs.Tapes.{SaysElements, TapeApplies, tapeOrder, TapeAnswers, Demand1Tape}
 use Rattle.demands.proofs.Tests.{Tells, tells-below, tells-either, tells-true, tells-false}
 use Rattle.demands.proofs.Checks.{decides-if, decides-reworded, Finds, finds-none, finds-first}
 
@@ -35,10 +34,10 @@ not-all true true true true =
     record { when-true = λ e. absurd (true≢false (sym e)); when-false = λ e. ⊎-elim true≢false (⊎-elim true≢false (⊎-elim true≢false true≢false)) }
 
 -- The test for balance tells whether a forest at most 32 deep spells the text.
-says-none : (text : List ℕ) → isBalanced text ≡ false → SaysForest text → ⊥
+says-none : (text : List ℕ) → isBalanced text ≡ false → SaysElements text → ⊥
 says-none text e forest = true≢false (sym (balanced-exactly text .1 forest) ∙ e)
 
-not-balanced : (text : List ℕ) → (SaysForest text → ⊥) → isBalanced text ≡ false
+not-balanced : (text : List ℕ) → (SaysElements text → ⊥) → isBalanced text ≡ false
 not-balanced text n = go (isBalanced text) refl
   where
     go : (b : Bool) → isBalanced text ≡ b → isBalanced text ≡ false
@@ -131,8 +130,20 @@ module _ (name label index row : List ℕ) where
   tape-says : (b : Bool) → refuses (ltfsVerdict name label index row) ≡ b
       → TapeAnswers name label index row (ltfsReport (ltfsVerdict name label index row) name label index) (ltfsRow (ltfsVerdict name label index row) name label index row)
   unfolding ltfsReport ltfsRow writtenRow
-  tape-says true e = rw e (record { first = tape-finds; kept = λ n. (record { bytes = refl; empty = refl; other = refl }, refl) })
-  tape-says false e = rw e (record { first = rw (tape-accepted e) at tape-finds; kept = λ n. absurd (n refl) })
+  tape-says true e =
+      rw e
+      (record {
+        first = tape-finds;
+        kept = λ n. (record { bytes = refl; empty = refl; other = refl }, refl);
+        sheet = λ h. absurd (true≢false (sym e ∙ ap isRefusal h));
+      })
+  tape-says false e =
+      rw e
+      (record {
+        first = rw (tape-accepted e) at tape-finds;
+        kept = λ n. absurd (n refl);
+        sheet = λ h. record { bytes = refl; written = refl; empty = refl; other = refl };
+      })
 
 pub demand1-tape : Demand1Tape
 demand1-tape name label index row answer out says fills =

@@ -19,7 +19,7 @@ use Rattle.sheet_reader.specs.declared.Reading.{Reading}
 use Rattle.text_lines.specs.Lines.{afterLines, lineAfter}
 use Rattle.sheet_reader.specs.Lines.{turnKey, turnWith}
 use Rattle.sheet_reader.specs.Sheet.{longestSheet, firstBadLine, saysSweep, sheetFiles, sheetWants, sheetTurnWith}
-use Rattle.sheet_reader.specs.Reading.{sheetVerdict, ruleVerdict, readVerdict, readRow, RunRows, rowsVerdict, ReadWith, readName}
+use Rattle.sheet_reader.specs.Reading.{sheetVerdict, ruleVerdict, readVerdict, readRow, RunRows, rowsVerdict, readAnswerWith, ReadWith, readName}
 use Rattle.sheet_reader.proofs.Good.{short-sheet, accepted-sheet, good-lines}
 use Rattle.sheet_writer.specs.declared.Written.{Written}
 use Rattle.sheet_writer.specs.Writing.{rowVerdict, writtenAnswer, writtenRow}
@@ -28,7 +28,7 @@ use Rattle.answer_rewrite.specs.Rewriting.{priceIsEmpty, rewritten, rewriteVerd
 use Rattle.answer_rewrite.proofs.Meaning.{upper, rest-is, old-cut, new-cut, unchanged, keeps}
 use Rattle.demands.specs.RefusalTable.{FirstBad}
 use Rattle.demands.specs.Lines.{LineIsBad, linesDue}
-use Rattle.demands.specs.Turns.{EmptyPrice, GivenPrice, DrivesOwnPrice, RewrittenBytes, RewrittenMeans, RewrittenOnce, UnreadApplies, ResultApplies, RewriteFinds, unread, result, Demand1Rewrite}
+use Rattle.demands.specs.Turns.{EmptyPrice, GivenPrice, DrivesOwnPrice, ReadsButThePrice, OtherReaders, RewrittenBytes, RewrittenMeans, RewrittenOnce, UnreadApplies, ResultApplies, RewriteFinds, unread, result, Demand1Rewrite}
 use Rattle.demands.proofs.Tests.{Tells, tells-below}
 use Rattle.demands.proofs.Checks.{decides-if, decides-reworded, Finds, finds-none, finds-first}
 use Rattle.demands.proofs.FirstLine.{decides-line}
@@ -73,6 +73,53 @@ drives-own-price sheet before answer after read accepts =
       empty = λ p. price ∙ rw (empty-line sheet p);
       given = λ p. price ∙ rw (given-line sheet p, key-value turnKey (p .value), number-some (p .value) (p .kind));
     }
+
+-- Another reader, to whom an empty price means e.
+module _ (e : ℕ) (sheet : List ℕ) (v : Verdict) where
+  price-other : GivenPrice sheet → sheetTurnWith e sheet ≡ sheetTurnWith 12000 sheet
+  unfolding sheetTurnWith turnWith
+  price-other p = rw (given-line sheet p, key-value turnKey (p .value), number-some (p .value) (p .kind))
+
+  price-none : EmptyPrice sheet → sheetTurnWith e sheet ≡ e
+  unfolding sheetTurnWith turnWith
+  price-none p = rw (empty-line sheet p)
+
+  reads-but : (b : Bool) → isRefusal (v .refusal) ≡ b → ReadsButThePrice e sheet (readAnswerWith 12000 v sheet) (readAnswerWith e v sheet)
+  reads-but true r =
+      rw r
+      (record {
+        refusal = refl;
+        place = refl;
+        head = refl;
+        files = refl;
+        wants = refl;
+        refused = λ n. refl;
+        given = λ p. refl;
+        empty = λ p h. absurd (true≢false (sym r ∙ ap isRefusal h));
+      })
+  reads-but false r =
+      rw r
+      (record {
+        refusal = refl;
+        place = refl;
+        head = refl;
+        files = refl;
+        wants = refl;
+        refused = λ n. absurd (n refl);
+        given = price-other;
+        empty = λ p h. price-none p;
+      })
+
+pub other-readers : OtherReaders
+other-readers e sheet before answer other after rows read read′ = (
+  rw (read .answer, read′ .answer) (reads-but e sheet (rowsVerdict sheet before) (isRefusal (rowsVerdict sheet before .refusal)) refl),
+  same-rows rows after
+      (read′ .starts ∙ sym (read .starts))
+      (read′ .lengths ∙ sym (read .lengths))
+      (read′ .aggregates ∙ sym (read .aggregates))
+      (read′ .numbers ∙ sym (read .numbers))
+      (read′ .counts ∙ sym (read .counts)),
+)
 
 -- An accepted rewriting.
 module _ (sheet row : List ℕ) (answer : Written) (out : List ℕ) (says : SheetRewritten sheet row answer out) (accepts : answer .refusal ≡ Accepted) where

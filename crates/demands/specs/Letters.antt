@@ -1,13 +1,53 @@
--- The words that every statement on a text uses, each by conditions of its own: the digits of a number, what text is a number and its value, a tape name, where a
--- text is cut at a byte, and where its lines are. The definitions that the contracts use nobody need believe.
+-- The words that every statement on a text uses, each by conditions of its own: the bytes of a string, whether two texts are one, the keys of sheets, the digits of a
+-- number, what text is a number and its value, a tape name, where a text is cut at a byte, and where its lines are. The definitions that the contracts use nobody need
+-- believe.
 use Prim.Native.Nat.{ℕ, suc, _+_, _*_, _^_, _≤_, _<_}
+use Prim.Native.Char.{Char, code}
+use Prim.Native.String.{String}
+use Prim.Native.String as Letters
 use mathlib.Core.Path.{_≡_}
-use mathlib.Core.Bool.{true, false}
+use mathlib.Core.Bool.{Bool, true, false}
 use mathlib.Core.Logic.{_⊎_, _↔_}
 use mathlib.Core.List.{List, [], _∷_, _++_}
 use lib.ListN.{length, getD}
-use Rattle.text_bytes.specs.Text.{bytes, lineFeed, comma, isEmpty, has, before, behind, isNumber, isName, valueOf, decimal}
+use Rattle.text_bytes.specs.Text.{bytes, lineFeed, comma, isEmpty, has, before, behind, startsWith, isText, allOf, between, isDigit, isLetter, isNumber, isName, valueOf, decimal}
 use Rattle.text_lines.specs.Lines.{afterLines, lineAfter, valueText}
+use Rattle.sheet_reader.specs.Lines.{tapeKey, headKey, turnKey, ruleKey, filesKey, fileKey, wantsKey, wantKey, leastText, sweepText}
+use Rattle.sheet_writer.specs.PlanSheet.{sumKey, readsKey, finishKey, endKey, detoursKey, detourKey, timeKey}
+
+-- The bytes of a string: of none none; of one more letter its code, and then those of the others.
+pub record BytesOfLetters : Type 0 where
+  pub none : bytes Letters.[] ≡ []
+  pub more : (letter : Char) (others : String) → bytes (Letters._∷_ letter others) ≡ code letter ∷ bytes others
+
+-- Two texts are one; one begins with the other; all bytes are of a kind; a byte lies from one to another, a digit from 48 to 57, a capital letter from 65 to 90.
+pub record TextsAreCompared : Type 0 where
+  pub same : (wanted text : List ℕ) → (isText wanted text ≡ true) ↔ (text ≡ wanted)
+  pub begins : (key text : List ℕ) → (startsWith key text ≡ true) ↔ ((rest : List ℕ) × (text ≡ key ++ rest))
+  pub all : (kind : ℕ → Bool) (text : List ℕ) → (allOf kind text ≡ true) ↔ ((i : ℕ) → i < length text → kind (getD text i 0) ≡ true)
+  pub within : (least most b : ℕ) → (between least most b ≡ true) ↔ ((least ≤ b) × (b ≤ most))
+  pub digit : (b : ℕ) → (isDigit b ≡ true) ↔ ((48 ≤ b) × (b ≤ 57))
+  pub letter : (b : ℕ) → (isLetter b ≡ true) ↔ ((65 ≤ b) × (b ≤ 90))
+
+-- The keys of a run sheet, with the names of its rule and of the retired one, and those of a plan sheet.
+pub record KeysAreSpelled : Type 0 where
+  pub tape : tapeKey ≡ bytes "tape="
+  pub head : headKey ≡ bytes "head="
+  pub turn : turnKey ≡ bytes "turn="
+  pub rule : ruleKey ≡ bytes "rule="
+  pub files : filesKey ≡ bytes "files="
+  pub file : fileKey ≡ bytes "file="
+  pub wants : wantsKey ≡ bytes "wants="
+  pub want : wantKey ≡ bytes "want="
+  pub least : leastText ≡ bytes "least"
+  pub sweep : sweepText ≡ bytes "sweep"
+  pub sum : sumKey ≡ bytes "sum="
+  pub reads : readsKey ≡ bytes "reads="
+  pub finish : finishKey ≡ bytes "finish="
+  pub end : endKey ≡ bytes "end="
+  pub detours : detoursKey ≡ bytes "detours="
+  pub detour : detourKey ≡ bytes "detour="
+  pub time : timeKey ≡ bytes "time="
 
 -- The text of a number: one digit, whose byte is 48 and the digit; or that of its tenth part, and then its last digit.
 pub record Digits : Type 0 where

@@ -1,18 +1,18 @@
 -- Request L5: the plain engine, which has no work table and takes at most eight wants. For every run that it accepts it answers what the planner
 -- answers with room enough; and the three demands hold of it, the first with its own order of checks.
-use Prim.Native.Nat.{ℕ, _-_, _≤_, _<_}
+use Prim.Native.Nat.{ℕ, _+_, _*_, _-_, _≤_, _<_}
 use mathlib.Core.Path.{_≡_}
 use mathlib.Core.Logic.{_↔_}
 use mathlib.Core.List.{List, [], _∷_, _++_}
 use lib.ListN.{length, take, drop, replicate}
 use Rattle.refusals.specs.declared.Refusal.{Refusal}
 use Rattle.refusals.specs.declared.Refusal.the-variants.{Accepted, FileRows, BadFile, WantRows, OverEightWants, BadWant, TooManyReads, TurnPrice, HeadPlace, ShortRow}
-use Rattle.runs.specs.Run.{Run, stopsOf}
+use Rattle.runs.specs.Run.{Run, stopsOf, total}
 use Rattle.walk.specs.declared.Answer.{Answer}
 use Rattle.walk.specs.declared.Leg.{Leg}
 use Rattle.walk.specs.Walk.{headAt, Moves, ServesAll, sumOf}
-use Rattle.planner.specs.Plan.{roomFor, Plans}
-use Rattle.planner.specs.Rows.{Rows, rowsOf}
+use Rattle.planner.specs.Plan.{Plans}
+use Rattle.planner.specs.Rows.{Rows}
 use Rattle.engine_plain.specs.Plain.{PlainRows, PlainPlans}
 use Rattle.demands.specs.RefusalTable.{HasStops, RunApplies, NothingApplies, SomeApplies}
 use Rattle.demands.specs.Demand1.{ByTheTable}
@@ -21,7 +21,7 @@ use Rattle.demands.specs.Demand3.{AsksNoLess}
 
 -- The rows that the plain engine is lent, and a room beside them: what the planner is lent.
 abbrev pub withRoom : PlainRows → List ℕ → Rows
-withRoom rows room = rowsOf (rows .froms) (rows .tos) (rows .times) (rows .legs) room
+withRoom rows room = record { froms = rows .froms; tos = rows .tos; times = rows .times; legs = rows .legs; room = room }
 
 -- Demand 1. The order: 1, 2, 3, then 24, then 4 to 7, then 8.
 abbrev pub plainOrder : List Refusal
@@ -65,14 +65,18 @@ PlainAsPlanned =
     → SameAnswer r answer after planned rows
 
 -- A planner that is lent the same rows and room enough accepts what the plain engine accepts, and leaves the same in every row, its room zeroed.
+abbrev pub wordsFor : Run → ℕ → ℕ
+wordsFor r stops = stops * stops * (total (r .counts) + 1)
+
 abbrev pub PlannerWithRoom : Type 0
 PlannerWithRoom =
-    (r : Run) (before : PlainRows) (answer : Answer) (after : PlainRows) (room : List ℕ) (planned : Answer) (rows : Rows)
+    (r : Run) (before : PlainRows) (answer : Answer) (after : PlainRows) (stops : ℕ) (room : List ℕ) (planned : Answer) (rows : Rows)
     → PlainPlans r before answer after
     → answer .refusal ≡ Accepted
-    → roomFor r ≤ length room
+    → HasStops r stops
+    → wordsFor r stops ≤ length room
     → Plans r (withRoom before room) planned rows
-    → (planned ≡ answer) × (rows ≡ withRoom after (replicate (roomFor r) 0 ++ drop (roomFor r) room))
+    → (planned ≡ answer) × (rows ≡ withRoom after (replicate (wordsFor r stops) 0 ++ drop (wordsFor r stops) room))
 
 -- Demand 2: the numbers are those of the walk of the list in the rows; no well-formed list is cheaper, ties by the fixed rule; and two answers that
 -- fit are equal.

@@ -38,6 +38,25 @@ DrivesOwnPrice =
     → answer .refusal ≡ Accepted
     → PriceRead sheet answer
 
+-- A reader to whom an empty price means e, whatever e is, reads as the reader does in all but that: the same refusal, head, files and wants, and the same rows; a price that
+-- stands there is the same, and for an empty one it hands on e.
+pub record ReadsButThePrice (e : ℕ) (sheet : List ℕ) (answer other : Reading) : Type 0 where
+  pub refusal : other .refusal ≡ answer .refusal
+  pub place : other .place ≡ answer .place
+  pub head : other .head ≡ answer .head
+  pub files : other .files ≡ answer .files
+  pub wants : other .wants ≡ answer .wants
+  pub refused : (other .refusal ≡ Accepted → ⊥) → other .turn ≡ answer .turn
+  pub given : GivenPrice sheet → other .turn ≡ answer .turn
+  pub empty : EmptyPrice sheet → other .refusal ≡ Accepted → other .turn ≡ e
+
+abbrev pub OtherReaders : Type 0
+OtherReaders =
+    (e : ℕ) (sheet : List ℕ) (before : RunRows) (answer other : Reading) (after rows : RunRows)
+    → SheetRead sheet before answer after
+    → ReadWith e sheet before other rows
+    → ReadsButThePrice e sheet answer other × (rows ≡ after)
+
 -- Byte for byte the same elsewhere: the sheet is a front that ends in `turn=`, an LF and a back, cut in the third line, and the result has a 0 before
 -- that LF.
 pub record ZeroPutIn (sheet result : List ℕ) : Type 0 where

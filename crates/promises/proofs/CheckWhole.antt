@@ -33,12 +33,13 @@ use Rattle.answer_check.proofs.Checked.{entry-bad}
 use Rattle.demands.specs.RefusalTable.{FirstBad}
 use Rattle.demands.specs.AnyHead.{EntryIsBadAny, ListIsBadAny}
 use Rattle.demands.proofs.Checks.{Decides, refused, passed}
+use Rattle.demands.proofs.Letters.{text-same, same-text}
 use Rattle.demands.proofs.AnyJudged.{decides-list-any}
 use Rattle.demands.proofs.AnyHead.{is-formed-any}
 use Rattle.promises.specs.Checks.{Larger, FirstDiffers, FormedFor}
 use Rattle.promises.specs.CheckWhole.{LeastLine, least, larger, VerdictText, unformed, the-walk, another, CheckPrintsAll}
 use Rattle.promises.proofs.Differs.{first-differs}
-use Rattle.promises.proofs.Checks.{put-whole, even-plan, text-same, same-text, list-same, same-list}
+use Rattle.promises.proofs.Checks.{put-whole, even-plan, list-same, same-list}
 use Rattle.promises.proofs.InputLengths.{check-passes, check-fits}
 
 -- Where the line that is named starts: so many lines and so many bytes behind where the search began, in both texts.

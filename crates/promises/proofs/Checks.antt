@@ -3,7 +3,7 @@ use Prim.Native.Nat.{ℕ, zero, suc, _+_, _-_, _≤_, _<_}
 use mathlib.Core.Path.{_≡_, refl, sym, ap, _∙_, subst}
 use mathlib.Core.Bool.{Bool, true, false, cond, true≢false, _&&_}
 use mathlib.Core.List.{List, [], _∷_, _++_, map, append-assoc, append-nil}
-use mathlib.Core.Logic.{_↔_, ⊎-elim}
+use mathlib.Core.Logic.{_⊎_, _↔_, inl, inr, ⊎-elim}
 use native.Mathlib.Omega.{arith}
 use lib.ListN.{length, take, drop, getD}
 use lib.Seq.{take-append-seam}
@@ -15,10 +15,12 @@ use Rattle.refusals.specs.declared.Verdict.{Verdict}
 use Rattle.refusals.specs.Refusals.{isRefusal, firstOf, accepted}
 use Rattle.refusals.proofs.Verdicts.{refuses, AllAccept, all-accept, accepts-if}
 use Rattle.runs.specs.Run.{Run, stopsOf}
-use Rattle.runs.specs.Judging.{judgeOf}
+use Rattle.runs.specs.Judging.{badPlace, judgeOf}
 use Rattle.runs.specs.Lists.{Detour, listOf, listVerdict}
 use Rattle.runs.specs.AnyHead.{firstBadEntryAny, listVerdictAny}
-use Rattle.runs.proofs.Search.{true-or-false}
+use Rattle.runs.proofs.Search.{true-or-false, first-zero}
+use Rattle.runs.proofs.Accepted.{good-file}
+use Rattle.runs.proofs.Judged.{accepted-run}
 use Rattle.runs.proofs.AnyHead.{sound-right, pulled-same}
 use Rattle.runs.proofs.Stops.{accepted-sound}
 use Rattle.walk.specs.AnyHead.{pricedAnyAnswer}
@@ -26,13 +28,12 @@ use Rattle.least.specs.Least.{LeastForRun}
 use Rattle.least.specs.AnyHead.{LeastAny, LeastAnyFor}
 use Rattle.least.specs.Recurrence.{leastList}
 use Rattle.least.proofs.LeastList.{least-list, least-unique}
-use Rattle.least.proofs.LeastAny.{least-any, least-any-unique}
+use Rattle.least.proofs.LeastAny.{least-any, least-any-unique, least-any-same}
 use Rattle.engine_stops.proofs.Halves.{list-accepted, list-of-halves, halves-even}
 use Rattle.planner.specs.Plan.{roomFor}
 use Rattle.text_bytes.specs.Text.{bytes, lineFeed, has, behind, isText, startsWith, isName, valueOf, decimal}
 use Rattle.text_bytes.proofs.Bytes.{and-true-both}
 use Rattle.text_bytes.proofs.Decimals.{decimal-without, decimal-value}
-use Rattle.text_bytes.proofs.Split.{whole-key}
 use Rattle.text_lines.specs.Lines.{lineOf, afterLines, lineAfter, firstIn, secondIn}
 use Rattle.text_pages.specs.Printing.{line, numberLine}
 use Rattle.sheet_reader.specs.Sheet.{sheetRun, sheetName}
@@ -52,21 +53,12 @@ use Rattle.sheet_lists.proofs.AnyTrip.{any-none, any-reads-back, any-froms-back
 use Rattle.answer_check.specs.RunRules.{headAnywhere}
 use Rattle.answer_check.specs.Pricing.{priceChecks, pricingVerdict, priceText, SheetPriced}
 use Rattle.answer_check.specs.Checking.{formedYes, formedNo, walkYes, walkNo, leastYes, leastNo, firstDifference, walkLine, differenceLines, sameList, leastLine, verdictLines, checkText, verdictOn, SheetChecked}
-use Rattle.answer_check.proofs.Same.{priced-as-01, checked-as-01}
+use Rattle.demands.specs.RefusalTable.{RunApplies, NothingApplies, EntryIsBad, ListIsBad}
+use Rattle.demands.specs.AnyHead.{StartsPast, EntryIsBadAny, ListIsBadAny}
+use Rattle.demands.proofs.Judged.{nothing-judged}
+use Rattle.demands.proofs.Letters.{text-same, same-text}
 use Rattle.promises.proofs.Differs.{first-differs}
-use Rattle.promises.specs.Checks.{Larger, FirstDiffers, FormedFor, CheckSaid, CheckTells, CheckPrinted, ChecksAsAll, PriceTells, PriceStays, CheckStays}
-
--- Two texts are the same exactly where the test says so.
-pub text-same : (a b : List ℕ) → isText a b ≡ true → b ≡ a
-text-same a b e = let both = and-true-both (eqb (length a) (length b)) (startsWith a b) e in whole-key a b (eqb-true (length a) (length b) (both .0)) (both .1)
-
-starts-itself : (a : List ℕ) → startsWith a a ≡ true
-unfolding startsWith
-starts-itself [] = refl
-starts-itself (x ∷ a) = rw (eq-eqb x x refl, starts-itself a)
-
-pub same-text : (a b : List ℕ) → b ≡ a → isText a b ≡ true
-same-text a b e = rw (e, eq-eqb (length a) (length a) refl, starts-itself a)
+use Rattle.promises.specs.Checks.{Larger, FirstDiffers, FormedFor, CheckSaid, CheckTells, CheckPrinted, ChecksAsAll, PriceTells, StaysBy01}
 
 -- Two rows of one length and the list that they hold.
 pub starts-of : (froms tos : List ℕ) → length froms ≡ length tos → map (λ d. d .from) (listOf froms tos) ≡ froms
@@ -373,9 +365,34 @@ price-tells sheet list row n row′ p e =
           (p .bytes ∙ ap (λ t. bytesPut t row) is) (p .left ∙ ap (λ t. rowPut t row) is) l,
     )
 
--- As by 01's rules.
-pub price-stays : PriceStays
-price-stays sheet list row n m row′ row″ p other q = priced-as-01 sheet list other row n m row′ row″ p q
+-- As by 01's rules. No stop starts at the head or right of it.
+module _ (r : Run) (nothing : NothingApplies r) where
+  nothing-past : (from : ℕ) → StartsPast r from → ⊥
+  nothing-past from p =
+      let good = accepted-run r (nothing-judged r nothing) in
+      let listed : p .stop - 1 < length (r .starts) = omega (arith, p .names .file .least, p .names .file .most) in
+      let file = good-file (r .starts) (r .lengths) (p .stop - 1) (first-zero (badPlace (r .starts) (r .lengths)) (length (r .starts)) (good .files .table .sound) (p .stop - 1) listed) in
+      nothing HeadPlace 0 (RunApplies.head-near (p .names .file) (p .names .wanted) (omega (arith, file .long, p .right)))
 
-pub check-stays : CheckStays
-check-stays sheet plan row room n m row′ row″ room′ p place short q enough = checked-as-01 sheet plan (length room) enough place short row n m row′ row″ p (q .given)
+  entry-bad : (froms tos : List ℕ) (i : ℕ) → EntryIsBadAny r froms tos i → EntryIsBad r froms tos i
+  entry-bad froms tos i (inl h) = h
+  entry-bad froms tos i (inr p) = absurd (nothing-past (getD froms i 0) p)
+
+  list-bad : (froms tos : List ℕ) (place : ℕ) → ListIsBadAny r froms tos place → ListIsBad r froms tos place
+  list-bad froms tos place (inl uneven) = inl uneven
+  list-bad froms tos place (inr h) =
+      inr (h .0, record { index = h .1 .index; within = h .1 .within; at = h .1 .at; here = entry-bad froms tos (h .1 .index) (h .1 .here); before = λ j l b. h .1 .before j l (inl b) })
+
+  bad-list : (froms tos : List ℕ) (place : ℕ) → ListIsBad r froms tos place → ListIsBadAny r froms tos place
+  bad-list froms tos place (inl uneven) = inl uneven
+  bad-list froms tos place (inr h) =
+      inr (h .0, record { index = h .1 .index; within = h .1 .within; at = h .1 .at; here = inl (h .1 .here); before = λ j l b. h .1 .before j l (entry-bad froms tos j b) })
+
+pub stays-by-01 : StaysBy01
+stays-by-01 name r nothing =
+    let judged = nothing-judged r nothing in
+    record {
+      bad = λ froms tos place. (list-bad r nothing froms tos place, bad-list r nothing froms tos place);
+      sheet = λ froms tos. plan-text-same name r judged froms tos;
+      least = λ list. (least-any-same (r .turn) (r .head) (stopsOf r) (accepted-sound r judged) list, least-any-back r judged list);
+    }

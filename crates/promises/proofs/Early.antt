@@ -13,7 +13,7 @@ use Rattle.sheet_reader.specs.Reading.{sheetVerdict, ruleVerdict}
 use Rattle.sheet_reader.proofs.Good.{accepted-sheet}
 use Rattle.demands.specs.RefusalTable.{SomeApplies}
 use Rattle.demands.proofs.Checks.{refused-iff}
-use Rattle.promises.specs.TwoTexts.{EarlyApplies, earlyOrder}
+use Rattle.promises.specs.TwoTexts.{EarlyApplies, earlyOrder, AcceptedIsRead}
 use Rattle.promises.proofs.TwoTexts.{early-finds}
 
 module _ (sheet : List ℕ) where
@@ -43,3 +43,6 @@ module _ (sheet : List ℕ) where
       not-there : (b : Bool) → _≡_ {A = ℕ} (cond b 4 0) 0 → b ≡ false
       not-there true h = absurd (omega (arith, h))
       not-there false h = refl
+
+pub accepted-is-read : AcceptedIsRead
+accepted-is-read sheet read rule = none-early sheet read rule

@@ -40,7 +40,7 @@ use Rattle.sheet_reader.specs.Reading.{sheetVerdict, ruleVerdict}
 use Rattle.promises.proofs.Early.{none-early, early-read, early-least}
 use Rattle.promises.proofs.Same.{empty-is, fair-wants, old-sheet, new-sheet, same-sheet, one-change}
 use Rattle.promises.proofs.Written.{written-so, mended-short}
-use Rattle.promises.proofs.Taken.{taken, five-longer}
+use Rattle.promises.proofs.Taken.{reads-total, reads-by-file, taken, five-longer}
 use Rattle.promises.proofs.Strict.{strict, numbers-read, counts-read}
 use Rattle.promises.proofs.Again.{lines-even, upper-again, turn-again, price-there, rule-there, files-said, files-again, table-again, wants-said, wants-again, named-again, asked-again, good-again, remaining-once, reads-once, fates-none}
 
@@ -147,7 +147,13 @@ module _ (sheet text : List ℕ) (k : Facts sheet) (e : text ≡ mendedText shee
   file-kept file = reads-kept (wantedFiles sheet) (wantedCounts sheet) file
 
   pub same-reads : SameReads sheet text
-  same-reads = record { each = λ file. rw (named, counted) (file-kept file); in-all = rw counted total-is }
+  same-reads =
+      record {
+        each = λ file.
+            rw (named, counted)
+            (sym (reads-by-file row asked (row-clean .even) file) ∙ file-kept file ∙ reads-by-file (wantedFiles sheet) (wantedCounts sheet) (lines-even sheet (k .good) (k .few) (k .reads)) file);
+        in-all = rw counted (sym (reads-total asked) ∙ total-is ∙ reads-total (wantedCounts sheet));
+      }
 
   pub in-order : SheetInOrder text
   in-order =
@@ -385,6 +391,7 @@ not-left-out sheet some = go (isEmpty (valueText turnKey (lineAfter 2 sheet))) r
     go false e = e
 
 pub accepted-comes-back : AcceptedComesBack
+unfolding sheetRun
 accepted-comes-back sheet none nothing =
     let good : isRefusal (sheetVerdict sheet .refusal) ≡ false = rw (early-read sheet none) in
     let least = early-least sheet none in

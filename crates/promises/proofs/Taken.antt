@@ -1,10 +1,11 @@
 -- The sheet of an accepted run is taken by the mender.
 use Prim.Native.Nat.{ℕ, zero, suc, _+_, _≤_}
 use mathlib.Core.Path.{_≡_, refl, ap, _∙_}
-use mathlib.Core.Bool.{true, false}
+use mathlib.Core.Bool.{true, false, cond}
 use mathlib.Core.List.{List, [], _∷_, _++_}
 use native.Mathlib.Omega.{arith}
 use lib.ListN.{length, getD, length-append}
+use lib.Dec.{eqb}
 use borrow.Author.Tests.{le-ltb}
 use Rattle.refusals.specs.Refusals.{accepted}
 use Rattle.refusals.proofs.Verdicts.{refuses}
@@ -20,7 +21,8 @@ use Rattle.sheet_reader.proofs.Good.{short-sheet}
 use Rattle.text_pages.specs.Printing.{line}
 use Rattle.sheet_loose.specs.Loose.{looseWantsText, looseEnd, priceLeftOut, firstBadLooseTop, firstBadLooseBelow, firstBadLoose, wantedCounts}
 use Rattle.sheet_loose.specs.Reading.{looseVerdict}
-use Rattle.answer_mend.specs.Wants.{sumBelow, readsInAll}
+use Rattle.answer_mend.specs.Wants.{sumBelow, readsInAll, askedOf, readsOfWant}
+use Rattle.least.specs.Wants.{readsOfFile}
 use Rattle.answer_mend.specs.Mending.{firstLines, sheetRemaining, mendedText, changesText, mendVerdict}
 use Rattle.demands.proofs.Canonical.{number-text}
 use Rattle.promises.proofs.Same.{fair-wants, empty-is, g, below, wants-number, files-number, tail-same, body-same, wants-same, named, counted, remain, old-sheet, new-sheet}
@@ -35,6 +37,14 @@ pub reads-total : (counts : List ℕ) → readsInAll counts ≡ total counts
 unfolding readsInAll sumBelow
 reads-total [] = refl
 reads-total (c ∷ counts) = sum-front (λ i. getD (c ∷ counts) i 0) (length counts) ∙ ap (λ n. c + n) (reads-total counts)
+
+-- So of those of one file.
+pub reads-by-file : (files counts : List ℕ) → length files ≡ length counts → (f : ℕ) → readsOfWant files counts f ≡ readsOfFile files counts f
+unfolding readsOfWant readsOfFile sumBelow
+reads-by-file [] counts e f = refl
+reads-by-file (g ∷ files) [] e f = absurd (omega arith)
+reads-by-file (g ∷ files) (c ∷ counts) e f =
+    sum-front (λ i. askedOf f (getD (g ∷ files) i 0) (getD (c ∷ counts) i 0)) (length files) ∙ ap (λ n. cond (eqb g f) c 0 + n) (reads-by-file files counts (omega arith) f)
 
 -- The price that an empty one means has five digits.
 pub empty-price : decimal emptyTurn ≡ bytes "12000"

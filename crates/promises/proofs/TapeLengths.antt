@@ -1,13 +1,14 @@
 -- The texts of `ltfs` are no longer than the rows of its program: a sheet is within its limit, and an index has fewer files than bytes.
 use Prim.Native.Nat.{ℕ, _+_, _≤_, _<_}
 use mathlib.Core.Path.{_≡_, refl, ap, _∙_}
-use mathlib.Core.Bool.{Bool, true, false, not}
+use mathlib.Core.Bool.{Bool, true, false, not, _||_, or-true}
+use mathlib.Core.Logic.{_⊎_, inl, inr}
 use mathlib.Core.List.{List, [], _∷_, _++_}
 use native.Mathlib.Omega.{arith}
 use lib.ListN.{length, drop, getD, length-append, length-take, length-drop}
 use lib.Seq.{take-append-seam, drop-append-seam}
 use lib.Dec.{ltb, eqb}
-use borrow.Author.Tests.{le-ltb, ltb-false}
+use borrow.Author.Tests.{lt-ltb, le-ltb, ltb-false}
 use Rattle.refusals.specs.declared.Refusal.the-variants.{BadName, BadText, ManyExtents, FarFile, Overlap}
 use Rattle.refusals.specs.declared.Verdict.{Verdict}
 use Rattle.refusals.specs.Refusals.{refuseIf}
@@ -24,10 +25,11 @@ use Rattle.tape_markup.specs.Markup.{Token, Open, Close, Char, Broken, tokensOf
 use Rattle.tape_markup.specs.Tree.{Forest, none, char, element, innermost, frame, frames, treeOf}
 use Rattle.tape_markup.proofs.Counts.{few-from}
 use Rattle.tape_files.specs.Index.{some, Level, Role, holds, file, other, roleOf, filesOfRole, filesIn, indexFiles, dataPartitionOf}
+use Rattle.answer_ltfs.specs.declared.Told.{Told}
 use Rattle.answer_ltfs.specs.TapeTable.{inSeveral, isEmptyFile, liesElsewhere, howMany, areFar, someOverlap, rangesIn, tapeTable, areGoodTexts, ltfsSheet, tapeVerdict}
-use Rattle.answer_ltfs.specs.Input.{mostTapeInput, labelKey, indexKey, emptyKey, otherKey, isFramed, countedText, afterCounted, inputName, inputLabel, inputIndex, badFrame, tapeInputVerdict, answerText, leftOutText, reportText, rowsShort}
+use Rattle.answer_ltfs.specs.Input.{mostTapeInput, labelKey, indexKey, emptyKey, otherKey, isFramed, countedText, afterCounted, inputName, inputLabel, inputIndex, badFrame, tapeInputVerdict, answerText, leftOutText, reportText, rowsShort, InputAnswered}
 use Rattle.answer_ltfs.proofs.Promise.{sheet-within}
-use Rattle.promises.specs.Lengths.{sheetRow, reportRow, TapeIsWhole, TapeKeepsBehind}
+use Rattle.promises.specs.Lengths.{sheetRow, reportRow, TapeIsWhole, BothOrNeither, TapeInAnyRows, TapeKeepsBehind}
 use Rattle.promises.proofs.Lengths.{some-begun, number-length, refusal-short, refusal-begins}
 
 -- The elements of a tree are fewer than the text's bytes: each begins with a token of its own.
@@ -195,20 +197,42 @@ module _ (input : List ℕ) where
             number-length otherKey elsewhere (omega (arith, few, index-few input, counted-few (liesElsewhere (dataPartitionOf (treeOf (inputLabel input)))) index)),
           ))
 
+-- What two rows are left with.
+module _ (input out notes : List ℕ) (r : Told) (out′ notes′ : List ℕ) (h : InputAnswered input out notes r out′ notes′) where
+  fits-both : length (answerText input) ≤ length out → length (reportText input) ≤ length notes → rowsShort (answerText input) (reportText input) out notes ≡ false
+  fits-both wide long = rw (le-ltb (length out) (length (answerText input)) wide, le-ltb (length notes) (length (reportText input)) long)
+
+  one-short : (length out < length (answerText input)) ⊎ (length notes < length (reportText input)) → rowsShort (answerText input) (reportText input) out notes ≡ true
+  one-short (inl l) = rw (lt-ltb (length out) (length (answerText input)) l)
+  one-short (inr l) = rw (lt-ltb (length notes) (length (reportText input)) l) (or-true (ltb (length out) (length (answerText input))))
+
+  both-or-neither : BothOrNeither (answerText input) (reportText input) out notes r out′ notes′
+  both-or-neither =
+      record {
+        both = λ wide long.
+            let fits = fits-both wide long in
+            let bytes : r .bytes ≡ length (answerText input) = ap (λ t. t .bytes) (h .told) ∙ rw fits in
+            let noted : r .noted ≡ length (reportText input) = ap (λ t. t .noted) (h .told) ∙ rw fits in
+            let sheet : out′ ≡ answerText input ++ drop (length (answerText input)) out = h .sheet ∙ rw fits in
+            let listed : notes′ ≡ reportText input ++ drop (length (reportText input)) notes = h .listed ∙ rw fits in (
+              (bytes, noted),
+              (rw (bytes, sheet) (take-append-seam (answerText input) (drop (length (answerText input)) out)), rw (noted, listed) (take-append-seam (reportText input) (drop (length (reportText input)) notes))),
+            );
+        neither = λ short.
+            let e = one-short short in
+            ((ap (λ t. t .bytes) (h .told) ∙ rw e, ap (λ t. t .noted) (h .told) ∙ rw e), (h .sheet ∙ rw e, h .listed ∙ rw e));
+      }
+
 pub tape-is-whole : TapeIsWhole
 tape-is-whole input out notes r out′ notes′ h wide long =
     let text = text-few input in
-    let fits : rowsShort (answerText input) (reportText input) out notes ≡ false =
-    rw (le-ltb (length out) (length (answerText input)) (omega (arith, text .0)), le-ltb (length notes) (length (reportText input)) (omega (arith, report-few input))) in
-    let bytes : r .bytes ≡ length (answerText input) = ap (λ t. t .bytes) (h .told) ∙ rw fits in
-    let noted : r .noted ≡ length (reportText input) = ap (λ t. t .noted) (h .told) ∙ rw fits in
-    let sheet : out′ ≡ answerText input ++ drop (length (answerText input)) out = h .sheet ∙ rw fits in
-    let listed : notes′ ≡ reportText input ++ drop (length (reportText input)) notes = h .listed ∙ rw fits in
-    record {
-      some = omega (arith, bytes, text .1);
-      text = rw (bytes, sheet) (take-append-seam (answerText input) (drop (length (answerText input)) out));
-      report = rw (noted, listed) (take-append-seam (reportText input) (drop (length (reportText input)) notes));
-    }
+    let told = both-or-neither input out notes r out′ notes′ h .both (omega (arith, text .0)) (omega (arith, report-few input)) in
+    record { some = omega (arith, told .0 .0, text .1); text = told .1 .0; report = told .1 .1 }
+
+pub tape-in-any-rows : TapeInAnyRows
+tape-in-any-rows input wide long out notes w r wide′ long′ out′ notes′ h enough some g =
+    let whole = tape-is-whole input wide long w wide′ long′ h enough some in
+    rw (whole .text, whole .report) (both-or-neither input out notes r out′ notes′ g)
 
 pub tape-keeps-behind : TapeKeepsBehind
 tape-keeps-behind input out notes r out′ notes′ h = go (rowsShort (answerText input) (reportText input) out notes) refl

@@ -1,6 +1,6 @@
 -- Pricing a list and checking a plan sheet, with the head anywhere. `check` says `walk=yes` exactly when the sheet handed in is the plan sheet of its list,
 -- and else names the first line that differs; and `least=yes` exactly when that list is the least one, and else by how much its sum is larger.
--- `price` answers with the plan sheet of the list handed in. Where 01 refuses by neither 7 nor 9, both answer as by its rules.
+-- `price` answers with the plan sheet of the list handed in. Where 01 takes the run, both go by its words.
 use Prim.Native.Nat.{ℕ, suc, _+_, _-_, _≤_}
 use mathlib.Core.Path.{_≡_}
 use mathlib.Core.Logic.{_↔_}
@@ -8,20 +8,23 @@ use mathlib.Core.Bool.{false, cond}
 use mathlib.Core.List.{List, [], _∷_, _++_}
 use lib.ListN.{length, take}
 use lib.Dec.{eqb}
-use Rattle.refusals.specs.declared.Refusal.the-variants.{HeadPlace, ShortRoom}
 use Rattle.refusals.specs.Refusals.{isRefusal}
 use Rattle.runs.specs.Run.{Run, stopsOf}
 use Rattle.runs.specs.Lists.{Detour, listOf}
 use Rattle.runs.specs.AnyHead.{WellFormedAny}
+use Rattle.least.specs.Least.{LeastForRun}
 use Rattle.least.specs.AnyHead.{LeastAny, listSumAny}
 use Rattle.text_bytes.specs.Text.{bytes, decimal, lineFeed}
 use Rattle.text_lines.specs.Lines.{lineAfter}
 use Rattle.sheet_reader.specs.Sheet.{sheetRun, sheetName}
+use Rattle.sheet_writer.specs.PlanSheet.{planText}
 use Rattle.sheet_writer.specs.AnyHead.{planAnyText}
 use Rattle.sheet_lists.specs.Form.{planFroms, planTos, listFroms, listTos}
-use Rattle.answer_check.specs.RunRules.{headAnywhere, headAtTheRight}
-use Rattle.answer_check.specs.Pricing.{pricingVerdict, PriceGiven, SheetPriced}
-use Rattle.answer_check.specs.Checking.{checkVerdict, CheckGiven, verdictOn, SheetChecked}
+use Rattle.answer_check.specs.RunRules.{headAnywhere}
+use Rattle.answer_check.specs.Pricing.{pricingVerdict, SheetPriced}
+use Rattle.answer_check.specs.Checking.{verdictOn, SheetChecked}
+use Rattle.demands.specs.RefusalTable.{NothingApplies, ListIsBad}
+use Rattle.demands.specs.AnyHead.{ListIsBadAny}
 
 -- By how much the sum of a list is larger than the least sum of a run.
 pub record Larger (run : Run) (list : List Detour) (by : ℕ) : Type 0 where
@@ -84,21 +87,12 @@ PriceTells =
     × (length (planAnyText (sheetName sheet) (sheetRun sheet) (listFroms list) (listTos list)) ≤ length row
     → take n row′ ≡ planAnyText (sheetName sheet) (sheetRun sheet) (listFroms list) (listTos list))
 
--- Whatever they answer by 01's rules, in 5,120 words, other than 7 and 9: the same bytes, in no less room.
-abbrev pub PriceStays : Type 0
-PriceStays =
-    (sheet list row : List ℕ) (n m : ℕ) (row′ row″ : List ℕ)
-    → PriceGiven headAtTheRight sheet list row n row′
-    → (pricingVerdict headAtTheRight sheet list .refusal ≡ HeadPlace → ⊥)
-    → SheetPriced sheet list row m row″
-    → (n ≡ m) × (row′ ≡ row″)
+-- Where 01's table of 1 to 7 takes a run, the words of the tables of `price` and `check` (TwoTexts) are 01's: the same lists are bad, at the same place; a list has 01's plan
+-- sheet; and the same list is the least. Of a run that it does not take these tables differ from 01's in 7 alone.
+pub record AsBy01 (name : List ℕ) (r : Run) : Type 0 where
+  pub bad : (froms tos : List ℕ) (place : ℕ) → ListIsBadAny r froms tos place ↔ ListIsBad r froms tos place
+  pub sheet : (froms tos : List ℕ) → planAnyText name r froms tos ≡ planText name r froms tos
+  pub least : (list : List Detour) → LeastAny r list ↔ LeastForRun r list
 
-abbrev pub CheckStays : Type 0
-CheckStays =
-    (sheet plan row room : List ℕ) (n m : ℕ) (row′ row″ room′ : List ℕ)
-    → CheckGiven headAtTheRight 5120 sheet plan row n row′
-    → (checkVerdict headAtTheRight 5120 sheet plan .refusal ≡ HeadPlace → ⊥)
-    → (checkVerdict headAtTheRight 5120 sheet plan .refusal ≡ ShortRoom → ⊥)
-    → SheetChecked sheet plan row room m row″ room′
-    → 5120 ≤ length room
-    → (n ≡ m) × (row′ ≡ row″)
+abbrev pub StaysBy01 : Type 0
+StaysBy01 = (name : List ℕ) (r : Run) → NothingApplies r → AsBy01 name r

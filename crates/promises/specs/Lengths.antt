@@ -3,12 +3,13 @@
 use Prim.Native.Nat.{ℕ, _^_, _≤_, _<_}
 use mathlib.Core.Path.{_≡_}
 use mathlib.Core.Bool.{Bool}
+use mathlib.Core.Logic.{_⊎_}
 use mathlib.Core.List.{List, _++_}
 use lib.ListN.{length, take, drop, getD}
 use Rattle.refusals.specs.declared.Refusal.the-variants.{Accepted, ShortRow}
 use Rattle.refusals.specs.declared.Verdict.{Verdict}
 use Rattle.text_bytes.specs.Text.{bytes}
-use Rattle.text_pages.specs.Printing.{pairLine, Put}
+use Rattle.text_pages.specs.Printing.{Put}
 use Rattle.sheet_writer.specs.declared.Written.{Written}
 use Rattle.sheet_writer.specs.RefusalLines.{RefusalWritten}
 use Rattle.answer_rewrite.specs.Rewriting.{rewritten, SheetRewritten}
@@ -136,7 +137,7 @@ waitingRow = 50
 abbrev pub WaitingIsWhole : Type 0
 WaitingIsWhole =
     (ones twos : ℕ) (row : List ℕ) (n : ℕ) (row′ : List ℕ)
-    → Put row 0 (pairLine (bytes "waiting=") ones twos) 50 row′ n
+    → Put row 0 (bytes "waiting=" ++ pair ones twos ++ bytes "\n") 50 row′ n
     → waitingRow ≤ length row
     → take n row′ ≡ bytes "waiting=" ++ pair ones twos ++ bytes "\n"
 
@@ -156,6 +157,21 @@ TapeIsWhole =
     → sheetRow ≤ length out
     → reportRow ≤ length notes
     → TapePrints input r out′ notes′
+
+-- Any rows take both texts or, where one is shorter than its text, neither, and then nothing is told.
+pub record BothOrNeither (text report out notes : List ℕ) (r : Told) (out′ notes′ : List ℕ) : Type 0 where
+  pub both : length text ≤ length out → length report ≤ length notes
+      → ((r .bytes ≡ length text) × (r .noted ≡ length report)) × ((take (r .bytes) out′ ≡ text) × (take (r .noted) notes′ ≡ report))
+  pub neither : (length out < length text) ⊎ (length notes < length report) → ((r .bytes ≡ 0) × (r .noted ≡ 0)) × ((out′ ≡ out) × (notes′ ≡ notes))
+
+abbrev pub TapeInAnyRows : Type 0
+TapeInAnyRows =
+    (input wide long out notes : List ℕ) (w r : Told) (wide′ long′ out′ notes′ : List ℕ)
+    → InputAnswered input wide long w wide′ long′
+    → sheetRow ≤ length wide
+    → reportRow ≤ length long
+    → InputAnswered input out notes r out′ notes′
+    → BothOrNeither (take (w .bytes) wide′) (take (w .noted) long′) out notes r out′ notes′
 
 -- Whatever rows are lent, what stands behind the two texts is as it was.
 abbrev pub TapeKeepsBehind : Type 0

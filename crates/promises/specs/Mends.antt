@@ -6,17 +6,18 @@ use mathlib.Core.Path.{_≡_}
 use mathlib.Core.List.{List, [], _++_}
 use lib.ListN.{length, take, drop, getD}
 use Rattle.refusals.specs.declared.Refusal.the-variants.{Accepted}
+use Rattle.runs.specs.Run.{total}
+use Rattle.least.specs.Wants.{readsOfFile}
 use Rattle.text_bytes.specs.Text.{bytes, decimal}
 use Rattle.text_lines.specs.Lines.{lineAfter, valueText}
 use Rattle.sheet_reader.specs.Lines.{turnKey}
-use Rattle.sheet_reader.specs.Sheet.{sheetTurn, sheetFiles, sheetName, sheetRun}
-use Rattle.text_pages.specs.Printing.{line, numberLine}
+use Rattle.sheet_reader.specs.Sheet.{sheetFiles, sheetName, sheetRun}
 use Rattle.sheet_writer.specs.Writing.{sheetText}
 use Rattle.sheet_loose.specs.Loose.{looseFiles, looseWants, wantsSaid, firstBadLoose, wantedFiles, wantedCounts}
 use Rattle.answer_mend.specs.declared.Mended.{Mended}
 use Rattle.answer_mend.specs.declared.wants.Fate.{Fate}
 use Rattle.answer_mend.specs.declared.wants.Fate.the-variants.{Stays, Moved, Added, Dropped}
-use Rattle.answer_mend.specs.Wants.{readsInAll, readsOfWant, fateOf}
+use Rattle.answer_mend.specs.Wants.{fateOf}
 use Rattle.answer_mend.specs.Mending.{mendedText, changesText, SheetMended}
 use Rattle.demands.specs.RefusalTable.{NothingApplies, SomeApplies}
 use Rattle.promises.specs.TwoTexts.{EarlyApplies, earlyOrder}
@@ -58,8 +59,8 @@ pub record WasMended (sheet text : List ℕ) : Type 0 where
 -- The total of the counts of a file's want lines on the old sheet is that of its want lines on the mended one, whatever the file; and so is the total
 -- over all files.
 pub record SameReads (old new : List ℕ) : Type 0 where
-  pub each : (file : ℕ) → readsOfWant (wantedFiles new) (wantedCounts new) file ≡ readsOfWant (wantedFiles old) (wantedCounts old) file
-  pub in-all : readsInAll (wantedCounts new) ≡ readsInAll (wantedCounts old)
+  pub each : (file : ℕ) → readsOfFile (wantedFiles new) (wantedCounts new) file ≡ readsOfFile (wantedFiles old) (wantedCounts old) file
+  pub in-all : total (wantedCounts new) ≡ total (wantedCounts old)
 
 abbrev pub ReadsKept : Type 0
 ReadsKept = (sheet text : List ℕ) → WasMended sheet text → SameReads sheet text
@@ -169,8 +170,8 @@ OnceIsEnough =
 pub record SheetComesBack (sheet : List ℕ) : Type 0 where
   pub above : List ℕ
   pub back : List ℕ
-  pub old : sheet ≡ above ++ (line turnKey (valueText turnKey (lineAfter 2 sheet)) ++ back)
-  pub new : mendedText sheet ≡ above ++ (numberLine turnKey (sheetTurn sheet) ++ back)
+  pub old : sheet ≡ above ++ ((bytes "turn=" ++ valueText turnKey (lineAfter 2 sheet) ++ bytes "\n") ++ back)
+  pub new : mendedText sheet ≡ above ++ ((bytes "turn=" ++ decimal (sheetRun sheet .turn) ++ bytes "\n") ++ back)
   pub given : (valueText turnKey (lineAfter 2 sheet) ≡ [] → ⊥) → mendedText sheet ≡ sheet
   pub listed : ListedWhen (valueText turnKey (lineAfter 2 sheet) ≡ []) (changesText sheet) 3 (bytes "turn")
 

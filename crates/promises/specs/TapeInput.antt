@@ -14,7 +14,6 @@ use Rattle.answer_ltfs.specs.declared.Report.{Report}
 use Rattle.answer_ltfs.specs.declared.Told.{Told}
 use Rattle.answer_ltfs.specs.TapeTable.{ltfsSheet, ltfsReport}
 use Rattle.answer_ltfs.specs.Input.{InputAnswered}
-use Rattle.answer_ltfs.specs.Framed.{inputText}
 use Rattle.demands.specs.RefusalTable.{FirstThatApplies}
 use Rattle.demands.specs.Lines.{Stands, Name}
 use Rattle.demands.specs.Tapes.{TapeApplies, tapeOrder}
@@ -24,6 +23,15 @@ use Rattle.promises.specs.Answers.{twoLines}
 -- The two lines of the report: how many files were left out, empty or in the other partition, as `ltfsReport` counts them.
 abbrev pub leftOutLines : Report → List ℕ
 leftOutLines r = (bytes "empty=" ++ decimal (r .empty) ++ bytes "\n") ++ (bytes "other=" ++ decimal (r .other) ++ bytes "\n")
+
+-- Name, label and index put together: a line with the name; a line with the label's number of bytes, and the label; so the index, and nothing behind it.
+abbrev pub putTogether : List ℕ → List ℕ → List ℕ → List ℕ
+putTogether name label index =
+    (bytes "tape=" ++ name ++ bytes "\n")
+    ++ ((bytes "label=" ++ decimal (length label) ++ bytes "\n")
+    ++ (label
+    ++ ((bytes "index=" ++ decimal (length index) ++ bytes "\n")
+    ++ index)))
 
 pub record TapePrinted (name label index row printed noted : List ℕ) : Type 0 where
   pub kind : Refusal
@@ -39,8 +47,8 @@ abbrev pub TapeByItsTable : Type 0
 TapeByItsTable =
     (name label index out notes : List ℕ) (r : Told) (out′ notes′ : List ℕ)
     → isName name ≡ true
-    → length (inputText name label index) ≤ 524288
-    → InputAnswered (inputText name label index) out notes r out′ notes′
+    → length (putTogether name label index) ≤ 524288
+    → InputAnswered (putTogether name label index) out notes r out′ notes′
     → sheetRow ≤ length out
     → reportRow ≤ length notes
     → TapePrinted name label index out (take (r .bytes) out′) (take (r .noted) notes′)
@@ -50,7 +58,7 @@ pub record OthersRefused (input printed noted : List ℕ) : Type 0 where
   pub unnamed : (Stands tapeKey Name input 0 → ⊥) → (printed ≡ bytes "refused=13\nplace=0\n") × (noted ≡ [])
   pub long : Stands tapeKey Name input 0 → 524288 < length input → (printed ≡ bytes "refused=20\nplace=0\n") × (noted ≡ [])
   pub unframed : Stands tapeKey Name input 0
-      → ((name label index : List ℕ) → isName name ≡ true → input ≡ inputText name label index → ⊥)
+      → ((name label index : List ℕ) → isName name ≡ true → input ≡ putTogether name label index → ⊥)
       → (printed ≡ bytes "refused=20\nplace=0\n") × (noted ≡ [])
 
 abbrev pub OtherTapesRefused : Type 0

@@ -16,6 +16,8 @@ use Rattle.sheet_writer.specs.AnyHead.{planAnyText}
 use Rattle.sheet_lists.specs.Form.{planFroms, planTos, listFroms, listTos}
 use Rattle.answer_check.specs.Pricing.{SheetPriced}
 use Rattle.answer_check.specs.Checking.{SheetChecked, CheckAnswered}
+use Rattle.refusals.specs.Refusals.{accepted}
+use Rattle.sheet_reader.specs.Reading.{sheetVerdict, ruleVerdict}
 use Rattle.demands.specs.RefusalTable.{FirstBad, HasStops, FirstThatApplies, SomeApplies}
 use Rattle.demands.specs.AnyHead.{RunAppliesAny, ListIsBadAny}
 use Rattle.demands.specs.Lines.{LineIsBad, linesDue, Ruled}
@@ -32,6 +34,10 @@ pub data EarlyApplies (sheet : List ℕ) : Refusal → ℕ → Type 0 where
 
 abbrev pub earlyOrder : List Refusal
 earlyOrder = LongSheet ∷ BadLine ∷ RetiredRule ∷ []
+
+-- What reads back, as statements on single crates say it (`SheetReadsBack`, `SheetsReadBack`): neither 12 and 11 nor 19 apply.
+abbrev pub AcceptedIsRead : Type 0
+AcceptedIsRead = (sheet : List ℕ) → sheetVerdict sheet ≡ accepted → ruleVerdict sheet ≡ accepted → SomeApplies (EarlyApplies sheet) earlyOrder → ⊥
 
 -- The run with a list, and the run with the room.
 pub data PricedApplies (r : Run) (froms tos : List ℕ) : Refusal → ℕ → Type 0 where

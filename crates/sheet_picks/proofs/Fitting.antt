@@ -1,5 +1,5 @@
--- The run of the entries is one that 1 to 5 accept, its sheet reads back as that run, and two answers that fit are equal.
-use Prim.Native.Nat.{ℕ, zero, suc, _+_, _-_, _≤_, _<_}
+-- The run of the entries is one that 1 to 5 accept, its sheet reads back as that run whatever 6 and 7 say of it, and two answers that fit are equal.
+use Prim.Native.Nat.{ℕ, zero, suc, _+_, _-_, _^_, _≤_, _<_}
 use mathlib.Core.Path.{_≡_, refl, ap, sym, _∙_}
 use mathlib.Core.Bool.{Bool, true, false, cond, not, _||_, _&&_}
 use mathlib.Core.List.{List, [], _∷_, _++_}
@@ -9,8 +9,8 @@ use lib.ListN.{length, getD, length-replicate, getD-replicate}
 use lib.Dec.{eqb, ltb, leb}
 use borrow.Author.Tests.{eq-eqb, ne-eqb, le-ltb, lt-leb}
 use Rattle.refusals.specs.declared.Refusal.the-variants.{FileRows, BadFile, WantRows, BadWant, TooManyReads, TurnPrice, HeadPlace}
-use Rattle.refusals.specs.Refusals.{accepted, firstOf, firstWhere, refuseIf, refuseAt}
-use Rattle.runs.specs.Run.{Run, Stop, lastPlace, mostReads, mostFiles, mostWants, total, endAt}
+use Rattle.refusals.specs.Refusals.{accepted, isRefusal, firstOf, firstWhere, refuseIf, refuseAt}
+use Rattle.runs.specs.Run.{Run, Stop, stopsOf, lastPlace, highestTurn, mostReads, mostFiles, mostWants, total, endAt}
 use Rattle.runs.specs.Alone.{zeros, aloneOf, loneStops, placeChecks, judgeAlone}
 use Rattle.runs.specs.Judging.{rightEnd, endBefore, badPlace, badNumber, badFile, numberBefore, badWant, tableChecks, wantsChecks, headChecks, judgeOf}
 use Rattle.runs.specs.Rows.{stopAt}
@@ -18,9 +18,8 @@ use Rattle.runs.proofs.Search.{first-all}
 use Rattle.runs.proofs.Alone.{alone-judged, plain-length, plain-at}
 use Rattle.text_lines.specs.Lines.{eachOf}
 use Rattle.text_lines.proofs.Filling.{length-each}
-use Rattle.sheet_reader.specs.Sheet.{mostSheetFiles}
 use Rattle.sheet_writer.specs.Writing.{sheetText}
-use Rattle.sheet_writer.proofs.RoundTrip.{round-trip}
+use Rattle.sheet_writer.proofs.RoundTrip.{SmallRun, small-run, small-trip}
 use Rattle.tape_entries.specs.Entries.{bothRows, EntryFrom, readsOfEntry}
 use Rattle.sheet_picks.specs.declared.Picks.{Picks}
 use Rattle.sheet_picks.specs.Entries.{lastOr, EntriesFrom, EntriesOf, mostEntries, entryLengths, entryReads}
@@ -28,7 +27,7 @@ use Rattle.sheet_picks.specs.Sheets.{givenOr, pickedRun, pickedSheet}
 use Rattle.sheet_picks.specs.Names.{namesText}
 use Rattle.sheet_picks.specs.Writing.{picksVerdict, HandedFor, PicksHanded, PicksWritten}
 use Rattle.sheet_picks.specs.Private.{EntryRows}
-use Rattle.sheet_picks.specs.Promises.{PicksAreOne, Wanted, FilesAndWantsFit, PickedRunsFit, UsualHeadFits, ReadAgain, SheetsReadBack}
+use Rattle.sheet_picks.specs.Promises.{PicksAreOne, Wanted, OnlyHeadOrPrice, nothing, turn-price, head-place, PickedRunsFit, UsualHeadFits, ReadAgain, SheetsReadBack}
 use Rattle.sheet_picks.proofs.InTurn.{in-turn-rows, entries-are-one}
 use Rattle.sheet_picks.proofs.Apart.{entries-are-apart, entry-near, reads-add-up, reads-some}
 use Rattle.sheet_picks.proofs.Stands.{each-at}
@@ -162,23 +161,55 @@ module _ (starts ends firsts lasts : List ℕ) (p : Wanted starts ends firsts la
   usual-fits =
       rw (places-fit, wants-fit, right-is, le-ltb lastPlace (lastOr 0 lasts) last-near, le-ltb (lastOr 0 lasts) (lastOr 0 lasts) (omega arith))
 
+-- 6 and 7, by their tests.
+head-or-price : (turn head right : ℕ) → OnlyHeadOrPrice (firstOf (firstOf (headChecks turn head right) ∷ []) .refusal)
+head-or-price turn head right = go (ltb highestTurn turn) (ltb lastPlace head || ltb head right)
+  where
+    go : (price place : Bool) → OnlyHeadOrPrice (firstOf (firstOf (refuseIf price TurnPrice ∷ refuseIf place HeadPlace ∷ []) ∷ []) .refusal)
+    go true place = turn-price
+    go false true = head-place
+    go false false = nothing
+
 pub picked-runs-fit : PickedRunsFit
-unfolding pickedRun
-picked-runs-fit starts ends firsts lasts head turn p = (files-fit starts ends firsts lasts p, wants-fit starts ends firsts lasts p)
+unfolding pickedRun judgeOf
+picked-runs-fit starts ends firsts lasts head turn p =
+    let run = pickedRun starts firsts lasts head turn in
+    rw (files-fit starts ends firsts lasts p, wants-fit starts ends firsts lasts p) (head-or-price (run .turn) (run .head) (rightEnd (stopsOf run)))
 
 pub usual-head-fits : UsualHeadFits
 unfolding pickedRun
 usual-head-fits starts ends firsts lasts p =
     alone-judged firsts (entryLengths firsts lasts) (eachOf suc (length firsts)) (entryReads starts firsts lasts) (lastOr 0 lasts) 12000 ∙ usual-fits starts ends firsts lasts p
 
-few-files : (starts firsts lasts head turn : List ℕ) → length firsts ≤ mostEntries → length (pickedRun starts firsts lasts head turn .starts) ≤ mostSheetFiles
+-- A number that is given is a word, and so is one that stands for none.
+given-word : (none : ℕ) (row : List ℕ) → none < 2 ^ 64 → getD row 0 0 < 2 ^ 64 → givenOr none row < 2 ^ 64
+given-word none [] l m = l
+given-word none (given ∷ row) l m = m
+
+-- A sheet can hold the run: but for head and price it is that of the usual ones, which is accepted.
+small-picked : (starts ends firsts lasts head turn : List ℕ) → Wanted starts ends firsts lasts → getD head 0 0 < 2 ^ 64 → getD turn 0 0 < 2 ^ 64 → SmallRun (pickedRun starts firsts lasts head turn)
 unfolding pickedRun
-few-files starts firsts lasts head turn l = omega arith
+small-picked starts ends firsts lasts head turn p h t =
+    let usual = small-run (pickedRun starts firsts lasts [] []) (ap (λ v. isRefusal (v .refusal)) (usual-head-fits starts ends firsts lasts p)) (omega (arith, p .few)) in
+    record {
+      head = given-word (lastOr 0 lasts) head (omega (arith, last-near starts ends firsts lasts p)) h;
+      turn = given-word 12000 turn (omega arith) t;
+      files = usual .files;
+      table = usual .table;
+      numbered = usual .numbered;
+      wants = usual .wants;
+      pairs = usual .pairs;
+      starts = usual .starts;
+      lengths = usual .lengths;
+      aggregates = usual .aggregates;
+      numbers = usual .numbers;
+      counts = usual .counts;
+    }
 
 pub sheets-read-back : SheetsReadBack
 unfolding pickedSheet
-sheets-read-back name starts firsts lasts head turn named few e =
-    let r = round-trip name (pickedRun starts firsts lasts head turn) e (few-files starts firsts lasts head turn few) named in
+sheets-read-back name starts ends firsts lasts head turn named p h t =
+    let r = small-trip name (pickedRun starts firsts lasts head turn) (small-picked starts ends firsts lasts head turn p h t) named in
     record { read = r .accepts; ruled = r .ruled; run-is = r .same-run; name-is = r .same-name }
 
 -- Two answers.

@@ -1,12 +1,14 @@
 -- What is promised of entries, runs and sheets, beside the contract. Proved in proofs/InTurn, proofs/Apart and proofs/Fitting.
-use Prim.Native.Nat.{ℕ, _≤_, _<_}
+use Prim.Native.Nat.{ℕ, _^_, _≤_, _<_}
 use mathlib.Core.Path.{_≡_}
 use mathlib.Core.Bool.{true}
 use mathlib.Core.List.{List, []}
 use lib.ListN.{length, getD}
-use Rattle.refusals.specs.Refusals.{accepted, firstOf}
+use Rattle.refusals.specs.declared.Refusal.{Refusal}
+use Rattle.refusals.specs.declared.Refusal.the-variants.{Accepted, TurnPrice, HeadPlace}
+use Rattle.refusals.specs.Refusals.{accepted}
 use Rattle.runs.specs.Run.{Run, lastPlace, mostReads, total}
-use Rattle.runs.specs.Judging.{tableChecks, wantsChecks, judgeOf}
+use Rattle.runs.specs.Judging.{judgeOf}
 use Rattle.text_bytes.specs.Text.{isName}
 use Rattle.sheet_reader.specs.Sheet.{sheetRun}
 use Rattle.sheet_reader.specs.Reading.{sheetVerdict, ruleVerdict, readName}
@@ -51,18 +53,19 @@ FilesLieInEntries = (starts ends firsts lasts : List ℕ) → Wanted starts ends
 abbrev pub ReadsAddUp : Type 0
 ReadsAddUp = (starts ends firsts lasts : List ℕ) → Wanted starts ends firsts lasts → total (entryReads starts firsts lasts) ≡ length starts
 
--- 1 to 5 accept the run, whatever head and turn price are given; without any 6 and 7 accept it too.
-abbrev pub FilesAndWantsFit : Run → Type 0
-FilesAndWantsFit run =
-    (firstOf (tableChecks (run .starts) (run .lengths) (run .aggregates)) ≡ accepted) × (firstOf (wantsChecks (length (run .starts)) (run .numbers) (run .counts)) ≡ accepted)
+-- 1 to 5 accept the run, whatever head and turn price are given: it is accepted, or refused by 6 or 7. Without a head and a price these accept it too.
+pub data OnlyHeadOrPrice : Refusal → Type 0 where
+  nothing : OnlyHeadOrPrice Accepted
+  turn-price : OnlyHeadOrPrice TurnPrice
+  head-place : OnlyHeadOrPrice HeadPlace
 
 abbrev pub PickedRunsFit : Type 0
-PickedRunsFit = (starts ends firsts lasts head turn : List ℕ) → Wanted starts ends firsts lasts → FilesAndWantsFit (pickedRun starts firsts lasts head turn)
+PickedRunsFit = (starts ends firsts lasts head turn : List ℕ) → Wanted starts ends firsts lasts → OnlyHeadOrPrice (judgeOf (pickedRun starts firsts lasts head turn) .refusal)
 
 abbrev pub UsualHeadFits : Type 0
 UsualHeadFits = (starts ends firsts lasts : List ℕ) → Wanted starts ends firsts lasts → judgeOf (pickedRun starts firsts lasts [] []) ≡ accepted
 
--- The sheet of a run that is accepted reads back as that run, under its name.
+-- The sheet reads back as that run, under its name, also where 6 or 7 refuse the run: whatever words are given as the head and the price.
 pub record ReadAgain (name sheet : List ℕ) (run : Run) : Type 0 where
   pub read : sheetVerdict sheet ≡ accepted
   pub ruled : ruleVerdict sheet ≡ accepted
@@ -70,5 +73,10 @@ pub record ReadAgain (name sheet : List ℕ) (run : Run) : Type 0 where
   pub name-is : readName sheet ≡ name
 
 abbrev pub SheetsReadBack : Type 0
-SheetsReadBack = (name starts firsts lasts head turn : List ℕ) → isName name ≡ true → length firsts ≤ mostEntries → judgeOf (pickedRun starts firsts lasts head turn) ≡ accepted
+SheetsReadBack =
+    (name starts ends firsts lasts head turn : List ℕ)
+    → isName name ≡ true
+    → Wanted starts ends firsts lasts
+    → getD head 0 0 < 2 ^ 64
+    → getD turn 0 0 < 2 ^ 64
     → ReadAgain name (pickedSheet name starts firsts lasts head turn) (pickedRun starts firsts lasts head turn)

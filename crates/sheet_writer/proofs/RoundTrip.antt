@@ -1,5 +1,5 @@
--- Reading what the run sheet writer wrote for an accepted run within the sheet's limits gives that run, the name included;
--- and that sheet is never too long.
+-- Reading the sheet of a run that a sheet can hold, so of every accepted run within the sheet's limits, gives that run, the name included; and that sheet is
+-- never too long.
 use Prim.Native.Nat.{ℕ, zero, suc, _+_, _*_, _^_, _≤_, _<_}
 use mathlib.Core.Path.{_≡_, refl, ap, sym, _∙_}
 use mathlib.Core.Bool.{true, false, cond, _&&_, _||_}
@@ -388,11 +388,10 @@ pub record ReadsBack (name : List ℕ) (run : Run) : Type 0 where
   pub ruled : ruleVerdict (sheetText name run) ≡ accepted
   pub same-name : readName (sheetText name run) ≡ name
 
--- For every accepted run within the sheet's limits.
-pub round-trip : (name : List ℕ) (run : Run) → judgeOf run ≡ accepted → length (run .starts) ≤ mostSheetFiles → isName name ≡ true → ReadsBack name run
+-- For every run that a sheet can hold, whatever 1 to 7 say of it.
+pub small-trip : (name : List ℕ) (run : Run) → SmallRun run → isName name ≡ true → ReadsBack name run
 unfolding text sheetVerdict ruleVerdict readName
-round-trip name run e few named =
-    let small = small-run run (ap (λ v. isRefusal (v .refusal)) e) few in
+small-trip name run small named =
     let long = short-enough name run named small in
     let good : sheetVerdict (sheetText name run) ≡ accepted = rw (le-ltb longestSheet (length (sheetText name run)) long, all-described name run named small) in
     record {
@@ -402,3 +401,7 @@ round-trip name run e few named =
       ruled = rw (rule-stands name run named small);
       same-name = rw good (names-back name run named small);
     }
+
+-- So for every accepted run within the sheet's limits.
+pub round-trip : (name : List ℕ) (run : Run) → judgeOf run ≡ accepted → length (run .starts) ≤ mostSheetFiles → isName name ≡ true → ReadsBack name run
+round-trip name run e few named = small-trip name run (small-run run (ap (λ v. isRefusal (v .refusal)) e) few) named
