@@ -1,11 +1,14 @@
 #!/usr/bin/env python3
-"""How many events a second `violstream serve` answers, beside SQLite on the same disk: eight askers, and one.
+"""How many events a second `violstream serve` answers, beside SQLite on the same disk: one asker, and eight.
 
 usage: bench/serve.py [--folder FOLDER] [--seconds N] [--rounds N]
 
 FOLDER is on the disk that is measured (default: the checkout's target/). Each asker is a process. At the server it files a ticket and withdraws it, and
 waits for each answer. With SQLite it adds the same event to a table, in a transaction of its own (journal_mode=WAL, synchronous=FULL), which is on the disk
-when the commit returns. Rounds of both alternate, and the median of each is told. Quiet machine, or the figures mean nothing.
+when the commit returns. After its first thousand commits SQLite's log has been round, and is written over in place; the journal always grows. What the disk
+alone takes for either is measured too: an entry of the journal behind the last one, and a frame of SQLite's log over an old one, each followed by
+fdatasync. All alternate, and the medians are told, with the median of the rounds' ratios. Last, how much processor time a server takes that nobody asks.
+Quiet machine, or the figures mean nothing.
 """
 import argparse
 import multiprocessing
@@ -22,6 +25,7 @@ import time
 ROOT = os.path.dirname(os.path.dirname(os.path.abspath(__file__)))
 COMMAND = os.path.join(ROOT, "target/command/violstream")
 SHEET = os.path.join(ROOT, "examples/day.run")
+WINDOWS = ("office1", "office2", "operator")
 
 
 def ask(path, ends, count):
@@ -74,17 +78,26 @@ def together(work, paths, seconds):
     return count.value / (time.monotonic() - began)
 
 
+def served(within):
+    """A server with its journal and its windows in a folder."""
+    call = subprocess.Popen([COMMAND, "serve", "--journal", os.path.join(within, "journal"), "--windows", within, SHEET], stderr=subprocess.PIPE)
+    # Before that, where another library was made, the command is compiled anew.
+    if not any(b"serving at" in line for line in call.stderr):
+        sys.exit("bench/serve.py: the server does not start")
+    return call
+
+
+def ended(call):
+    call.send_signal(signal.SIGTERM)
+    call.wait()
+    call.stderr.close()
+
+
 def by_server(folder, askers, seconds):
     with tempfile.TemporaryDirectory(dir=folder) as within:
-        call = subprocess.Popen([COMMAND, "serve", "--journal", os.path.join(within, "journal"), "--windows", within, SHEET], stderr=subprocess.PIPE)
-        # Before that, where another library was made, the command is compiled anew.
-        if not any(b"serving at" in line for line in call.stderr):
-            sys.exit("bench/serve.py: the server does not start")
-        paths = [os.path.join(within, ("office1", "office2")[number % 2]) for number in range(askers)]
-        rate = together(ask, paths, seconds)
-        call.send_signal(signal.SIGTERM)
-        call.wait()
-        call.stderr.close()
+        call = served(within)
+        rate = together(ask, [os.path.join(within, WINDOWS[number % 2]) for number in range(askers)], seconds)
+        ended(call)
         return rate
 
 
@@ -98,18 +111,75 @@ def by_sqlite(folder, askers, seconds):
         return together(add, [path] * askers, seconds)
 
 
+# An entry of the journal, a frame of SQLite's log, and how long that log is when it begins again.
+ENTRY, FRAME, LOG = 75, 24 + 4096, 1000 * (24 + 4096)
+
+
+def by_disk(folder, size, around, seconds):
+    """Writes of so many bytes a second, each synced: behind the last one, or round and round in so many bytes."""
+    with tempfile.NamedTemporaryFile(dir=folder, buffering=0) as handle:
+        handle.write(b"y" * around)
+        os.fsync(handle.fileno())
+        began, at, count, text = time.monotonic(), 0, 0, b"x" * size
+        while time.monotonic() < began + seconds:
+            os.pwrite(handle.fileno(), text, at)
+            os.fdatasync(handle.fileno())
+            at, count = at + size, count + 1
+            if around and at + size > around:
+                at = 0
+        return count / (time.monotonic() - began)
+
+
+def idle(folder, seconds):
+    """Processor time, in milliseconds, of a server at whose windows three stand and do not ask."""
+    with tempfile.TemporaryDirectory(dir=folder) as within:
+        call = served(within)
+        standing = [socket.socket(socket.AF_UNIX) for _ in WINDOWS]
+        for window, name in zip(standing, WINDOWS):
+            window.connect(os.path.join(within, name))
+        time.sleep(0.2)
+        before = taken(call.pid)
+        time.sleep(seconds)
+        spent = taken(call.pid) - before
+        for window in standing:
+            window.close()
+        ended(call)
+        return spent
+
+
+def taken(pid):
+    with open(f"/proc/{pid}/schedstat") as handle:
+        return int(handle.read().split()[0]) / 1e6
+
+
+def told(name, rates):
+    """A line for the rates of one kind: the median, and each."""
+    print(f"{name}: {statistics.median(rates):.0f} (rounds: {', '.join(f'{rate:.0f}' for rate in rates)})", flush=True)
+
+
 def main():
     reader = argparse.ArgumentParser(description=__doc__.split("\n")[0])
     reader.add_argument("--folder", default=os.path.join(ROOT, "target"), help="on the disk that is measured")
-    reader.add_argument("--seconds", type=float, default=5, help="of each round")
-    reader.add_argument("--rounds", type=int, default=5, help="of each, in turn")
+    reader.add_argument("--seconds", type=float, default=2, help="of each part of a round")
+    reader.add_argument("--rounds", type=int, default=11, help="of each, in turn")
     words = reader.parse_args()
     subprocess.run([os.path.join(ROOT, "violstream"), "version"], check=True, stdout=subprocess.DEVNULL)
-    for askers in (8, 1):
-        rates = [(by_server(words.folder, askers, words.seconds), by_sqlite(words.folder, askers, words.seconds)) for _ in range(words.rounds)]
-        server, sqlite = (statistics.median(rate) for rate in zip(*rates))
-        print(f"askers={askers}: serve {server:.0f} events/s, SQLite {sqlite:.0f} commits/s, ratio {server / sqlite:.2f} "
-              f"(rounds: {', '.join(f'{one:.0f}/{other:.0f}' for one, other in rates)})", flush=True)
+    kinds = {"disk alone, an entry behind the last, per second": lambda: by_disk(words.folder, ENTRY, 0, words.seconds / 2),
+             "disk alone, a frame over an old one, per second": lambda: by_disk(words.folder, FRAME, LOG, words.seconds / 2)}
+    for askers in (1, 8):
+        kinds[f"serve, askers={askers}, events per second"] = lambda askers=askers: by_server(words.folder, askers, words.seconds)
+        kinds[f"SQLite, askers={askers}, commits per second"] = lambda askers=askers: by_sqlite(words.folder, askers, words.seconds)
+    rates = {name: [] for name in kinds}
+    for _ in range(words.rounds):
+        for name, measure in kinds.items():
+            rates[name].append(measure())
+    for name in kinds:
+        told(name, rates[name])
+    for askers, bar in ((1, 0.8), (8, 3)):
+        ours, theirs = (rates[f"{name}, askers={askers}, {what} per second"] for name, what in (("serve", "events"), ("SQLite", "commits")))
+        ratios = sorted(one / other for one, other in zip(ours, theirs))
+        print(f"askers={askers}: serve is {statistics.median(ratios):.2f} times SQLite (the aim: {bar}; rounds: {', '.join(f'{ratio:.2f}' for ratio in ratios)})")
+    print(f"nobody asks: {idle(words.folder, 5):.2f} ms of processor time in 5 s")
 
 
 if __name__ == "__main__":

@@ -30,11 +30,15 @@ const LINES: usize = 32;
 const COMING: usize = 64;
 /// Askers at a window.
 const ASKERS: usize = 256;
+/// So long the next line is looked for before the server sleeps: who was answered alone often asks again at once, and to be woken takes longer than to look.
+const SOON: Duration = Duration::from_micros(100);
 
 pub struct Windows {
     windows: Vec<(Window, PathBuf, UnixListener)>,
     askers: Vec<Asker>,
     most: usize,
+    /// How many answers the last round gave.
+    given: usize,
     /// Two servers do not share a folder.
     _lock: File,
 }
@@ -67,7 +71,7 @@ impl Windows {
         let lock = locked.or_else(|error| failed(format!("cannot use {}: {}", quoted(folder.as_os_str()), reason(&error))))?;
         let descriptors = getrlimit(Resource::RLIMIT_NOFILE).map_or(1024, |(soft, _)| soft);
         let most = ASKERS.min((descriptors.saturating_sub(32) / 3) as usize).max(1);
-        let mut opened = Windows { windows: Vec::new(), askers: Vec::new(), most, _lock: lock };
+        let mut opened = Windows { windows: Vec::new(), askers: Vec::new(), most, given: 0, _lock: lock };
         for (window, group) in WINDOWS.into_iter().zip(groups) {
             let path = folder.join(window.name());
             match listen(&path, group) {
@@ -87,7 +91,7 @@ impl Windows {
         ends.extend(self.windows.iter().map(|(_, _, listener)| PollFd::new(listener.as_raw_fd(), PollFlags::POLLIN)));
         ends.extend(self.askers.iter().map(|asker| PollFd::new(asker.stream.as_raw_fd(), asker.wishes())));
         let limit = if self.askers.iter().any(Asker::has_line) { 0 } else { patience.map_or(-1, |patience| patience.as_millis() as i32) };
-        match poll(&mut ends, limit) {
+        match self.watch(&mut ends, limit) {
             Ok(_) | Err(Errno::EINTR) => {}
             Err(errno) => return failed(format!("cannot wait for events: {}", reason(&errno.into()))),
         }
@@ -102,6 +106,18 @@ impl Windows {
             }
         }
         Ok(!seen(&ends[0]).is_empty())
+    }
+
+    /// Behind a single answer it looks for a while, and then sleeps.
+    fn watch(&self, ends: &mut [PollFd], limit: i32) -> nix::Result<i32> {
+        let began = Instant::now();
+        while self.given == 1 && limit != 0 && began.elapsed() < SOON {
+            let seen = poll(ends, 0)?;
+            if seen > 0 {
+                return Ok(seen);
+            }
+        }
+        poll(ends, limit)
     }
 
     fn let_in(&mut self, at: usize) {
@@ -161,6 +177,7 @@ impl Windows {
                 asker.held.push(b'\n');
             }
         }
+        self.given = answers.len();
         self.askers.iter_mut().for_each(Asker::give);
         self.askers.retain(|asker| !(asker.has_ended && asker.held.is_empty() && !asker.has_line()));
     }

@@ -1,13 +1,15 @@
 -- An accepted event at C's rows is a call on the table in them.
 use Prim.Native.Nat.{ℕ}
 use mathlib.Core.Path.{_≡_, refl, sym, ap, _∙_, subst}
-use mathlib.Core.Bool.{false, true≢false}
+use mathlib.Core.Bool.{true, false, true≢false}
 use mathlib.Core.List.{List}
+use mathlib.Core.Logic.{⊎-elim}
 use lib.ListN.{length, drop}
 use Rattle.refusals.specs.declared.Refusal.the-variants.{Accepted}
 use Rattle.refusals.specs.declared.Verdict.{Verdict}
 use Rattle.refusals.specs.Refusals.{isRefusal}
 use Rattle.refusals.proofs.Verdicts.{refuses}
+use Rattle.runs.proofs.Search.{true-or-false}
 use Rattle.desk_tickets.specs.declared.Ticket.{Ticket}
 use Rattle.desk_tickets.specs.declared.Lasts.{Lasts}
 use Rattle.desk_tickets.specs.declared.Filing.{Filing}
@@ -27,35 +29,43 @@ use Rattle.text_lines.specs.Lines.{lineOf}
 use Rattle.boundary.specs.Boundary.{codeOf}
 use Rattle.boundary.proofs.Calls.{code-accepts}
 use Rattle.boundary_desk.specs.Records.{tableAt, recordsWith, lastsIn, withLasts, placesIf}
-use Rattle.boundary_desk.specs.Calls.{oneLine, dayAt}
+use Rattle.boundary_desk.specs.Calls.{oneLine, dayAt, EventCalled}
 use Rattle.boundary_desk.proofs.Calling.{filing-verdict, withdrawal-verdict}
 use Rattle.promises.specs.Desk.{Kept, IsTable, Call, Fits}
 use Rattle.promises.specs.DeskDays.{IsCall}
-use Rattle.promises.proofs.DeskDays.{accepts}
+use Rattle.promises.proofs.DeskDays.{accepts, refused-event-changes-nothing}
 use Rattle.promises.proofs.DeskSteps.{board-accepted}
 use Rattle.promises.proofs.DeskTells.{told-so, day-is}
-use Rattle.promises_calls.specs.DeskCalls.{keptInC}
+use Rattle.promises_calls.specs.DeskCalls.{keptInC, dayInC}
 use Rattle.promises_calls.specs.CallsTell.{CallAccepts, EventIsACall, EventCallIsACall, NoEventCalled}
 use Rattle.promises_calls.proofs.Found.{table-found, later-found}
 use Rattle.promises_calls.proofs.DeskCalls.{kept-so, whole-after, sound-at}
 
+-- An accepted event is a call, and its table has 32 records.
+record Landed (tape : Tape) (e : Event) (r : Answered) (rows rows′ : List (List ℕ)) (lasts lasts′ : List ℕ) : Type 0 where
+  is-a-call : EventIsACall tape e rows rows′ lasts lasts′
+  whole : length (r .day .row) ≡ 32
+
 -- What a call on a sound table leaves, written into the rows.
 module _ (tape : Tape) (rows rows′ : List (List ℕ)) (lasts lasts′ : List ℕ) (r : Answered) (rows-are : rows′ ≡ recordsWith (r .day .row) rows) (lasts-are : lasts′ ≡ withLasts (r .day .lasts) lasts) where
   landed : (e : Event) (c : Call) → IsCall tape e c → CallAccepts c → IsTable (keptInC rows lasts) → (row : List Ticket) (l : Lasts) → Fits (keptInC rows lasts) c (record { row = row; lasts = l })
-      → r .day .row ≡ row → r .day .lasts ≡ l → EventIsACall tape e rows rows′ lasts lasts′
+      → r .day .row ≡ row → r .day .lasts ≡ l → Landed tape e r rows rows′ lasts lasts′
   landed e c is taken sound row l fits row-is l-is =
       let whole : length row ≡ 32 = whole-after (keptInC rows lasts) (record { row = row; lasts = l }) c sound fits in
       let now : rows′ ≡ recordsWith row rows = rows-are ∙ ap (λ (x : List Ticket). recordsWith x rows) row-is in
       record {
-        call = c;
-        is = is;
-        accepts = taken;
-        fits = subst (λ (k : Kept). Fits (keptInC rows lasts) c k) (kept-so (sym (ap tableAt now ∙ table-found row rows whole)) (sym (ap lastsIn lasts-are ∙ l-is))) fits;
-        later = ap (drop 32) now ∙ later-found row rows whole;
-        words = ap (drop 2) lasts-are;
+        is-a-call = record {
+          call = c;
+          is = is;
+          accepts = taken;
+          fits = subst (λ (k : Kept). Fits (keptInC rows lasts) c k) (kept-so (sym (ap tableAt now ∙ table-found row rows whole)) (sym (ap lastsIn lasts-are ∙ l-is))) fits;
+          later = ap (drop 32) now ∙ later-found row rows whole;
+          words = ap (drop 2) lasts-are;
+        };
+        whole = ap length row-is ∙ whole;
       }
 
-  by-event : (e : Event) (len : ℕ) (room out room′ out′ : List ℕ) → EventAnswered len tape (dayAt rows lasts) room out e r room′ out′ → r .verdict .refusal ≡ Accepted → EventIsACall tape e rows rows′ lasts lasts′
+  by-event : (e : Event) (len : ℕ) (room out room′ out′ : List ℕ) → EventAnswered len tape (dayAt rows lasts) room out e r room′ out′ → r .verdict .refusal ≡ Accepted → Landed tape e r rows rows′ lasts lasts′
   by-event (Event.File o f c) len room out room′ out′ p served =
       let g : Filing = record { office = o; file = f; count = c; files = length (tape .starts); lasts = lastsIn lasts } in
       let done = fileRow len (tableAt rows) g in
@@ -82,12 +92,32 @@ module _ (tape : Tape) (rows rows′ : List (List ℕ)) (lasts lasts′ : List �
       (Fits.boards {len = len} {tape = tape} {k = keptInC rows lasts} {b = b} {before = rowsLent room} {after = p .rows} {r = done} refl (p .boards)) (ap (λ (d : desk.Day). d .row) day) (ap (λ (d : desk.Day). d .lasts) day)
   by-event Event.Bad len room out room′ out′ p served = absurd (true≢false (ap isRefusal (ap (λ (x : Answered). x .verdict .refusal) (sym (p .says)) ∙ served)))
 
+module _ (rows rows′ : List (List ℕ)) (lasts lasts′ line out out′ room room′ sizes sizes′ : List ℕ) (tape : Tape) (code : ℕ)
+    (called : EventCalled rows lasts tape line out room sizes code rows′ lasts′ out′ room′ sizes′) where
+  event-landed : isRefusal (called .done .verdict .refusal) ≡ false → Landed tape (eventOf (lineOf (oneLine line))) (called .done) rows rows′ lasts lasts′
+  event-landed e =
+      by-event tape rows rows′ lasts lasts′ (called .done) (rw e at (called .rowsAre)) (rw e at (called .lastsAre)) (eventOf (lineOf (oneLine line))) (placesIf 1 sizes (placesIf 2 lasts (length rows))) room out room′ out′
+      (called .answers) (accepts (called .done .verdict .refusal) e)
+
+  -- Accepted or refused, the rows then hold the day that it leaves.
+  pub event-call-leaves : dayInC rows′ lasts′ ≡ called .done .day
+  event-call-leaves =
+      ⊎-elim
+      (λ (e : isRefusal (called .done .verdict .refusal) ≡ true).
+      day-so (ap tableAt (rw e at (called .rowsAre))) (ap lastsIn (rw e at (called .lastsAre)))
+      ∙ sym (refused-event-changes-nothing _ tape (dayInC rows lasts) room out _ (called .done) room′ out′ (called .answers) (λ is. true≢false (sym e ∙ ap isRefusal is)) .0))
+      (λ (e : isRefusal (called .done .verdict .refusal) ≡ false).
+      let now : rows′ ≡ recordsWith (called .done .day .row) rows = rw e at (called .rowsAre) in
+      let numbers : lasts′ ≡ withLasts (called .done .day .lasts) lasts = rw e at (called .lastsAre) in
+      day-so (ap tableAt now ∙ table-found (called .done .day .row) rows (event-landed e .whole)) (ap lastsIn numbers))
+      (true-or-false (isRefusal (called .done .verdict .refusal)))
+    where
+      day-so : {row row′ : List Ticket} {l l′ : Lasts} → row ≡ row′ → l ≡ l′ → _≡_ {A = desk.Day} (record { row = row; lasts = l }) (record { row = row′; lasts = l′ })
+      day-so p q = cc
+
 pub event-call-is-a-call : EventCallIsACall
 event-call-is-a-call rows rows′ lasts lasts′ line out out′ room room′ sizes sizes′ tape code called zero-code =
-    let done = called .done in
-    let e : isRefusal (done .verdict .refusal) ≡ false = code-accepts (done .verdict) (sym (called .says) ∙ zero-code) in
-    by-event tape rows rows′ lasts lasts′ done (rw e at (called .rowsAre)) (rw e at (called .lastsAre)) (eventOf (lineOf (oneLine line))) (placesIf 1 sizes (placesIf 2 lasts (length rows))) room out room′ out′
-    (called .answers) (accepts (done .verdict .refusal) e)
+    event-landed rows rows′ lasts lasts′ line out out′ room room′ sizes sizes′ tape code called (code-accepts (called .done .verdict) (sym (called .says) ∙ zero-code)) .is-a-call
 
 pub no-event-called : NoEventCalled
 no-event-called rows rows′ lasts lasts′ line out out′ room room′ sizes sizes′ tape code called is =

@@ -9,3 +9,4 @@ pub mod WaitingTells
 pub mod CallsTell
 pub mod EventCalls
 pub mod CallLines
+pub mod CallJournal

@@ -5,4 +5,5 @@ pub mod CallRefusals
 pub mod WaitingTells
 pub mod CallsTell
 pub mod CallLines
+pub mod CallJournal
 pub mod SheetCalls
