@@ -105,7 +105,8 @@ module _ (rows rows′ : List (List ℕ)) (lasts lasts′ line out out′ room r
       ⊎-elim
       (λ (e : isRefusal (called .done .verdict .refusal) ≡ true).
       day-so (ap tableAt (rw e at (called .rowsAre))) (ap lastsIn (rw e at (called .lastsAre)))
-      ∙ sym (refused-event-changes-nothing _ tape (dayInC rows lasts) room out _ (called .done) room′ out′ (called .answers) (λ is. true≢false (sym e ∙ ap isRefusal is)) .0))
+      ∙ sym (refused-event-changes-nothing (placesIf 1 sizes (placesIf 2 lasts (length rows))) tape (dayInC rows lasts) room out (eventOf (lineOf (oneLine line))) (called .done) room′ out′ (called .answers)
+      (λ is. true≢false (sym e ∙ ap isRefusal is)) .0))
       (λ (e : isRefusal (called .done .verdict .refusal) ≡ false).
       let now : rows′ ≡ recordsWith (called .done .day .row) rows = rw e at (called .rowsAre) in
       let numbers : lasts′ ≡ withLasts (called .done .day .lasts) lasts = rw e at (called .lastsAre) in
