@@ -1,13 +1,14 @@
 #!/usr/bin/env python3
 """How many events a second `violstream serve` answers, beside SQLite on the same disk: one asker, and eight.
 
-usage: bench/serve.py [--folder FOLDER] [--seconds N] [--rounds N]
+usage: bench/serve.py [--folder FOLDER] [--seconds N] [--rounds N] [--disk]
 
 FOLDER is on the disk that is measured (default: the checkout's target/). Each asker is a process. At the server it files a ticket and withdraws it, and
 waits for each answer. With SQLite it adds the same event to a table, in a transaction of its own (journal_mode=WAL, synchronous=FULL), which is on the disk
 when the commit returns. After its first thousand commits SQLite's log has been round, and is written over in place; the journal always grows. What the disk
 alone takes for either is measured too: an entry of the journal behind the last one, and a frame of SQLite's log over an old one, each followed by
 fdatasync. All alternate, and the medians are told, with the median of the rounds' ratios. Last, how much processor time a server takes that nobody asks.
+With --disk the disk alone is measured, in other ways too: with room for the journal reserved ahead, and by writes that sync themselves.
 Quiet machine, or the figures mean nothing.
 """
 import argparse
@@ -113,17 +114,23 @@ def by_sqlite(folder, askers, seconds):
 
 # An entry of the journal, a frame of SQLite's log, and how long that log is when it begins again.
 ENTRY, FRAME, LOG = 75, 24 + 4096, 1000 * (24 + 4096)
+# Askers, and how many times SQLite the server is to be.
+BARS = {1: 0.8, 8: 3}
 
 
-def by_disk(folder, size, around, seconds):
+def by_disk(folder, size, seconds, around=0, reserved=False, at_once=False):
     """Writes of so many bytes a second, each synced: behind the last one, or round and round in so many bytes."""
     with tempfile.NamedTemporaryFile(dir=folder, buffering=0) as handle:
         handle.write(b"y" * around)
-        os.fsync(handle.fileno())
-        began, at, count, text = time.monotonic(), 0, 0, b"x" * size
+        if reserved:
+            subprocess.run(["fallocate", "--keep-size", "--length", "64MiB", handle.name], check=True)
+        descriptor, text = handle.fileno(), b"x" * size
+        os.fsync(descriptor)
+        began, at, count = time.monotonic(), 0, 0
         while time.monotonic() < began + seconds:
-            os.pwrite(handle.fileno(), text, at)
-            os.fdatasync(handle.fileno())
+            os.pwritev(descriptor, [text], at, os.RWF_DSYNC if at_once else 0)
+            if not at_once:
+                os.fdatasync(descriptor)
             at, count = at + size, count + 1
             if around and at + size > around:
                 at = 0
@@ -152,9 +159,19 @@ def taken(pid):
         return int(handle.read().split()[0]) / 1e6
 
 
-def told(name, rates):
-    """A line for the rates of one kind: the median, and each."""
-    print(f"{name}: {statistics.median(rates):.0f} (rounds: {', '.join(f'{rate:.0f}' for rate in rates)})", flush=True)
+def kinds_of(words):
+    """What is measured in a round, by its name."""
+    def disk(size, **how):
+        return lambda: by_disk(words.folder, size, words.seconds / 2, **how)
+
+    kinds = {"disk alone, an entry behind the last one": disk(ENTRY), "disk alone, a frame over an old one": disk(FRAME, around=LOG)}
+    if words.disk:
+        return {**kinds, "disk alone, an entry over an old one": disk(ENTRY, around=LOG), "an entry behind the last one, with 64 MiB reserved ahead": disk(ENTRY, reserved=True),
+                "an entry behind the last one, by a write that syncs itself": disk(ENTRY, at_once=True)}
+    for askers in BARS:
+        kinds[f"serve, askers={askers}, events"] = lambda askers=askers: by_server(words.folder, askers, words.seconds)
+        kinds[f"SQLite, askers={askers}, commits"] = lambda askers=askers: by_sqlite(words.folder, askers, words.seconds)
+    return kinds
 
 
 def main():
@@ -162,22 +179,21 @@ def main():
     reader.add_argument("--folder", default=os.path.join(ROOT, "target"), help="on the disk that is measured")
     reader.add_argument("--seconds", type=float, default=2, help="of each part of a round")
     reader.add_argument("--rounds", type=int, default=11, help="of each, in turn")
+    reader.add_argument("--disk", action="store_true", help="the disk alone, in more ways")
     words = reader.parse_args()
     subprocess.run([os.path.join(ROOT, "violstream"), "version"], check=True, stdout=subprocess.DEVNULL)
-    kinds = {"disk alone, an entry behind the last, per second": lambda: by_disk(words.folder, ENTRY, 0, words.seconds / 2),
-             "disk alone, a frame over an old one, per second": lambda: by_disk(words.folder, FRAME, LOG, words.seconds / 2)}
-    for askers in (1, 8):
-        kinds[f"serve, askers={askers}, events per second"] = lambda askers=askers: by_server(words.folder, askers, words.seconds)
-        kinds[f"SQLite, askers={askers}, commits per second"] = lambda askers=askers: by_sqlite(words.folder, askers, words.seconds)
+    kinds = kinds_of(words)
     rates = {name: [] for name in kinds}
     for _ in range(words.rounds):
         for name, measure in kinds.items():
             rates[name].append(measure())
-    for name in kinds:
-        told(name, rates[name])
-    for askers, bar in ((1, 0.8), (8, 3)):
-        ours, theirs = (rates[f"{name}, askers={askers}, {what} per second"] for name, what in (("serve", "events"), ("SQLite", "commits")))
-        ratios = sorted(one / other for one, other in zip(ours, theirs))
+    for name, measured in rates.items():
+        print(f"{name}, a second: {statistics.median(measured):.0f} (rounds: {', '.join(f'{rate:.0f}' for rate in measured)})")
+    if words.disk:
+        return
+    for askers, bar in BARS.items():
+        ours, theirs = rates[f"serve, askers={askers}, events"], rates[f"SQLite, askers={askers}, commits"]
+        ratios = [one / other for one, other in zip(ours, theirs)]
         print(f"askers={askers}: serve is {statistics.median(ratios):.2f} times SQLite (the aim: {bar}; rounds: {', '.join(f'{ratio:.2f}' for ratio in ratios)})")
     print(f"nobody asks: {idle(words.folder, 5):.2f} ms of processor time in 5 s")
 

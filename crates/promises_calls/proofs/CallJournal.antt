@@ -10,6 +10,7 @@ use Rattle.answer_desk.specs.Events.{eventOf}
 use Rattle.answer_desk.specs.Days.{EventAnswered}
 use Rattle.boundary_desk.specs.Records.{tableAt, lastsIn, placesIf}
 use Rattle.promises.specs.DeskDays.{Exchange, Turned, Held}
+use Rattle.promises.proofs.DeskDays.{refused-event-changes-nothing}
 use Rattle.promises.proofs.DeskReplay.{journal-of-a-day}
 use Rattle.promises_calls.specs.DeskCalls.{dayInC}
 use Rattle.promises_calls.specs.CallJournal.{EventMade, EventsMade, JournalGivesTheRow}
@@ -40,4 +41,4 @@ held (EventsMade.events-then first rest) = Held.goes-on (turned first) (held res
 
 pub journal-gives-the-row : JournalGivesTheRow
 journal-gives-the-row tape rows end lasts m calls last n journal made replayed same =
-    journal-of-a-day tape (tableAt rows) (tableAt end) last (lastsIn lasts) (lastsIn m) n calls journal (held made) replayed same
+    journal-of-a-day refused-event-changes-nothing tape (tableAt rows) (tableAt end) last (lastsIn lasts) (lastsIn m) n calls journal (held made) replayed same
