@@ -50,16 +50,19 @@ def ask(path, ends, count):
                     count.value += 2
 
 
+def added(base, kind, value):
+    base.execute("BEGIN IMMEDIATE")
+    base.execute("INSERT INTO event (made, who, kind, value) VALUES (?, ?, ?, ?)", (time.time(), os.getpid(), kind, value))
+    base.execute("COMMIT")
+
+
 def add(path, ends, count):
     """The same events in a table, a commit for each."""
     base = sqlite3.connect(path, timeout=60, isolation_level=None)
     base.execute("PRAGMA synchronous=FULL")
-    who = os.getpid()
     while time.monotonic() < ends:
-        for kind, value in (("file", "3,2"), ("withdraw", "1")):
-            base.execute("BEGIN IMMEDIATE")
-            base.execute("INSERT INTO event (made, who, kind, value) VALUES (?, ?, ?, ?)", (time.time(), who, kind, value))
-            base.execute("COMMIT")
+        added(base, "file", "3,2")
+        added(base, "withdraw", "1")
         with count.get_lock():
             count.value += 2
     base.close()
@@ -105,11 +108,16 @@ def by_server(folder, askers, seconds):
 def by_sqlite(folder, askers, seconds):
     with tempfile.TemporaryDirectory(dir=folder) as within:
         path = os.path.join(within, "events")
+        # Open until the end: so the log stays, and is begun again from its front once it has been round.
         base = sqlite3.connect(path, isolation_level=None)
         base.execute("PRAGMA journal_mode=WAL")
+        base.execute("PRAGMA synchronous=FULL")
         base.execute("CREATE TABLE event (number INTEGER PRIMARY KEY, made REAL, who INTEGER, kind TEXT, value TEXT)")
+        for _ in range(1500):
+            added(base, "file", "3,2")
+        rate = together(add, [path] * askers, seconds)
         base.close()
-        return together(add, [path] * askers, seconds)
+        return rate
 
 
 # An entry of the journal, a frame of SQLite's log, and how long that log is when it begins again.

@@ -28,6 +28,8 @@ const HELD: usize = 16384;
 /// Lines of one asker in a round, and askers who come to a window in a round.
 const LINES: usize = 32;
 const COMING: usize = 64;
+/// Bytes that are heard at once.
+const MOST: usize = 4096;
 /// Askers at a window.
 const ASKERS: usize = 256;
 /// So long the next line is looked for before the server sleeps: who was answered alone often asks again at once, and to be woken takes longer than to look.
@@ -49,6 +51,8 @@ struct Asker {
     who: String,
     /// What has come and is no whole line yet, or was not asked for.
     heard: Vec<u8>,
+    /// How much of it lies at the socket still: taking it from there wakes an asker who sleeps until his answer, so the answer goes first.
+    lies: usize,
     /// The line that is coming is too long, and its front is forgotten.
     is_long: bool,
     /// Answers that are not taken yet.
@@ -179,6 +183,7 @@ impl Windows {
         }
         self.given = answers.len();
         self.askers.iter_mut().for_each(Asker::give);
+        self.askers.iter_mut().for_each(Asker::take);
         self.askers.retain(|asker| !(asker.has_ended && asker.held.is_empty() && !asker.has_line()));
     }
 
@@ -219,7 +224,7 @@ impl Asker {
         let (uid, pid) = system::other_end(stream.as_raw_fd())?;
         let who = format!("uid={uid} pid={pid}");
         let (heard, held) = (Vec::new(), Vec::new());
-        Ok(Asker { stream, window, who, heard, is_long: false, held, has_ended: false, is_deaf: false, at: Instant::now() })
+        Ok(Asker { stream, window, who, heard, lies: 0, is_long: false, held, has_ended: false, is_deaf: false, at: Instant::now() })
     }
 
     fn may_ask(&self) -> bool {
@@ -249,8 +254,16 @@ impl Asker {
     }
 
     fn hear(&mut self) {
-        let mut room = [0; 4096];
-        match self.stream.read(&mut room) {
+        let mut room = [0; MOST];
+        let heard = match system::peek(self.stream.as_raw_fd(), &mut room) {
+            Ok(count) if count > 0 => {
+                self.lies = count;
+                Ok(count)
+            }
+            // The end, an error, or something that is no text: it goes.
+            _ => self.stream.read(&mut room),
+        };
+        match heard {
             Ok(0) => self.has_ended = true,
             Ok(count) => self.heard.extend_from_slice(&room[..count]),
             Err(error) if matches!(error.kind(), ErrorKind::WouldBlock | ErrorKind::Interrupted) => {}
@@ -259,6 +272,21 @@ impl Asker {
         if self.heard.len() > LONGEST && !self.heard.contains(&b'\n') {
             self.heard.clear();
             self.is_long = true;
+        }
+    }
+
+    /// What was heard is taken from the socket.
+    fn take(&mut self) {
+        let mut room = [0; MOST];
+        while self.lies > 0 {
+            match self.stream.read(&mut room[..self.lies]) {
+                Ok(count) if count > 0 => self.lies -= count,
+                Err(error) if error.kind() == ErrorKind::Interrupted => {}
+                _ => {
+                    self.has_ended = true;
+                    self.lies = 0;
+                }
+            }
         }
     }
 
