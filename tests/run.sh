@@ -374,6 +374,7 @@ run python/faults
 run python/recall
 run python/record
 run python/serve
+run python/unit
 
 [ "$tests_run" -gt 0 ] || fail "no test is called $only"
 printf 'tests/run.sh: all as it must be; tests run: %d\n' "$tests_run"

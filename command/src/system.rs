@@ -82,6 +82,13 @@ pub fn other_end(socket: RawFd) -> std::io::Result<(u32, i32)> {
     }
 }
 
+/// What has come at a socket, which stays there.
+pub fn peek(socket: RawFd, room: &mut [u8]) -> std::io::Result<usize> {
+    // SAFETY: the room is lent with its own length.
+    let count = unsafe { libc::recv(socket, room.as_mut_ptr().cast(), room.len(), libc::MSG_PEEK) };
+    usize::try_from(count).map_err(|_| std::io::Error::last_os_error())
+}
+
 /// A file as it lies in memory, whatever its length. Whoever cuts it off while it is looked at ends this call.
 pub fn map(file: &File) -> std::io::Result<Mmap> {
     // SAFETY: it is looked at as bytes alone, and nothing that is found there is taken for granted.

@@ -352,7 +352,29 @@ def stalling(at):
     must(half.answer() == b"filed=1,9\n", "half a line is not waited for")
     deaf.socket.setblocking(True)
     must(b"waiting=" in deaf.answer(), "who has not taken answers does not find them later")
+    sleeping(server)
     server.end()
+
+
+def sleeping(server):
+    """Where nobody asks, the server sleeps: also behind an answer, and before a byte that was sent out of the row, which is no text."""
+    def taken():
+        with open(f"/proc/{server.call.pid}/schedstat") as handle:
+            return int(handle.read().split()[0]) / 1e9
+
+    urgent = server.at("office1")
+    for text in (b"", b"wait"):
+        urgent.send(text)
+        try:
+            urgent.socket.send(b"!", socket.MSG_OOB)
+        except OSError:
+            print("serve.py: stalling: this kernel sends no byte out of the row")
+        time.sleep(0.1)
+        before = taken()
+        time.sleep(0.3)
+        must(taken() - before < 0.05, f"in 0.3 s in which nobody asks the server takes {taken() - before:.3f} s of a processor")
+        urgent.send(b"waiting\n"[len(text):])
+        must(b"waiting=" in urgent.answer(), "behind a byte out of the row nobody is answered")
 
 
 def crowds(at):

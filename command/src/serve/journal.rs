@@ -14,6 +14,8 @@ use std::path::{Path, PathBuf};
 pub struct Journal {
     path: PathBuf,
     file: File,
+    /// Its device, and its number there.
+    place: (u64, u64),
     /// How long it is with all that was answered, which is on the disk.
     length: u64,
     /// Whether nothing stands behind that.
@@ -39,11 +41,11 @@ impl Journal {
     pub fn open(path: &Path) -> Result<Journal, Stop> {
         let opened = OpenOptions::new().read(true).write(true).create(true).truncate(false).mode(0o640).open(path);
         let file = opened.or_else(|error| failed(format!("cannot open {}: {}", quoted(path.as_os_str()), reason(&error))))?;
-        let journal = Journal { path: path.to_path_buf(), file, length: 0, is_whole: true };
-        match journal.file.metadata() {
-            Ok(about) if about.is_file() => {}
-            _ => return failed(format!("{} is no file", journal.name())),
-        }
+        let place = match file.metadata() {
+            Ok(about) if about.is_file() => (about.dev(), about.ino()),
+            _ => return failed(format!("{} is no file", quoted(path.as_os_str()))),
+        };
+        let journal = Journal { path: path.to_path_buf(), file, place, length: 0, is_whole: true };
         match flock(journal.file.as_raw_fd(), FlockArg::LockExclusiveNonblock) {
             Ok(()) => Ok(journal),
             Err(Errno::EWOULDBLOCK) => failed(format!("another server is at work with {}", journal.name())),
@@ -171,8 +173,8 @@ impl Journal {
 
     /// A journal that somebody has moved, put another in the place of, or changed is not written to.
     fn is_in_place(&self) -> io::Result<()> {
-        let (here, there) = (self.file.metadata()?, fs::metadata(&self.path)?);
-        if (here.dev(), here.ino(), here.len()) != (there.dev(), there.ino(), self.length) {
+        let there = fs::metadata(&self.path)?;
+        if (there.dev(), there.ino(), there.len()) != (self.place.0, self.place.1, self.length) {
             return Err(io::Error::new(io::ErrorKind::Other, "it was changed, or another file is in its place"));
         }
         Ok(())

@@ -28,13 +28,19 @@ const HELD: usize = 16384;
 /// Lines of one asker in a round, and askers who come to a window in a round.
 const LINES: usize = 32;
 const COMING: usize = 64;
+/// Bytes that are heard at once.
+const MOST: usize = 4096;
 /// Askers at a window.
 const ASKERS: usize = 256;
+/// So long the next line is looked for before the server sleeps: who was answered alone often asks again at once, and to be woken takes longer than to look.
+const SOON: Duration = Duration::from_micros(100);
 
 pub struct Windows {
     windows: Vec<(Window, PathBuf, UnixListener)>,
     askers: Vec<Asker>,
     most: usize,
+    /// How many answers the last round gave.
+    given: usize,
     /// Two servers do not share a folder.
     _lock: File,
 }
@@ -45,6 +51,8 @@ struct Asker {
     who: String,
     /// What has come and is no whole line yet, or was not asked for.
     heard: Vec<u8>,
+    /// How much of it lies at the socket still: taking it from there wakes an asker who sleeps until his answer, so the answer goes first.
+    lies: usize,
     /// The line that is coming is too long, and its front is forgotten.
     is_long: bool,
     /// Answers that are not taken yet.
@@ -67,7 +75,7 @@ impl Windows {
         let lock = locked.or_else(|error| failed(format!("cannot use {}: {}", quoted(folder.as_os_str()), reason(&error))))?;
         let descriptors = getrlimit(Resource::RLIMIT_NOFILE).map_or(1024, |(soft, _)| soft);
         let most = ASKERS.min((descriptors.saturating_sub(32) / 3) as usize).max(1);
-        let mut opened = Windows { windows: Vec::new(), askers: Vec::new(), most, _lock: lock };
+        let mut opened = Windows { windows: Vec::new(), askers: Vec::new(), most, given: 0, _lock: lock };
         for (window, group) in WINDOWS.into_iter().zip(groups) {
             let path = folder.join(window.name());
             match listen(&path, group) {
@@ -87,7 +95,7 @@ impl Windows {
         ends.extend(self.windows.iter().map(|(_, _, listener)| PollFd::new(listener.as_raw_fd(), PollFlags::POLLIN)));
         ends.extend(self.askers.iter().map(|asker| PollFd::new(asker.stream.as_raw_fd(), asker.wishes())));
         let limit = if self.askers.iter().any(Asker::has_line) { 0 } else { patience.map_or(-1, |patience| patience.as_millis() as i32) };
-        match poll(&mut ends, limit) {
+        match self.watch(&mut ends, limit) {
             Ok(_) | Err(Errno::EINTR) => {}
             Err(errno) => return failed(format!("cannot wait for events: {}", reason(&errno.into()))),
         }
@@ -102,6 +110,18 @@ impl Windows {
             }
         }
         Ok(!seen(&ends[0]).is_empty())
+    }
+
+    /// Behind a single answer it looks for a while, and then sleeps.
+    fn watch(&self, ends: &mut [PollFd], limit: i32) -> nix::Result<i32> {
+        let began = Instant::now();
+        while self.given == 1 && limit != 0 && began.elapsed() < SOON {
+            let seen = poll(ends, 0)?;
+            if seen > 0 {
+                return Ok(seen);
+            }
+        }
+        poll(ends, limit)
     }
 
     fn let_in(&mut self, at: usize) {
@@ -161,7 +181,9 @@ impl Windows {
                 asker.held.push(b'\n');
             }
         }
+        self.given = answers.len();
         self.askers.iter_mut().for_each(Asker::give);
+        self.askers.iter_mut().for_each(Asker::take);
         self.askers.retain(|asker| !(asker.has_ended && asker.held.is_empty() && !asker.has_line()));
     }
 
@@ -202,7 +224,7 @@ impl Asker {
         let (uid, pid) = system::other_end(stream.as_raw_fd())?;
         let who = format!("uid={uid} pid={pid}");
         let (heard, held) = (Vec::new(), Vec::new());
-        Ok(Asker { stream, window, who, heard, is_long: false, held, has_ended: false, is_deaf: false, at: Instant::now() })
+        Ok(Asker { stream, window, who, heard, lies: 0, is_long: false, held, has_ended: false, is_deaf: false, at: Instant::now() })
     }
 
     fn may_ask(&self) -> bool {
@@ -232,8 +254,16 @@ impl Asker {
     }
 
     fn hear(&mut self) {
-        let mut room = [0; 4096];
-        match self.stream.read(&mut room) {
+        let mut room = [0; MOST];
+        let heard = match system::peek(self.stream.as_raw_fd(), &mut room) {
+            Ok(count) if count > 0 => {
+                self.lies = count;
+                Ok(count)
+            }
+            // The end, an error, or something that is no text: it goes.
+            _ => self.stream.read(&mut room),
+        };
+        match heard {
             Ok(0) => self.has_ended = true,
             Ok(count) => self.heard.extend_from_slice(&room[..count]),
             Err(error) if matches!(error.kind(), ErrorKind::WouldBlock | ErrorKind::Interrupted) => {}
@@ -242,6 +272,21 @@ impl Asker {
         if self.heard.len() > LONGEST && !self.heard.contains(&b'\n') {
             self.heard.clear();
             self.is_long = true;
+        }
+    }
+
+    /// What was heard is taken from the socket.
+    fn take(&mut self) {
+        let mut room = [0; MOST];
+        while self.lies > 0 {
+            match self.stream.read(&mut room[..self.lies]) {
+                Ok(count) if count > 0 => self.lies -= count,
+                Err(error) if error.kind() == ErrorKind::Interrupted => {}
+                _ => {
+                    self.has_ended = true;
+                    self.lies = 0;
+                }
+            }
         }
     }
 

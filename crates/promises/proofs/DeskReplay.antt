@@ -261,12 +261,18 @@ replayed-so keeps {tape} {day} {last} {last₂} {events = events} (Held.goes-on 
     (h .0, h .1 ∙ sym (with-accepted x xs n)))
     (true-or-false (isRefusal (x .answer)))
 
+-- A journal beside any day at the desk.
+pub journal-of-a-day : RefusedEventChangesNothing → (tape : Tape) (row end last : List Ticket) (l m n : Lasts) (calls journal : List Exchange) → Held tape (dayOf row l) calls (dayOf end m)
+    → Replayed tape row l journal last n
+    → linesOf (eventsOf journal) ≡ linesOf (acceptedOf calls)
+    → (last ≡ end) × (n ≡ m) × (eventsOf journal ≡ acceptedOf calls)
+journal-of-a-day keeps tape row end last l m n calls journal held replayed same =
+    let h = replayed-so keeps held (program-holds-a-day tape row last l n (eventsOf journal) (passed-over replayed)) same in
+    (ap (λ (d : desk.Day). d .row) (h .0), ap (λ (d : desk.Day). d .lasts) (h .0), h .1)
+
 journal-by : RefusedEventChangesNothing → JournalGivesTheTable
 journal-by keeps tape ts end l m calls last n journal long held replayed same =
-    let a = desk-on-a-lent-row tape ts end l m calls long held .0 in
-    let b = program-holds-a-day tape (tableIn ts) last l n (eventsOf journal) (passed-over replayed) in
-    let h = replayed-so keeps a b same in
-    (ap (λ (d : desk.Day). d .row) (h .0), ap (λ (d : desk.Day). d .lasts) (h .0), h .1)
+    journal-of-a-day keeps tape (tableIn ts) (tableIn end) last l m n calls journal (desk-on-a-lent-row tape ts end l m calls long held .0) replayed same
 
 pub journal-gives-the-table : JournalGivesTheTable
 journal-gives-the-table = journal-by refused-event-changes-nothing
