@@ -25,7 +25,6 @@ stop:
 go:
   ret void
 }
-declare void @llvm.trap()
 """
 
 
@@ -72,7 +71,8 @@ def checked(text, attribute):
         elif line.startswith("  ") and (OTHERS.search(line) or re.search(r"\b(add|sub|mul|trunc|udiv|urem|shl|lshr)\b", line.split("(")[0].split(" = ")[-1].split(" ")[0])):
             sys.exit(f"assumed.py: not known here: {line}")
         done += lines or [line]
-    text = "\n".join(done) + CHECK + "".join(f"declare {{ {width}, i1 }} @llvm.umul.with.overflow.{width}({width}, {width})\n" for width in sorted(widths))
+    declared = "" if "declare void @llvm.trap()" in text else "declare void @llvm.trap()\n"
+    text = "\n".join(done) + CHECK + declared + "".join(f"declare {{ {width}, i1 }} @llvm.umul.with.overflow.{width}({width}, {width})\n" for width in sorted(widths))
     if sum(counts.values()) == 0:
         sys.exit("assumed.py: the module assumes nothing")
     print(f"assumed.py: checked {', '.join(f'{what} {times}' for what, times in sorted(counts.items()))}", file=sys.stderr)
