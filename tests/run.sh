@@ -118,6 +118,57 @@ can_watch() {
     [ -x "$out/watched" ] && "$out/watched"
 }
 
+# stopped WHAT WORDS PROGRAM: a program that a sanitizer must stop, with these words in what it says.
+stopped() {
+    ! timeout 60 "$3" > "$out/stopped.said" 2>&1 || fail "$1: it was not stopped"
+    grep -q "$2" "$out/stopped.said" || { head -n 30 "$out/stopped.said" >&2; fail "$1: it was not stopped as it must be"; }
+    printf '%s: it was stopped in the library\n' "$1"
+}
+
+# from_python WHAT TEST WORD...: a comparison in Python on the library that the address sanitizer watches.
+from_python() {
+    what=$1 test=$2
+    shift 2
+    step "$what" env LD_PRELOAD="$("$cc" -print-file-name=libasan.so)" ASAN_OPTIONS=detect_leaks=0 python3 "$here/tests/python/$test.py" "$out/watched/libviolstream.so" "$@"
+}
+
+# The library compiled once more from the same modules: every address that it reads or writes is looked at, and all that it assumes (tools/watched.sh). The comparisons run on it; with
+# --calls 100000, so many calls of each. A row that is too short and one that two threads share must be seen, in its own code.
+watched() {
+    can_watch || { printf 'watched: left out, the compiler has no sanitizers here\n'; return; }
+    [ -d "$here/target/staticlib/modules" ] || fail "no modules beside the archive; 'tools/build.sh library violstream modules' makes them"
+    step "what the library assumes is checked" python3 "$here/tests/python/assumptions.py"
+    mkdir -p "$out/watched"
+    for kind in address thread; do
+        step "building the library, watched ($kind)" "$here/tools/watched.sh" "$kind" "$out/watched/$kind.a" > "$out/watched.log" 2>&1
+    done
+    step "building libviolstream.so, watched" "$cc" -shared -fsanitize=address -Wl,--whole-archive "$out/watched/address.a" -Wl,--no-whole-archive -o "$out/watched/libviolstream.so"
+    by_address="make -s -C $here/tests/c CC=$cc ARCHIVE=$out/watched/address.a OUT=$out/watched/by_address"
+    by_thread="make -s -C $here/tests/c CC=$cc ARCHIVE=$out/watched/thread.a OUT=$out/watched/by_thread"
+    # shellcheck disable=SC2086  # words
+    step "building callers, watched (address)" $by_address CFLAGS='-O1 -g -fsanitize=address,undefined -fno-sanitize-recover=all' short_row compare daemon
+    # shellcheck disable=SC2086
+    step "building callers, watched (thread)" $by_thread CFLAGS='-O1 -g -fsanitize=thread' shared_row threads threads_calls
+    stopped "a row one word short" 'SUMMARY: AddressSanitizer: heap-buffer-overflow .* in [a-z_]*::' "$out/watched/by_address/short_row"
+    stopped "a row of two threads" 'SUMMARY: ThreadSanitizer: data race .* in [a-z_]*::' "$out/watched/by_thread/shared_row"
+    a_day "daemon (library watched)" "$out/watched/by_address/daemon"
+    many=${calls:-0}
+    if [ "$many" -ge 100000 ]; then long=--long; else long=; fi
+    step "c/compare (library watched)" "$out/watched/by_address/compare" --apart --calls "$((many > 0 ? 5 * many : 20000))"
+    from_python "the calls for tickets (library watched)" desk_calls ${long:---calls 5000}
+    from_python "the calls for sheets (library watched)" answer_calls ${long:---calls 3000}
+    from_python "the call for files by path (library watched)" pick_calls --cases "$((many > 0 ? many / 3 : 100))"
+    step "c/threads (library watched)" "$out/watched/by_thread/threads"
+    step "c/threads_calls (library watched)" "$out/watched/by_thread/threads_calls" "$((many > 0 ? 300 : 40))"
+}
+
+# Ten seconds of each fuzzer, and its corpus.
+fuzzers() {
+    can_watch || { printf 'fuzzers: left out, the compiler has no sanitizers here\n'; return; }
+    step "fuzzers" "$here/tests/fuzz/run.sh" --gate
+    step "the command's own readers" python3 "$here/tests/fuzz/command.py"
+}
+
 # answer_requests WHAT PROGRAM: examples/planning.c
 answer_requests() {
     step_built "$1" "$2" < "$here/examples/planning.requests" > "$out/answers.is"
@@ -288,7 +339,7 @@ command_sources() {
 
 # Every shell script, those that others read among them.
 scripts() {
-    for script in "$here"/violstream "$here"/.ci/run "$here"/bench/*.sh "$here"/bench/*/*.sh "$here"/tests/*.sh "$here"/tools/*.sh; do
+    for script in "$here"/violstream "$here"/.ci/run "$here"/bench/*.sh "$here"/bench/*/*.sh "$here"/tests/*.sh "$here"/tests/*/*.sh "$here"/tools/*.sh; do
         step "shellcheck of $script" shellcheck -x -P "$here" "$script"
     done
     printf 'scripts: shellcheck finds nothing\n'
@@ -337,6 +388,8 @@ run daemon
 run installed
 run c/threads
 run c/threads_calls
+run watched
+run fuzzers
 run c/stack
 run c/stack_desk
 run bench

@@ -31,6 +31,8 @@ go:
 def checks(number, name, what, flags, width, left, right):
     """The lines that stand for an operation: itself without its word, and whether the word was true."""
     plain, wrong = f"  {name} = {what} {width} {left}, {right}", f"%wrong.{number}"
+    if "nsw" in flags or "exact" in flags or what == "shl" and flags:
+        sys.exit(f"assumed.py: not known here: {name} = {what} {' '.join(flags)}")
     if what in ("udiv", "urem", "shl", "lshr"):
         bound = f"eq {width} {right}, 0" if what in ("udiv", "urem") else f"uge {width} {right}, {width[1:]}"
         return [f"  {wrong} = icmp {bound}", f"  call void @violated(i1 {wrong})", plain]

@@ -147,6 +147,7 @@ library() {
     cd "$here" || return
     order=(boundary boundary_desk boundary_texts)
     [ ! -d crates/boundary_pick ] || order+=(boundary_pick)
+    rm -rf target/staticlib/modules # of an older library
     if [ "${2:-}" = modules ]; then
         # shellcheck source=tools/keep.sh
         . "$here/tools/keep.sh"

@@ -46,6 +46,8 @@ for module in "$@"; do
     python3 "$here/tools/assumed.py" "$work/named.ll" "$attribute" > "$work/$name.ll"
     # shellcheck disable=SC2086  # flags are words
     "$clang" $flags -ffunction-sections -fPIC -c -x ir "$work/$name.ll" -o "$work/$name.o"
+    # Debian's library of the thread sanitizer knows these by the C library's names, which it watches too.
+    [ "$kind" != thread ] || objcopy --redefine-sym __tsan_memcpy=memcpy --redefine-sym __tsan_memmove=memmove --redefine-sym __tsan_memset=memset "$work/$name.o"
     nm "$work/$name.o" | grep -q "__$(printf '%s' "$attribute" | sed 's/sanitize_address/asan_report/; s/sanitize_thread/tsan_read/')" || fail "$module was not watched by what it should be"
 done
 rm -f "$out"

@@ -4,12 +4,13 @@
 #   tests/fuzz/run.sh CALL SECONDS   answer, check, mend, event, pick or ltfs: begins with the corpus and with what earlier runs have kept, in target/fuzz/CALL.
 #                                    Prints what was done. What was found stands in target/fuzz/CALL/default/crashes; the status is 1 then
 #   tests/fuzz/run.sh --corpus       the corpora alone, and by the models: no fuzzer is needed
-#   tests/fuzz/run.sh --gate         --corpus, and ten seconds of each
+#   tests/fuzz/run.sh --planted      the harness on a library with faults (planted.c): each must be found
+#   tests/fuzz/run.sh --gate         --planted, ten seconds of each, which begin with the corpora, and these by the models
 #   tests/fuzz/run.sh --shrink CALL  the inputs that target/fuzz/CALL has kept, as few and as short as reach the same code, in place of the corpus
 #
 # Needed: what `tools/build.sh library violstream modules` leaves; for ltfs that cmd_ltfs is proved; AFL++ and its clang (Debian: afl++).
 set -eu
-unset -v CDPATH call calls dict flags found here kept made out ran seconds so status
+unset -v CDPATH call calls dict fault file flags found from here kept made number out so
 here=$(cd "$(dirname "$0")/../.." && pwd)
 calls='answer check mend event pick ltfs'
 made=$here/target/fuzz/made
@@ -119,21 +120,43 @@ shrink() {
     printf '%s: %s inputs, %s bytes\n' "$call" "$number" "$(cat "$here/tests/fuzz/corpus/$call"/* | wc -c)"
 }
 
+planted() {
+    mkdir -p "$made/planted"
+    gcc -std=gnu11 -O1 -g -fsanitize=address,undefined -fno-sanitize-recover=all -I "$here/include" "$here/tests/fuzz/fuzz.c" "$here/tests/fuzz/calls/answer.c" "$here/tests/fuzz/planted.c" -o "$made/planted/answer"
+    printf 'tape' > "$made/planted/1"
+    printf 'x' > "$made/planted/2"
+    "$made/planted/answer" "$made/planted/1" "$made/planted/2" > "$made/log" 2>&1 || { cat "$made/log" >&2; fail "the harness stops where there is no fault"; }
+    for fault in 1 2 3 4 5 6 7 8 9 10 11; do
+        ! FAULT=$fault "$made/planted/answer" "$made/planted/1" "$made/planted/2" > "$made/log" 2>&1 || fail "the harness does not see fault $fault of planted.c"
+    done
+    printf 'fuzz: the harness finds eleven faults of eleven\n'
+}
+
+# Whether AFL++ is here, with a compiler that has the address sanitizer.
+can_fuzz() {
+    command -v afl-fuzz > /dev/null || return 1
+    mkdir -p "$made"
+    echo 'int main(void) { return 0; }' | AFL_USE_ASAN=1 afl-clang-fast -x c - -o "$made/trial" > /dev/null 2>&1
+}
+
 gate() {
-    corpus
-    if ! command -v afl-fuzz > /dev/null || ! command -v afl-clang-fast > /dev/null; then
-        printf 'fuzz: left out, AFL++ is not here\n'
+    planted
+    if ! can_fuzz; then
+        corpus
+        printf 'fuzz: left out but for the corpora, AFL++ or the address sanitizer of its compiler is not here\n'
         return
     fi
     for call in $calls; do
         rm -rf "$here/target/fuzz/$call"
         fuzz 10
+        by_model "$here/tests/fuzz/corpus/$call"/*
     done
 }
 
 case $#,${1:-} in
     1,--gate) gate ;;
     1,--corpus) corpus ;;
+    1,--planted) planted ;;
     2,--shrink) call=$2 && words_of > /dev/null && shrink ;;
     2,[a-z]*)
         call=$1
@@ -142,5 +165,5 @@ case $#,${1:-} in
         fuzz "$2"
         by_model "$kept/default/queue"/id:*
         ;;
-    *) fail "usage: tests/fuzz/run.sh CALL SECONDS, --shrink CALL, --corpus or --gate" ;;
+    *) fail "usage: tests/fuzz/run.sh CALL SECONDS, --shrink CALL, --corpus, --planted or --gate" ;;
 esac
