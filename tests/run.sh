@@ -129,7 +129,7 @@ stopped() {
 from_python() {
     what=$1 test=$2
     shift 2
-    step "$what" env LD_PRELOAD="$("$cc" -print-file-name=libasan.so)" ASAN_OPTIONS=detect_leaks=0 python3 "$here/tests/python/$test.py" "$out/watched/libviolstream.so" "$@"
+    step "$what" env LD_PRELOAD="$("$cc" -print-file-name=libasan.so)" ASAN_OPTIONS=detect_leaks=0 python3 "$here/tests/python/$test.py" "$out/watching/libviolstream.so" "$@"
 }
 
 # The library compiled once more from the same modules: every address that it reads or writes is looked at, and all that it assumes (tools/watched.sh). The comparisons run on it; with
@@ -138,28 +138,28 @@ watched() {
     can_watch || { printf 'watched: left out, the compiler has no sanitizers here\n'; return; }
     [ -d "$here/target/staticlib/modules" ] || fail "no modules beside the archive; 'tools/build.sh library violstream modules' makes them"
     step "what the library assumes is checked" python3 "$here/tests/python/assumptions.py"
-    mkdir -p "$out/watched"
+    mkdir -p "$out/watching"
     for kind in address thread; do
-        step "building the library, watched ($kind)" "$here/tools/watched.sh" "$kind" "$out/watched/$kind.a" > "$out/watched.log" 2>&1
+        step "building the library, watched ($kind)" "$here/tools/watched.sh" "$kind" "$out/watching/$kind.a"
     done
-    step "building libviolstream.so, watched" "$cc" -shared -fsanitize=address -Wl,--whole-archive "$out/watched/address.a" -Wl,--no-whole-archive -o "$out/watched/libviolstream.so"
-    by_address="make -s -C $here/tests/c CC=$cc ARCHIVE=$out/watched/address.a OUT=$out/watched/by_address"
-    by_thread="make -s -C $here/tests/c CC=$cc ARCHIVE=$out/watched/thread.a OUT=$out/watched/by_thread"
+    step "building libviolstream.so, watched" "$cc" -shared -fsanitize=address -Wl,--whole-archive "$out/watching/address.a" -Wl,--no-whole-archive -o "$out/watching/libviolstream.so"
+    by_address="make -s -C $here/tests/c CC=$cc ARCHIVE=$out/watching/address.a OUT=$out/watching/by_address"
+    by_thread="make -s -C $here/tests/c CC=$cc ARCHIVE=$out/watching/thread.a OUT=$out/watching/by_thread"
     # shellcheck disable=SC2086  # words
     step "building callers, watched (address)" $by_address CFLAGS='-O1 -g -fsanitize=address,undefined -fno-sanitize-recover=all' short_row compare daemon
     # shellcheck disable=SC2086
     step "building callers, watched (thread)" $by_thread CFLAGS='-O1 -g -fsanitize=thread' shared_row threads threads_calls
-    stopped "a row one word short" 'SUMMARY: AddressSanitizer: heap-buffer-overflow .* in [a-z_]*::' "$out/watched/by_address/short_row"
-    stopped "a row of two threads" 'SUMMARY: ThreadSanitizer: data race .* in [a-z_]*::' "$out/watched/by_thread/shared_row"
-    a_day "daemon (library watched)" "$out/watched/by_address/daemon"
+    stopped "a row one word short" 'SUMMARY: AddressSanitizer: heap-buffer-overflow .* in [a-z_]*::' "$out/watching/by_address/short_row"
+    stopped "a row of two threads" 'SUMMARY: ThreadSanitizer: data race .* in [a-z_]*::' "$out/watching/by_thread/shared_row"
+    a_day "daemon (library watched)" "$out/watching/by_address/daemon"
     many=${calls:-0}
     if [ "$many" -ge 100000 ]; then long=--long; else long=; fi
-    step "c/compare (library watched)" "$out/watched/by_address/compare" --apart --calls "$((many > 0 ? 5 * many : 20000))"
-    from_python "the calls for tickets (library watched)" desk_calls ${long:---calls 5000}
+    step "c/compare (library watched)" "$out/watching/by_address/compare" --apart --calls "$((many > 0 ? 5 * many : 20000))"
+    from_python "the calls for tickets (library watched)" desk_calls ${long:---calls 4000}
     from_python "the calls for sheets (library watched)" answer_calls ${long:---calls 3000}
-    from_python "the call for files by path (library watched)" pick_calls --cases "$((many > 0 ? many / 3 : 100))"
-    step "c/threads (library watched)" "$out/watched/by_thread/threads"
-    step "c/threads_calls (library watched)" "$out/watched/by_thread/threads_calls" "$((many > 0 ? 300 : 40))"
+    from_python "the call for files by path (library watched)" pick_calls --cases "$((many > 0 ? many / 3 : 200))"
+    step "c/threads (library watched)" "$out/watching/by_thread/threads" "$((many > 0 ? 1000 : 200))"
+    step "c/threads_calls (library watched)" "$out/watching/by_thread/threads_calls" "$((many > 0 ? 300 : 40))"
 }
 
 # Ten seconds of each fuzzer, and its corpus.

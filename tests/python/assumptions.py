@@ -63,7 +63,7 @@ def main():
         for name, text in (("checked.ll", made.stdout), ("caller.c", caller())):
             with open(names[name], "w", encoding="utf-8") as file:
                 file.write(text)
-        subprocess.run([clang, "-O1", "-fPIC", "-c", "-x", "ir", names["checked.ll"], "-o", names["checked.o"]], check=True)
+        subprocess.run([clang, "-O1", "-Wno-override-module", "-fPIC", "-c", "-x", "ir", names["checked.ll"], "-o", names["checked.o"]], check=True)
         subprocess.run(["gcc", names["caller.c"], names["checked.o"], "-o", names["caller"]], check=True)
         for at, (name, _, right, not_right) in enumerate(KINDS):
             for pair, must_stop in ((right, False), (not_right, True)):
