@@ -19,6 +19,7 @@ import tempfile
 HERE = os.path.dirname(os.path.abspath(__file__))
 sys.path.insert(0, os.path.join(HERE, "..", "python"))
 
+import programs
 from command import BUILT, INDEX, LABEL, Checkout, built, contents
 
 LIMIT = 60
@@ -66,7 +67,9 @@ class Fuzz:
         self.at, self.draw, self.ended = checkout, random.Random(seed), {}
 
     def run(self, *words):
-        started = [os.path.join(self.at.root, BUILT), *words]
+        # Files by name need the library that the command was compiled with, which stands in the checkout of this file.
+        root = programs.ROOT if words[0] in ("pick", "recall") else self.at.root
+        started = [os.path.join(root, BUILT), *words]
         if any("\0" in word for word in words):
             return None
         try:
@@ -102,14 +105,15 @@ class Fuzz:
     # ---- Kinds
 
     def names(self):
-        names = b"".join(b"name=%d,1,SHOW/REEL%d.mxf\n" % (i, i) for i in range(1, 6))
+        names = b"".join(b"name=%d,%d,SHOW/REEL%d.mxf\n" % (file, reads, file) for file, reads in ((1, 1), (2, 2), (2, 1), (3, 1)))
         sheet = self.file("a.run", damaged(self.draw, contents("examples/VX0041.run")) if self.draw.random() < 0.3 else contents("examples/VX0041.run"))
         self.twice("explain", "--names", self.file("a.names", damaged(self.draw, names)), sheet)
 
     def times(self):
-        begin = damaged(self.draw, b"2026-11-17T08:00:00").decode("utf-8", "replace")
-        speed = self.draw.choice(NUMBERS).decode() if self.draw.random() < 0.5 else "750000"
-        self.twice("explain", "--speed", speed, "--begin", begin, self.file("a.run", damaged(self.draw, contents("examples/VX0041.run"))))
+        draw, begin, sheet = self.draw, b"2026-11-17T08:00:00", contents("examples/VX0041.run")
+        begin = damaged(draw, begin) if draw.random() < 0.3 else draw.choice((begin, b"1970-01-01T00:00:00", b"9999-12-31T23:59:59", b"2028-02-29T23:59:59"))
+        speed = draw.choice(NUMBERS).decode() if draw.random() < 0.5 else "1"
+        self.twice("explain", "--speed", speed, "--begin", begin.decode("utf-8", "replace"), self.file("a.run", damaged(draw, sheet) if draw.random() < 0.5 else sheet))
 
     def book(self):
         draw, root = self.draw, self.at.path("book")
@@ -146,7 +150,7 @@ class Fuzz:
     def tapes(self):
         draw = self.draw
         label, index, listed = (self.file(name, damaged(draw, text)) for name, text in (
-            ("a.label", contents(LABEL)), ("a.index", contents(INDEX)), ("a.list", b"SHOW/REEL1.mxf\nSHOW/REEL2.mxf\n")))
+            ("a.label", contents(LABEL)), ("a.index", contents(INDEX)), ("a.list", b"rushes/clip0002.mxf\nrushes/clip0001.mxf\n/rushes/clip0002.mxf\n")))
         self.twice(*draw.choice((("ltfs", "VX0041", label, index), ("pick", "VX0041", label, index, listed), ("recall", "--json", "VX0041", label, index, listed))))
 
     def words(self):
