@@ -82,7 +82,7 @@ class Fuzz:
             self.stop(tell)
         if done.returncode in (1, 2) and not done.stderr:
             self.stop(tell)
-        if "--json" in words and done.stdout and done.returncode in (0, 3):
+        if "--json" in words and not {"--help", "-h"} & set(words) and done.stdout and done.returncode in (0, 3):
             try:
                 json.loads(done.stdout)
             except ValueError:
