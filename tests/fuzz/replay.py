@@ -95,7 +95,9 @@ class Replay:
             sys.exit(f"replay.py: the program writes {done.stdout[:300]!r} and {done.stderr!r}, must be {must[0][:300]!r} and {must[1]!r}")
 
     def event(self, text):
-        self.calls = getattr(self, "calls", None) or desk_calls.Calls(self.library, self.draw)
+        if not hasattr(self, "calls"):
+            self.calls = desk_calls.Calls(self.library, self.draw)
+            self.calls.rows["line"] = desk_calls.Lent(1 << 20, 1)
         Day(self.calls).go(text)
 
 
@@ -130,12 +132,12 @@ class Day:
             return refusal.args[0] + 256 * refusal.args[1], b""
         model = day.Desk(self.tape)
         model.waiting = {office: [(ticket[0], ticket[3], ticket[1], ticket[2]) for ticket in waiting[office]] for office in (1, 2)}
-        model.last = dict(self.lasts)
+        model.last = {office: min(last, day.MOST) for office, last in self.lasts.items()}  # no day goes beyond; a table that is handed in may
         said = model.answer(line[:-1])
         refused = re.match(rb"refused=(\d+)\n(?:place=(\d+)\n)?", said)
         if refused:
             return int(refused[1]) + 256 * int(refused[2] or 0), b""
-        self.after = desk.records_of({office: [(t[0], t[2], t[3], t[1]) for t in model.waiting[office]] for office in (1, 2)}), dict(model.last)
+        self.after = desk.records_of({office: [(t[0], t[2], t[3], t[1]) for t in model.waiting[office]] for office in (1, 2)}), {office: max(self.lasts[office], model.last[office]) for office in (1, 2)}
         return 0, said
 
     def one(self, line):
@@ -148,9 +150,8 @@ class Day:
         lent = calls.lend("tickets", before) + calls.lend("lasts", lasts)
         for name, at in (("starts", 0), ("lengths", 1), ("aggregates", 2)):
             lent += calls.lend(name, words(*(entry[at] for entry in self.tape)))
-        lent += calls.lend("line", line[:200]) + calls.lend("out", out) + calls.lend("room", bytes(65600 * 8)) + calls.lend("sizes", sizes)
-        if len(line) <= 200:
-            calls.hold("event", lambda: calls.calls["event"](*lent), code, must)
+        lent += calls.lend("line", line) + calls.lend("out", out) + calls.lend("room", bytes(65600 * 8)) + calls.lend("sizes", sizes)
+        calls.hold("event", lambda: calls.calls["event"](*lent), code, must)
 
     def go(self, text):
         lines = re.findall(rb"[^\n]*\n|[^\n]+", text)[:LINES]

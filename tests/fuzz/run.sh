@@ -6,7 +6,7 @@
 #   tests/fuzz/run.sh --corpus       the corpora alone, and by the models: no fuzzer is needed
 #   tests/fuzz/run.sh --planted      the harness on a library with faults (planted.c): each must be found
 #   tests/fuzz/run.sh --gate         --planted, ten seconds of each, which begin with the corpora, and these by the models
-#   tests/fuzz/run.sh --shrink CALL  the inputs that target/fuzz/CALL has kept, as few and as short as reach the same code, in place of the corpus
+#   tests/fuzz/run.sh --shrink CALL  of the inputs that target/fuzz/CALL has kept the shortest that go every edge, in place of the corpus
 #
 # Needed: what `tools/build.sh library violstream modules` leaves; for ltfs that cmd_ltfs is proved; AFL++ and its clang (Debian: afl++).
 set -eu
@@ -106,17 +106,14 @@ fuzz() {
 shrink() {
     kept=$here/target/fuzz/$call
     harness coverage
-    rm -rf "$kept/few" "$kept/short"
-    mkdir -p "$kept/short"
-    afl-cmin -m none -i "$kept/default/queue" -o "$kept/few" -- "$made/coverage-$call" > "$made/log" 2>&1 || { tail -n 20 "$made/log" >&2; fail "afl-cmin ended otherwise"; }
+    rm -rf "$kept/few" "$here/tests/fuzz/corpus/$call"
+    mkdir -p "$here/tests/fuzz/corpus/$call"
+    afl-cmin -e -m none -i "$kept/default/queue" -o "$kept/few" -- "$made/coverage-$call" > "$made/log" 2>&1 || { tail -n 20 "$made/log" >&2; fail "afl-cmin ended otherwise"; }
     number=0
     for file in "$kept/few"/*; do
         number=$((number + 1))
-        afl-tmin -m none -i "$file" -o "$kept/short/$(printf '%04d' "$number")" -- "$made/coverage-$call" > "$made/log" 2>&1 || cp "$file" "$kept/short/$(printf '%04d' "$number")"
+        cp "$file" "$here/tests/fuzz/corpus/$call/$(printf '%03d' "$number")"
     done
-    mkdir -p "$here/tests/fuzz/corpus"
-    rm -rf "$here/tests/fuzz/corpus/$call"
-    mv "$kept/short" "$here/tests/fuzz/corpus/$call"
     printf '%s: %s inputs, %s bytes\n' "$call" "$number" "$(cat "$here/tests/fuzz/corpus/$call"/* | wc -c)"
 }
 
