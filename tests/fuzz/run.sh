@@ -97,6 +97,8 @@ fuzz() {
     mkdir -p "$kept"
     if [ -d "$kept/default/queue" ]; then from=-; else from=$here/tests/fuzz/corpus/$call; fi
     afl-fuzz -m none -t 1000 -G 16384 -V "$1" -i "$from" -o "$kept" -x "$dict" -- "$made/coverage-$call" > "$made/log" 2>&1 || { tail -n 20 "$made/log" >&2; fail "afl-fuzz ended otherwise"; }
+    # An input that it begins with and that crashes is left out by afl-fuzz, with words alone.
+    ! grep -q 'results in a crash\|crashed with one of the test cases\|results in a timeout' "$made/log" || { grep -A 2 'Attempting dry run' "$made/log" | tail -n 20 >&2; fail "$call: an input that it begins with is not answered as it must be"; }
     found=$(find "$kept/default/crashes" "$kept/default/hangs" -name 'id:*' | wc -l)
     printf '%s: %s s, %s executions, %s inputs kept, %s of %s edges, %s crashes, %s hangs\n' "$call" "$(stat run_time)" "$(stat execs_done)" "$(stat corpus_count)" "$(stat edges_found)" \
         "$(stat total_edges)" "$(stat saved_crashes)" "$(stat saved_hangs)"
