@@ -90,19 +90,19 @@ stat() { # NAME
     sed -n "s/^$1 *: //p" "$kept/default/fuzzer_stats"
 }
 
-# fuzz SECONDS
+# fuzz SECONDS FOLDER: the folder keeps what is found, and is gone on from.
 fuzz() {
-    kept=$here/target/fuzz/$call dict=$here/tests/fuzz/words/$(words_of).dict
+    kept=$2 dict=$here/tests/fuzz/words/$(words_of).dict
     harness coverage
     mkdir -p "$kept"
     if [ -d "$kept/default/queue" ]; then from=-; else from=$here/tests/fuzz/corpus/$call; fi
-    afl-fuzz -m none -t 1000 -G 16384 -V "$1" -i "$from" -o "$kept" -x "$dict" -- "$made/coverage-$call" > "$made/log" 2>&1 || { tail -n 20 "$made/log" >&2; fail "afl-fuzz ended otherwise"; }
+    afl-fuzz -m none -t 5000 -G 16384 -V "$1" -i "$from" -o "$kept" -x "$dict" -- "$made/coverage-$call" > "$made/log" 2>&1 || { tail -n 20 "$made/log" >&2; fail "afl-fuzz ended otherwise"; }
     # An input that it begins with and that crashes is left out by afl-fuzz, with words alone.
     ! grep -q 'results in a crash\|crashed with one of the test cases\|results in a timeout' "$made/log" || { grep -A 2 'Attempting dry run' "$made/log" | tail -n 20 >&2; fail "$call: an input that it begins with is not answered as it must be"; }
     found=$(find "$kept/default/crashes" "$kept/default/hangs" -name 'id:*' | wc -l)
     printf '%s: %s s, %s executions, %s inputs kept, %s of %s edges, %s crashes, %s hangs\n' "$call" "$(stat run_time)" "$(stat execs_done)" "$(stat corpus_count)" "$(stat edges_found)" \
         "$(stat total_edges)" "$(stat saved_crashes)" "$(stat saved_hangs)"
-    [ "$found" = 0 ] || fail "$call: $found inputs were not answered as they must be; they are in target/fuzz/$call/default"
+    [ "$found" = 0 ] || fail "$call: $found inputs were not answered as they must be; they are in $kept/default"
 }
 
 shrink() {
@@ -146,8 +146,8 @@ gate() {
         return
     fi
     for call in $calls; do
-        rm -rf "$here/target/fuzz/$call"
-        fuzz 10
+        rm -rf "$made/gate"
+        fuzz 10 "$made/gate"
         by_model "$here/tests/fuzz/corpus/$call"/*
     done
 }
@@ -161,7 +161,7 @@ case $#,${1:-} in
         call=$1
         words_of > /dev/null
         case $2 in '' | *[!0-9]*) fail "$2 is no number of seconds" ;; esac
-        fuzz "$2"
+        fuzz "$2" "$here/target/fuzz/$call"
         by_model "$kept/default/queue"/id:*
         ;;
     *) fail "usage: tests/fuzz/run.sh CALL SECONDS, --shrink CALL, --corpus, --planted or --gate" ;;
