@@ -118,6 +118,67 @@ can_watch() {
     [ -x "$out/watched" ] && "$out/watched"
 }
 
+# stopped WHAT WORDS PROGRAM: a program in which a sanitizer must find something, with these words in what it says.
+stopped() {
+    ! timeout 60 "$3" > "$out/stopped.said" 2>&1 || fail "$1: not found"
+    grep -q "$2" "$out/stopped.said" || { head -n 30 "$out/stopped.said" >&2; fail "$1: not found as it must be"; }
+    printf '%s: found, in the library\n' "$1"
+}
+
+# from_python WHAT TEST WORD...: a comparison in Python on the library that the address sanitizer watches.
+from_python() {
+    what=$1 test=$2
+    shift 2
+    step "$what" env LD_PRELOAD="$("$cc" -print-file-name=libasan.so)" ASAN_OPTIONS=detect_leaks=0 python3 "$here/tests/python/$test.py" "$out/address/libviolstream.so" "$@"
+}
+
+# watched_by SANITIZER KIND NAME...: the library, watched (tools/watched.sh), and callers of it in C, in $out/KIND.
+watched_by() {
+    sanitizer=$1 kind=$2
+    shift 2
+    mkdir -p "$out/$kind"
+    step "building the library, watched ($kind)" "$here/tools/watched.sh" "$kind" "$out/$kind/library.a"
+    step "building callers, watched ($kind)" make -s -C "$here/tests/c" CC="$cc" ARCHIVE="$out/$kind/library.a" OUT="$out/$kind" CFLAGS="-O1 -g -fsanitize=$sanitizer -fno-sanitize-recover=all" "$@"
+}
+
+# The library compiled once more from the same modules: every address that it reads or writes is looked at, and all that it assumes. The comparisons run on it; with --calls 100000, so many
+# calls of each. A row that is too short must be found, in its own code.
+watched() {
+    can_watch || { printf 'watched: left out, the compiler has no sanitizers here\n'; return; }
+    [ -d "$here/target/staticlib/modules" ] || fail "no modules beside the archive; 'tools/build.sh library violstream modules' makes them"
+    many=${calls:-0}
+    if [ "$many" -ge 100000 ]; then long=--long; else long=; fi
+    step "what the library assumes is checked" python3 "$here/tests/python/assumptions.py"
+    watched_by address,undefined address short_row compare daemon
+    step "building libviolstream.so, watched" "$cc" -shared -fsanitize=address -Wl,--whole-archive "$out/address/library.a" -Wl,--no-whole-archive -o "$out/address/libviolstream.so"
+    stopped "a row one word short" 'SUMMARY: AddressSanitizer: heap-buffer-overflow .* in [a-z_]*::' "$out/address/short_row"
+    a_day "daemon (library watched)" "$out/address/daemon"
+    step "c/compare (library watched)" "$out/address/compare" --apart --calls "$((many > 0 ? 5 * many : 20000))"
+    from_python "the calls for tickets (library watched)" desk_calls ${long:---calls 4000}
+    from_python "the calls for sheets (library watched)" answer_calls ${long:---calls 3000}
+    from_python "the call for files by path (library watched)" pick_calls --cases "$((many > 0 ? many / 3 : 200))"
+    watched_threads
+}
+
+# Two threads that touch one place are seen: those that share a row must be, those with rows of their own must not.
+watched_threads() {
+    if ! "$cc" -fsanitize=thread "$out/watched.c" -o "$out/trial" 2> /dev/null || ! "$out/trial"; then
+        printf 'watched (threads): left out, the compiler has no such sanitizer here\n'
+        return
+    fi
+    watched_by thread thread shared_row threads threads_calls
+    stopped "a row of two threads" 'SUMMARY: ThreadSanitizer: data race .* in [a-z_]*::' "$out/thread/shared_row"
+    step "c/threads (library watched)" "$out/thread/threads" "$((many > 0 ? 1000 : 200))"
+    step "c/threads_calls (library watched)" "$out/thread/threads_calls" "$((many > 0 ? 300 : 40))"
+}
+
+# Ten seconds of each fuzzer, and its corpus.
+fuzzers() {
+    can_watch || { printf 'fuzzers: left out, the compiler has no sanitizers here\n'; return; }
+    step "fuzzers" "$here/tests/fuzz/run.sh" --gate
+    step "the command's own readers" python3 "$here/tests/fuzz/command.py"
+}
+
 # answer_requests WHAT PROGRAM: examples/planning.c
 answer_requests() {
     step_built "$1" "$2" < "$here/examples/planning.requests" > "$out/answers.is"
@@ -288,7 +349,7 @@ command_sources() {
 
 # Every shell script, those that others read among them.
 scripts() {
-    for script in "$here"/violstream "$here"/.ci/run "$here"/bench/*.sh "$here"/bench/*/*.sh "$here"/tests/*.sh "$here"/tools/*.sh; do
+    for script in "$here"/violstream "$here"/.ci/run "$here"/bench/*.sh "$here"/bench/*/*.sh "$here"/tests/*.sh "$here"/tests/*/*.sh "$here"/tools/*.sh; do
         step "shellcheck of $script" shellcheck -x -P "$here" "$script"
     done
     printf 'scripts: shellcheck finds nothing\n'
@@ -337,6 +398,8 @@ run daemon
 run installed
 run c/threads
 run c/threads_calls
+run watched
+run fuzzers
 run c/stack
 run c/stack_desk
 run bench

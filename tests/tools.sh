@@ -6,6 +6,8 @@
 # On x86-64: make, gcc, g++, rustc, python3, shellcheck and man. On another processor cross compilers for x86-64 and an emulator in place of
 # gcc and g++ (tools/machine.sh), and Rust with its standard library for x86-64.
 
+# On x86-64 also AFL++, where it can be had: the test that needs it says if it is left out.
+
 # Prints the packages that are missing, by Debian's names.
 missing_tools() {
     for tool in make python3 shellcheck; do
@@ -31,7 +33,15 @@ missing_tools() {
     find_rust || [ -x "$debian_rust" ] || printf ' rustc'
 }
 
+# The fuzzer, and the sanitizers of its compiler.
+find_fuzzer() {
+    [ "$emulated" = no ] && [ "$install_tools" = yes ] && [ "$(id -u)" = 0 ] && command -v apt-get > /dev/null || return 0
+    ! command -v afl-fuzz > /dev/null || return 0
+    { apt-get update && apt-get install -y --no-install-recommends afl++ libclang-rt-14-dev; } > "$out/apt.log" 2>&1 || printf 'tests/run.sh: apt-get could not install afl++\n'
+}
+
 find_tools() {
+    find_fuzzer
     missing=$(missing_tools)
     if [ -n "$missing" ] && [ "$install_tools" = yes ] && [ "$(id -u)" = 0 ] && command -v apt-get > /dev/null; then
         [ "$emulated" = yes ] || missing="$missing libc6-dev"

@@ -1,5 +1,6 @@
 #!/usr/bin/env bash
 # Has rt make something: `tools/build.sh check CRATE`, a program, or `tools/build.sh library violstream`, the library for C. The status is rt's.
+# `tools/build.sh library violstream modules` also leaves the modules that the library is compiled from, in target/staticlib/modules (tools/watched.sh).
 #
 # rt by itself proves floor by floor, and begins a floor when the one below is done. For a program it is called here for one crate at a time first,
 # each as soon as what it names is proved, in as many lanes as there are processors, so that no core waits. A lane is a folder that is a checkout to
@@ -146,9 +147,18 @@ library() {
     cd "$here" || return
     order=(boundary boundary_desk boundary_texts)
     [ ! -d crates/boundary_pick ] || order+=(boundary_pick)
+    rm -rf target/staticlib/modules # of an older library
+    if [ "${2:-}" = modules ]; then
+        # shellcheck source=tools/keep.sh
+        . "$here/tools/keep.sh"
+        keeping_kit "$rooms" || return
+        export RATTLE_HOME=$rooms/kit
+        mkdir -p target/staticlib/modules || return
+    fi
     for crate in "${order[@]}"; do
         TMPDIR=$rooms rt staticlib "$crate" &
         wait "$!" || return
+        [ "${2:-}" != modules ] || mv -f "$rooms/module.bc" "target/staticlib/modules/$crate.bc" || return
     done
     { echo "create $rooms/all.a"; printf 'addlib target/staticlib/lib%s.a\n' "${order[@]}"; echo save; echo end; } | "$ar" -M || return
     mv -f "$rooms/all.a" "target/staticlib/lib$1.a"
@@ -156,7 +166,7 @@ library() {
 
 case $1 in
     check) prove_below "$2" || exit ;;
-    library) library "$2"; exit ;;
+    library) library "$2" "${3:-}"; exit ;;
 esac
 cd "$here" || exit
 TMPDIR=$rooms rt "$@" 8>&- &

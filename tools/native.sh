@@ -3,16 +3,17 @@
 # Rattle compiler hands to its back end is kept, its target named anew, and compiled at -O3 as the kit does. What is
 # installed, and what the gate runs, is the x86-64 build.
 #
-#   tools/native.sh CRATE OUT [ABOVE]     OUT: a program; for a library crate an archive
+#   tools/native.sh CRATE OUT [ABOVE]     OUT: a program; for a library crate an archive; a name that ends in .bc: the module itself
 #
 # ABOVE: a folder of a crate above CRATE, in no repository, with nothing but src/: that one is compiled, and may name CRATE and what CRATE names. CRATE
 # may be several names in one word then.
 #
 # The crates below CRATE must be proved already (rt check CRATE).
 set -eu
-unset -v CDPATH above clang crate here kit layout library made name out own source tool triple work
+unset -v CDPATH above clang crate here kit layout library made name out own source triple work
 here=$(cd "$(dirname "$0")/.." && pwd)
 . "$here/tools/machine.sh"
+. "$here/tools/keep.sh"
 
 fail() {
     printf 'native.sh: %s\n' "$1" >&2
@@ -36,17 +37,7 @@ kit=$(kit) && own=$kit/on/$machine && clang=$own/toolchain/bin/clang
 
 work=$(mktemp -d)
 trap 'rm -rf "$work"' EXIT
-
-# A toolchain whose compiler keeps the module that it is given.
-mkdir -p "$work/tools/bin"
-ln -s "$own/toolchain/lib" "$work/tools/lib"
-for tool in llvm-ar ld.lld; do cp "$clang" "$work/tools/bin/$tool"; done
-cat > "$work/tools/bin/clang" << END
-#!/bin/sh
-for word in "\$@"; do case \$word in *.bc) cp "\$word" "$work/module.bc" ;; esac; done
-exec "$clang" "\$@"
-END
-chmod +x "$work/tools/bin/clang"
+keeping_kit "$work" || fail "no kit that keeps its modules could be made"
 
 # The words for the compiler, as rt gives them.
 if [ -f "$source/main.rt" ]; then
@@ -62,8 +53,16 @@ for library in std $(named); do
     fi
 done
 "$own/bin/rattle" build --crate-name "$made" "$@" -L "dependency=$here/target/rlib" -L "dependency=$own/rlib" \
-    --antt-project "$kit/logic/antt-project.json" --logic-built "$own/logic-built" --toolchain "$work/tools" \
+    --antt-project "$kit/logic/antt-project.json" --logic-built "$own/logic-built" --toolchain "$kept_tools" \
     -o "$work/made" > "$work/log" 2>&1 || { tail -n 5 "$work/log" >&2; fail "$crate was not built"; }
+
+case $out in
+    *.bc)
+        cp "$work/module.bc" "$out"
+        printf 'native.sh: %s, the module of %s\n' "$out" "$made"
+        exit
+        ;;
+esac
 
 # The same module for this processor: its triple and data layout are the compiler's own.
 "$clang" --target=x86_64-unknown-linux-gnu -Xclang -disable-llvm-passes -S -emit-llvm -x ir "$work/module.bc" -o "$work/module.ll"

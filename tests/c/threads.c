@@ -2,15 +2,17 @@
  * gets, over and over, and every result and every word of every row must be what one thread alone got before.
  *
  * make -C tests/c threads    (Makefile beside this file says against what)
- * target/tests/threads     exit status: 0 all agree, 1 a difference */
+ * target/tests/threads [ROUNDS]     1,000 rounds by default; exit status: 0 all agree, 1 a difference */
 #define _POSIX_C_SOURCE 200809L
 #include <inttypes.h>
 #include <pthread.h>
 #include <stdio.h>
+#include <stdlib.h>
 #include <string.h>
 #include <violstream.h>
 
-enum { THREADS = 4, ROUNDS = 1000, RUNS = 24 };
+enum { THREADS = 4, RUNS = 24 };
+static unsigned rounds = 1000;
 enum { WANTS = 12, FILES = 2 * WANTS, READS = 4 * WANTS, ROOM = VIOLSTREAM_ROOM_WORDS(WANTS, READS) };
 
 /* What is lent to be read, and what is lent for the answer. Words alone, so that memcmp sees every one and no gap. */
@@ -74,7 +76,7 @@ static void *work(void *given)
 {
     struct desk *desk = given;
     pthread_barrier_wait(&start);
-    for (unsigned round = 0; round < ROUNDS; round++)
+    for (unsigned round = 0; round < rounds; round++)
         for (unsigned i = 0; i < RUNS; i++) {
             desk->lent = desk->runs[i];
             plan_and_price(&desk->lent, &desk->answer, desk->room);
@@ -90,8 +92,10 @@ static void *work(void *given)
     return NULL;
 }
 
-int main(void)
+int main(int words, char **word)
 {
+    if (words == 2)
+        rounds = (unsigned)strtoul(word[1], NULL, 10);
     pthread_t threads[THREADS];
     unsigned started = 0, accepted = 0, differences = 0;
     for (unsigned i = 0; i < THREADS * RUNS; i++) {
@@ -113,6 +117,6 @@ int main(void)
                 started, THREADS, accepted, THREADS * RUNS, differences);
         return 1;
     }
-    printf("threads.c: %d threads at once, %d plans and prices each: as by one thread alone\n", THREADS, ROUNDS * RUNS);
+    printf("threads.c: %d threads at once, %u plans and prices each: as by one thread alone\n", THREADS, rounds * RUNS);
     return 0;
 }

@@ -2,7 +2,7 @@
  * and every result, table and text must be what one thread alone got before.
  *
  * make -C tests/c threads_calls    (Makefile beside this file says against what)
- * target/tests/threads_calls     exit status: 0 all agree, 1 a difference */
+ * target/tests/threads_calls [ROUNDS]     300 rounds by default; exit status: 0 all agree, 1 a difference */
 #define _POSIX_C_SOURCE 200809L
 #include <inttypes.h>
 #include <pthread.h>
@@ -11,7 +11,7 @@
 #include <string.h>
 #include <violstream.h>
 
-enum { THREADS = 4, ROUNDS = 300, DAYS = 8, EVENTS = 12, FILES = 6, ROOM = VIOLSTREAM_ROOM_WORDS(8, 1024) };
+enum { THREADS = 4, DAYS = 8, EVENTS = 12, FILES = 6, ROOM = VIOLSTREAM_ROOM_WORDS(8, 1024) };
 
 static const uint64_t starts[FILES] = {0, 10, 14, 20, 30, 45}, lengths[FILES] = {10, 4, 2, 5, 10, 5}, aggregates[FILES] = {0, 7, 7, 0, 0, 0};
 static char lines[DAYS][EVENTS][40];
@@ -33,6 +33,7 @@ static struct worker {
     unsigned differences;
 } *workers;
 static pthread_barrier_t begin;
+static unsigned rounds = 300;
 
 static uint64_t upto(uint64_t most)
 {
@@ -94,7 +95,7 @@ static void *work(void *given)
 {
     struct worker *worker = given;
     pthread_barrier_wait(&begin);
-    for (unsigned i = 0; i < ROUNDS * DAYS; i++) {
+    for (unsigned i = 0; i < rounds * DAYS; i++) {
         unsigned day = (i + (unsigned)(worker - workers)) % DAYS;
         go_through(day, worker);
         worker->differences += memcmp(&worker->left, &worker->alone[day], sizeof worker->left) != 0;
@@ -102,8 +103,10 @@ static void *work(void *given)
     return NULL;
 }
 
-int main(void)
+int main(int words, char **word)
 {
+    if (words == 2)
+        rounds = (unsigned)strtoul(word[1], NULL, 10);
     pthread_t threads[THREADS];
     unsigned differences = 0, accepted = 0;
     workers = calloc(THREADS, sizeof *workers);
@@ -127,6 +130,6 @@ int main(void)
         pthread_join(threads[i], NULL);
         differences += workers[i].differences;
     }
-    printf("threads_calls: %d threads went through %d days %d times each, %u of %d events accepted; differences: %u\n", THREADS, DAYS, ROUNDS, accepted, DAYS * EVENTS, differences);
+    printf("threads_calls: %d threads went through %d days %u times each, %u of %d events accepted; differences: %u\n", THREADS, DAYS, rounds, accepted, DAYS * EVENTS, differences);
     return differences != 0 || accepted < DAYS * EVENTS / 4;
 }
