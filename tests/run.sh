@@ -281,7 +281,6 @@ command_sources() {
     step "the layout of the command's sources" cargo fmt --check --manifest-path "$here/command/Cargo.toml"
     (cd "$made/crate" && step "clippy" cargo clippy -q --release --target-dir "$made/target" -- -D warnings) || exit 1
     (cd "$made/crate" && step "clippy, with the library" cargo clippy -q --release --features library --target-dir "$made/target" -- -D warnings) || exit 1
-    (cd "$made/crate" && step "clippy, with files by name" cargo clippy -q --release --features pick --target-dir "$made/target" -- -D warnings) || exit 1
     (cd "$made/crate" && step "the command's own tests" cargo test -q --release --target-dir "$made/target" > "$out/cargo.log") || exit 1
     printf 'command_sources: in the layout of rustfmt, nothing found by clippy, its own tests passed\n'
 }

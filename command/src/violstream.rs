@@ -179,8 +179,10 @@ impl Library {
         unsafe { calls::violstream_version() }
     }
 
+    /// Where there is no memory for it, it stays short, and the call refuses by 9.
     fn need_room(&mut self, words: usize) {
-        if self.room.len() < words {
+        let more = words.saturating_sub(self.room.len());
+        if more > 0 && self.room.try_reserve_exact(more).is_ok() {
             self.room.resize(words, 0);
         }
     }

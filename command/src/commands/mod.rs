@@ -107,6 +107,7 @@ pub fn answer(asked: &Asked, call: &Call) -> Result<Status, Stop> {
         Asked::Completions { shell } => print(&help::completions(shell, &call.places)),
         Asked::Build => {
             build::everything(call)?;
+            build::linked(call)?;
             say("built: what plan, field, buys, price, check, explain, rewrite, mend, month, ltfs, desk, serve, record, audit and install need");
             Ok(Status::Answered)
         }
