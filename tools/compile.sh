@@ -20,7 +20,7 @@ compile() {
     library=$made/linked.$$
     if [ -f "$archive" ]; then cp "$archive" "$library"; else : > "$library"; fi || return 1
     set --
-    if [ "$(uname -m)" = x86_64 ] && grep -q violstream_pick "$library"; then
+    if [ "$(uname -m)" = x86_64 ] && grep -q violstream_buys "$library"; then
         sum=$(cksum < "$library") && sum=$made/library.${sum%% *} && mkdir -p "$sum" && cp "$library" "$sum/libviolstream.a" || return 1
         set -- --features library -- -L "native=$sum"
     fi

@@ -75,6 +75,7 @@ mod linked {
         let mut library = violstream::Library::new();
         let answer = match program {
             "cmd_plan_any" => library.answer(run),
+            "cmd_buys_any" => library.buys(run),
             "cmd_check" => library.check(run, other),
             _ => return None,
         };
