@@ -77,13 +77,14 @@
  *   violstream_price, violstream_price_any                                                  1,024
  *   violstream_plan, violstream_plan_any                                                    6,144
  *   violstream_file, violstream_withdraw, violstream_board, violstream_waiting             16,384
- *   violstream_answer, violstream_buys                                                     32,768
+ *   violstream_answer                                                                      32,768
+ *   violstream_buys                                                                        49,152  (48 KiB)
  *   violstream_pick                                                                        86,016  (84 KiB)
  *   violstream_check                                                                      147,456  (144 KiB)
  *   violstream_mend                                                                       167,936  (164 KiB)
  *   violstream_event                                                                      557,056  (544 KiB)
  *
- * Mind the last four where a thread has a small stack. C99 or later, or C++. Link with libviolstream.a (x86-64), which needs
+ * Mind the last five where a thread has a small stack. C99 or later, or C++. Link with libviolstream.a (x86-64), which needs
  * the C library and nothing else:
  *
  *   cc example.c $(pkg-config --cflags --libs violstream)
@@ -287,7 +288,7 @@
  *     tape=VX0041
  *     sum=246
  *     detours=1
- *     buys=2,2,FIGURE
+ *     buys=2,2,50
  *     formed=yes
  *     walk=yes
  *     least=yes
