@@ -290,6 +290,8 @@ scripts() {
     for script in "$here"/violstream "$here"/.ci/run "$here"/bench/*.sh "$here"/bench/*/*.sh "$here"/tests/*.sh "$here"/tools/*.sh; do
         step "shellcheck of $script" shellcheck -x -P "$here" "$script"
     done
+    ! git -C "$here" grep -qw awk -- ':!docs' ':!tests' 2> /dev/null || fail "a script calls awk"
+    [ "$(wc -l < "$here/violstream")" -lt 100 ] || fail "violstream has 100 lines or more"
     printf 'scripts: shellcheck finds nothing\n'
 }
 

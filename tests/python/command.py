@@ -616,7 +616,8 @@ def nothing_lost(at):
     at.must(f"set -o pipefail; (sleep 0.2; exec {sheet}) | true", 141, b"", silent=True)
     at.must("./violstream help > /dev/full", 1, b"", ["cannot write to standard output"])
     at.must(f"./violstream ltfs VX0041 {LABEL} {INDEX} > /dev/full", 1, b"", ["cannot write to standard output"])
-    at.must("./violstream plan < /", 1, b"", ["cannot read standard input: Is a directory"])
+    for words in ("plan", "plan --any", "month", "desk examples/day.run"):
+        at.must(f"./violstream {words} < /", 1, None, ["cannot read standard input: Is a directory"])
     at.must("./violstream plan <&-", 1, b"", ["cannot read standard input: it is closed"])
     at.must("./violstream plan /dev/stdin <&-", 1, b"", ["cannot read /dev/stdin"])
     at.must("./violstream plan <&- >&- 2>&-", 1, b"")
@@ -1044,7 +1045,7 @@ def installing(at):
 
     at.must(f"umask 077 && ./violstream install {prefix}", 0, silent=True)
     whole = files()
-    for name in ("bin/violstream", "libexec/violstream/cmd_plan", "libexec/violstream/cmd_plan_any", "share/man/man1/violstream.1", "share/doc/violstream/OPERATOR.md", "share/doc/violstream/examples/VX0041.run",
+    for name in ("bin/violstream", "libexec/violstream/cmd_plan", "libexec/violstream/cmd_plan_any", "share/man/man1/violstream.1", "share/doc/violstream/OPERATOR.md", "share/doc/violstream/RULES.md", "share/doc/violstream/examples/VX0041.run",
                  "share/bash-completion/completions/violstream", "lib/libviolstream.a", "lib/libviolstream.so", "lib/pkgconfig/violstream.pc", "include/violstream.h",
                  "lib/python3/dist-packages/violstream.py", "share/violstream/violstream.rs", "lib/systemd/system/violstream-desk@.service"):
         if name not in whole or not os.stat(os.path.join(prefix, name)).st_mode & 0o004 or not os.stat(os.path.dirname(os.path.join(prefix, name))).st_mode & 0o001:
@@ -1117,6 +1118,11 @@ def packaged(at):
             raise Wrong(f"the package has no {name}")
     at.must("find unpacked ! -perm -044 ! -type l", 0, b"")
     at.must("grep '^libdir=' unpacked/usr/lib/x86_64-linux-gnu/pkgconfig/violstream.pc", 0, b"libdir=${prefix}/lib/x86_64-linux-gnu\n")
+    # dpkg puts it in place, below a folder that is a system to it, and removes it.
+    if os.getuid() == 0 and shutil.which("dpkg"):
+        at.must("mkdir -p system/var/lib/dpkg/info system/var/lib/dpkg/updates system/var/lib/dpkg/triggers && touch system/var/lib/dpkg/status && "
+                "dpkg --root=$PWD/system --force-depends --log=/dev/null -i target/command/deb/*.deb 2> said && system/usr/bin/violstream plan examples/VX0041.run > plan && "
+                "dpkg --root=$PWD/system --log=/dev/null -r violstream 2>> said && cmp plan examples/VX0041.plan && test ! -e system/usr", 0, None, silent=True)
     if shutil.which("lintian") and os.path.exists(archive):
         found = at.shell("mkdir theirs && TMPDIR=$PWD/theirs lintian --allow-root target/command/deb/*.deb")[0]
         if b"E: " in found:

@@ -107,19 +107,16 @@ pub fn answer(asked: &Asked, call: &Call) -> Result<Status, Stop> {
         Asked::Completions { shell } => print(&help::completions(shell, &call.places)),
         Asked::Build => {
             build::everything(call)?;
-            build::linked(call)?;
             say("built: what plan, field, buys, price, check, explain, rewrite, mend, month, ltfs, desk, serve, record, audit and install need");
             Ok(Status::Answered)
         }
         Asked::Test => Ok(if build::test(call)? { Status::Answered } else { Status::Failed }),
         Asked::Install { prefix } => {
             build::everything(call)?;
-            build::linked(call)?;
             install::install(prefix.as_deref(), call)
         }
         Asked::Deb => {
             build::everything(call)?;
-            build::linked(call)?;
             deb::make(call)
         }
         Asked::Uninstall { prefix } => install::uninstall(prefix.as_deref(), call),
