@@ -1453,6 +1453,17 @@ def sources():
         yield from (os.path.relpath(os.path.join(folder, name), programs.ROOT) for name in names)
 
 
+def linked_anew(at):
+    """build ends with the command compiled with the library that it has made; then there is nothing left to do."""
+    if not LINKED:
+        return
+    uncompiled(at)
+    for _ in range(2):
+        at.must("./violstream build && cmp target/command/linked.a target/staticlib/libviolstream.a", 0, b"", ["violstream: built: what plan, "])
+        if all_calls(at).count("compiled") != 2:
+            raise Wrong(f"build has called cargo so: {all_calls(at)}")
+
+
 def surrounded(at):
     """No name of the environment reaches into the command: every one that a script uses is set to something hostile, and all is as without."""
     asked = re.findall(r'env::var(?:_os)?\("(\w+)"\)', "".join(contents(name).decode() for name in sources()))
@@ -1513,7 +1524,7 @@ def until(true, otherwise):
 
 
 TESTS = (answers, any_run, every_run, every_run_judged, without_library, fielding, figures, pairs, explained, timed, rewriting, mending, monthly, desk, replaying, statuses, help_and_version, nothing_lost, closed, odd_ends, quick, broken_program, several, ltfs_inputs, words_of_sheets, words_of_damaged_sheets,
-         words_of_tapes, keyboard, transcripts, manual, interrupted, manners, as_json, installing, packaged, limits, other_user, without_compiler, building, building_fails, building_twice, building_interrupted, beside, surrounded)
+         words_of_tapes, keyboard, transcripts, manual, interrupted, manners, as_json, installing, packaged, limits, other_user, without_compiler, building, building_fails, building_twice, building_interrupted, beside, linked_anew, surrounded)
 
 
 def built():
