@@ -58,6 +58,8 @@
  *   violstream_price      what a list of detours costs; violstream_price_any: for a head anywhere              (anywhere.c)
  *   violstream_answer     a run sheet's bytes to the plan sheet's, for a head anywhere: what
  *                         `violstream plan --any` prints                                                          (sheet.c)
+ *   violstream_buys       the same to the figure sheet's, what each detour of the plan buys: what
+ *                         `violstream buys --any` prints                                                          (sheet.c)
  *   violstream_file       a ticket filed at one of two offices; violstream_withdraw: one withdrawn              (tickets.c)
  *   violstream_waiting    who waits, as text                                                                    (tickets.c)
  *   violstream_board      up to eight tickets leave on one run, which is planned                                (tickets.c)
@@ -76,12 +78,13 @@
  *   violstream_plan, violstream_plan_any                                                    6,144
  *   violstream_file, violstream_withdraw, violstream_board, violstream_waiting             16,384
  *   violstream_answer                                                                      32,768
+ *   violstream_buys                                                                        49,152  (48 KiB)
  *   violstream_pick                                                                        86,016  (84 KiB)
  *   violstream_check                                                                      147,456  (144 KiB)
  *   violstream_mend                                                                       167,936  (164 KiB)
  *   violstream_event                                                                      557,056  (544 KiB)
  *
- * Mind the last four where a thread has a small stack. C99 or later, or C++. Link with libviolstream.a (x86-64), which needs
+ * Mind the last five where a thread has a small stack. C99 or later, or C++. Link with libviolstream.a (x86-64), which needs
  * the C library and nothing else:
  *
  *   cc example.c $(pkg-config --cflags --libs violstream)
@@ -218,7 +221,7 @@
  *     with a detour to file 2: sum 317
  * ---- end of anywhere ----
  *
- * ANOTHER, with sheets: one from mail put in order, planned, and its plan checked
+ * ANOTHER, with sheets: one from mail put in order, planned, what its detours buy, and its plan checked
  *
  * ---- sheet.c ----
  *     #include <stdio.h>
@@ -236,18 +239,22 @@
  *                            "wants=3\nwant=2,1\nwant=1,1\nwant=2,2\n";  // out of order, and file 2 twice
  *         static uint64_t room[VIOLSTREAM_ROOM_MOST];
  *         static uint8_t sheet_bytes[VIOLSTREAM_SHEET_MOST], change_bytes[VIOLSTREAM_CHANGES_MOST];
- *         static uint8_t plan_bytes[VIOLSTREAM_PLAN_MOST], verdict_bytes[VIOLSTREAM_CHECK_MOST];
+ *         static uint8_t plan_bytes[VIOLSTREAM_PLAN_MOST], figure_bytes[VIOLSTREAM_BUYS_MOST];
+ *         static uint8_t verdict_bytes[VIOLSTREAM_CHECK_MOST];
  *         struct violstream_rows rows;
- *         struct violstream_text sheet, changes, plan, verdict;
+ *         struct violstream_text sheet, changes, plan, figures, verdict;
  *
  *         rows.room = room, rows.room_len = VIOLSTREAM_ROOM_MOST;
  *         sheet.bytes = sheet_bytes, sheet.room = sizeof sheet_bytes;
  *         changes.bytes = change_bytes, changes.room = sizeof change_bytes;
  *         plan.bytes = plan_bytes, plan.room = sizeof plan_bytes;
+ *         figures.bytes = figure_bytes, figures.room = sizeof figure_bytes;
  *         verdict.bytes = verdict_bytes, verdict.room = sizeof verdict_bytes;
  *         uint64_t result = violstream_mend_rows(mail, strlen(mail), &sheet, &changes);
  *         if (result == 0)
  *             result = violstream_answer_rows(sheet.bytes, VIOLSTREAM_AS(size_t, sheet.size), &rows, &plan);
+ *         if (result == 0)
+ *             result = violstream_buys_rows(sheet.bytes, VIOLSTREAM_AS(size_t, sheet.size), &rows, &figures);
  *         if (result == 0)
  *             result = violstream_check_rows(sheet.bytes, VIOLSTREAM_AS(size_t, sheet.size), plan.bytes,
  *                                            VIOLSTREAM_AS(size_t, plan.size), &rows, &verdict);
@@ -257,6 +264,7 @@
  *         }
  *         print(&changes);
  *         print(&plan);
+ *         print(&figures);
  *         print(&verdict);
  *         return 0;
  *     }
@@ -277,6 +285,10 @@
  *     detour=2,2
  *     time=1,81,2
  *     time=2,55,1
+ *     tape=VX0041
+ *     sum=246
+ *     detours=1
+ *     buys=2,2,50
  *     formed=yes
  *     walk=yes
  *     least=yes
@@ -439,6 +451,7 @@
 #define VIOLSTREAM_BOARDERS 8                           /* the most tickets that leave at once */
 #define VIOLSTREAM_TAKEN 10                             /* the words of `taken` */
 #define VIOLSTREAM_PLAN_MOST 7644                       /* no plan sheet is longer */
+#define VIOLSTREAM_BUYS_MOST 4492                       /* no figure sheet is longer */
 #define VIOLSTREAM_CHECK_MOST 24115                     /* no text of violstream_check is longer */
 #define VIOLSTREAM_SHEET_MOST 16384                     /* no run sheet is longer */
 #define VIOLSTREAM_CHANGES_MOST 98424                   /* no text of changes is longer */
@@ -709,6 +722,21 @@ uint64_t violstream_answer(const uint8_t *sheet, size_t sheet_len,
                            uint64_t *sizes, size_t sizes_len);
 
 /*
+ * A run sheet to the figure sheet of its plan, for a head anywhere: tape, sum, detours, and a line buys=START,END,FIGURE for each
+ * detour, by how much larger the sum is without it. The figure is above 0.
+ *
+ *   sheet         the run sheet's bytes
+ *   out           for the figure sheet, at least as many bytes as it has; VIOLSTREAM_BUYS_MOST do for every figure sheet
+ *   room, sizes   as for violstream_answer
+ *
+ * Checks: as for violstream_answer. A plan that is made leaves the room cleared, by 8 too.
+ */
+uint64_t violstream_buys(const uint8_t *sheet, size_t sheet_len,
+                         uint8_t *out, size_t out_len,
+                         uint64_t *room, size_t room_len,
+                         uint64_t *sizes, size_t sizes_len);
+
+/*
  * Whether a plan sheet, whoever made it, is right for a run sheet, for a head anywhere. A `no` is an answer.
  *
  *   sheet, plan   the two sheets' bytes
@@ -916,6 +944,14 @@ static inline uint64_t violstream_answer_rows(const void *sheet, size_t sheet_le
 {
     return violstream_answer(VIOLSTREAM_AS(const uint8_t *, sheet), sheet_len, text->bytes, text->room, rows->room, rows->room_len,
                              &text->size, 1);
+}
+
+/* Of the rows the room. */
+static inline uint64_t violstream_buys_rows(const void *sheet, size_t sheet_len, struct violstream_rows *rows,
+                                            struct violstream_text *text)
+{
+    return violstream_buys(VIOLSTREAM_AS(const uint8_t *, sheet), sheet_len, text->bytes, text->room, rows->room, rows->room_len,
+                           &text->size, 1);
 }
 
 /* Of the rows the room. */

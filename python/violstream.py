@@ -21,12 +21,12 @@ import threading
 from dataclasses import dataclass, field
 from typing import Iterable, Mapping, Optional, Sequence
 
-__all__ = ["Closed", "Desk", "Boarding", "Mended", "Plan", "Refused", "Run", "Tape", "Ticket", "answer", "check", "mend", "pick", "plan", "price", "reason", "version"]
+__all__ = ["Closed", "Desk", "Boarding", "Mended", "Plan", "Refused", "Run", "Tape", "Ticket", "answer", "buys", "check", "mend", "pick", "plan", "price", "reason", "version"]
 
 MAJOR = 4
 _PLACES, _SUMS, _TAKEN, _BOARDERS = 32, 4, 10, 8
 _MOST_WANTS, _MOST_READS = 64, 1024
-_PLAN_MOST, _CHECK_MOST, _SHEET_MOST, _CHANGES_MOST, _TEXT_MOST, _NAMES_MORE = 7644, 24115, 16384, 98424, 2677, 10240
+_PLAN_MOST, _BUYS_MOST, _CHECK_MOST, _SHEET_MOST, _CHANGES_MOST, _TEXT_MOST, _NAMES_MORE = 7644, 4492, 24115, 16384, 98424, 2677, 10240
 
 _REASONS = {
     1: "over 4,096 files, or starts, lengths and aggregates of unequal number",
@@ -300,6 +300,13 @@ def answer(sheet: bytes) -> bytes:
     """The plan sheet of a run sheet, for a head anywhere."""
     out, size = (ctypes.c_uint8 * _PLAN_MOST)(), _words(1)
     _call("answer", *_bytes(sheet), *_lent(out), *_room(_MOST_WANTS * _MOST_WANTS * (_MOST_READS + 1)), *_lent(size))
+    return _text(out, size[0])
+
+
+def buys(sheet: bytes) -> bytes:
+    """The figure sheet of a run sheet, for a head anywhere: what each detour of its plan buys."""
+    out, size = (ctypes.c_uint8 * _BUYS_MOST)(), _words(1)
+    _call("buys", *_bytes(sheet), *_lent(out), *_room(_MOST_WANTS * _MOST_WANTS * (_MOST_READS + 1)), *_lent(size))
     return _text(out, size[0])
 
 

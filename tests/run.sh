@@ -342,7 +342,6 @@ command_sources() {
     step "the layout of the command's sources" cargo fmt --check --manifest-path "$here/command/Cargo.toml"
     (cd "$made/crate" && step "clippy" cargo clippy -q --release --target-dir "$made/target" -- -D warnings) || exit 1
     (cd "$made/crate" && step "clippy, with the library" cargo clippy -q --release --features library --target-dir "$made/target" -- -D warnings) || exit 1
-    (cd "$made/crate" && step "clippy, with files by name" cargo clippy -q --release --features pick --target-dir "$made/target" -- -D warnings) || exit 1
     (cd "$made/crate" && step "the command's own tests" cargo test -q --release --target-dir "$made/target" > "$out/cargo.log") || exit 1
     printf 'command_sources: in the layout of rustfmt, nothing found by clippy, its own tests passed\n'
 }
@@ -352,6 +351,8 @@ scripts() {
     for script in "$here"/violstream "$here"/.ci/run "$here"/bench/*.sh "$here"/bench/*/*.sh "$here"/tests/*.sh "$here"/tests/*/*.sh "$here"/tools/*.sh; do
         step "shellcheck of $script" shellcheck -x -P "$here" "$script"
     done
+    ! git -C "$here" grep -qw awk -- ':!docs' ':!tests' 2> /dev/null || fail "a script calls awk"
+    [ "$(wc -l < "$here/violstream")" -lt 100 ] || fail "violstream has 100 lines or more"
     printf 'scripts: shellcheck finds nothing\n'
 }
 

@@ -14,16 +14,15 @@ lay_out() {
     cp "$here/command/Cargo.lock" "$made/crate/Cargo.lock"
 }
 
-# With the library where it is there, for this processor, and has the calls of serve; with pick where it has that call too. Of other bytes it stands in another folder, so that cargo sees that
+# With the library where it is there, for this processor, and has every call that the command makes; the newest tells. Of other bytes it stands in another folder, so that cargo sees that
 # there is something to do. What was there is kept beside the command, which knows by it whether to be compiled again.
 compile() {
     library=$made/linked.$$
     if [ -f "$archive" ]; then cp "$archive" "$library"; else : > "$library"; fi || return 1
     set --
-    if [ "$(uname -m)" = x86_64 ] && grep -q violstream_waiting "$library"; then
+    if [ "$(uname -m)" = x86_64 ] && grep -q violstream_buys "$library"; then
         sum=$(cksum < "$library") && sum=$made/library.${sum%% *} && mkdir -p "$sum" && cp "$library" "$sum/libviolstream.a" || return 1
-        if grep -q violstream_pick "$library"; then name=pick; else name=library; fi
-        set -- --features "$name" -- -L "native=$sum"
+        set -- --features library -- -L "native=$sum"
     fi
     # What would have cargo build something else, or write elsewhere.
     unset -v CARGO_BUILD_RUSTFLAGS CARGO_BUILD_TARGET CARGO_ENCODED_RUSTFLAGS RUSTC RUSTC_WRAPPER RUSTFLAGS

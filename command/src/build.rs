@@ -53,12 +53,12 @@ fn library(call: &Call) -> Result<(), Stop> {
     Build { places: &call.places, minutes: 6, made, stamp: None, words: ["library", "violstream"] }.run()
 }
 
-/// All that any command needs.
+/// All that any command needs; and this command with the library.
 pub fn everything(call: &Call) -> Result<(), Stop> {
     for (name, _) in PROGRAMS {
         program(name, call)?;
     }
-    library(call)
+    linked(call)
 }
 
 /// The library, and this command with it. Where it was compiled with another or none, the script at the top of the checkout compiles it again, and this

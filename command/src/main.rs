@@ -30,7 +30,6 @@ mod status;
 #[allow(unsafe_code)]
 mod system;
 mod usage;
-#[cfg(feature = "library")]
 #[allow(unsafe_code)]
 mod violstream;
 mod words;

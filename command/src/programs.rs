@@ -3,8 +3,9 @@
 
 use crate::answers;
 use crate::build;
-use crate::commands::Call;
+use crate::commands::{frame_pair, Call};
 use crate::input;
+use crate::library;
 use crate::say::{quoted, reason, say};
 use crate::status::{failed, Stop};
 use crate::system;
@@ -18,6 +19,9 @@ use std::os::unix::process::ExitStatusExt;
 use std::path::{Path, PathBuf};
 use std::process::{Child, Command, ExitStatus, Stdio};
 use std::time::{Duration, Instant};
+
+/// The refusal of a run for which there is not room enough.
+const NO_ROOM: u64 = 9;
 
 /// A program that can be started.
 pub struct Program {
@@ -53,8 +57,35 @@ impl Program {
         Ok(Program { name, before: starter(&path)?, path })
     }
 
-    /// The answer to a text.
+    /// One that is started again and again.
+    pub fn kept<'a>(kept: &'a mut Option<Program>, name: &'static str, call: &Call) -> Result<&'a Program, Stop> {
+        match kept {
+            Some(program) => Ok(program),
+            None => Ok(kept.insert(Program::ready(name, call)?)),
+        }
+    }
+
+    /// The answer to a run sheet, or to another text.
     pub fn ask(&self, text: &[u8]) -> Result<Printed, String> {
+        self.ask_with_room(text, text, b"")
+    }
+
+    /// The answer to a run sheet and a text beside it.
+    pub fn ask_pair(&self, run: &[u8], other: &[u8]) -> Result<Printed, String> {
+        self.ask_with_room(&frame_pair(run, other), run, other)
+    }
+
+    /// Where the program has no room for a run, the library is lent more, and answers in its stead.
+    fn ask_with_room(&self, text: &[u8], run: &[u8], other: &[u8]) -> Result<Printed, String> {
+        let mut printed = self.ask_alone(text)?;
+        if answers::refusal(&printed.answer).map_or(false, |refused| refused.number == NO_ROOM) {
+            printed.answer = library::in_room(self.name, run, other).unwrap_or(printed.answer);
+        }
+        Ok(printed)
+    }
+
+    /// The answer of the program, with the room that it has itself.
+    pub fn ask_alone(&self, text: &[u8]) -> Result<Printed, String> {
         match self.answer(text, None) {
             Ok(printed) => Ok(printed),
             Err(Fault::Program(sentence)) => Err(sentence),

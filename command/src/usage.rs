@@ -4,7 +4,7 @@ use crate::book::is_name;
 use crate::clock;
 use crate::commands::{Asked, Explain, Pick, Recall, Serve, Sought};
 use crate::explain::schedule::Speed;
-use crate::library::PICKS;
+use crate::library::LINKED;
 use crate::places::Places;
 use crate::say::quoted;
 use crate::status::Stop;
@@ -98,7 +98,7 @@ const BY_NAME: [&str; 2] = ["pick", "recall"];
 
 /// Whether files by name are offered: the call is linked, or in this checkout it can be.
 pub fn by_name(places: &Places) -> bool {
-    PICKS || !places.installed && places.root.join("crates/boundary_pick").is_dir()
+    LINKED || !places.installed && places.root.join("crates/boundary_pick").is_dir()
 }
 
 /// The commands that there are.

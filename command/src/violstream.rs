@@ -11,6 +11,7 @@ const BOARDERS: usize = 8;
 const BOARDING_ROOM: usize = BOARDERS * BOARDERS * (MOST_READS as usize + 1);
 const ROOM_MOST: usize = MOST_WANTS * MOST_WANTS * (MOST_READS as usize + 1);
 const PLAN_MOST: usize = 7644;
+const BUYS_MOST: usize = 4492;
 const CHECK_MOST: usize = 24115;
 const SHEET_MOST: usize = 16384;
 const CHANGES_MOST: usize = 98424;
@@ -59,6 +60,9 @@ mod calls {
             times: *mut u64, times_len: usize, legs: *mut u64, legs_len: usize, sums: *mut u64, sums_len: usize,
         ) -> u64;
         pub fn violstream_answer(
+            sheet: *const u8, sheet_len: usize, out: *mut u8, out_len: usize, room: *mut u64, room_len: usize, sizes: *mut u64, sizes_len: usize,
+        ) -> u64;
+        pub fn violstream_buys(
             sheet: *const u8, sheet_len: usize, out: *mut u8, out_len: usize, room: *mut u64, room_len: usize, sizes: *mut u64, sizes_len: usize,
         ) -> u64;
         pub fn violstream_check(
@@ -179,8 +183,10 @@ impl Library {
         unsafe { calls::violstream_version() }
     }
 
+    /// Where there is no memory for it, it stays short, and the call refuses by 9.
     fn need_room(&mut self, words: usize) {
-        if self.room.len() < words {
+        let more = words.saturating_sub(self.room.len());
+        if more > 0 && self.room.try_reserve_exact(more).is_ok() {
             self.room.resize(words, 0);
         }
     }
@@ -258,6 +264,21 @@ impl Library {
         // SAFETY: as above.
         judged(unsafe {
             calls::violstream_answer(
+                sheet.as_ptr(), sheet.len(), self.out.as_mut_ptr(), self.out.len(), self.room.as_mut_ptr(), self.room.len(), sizes.as_mut_ptr(), sizes.len(),
+            )
+        })?;
+        Ok(self.text(sizes[0]))
+    }
+
+    /// A run sheet's figure sheet, for a head anywhere: what each detour of its plan buys.
+    #[rustfmt::skip]
+    pub fn buys(&mut self, sheet: &[u8]) -> Result<Vec<u8>, Refused> {
+        self.need_room(ROOM_MOST);
+        self.need_out(BUYS_MOST);
+        let mut sizes = [0];
+        // SAFETY: as above.
+        judged(unsafe {
+            calls::violstream_buys(
                 sheet.as_ptr(), sheet.len(), self.out.as_mut_ptr(), self.out.len(), self.room.as_mut_ptr(), self.room.len(), sizes.as_mut_ptr(), sizes.len(),
             )
         })?;

@@ -13,7 +13,7 @@
 #include "stack.h"
 
 /* The bytes that violstream.h allows. */
-enum { CALL_MOST = 16384, SHEET_MOST = 32768, CHECK_MOST = 147456, MEND_MOST = 167936, PICK_MOST = 86016, EVENT_MOST = 557056, FILES = 8 };
+enum { CALL_MOST = 16384, SHEET_MOST = 32768, BUYS_MOST = 49152, CHECK_MOST = 147456, MEND_MOST = 167936, PICK_MOST = 86016, EVENT_MOST = 557056, FILES = 8 };
 
 static const uint64_t starts[FILES] = {0, 10, 16, 20, 50, 60, 70, 80}, lengths[FILES] = {10, 4, 4, 30, 10, 10, 10, 10}, aggregates[FILES];
 static struct violstream_desk desk;
@@ -36,6 +36,7 @@ static void event(void) { result = violstream_event_rows(&desk, &run, line, strl
 static void waiting(void) { result = violstream_waiting_rows(&desk, &text); }
 
 static void answer(void) { result = violstream_answer_rows(line, strlen(line), &rows, &sheet_text); }
+static void buys(void) { result = violstream_buys_rows(line, strlen(line), &rows, &sheet_text); }
 static void check(void) { result = violstream_check_rows(line, strlen(line), plan, strlen(plan), &rows, &verdict_text); }
 static void mend(void) { result = violstream_mend_rows(line, strlen(line), &sheet_text, &change_text); }
 static void pick(void) { result = violstream_pick_rows(&paths, &sheet_text, &name_text); }
@@ -137,8 +138,11 @@ int main(void)
     hold_event("event, none", "x\n", VIOLSTREAM_BAD_LINE);
     hold_event("event, board", "board=100,1\n", 0);
     sheet_text.bytes = sheet_bytes, sheet_text.room = sizeof sheet_bytes;
+    line = "tape=VX0041\nhead=60\nturn=1\nrule=least\nfiles=2\nfile=0,10,0\nfile=10,4,0\nwants=2\nwant=1,1\nwant=2,3\n";
+    hold("buys, a detour", buys, 0, BUYS_MOST);
     line = "tape=VX0041\nhead=0\nturn=1\nrule=least\nfiles=2\nfile=0,10,0\nfile=10,4,0\nwants=2\nwant=1,1\nwant=2,3\n";
     hold("answer", answer, 0, SHEET_MOST);
+    hold("buys", buys, 0, BUYS_MOST);
     verdict_text.bytes = verdict_bytes, verdict_text.room = sizeof verdict_bytes;
     change_text.bytes = change_bytes, change_text.room = sizeof change_bytes;
     plan = "tape=VX0041\nsum=43\nreads=4\nfinish=15\nend=14\ndetours=0\ntime=1,11,1\ntime=2,15,1\n";
@@ -153,6 +157,7 @@ int main(void)
     line = "x\n";
     hold("mend, no sheet", mend, VIOLSTREAM_BAD_LINE + 256 * 1, MEND_MOST);
     hold("answer, no sheet", answer, VIOLSTREAM_BAD_LINE + 256 * 1, SHEET_MOST);
+    hold("buys, no sheet", buys, VIOLSTREAM_BAD_LINE + 256 * 1, BUYS_MOST);
     hold_picks();
     text.room = 100;
     hold_event("event, board, short row", "board=100,1\n", VIOLSTREAM_SHORT_ROW);

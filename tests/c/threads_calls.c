@@ -21,10 +21,10 @@ static char indexes[DAYS][2000], lists[DAYS][200];
 
 /* What a day leaves, in words and bytes without a gap. */
 struct left {
-    uint64_t codes[EVENTS], sizes[EVENTS], lasts[2], waiting_code, waiting_size, sheet_codes[3], sheet_sizes[4], pick_code, pick_sizes[2];
+    uint64_t codes[EVENTS], sizes[EVENTS], lasts[2], waiting_code, waiting_size, sheet_codes[4], sheet_sizes[5], pick_code, pick_sizes[2];
     struct violstream_ticket tickets[VIOLSTREAM_PLACES];
     uint8_t texts[EVENTS][VIOLSTREAM_TEXT_MOST + 3], waiting[VIOLSTREAM_TEXT_MOST + 3];
-    uint8_t mended[1024], changes[1024], plan[VIOLSTREAM_PLAN_MOST + 4], verdict[1024], picked[1024], names[1024];
+    uint8_t mended[1024], changes[1024], plan[VIOLSTREAM_PLAN_MOST + 4], figures[1024], verdict[1024], picked[1024], names[1024];
 };
 
 static struct worker {
@@ -86,6 +86,7 @@ static void go_through(unsigned day, struct worker *worker)
     left->waiting_code = violstream_waiting(left->tickets, VIOLSTREAM_PLACES, left->waiting, sizeof left->waiting, &left->waiting_size, 1);
     left->sheet_codes[0] = violstream_mend((const uint8_t *)mail[day], strlen(mail[day]), left->mended, sizeof left->mended, left->changes, sizeof left->changes, left->sheet_sizes, 2);
     left->sheet_codes[1] = violstream_answer(left->mended, left->sheet_sizes[0], left->plan, sizeof left->plan, worker->room, ROOM, &left->sheet_sizes[2], 1);
+    left->sheet_codes[3] = violstream_buys(left->mended, left->sheet_sizes[0], left->figures, sizeof left->figures, worker->room, ROOM, &left->sheet_sizes[4], 1);
     left->sheet_codes[2] = violstream_check(left->mended, left->sheet_sizes[0], left->plan, left->sheet_sizes[2], left->verdict, sizeof left->verdict, worker->room, ROOM, &left->sheet_sizes[3], 1);
     left->pick_code = violstream_pick((const uint8_t *)"T", 1, (const uint8_t *)label, sizeof label - 1, (const uint8_t *)indexes[day], strlen(indexes[day]), (const uint8_t *)lists[day],
                                       strlen(lists[day]), day % 2, NULL, 0, NULL, 0, left->picked, sizeof left->picked, left->names, sizeof left->names, left->pick_sizes, 2);
@@ -120,7 +121,7 @@ int main(int words, char **word)
             workers[i].alone[day] = workers[0].left;
         for (int i = 0; i < EVENTS; i++)
             accepted += workers[0].left.codes[i] == 0;
-        if (workers[0].left.sheet_codes[0] + workers[0].left.sheet_codes[1] + workers[0].left.sheet_codes[2] + workers[0].left.waiting_code + workers[0].left.pick_code != 0)
+        if (workers[0].left.sheet_codes[0] + workers[0].left.sheet_codes[1] + workers[0].left.sheet_codes[2] + workers[0].left.sheet_codes[3] + workers[0].left.waiting_code + workers[0].left.pick_code != 0)
             differences++;
     }
     for (int i = 0; i < THREADS; i++)

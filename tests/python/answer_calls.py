@@ -1,5 +1,5 @@
 #!/usr/bin/env python3
-"""Compares the library's calls that take sheets (violstream_answer, violstream_check, violstream_mend) with the models of plan.py, check.py and mend.py.
+"""Compares the library's calls that take sheets (violstream_answer, violstream_buys, violstream_check, violstream_mend) with the models of plan.py, buys.py, check.py and mend.py.
 
 usage: tests/python/answer_calls.py LIBRARY [--calls N] [--long]    (a libviolstream.so that this machine's own processor can load)
 
@@ -13,6 +13,7 @@ import random
 import re
 import sys
 
+import buys
 import check
 import mend
 import plan
@@ -39,7 +40,7 @@ class Calls:
     def __init__(self, library, draw):
         library = ctypes.CDLL(library)
         self.draw, self.met = draw, {}
-        self.calls = {name: getattr(library, "violstream_" + name) for name in ("answer", "check", "mend")}
+        self.calls = {name: getattr(library, "violstream_" + name) for name in ("answer", "buys", "check", "mend")}
         for call in self.calls.values():
             call.restype = ctypes.c_uint64
         self.rows = {name: Lent(most, unit) for name, most, unit in (
@@ -64,7 +65,7 @@ class Calls:
         return max(0, len(text) + self.draw.choice((0, 0, 0, 1, 7, 300, -1, -len(text))))
 
     def with_room(self, name, sheets, sheet, text):
-        """One text, one length and the room: violstream_answer and violstream_check."""
+        """One text, one length and the room: violstream_answer, violstream_buys and violstream_check."""
         draw, code = self.draw, refusal_in(text)
         if code is None:
             need = room_of(sheet)
@@ -87,6 +88,9 @@ class Calls:
 
     def answer(self, sheet, text):
         self.with_room("answer", [("sheet", sheet)], sheet, text)
+
+    def buys(self, sheet, text):
+        self.with_room("buys", [("sheet", sheet)], sheet, text)
 
     def check(self, sheets, text):
         self.with_room("check", [("sheet", sheets[0]), ("plan", sheets[1])], sheets[0], text)
@@ -123,15 +127,16 @@ def main():
     calls = Calls(given.library, draw)
     many = 100000 if given.long else given.calls
     sheets = [(sheet, text) for sheet, text in ((sheet, plan.answer(sheet, True)) for sheet in plan.cases_anywhere()) if text not in (None, b"refused=9\nplace=0\n")]
+    figures = [(sheet, buys.answer(sheet, True)[0]) for sheet, _ in sheets]
     plans = [(pair, text) for pair, text in ((pair, check.check_answer(*pair)) for pair in check.check_cases()) if text != b"refused=9\nplace=0\n"]
     mail = [(sheet, mended(sheet)) for sheet in mend.cases()]
-    for call, cases in ((calls.answer, sheets), (calls.check, plans), (calls.mend, mail)):
+    for call, cases in ((calls.answer, sheets), (calls.buys, figures), (calls.check, plans), (calls.mend, mail)):
         good = [case for case in cases if not isinstance(case[1], Refused) and (isinstance(case[1], tuple) or refusal_in(case[1]) is None)]
         for case in cases:
             call(*case)
         for _ in range(many - len(cases)):
             call(*draw.choice(good if draw.random() < 0.7 else cases))
-    must_meet = {f"answer {n}" for n in (0, 2, 4, 7, 8, 9, 11, 12, 19)} | {f"check {n}" for n in (0, 7, 8, 9, 11, 12, 19)} | {f"mend {n}" for n in (0, 3, 5, 8, 11, 12)}
+    must_meet = {f"{name} {n}" for name in ("answer", "buys") for n in (0, 2, 4, 7, 8, 9, 11, 12, 19)} | {f"check {n}" for n in (0, 7, 8, 9, 11, 12, 19)} | {f"mend {n}" for n in (0, 3, 5, 8, 11, 12)}
     if not must_meet <= set(calls.met):
         sys.exit(f"answer_calls.py: never met: {sorted(must_meet - set(calls.met))}")
     print("answer_calls.py: " + ", ".join(f"{kind}: {times}" for kind, times in sorted(calls.met.items(), key=lambda item: (item[0].split()[0], int(item[0].split()[1])))))

@@ -9,6 +9,7 @@ import argparse
 import datetime
 import json
 import os
+import platform
 import pty
 import re
 import resource
@@ -19,13 +20,19 @@ import sys
 import tempfile
 import time
 
+import figures as bought
 import programs
 from plan import answer, cases as sheets_of_plan, sheet_of
+from sheets import read
 
 LIMIT = 120
 BUILT = "target/command/violstream"
 PROGRAMS = ("cmd_plan", "cmd_plan_any", "cmd_field", "cmd_buys", "cmd_buys_any", "cmd_price", "cmd_check", "cmd_rewrite", "cmd_mend", "cmd_month", "cmd_ltfs", "cmd_desk")
 ARCHIVE = b"!<arch>\n"
+# The library is for x86-64; with it a command that takes any run has the most room, without it some, and says what to do.
+LINKED = platform.machine() == "x86_64"
+MOST = "4198400\n"
+SOME = f"655360 (5 MiB); {'./violstream build gives it the library, and with that' if LINKED else 'on x86-64, with the library,'} it has 4198400\n"
 LABEL, INDEX = "examples/ltfs/VX0041.label.xml", "examples/ltfs/VX0041.index.xml"
 
 
@@ -149,14 +156,111 @@ def any_run(at):
         at.must(f"./violstream {line}", 3, refusal(7), [f"refused (7): {above}"], data=changed(2, b"head=1099511627777"))
     many = changed(10, b"want=1,564")
     room = "3 wants with 568 reads in all ask for 3 * 3 * 569 = 5121 words of working room; there are 5120"
-    at.must("./violstream plan", 3, refusal(9), [f"refused (9): {room}, and plan --any has 655360\n"], data=many)
-    at.must("./violstream buys", 3, refusal(9), [f"refused (9): {room}, and buys --any has 655360\n"], data=many)
+    for command in ("plan", "buys"):
+        at.must(f"./violstream {command}", 3, refusal(9), [f"refused (9): {room}, and {command} --any has {MOST if LINKED else SOME}"], data=many)
     at.must("./violstream plan --any", 0, answer(many, True), data=many, silent=True)
     at.must("./violstream plan --any | sed -n 3p", 0, b"reads=159\n", data=sheet_of(64, 159), silent=True)
-    room = "64 wants with 160 reads in all ask for 64 * 64 * 161 = 659456 words of working room; "
-    at.must("./violstream plan", 3, refusal(9), [f"refused (9): {room}there are 5120, and plan --any has 655360\n"], data=sheet_of(64, 160))
-    for line, command in (("plan --any", "plan --any"), ("buys --any", "buys --any"), ("explain -", "explain")):
-        at.must(f"./violstream {line}", 3, refusal(9), [f"refused (9): {room}{command} has 655360 (5 MiB), and no command has more\n"], data=sheet_of(64, 160))
+
+
+def large_run():
+    """64 wants with 1,024 reads, the most that a run can have; the head stands among them, and its plan has detours."""
+    reads = [1 if number % 3 else 45 for number in range(63)]
+    files = b"".join(b"file=%d,%d,0\n" % (number * 1000 + number % 7, 20 + number % 5) for number in range(64))
+    wants = b"".join(b"want=%d,%d\n" % (number + 1, count) for number, count in enumerate(reads + [1024 - sum(reads)]))
+    return b"tape=LARGE\nhead=20500\nturn=40\nrule=least\nfiles=64\n" + files + b"wants=64\n" + wants
+
+
+def library(at):
+    """The calls of the archive that the command is compiled with."""
+    archive, shared = os.path.join(programs.ROOT, "target/staticlib/libviolstream.a"), at.path("libviolstream.so")
+    subprocess.run(["cc", "-shared", "-o", shared, "-Wl,--whole-archive", archive, "-Wl,--no-whole-archive"], check=True)
+    os.environ["VIOLSTREAM_LIBRARY"] = shared
+    sys.dont_write_bytecode = True
+    sys.path.insert(0, os.path.join(programs.ROOT, "python"))
+    import violstream
+    return violstream
+
+
+def at_the_limits(at):
+    """That run and its plan as files; and the calls, the plan, its detours and what they buy."""
+    calls, large = library(at), large_run()
+    name, head, turn, table, asked = read(large)
+    plan, figures = calls.answer(large), calls.buys(large)
+    detours = [tuple(map(int, line[7:].split(b","))) for line in plan.split(b"\n") if line.startswith(b"detour=")]
+    if len(detours) < 8 or figures != bought.sheet(name, head, turn, table, asked, detours):
+        raise Wrong(f"of a run at the limits the library gives {plan!r} and {figures!r}")
+    at.write("large.run", large)
+    at.write("large.plan", plan)
+    return calls, plan, detours, figures
+
+
+def every_run(at):
+    """Where a proved program has no room for a run the library has: 64 wants with 1,024 reads are planned, byte for byte as by the library's calls."""
+    if not LINKED:
+        return without_room(at)
+    calls, plan, detours, figures = at_the_limits(at)
+    at.must("target/bin/cmd_plan_any < large.run && target/bin/cmd_buys_any < large.run && (printf '%d\\n' $(stat -c %s large.run); cat large.run large.plan) | target/bin/cmd_check", 0, refusal(9) * 3)
+    for command, text in (("plan", plan), ("buys", figures)):
+        at.must(f"./violstream {command} --any large.run", 0, text, silent=True)
+        at.must(f"./violstream {command} --any - < large.run", 0, text, silent=True)
+        small = at.shell(f"./violstream {command} --any examples/mounted-3.run")[0]
+        at.must(f"./violstream {command} --any large.run examples/mounted-3.run large.run", 0,
+                b"sheet=large.run\n" + text + b"sheet=examples/mounted-3.run\n" + small + b"sheet=large.run\n" + text, silent=True)
+        at.must(f"./violstream {command}", 3, refusal(9), [f"64 * 64 * 1025 = 4198400 words of working room; there are 5120, and {command} --any has {MOST}"], data=sheet_of(64, 1024))
+        at.must(f"./violstream {command} --any --json large.run | grep -c '\"sum\":{plan.split()[1][4:].decode()},'", 0, b"1\n", silent=True)
+        at.must(f"./violstream {command} --any large.run > /dev/full", 1, b"", ["cannot write to standard output"])
+        # Where there is no memory for it there is no room.
+        at.must(f"ulimit -v 32000 && ./violstream {command} --any large.run", 3, refusal(9), ["4198400 words of working room; there were not so many\n"])
+
+
+def every_run_judged(at):
+    """Price, which takes no room, gives the plan's sheet again; check, explain, record and audit take such a run as any other."""
+    if not LINKED:
+        return
+    calls, plan, detours, figures = at_the_limits(at)
+    at.must("./violstream price large.run large.plan", 0, plan, silent=True)
+    at.must("./violstream check large.run large.plan", 0, b"formed=yes\nwalk=yes\nleast=yes\n", silent=True)
+    # Without its last detour the list is worse by what that buys.
+    bought_last = [int(line.split(b",")[2]) for line in figures.split(b"\n")[3:-1]][-1]
+    at.must("sed '/^detour=4,4$/d; s/^detours=8/detours=7/' large.plan | ./violstream price large.run - | ./violstream check large.run -", 3, b"formed=yes\nwalk=yes\nleast=no,%d\n" % bought_last, silent=True)
+    damaged = plan.replace(b"sum=", b"sum=1")
+    at.must("./violstream check large.run -", 3, calls.check(large_run(), damaged), data=damaged, silent=True)
+    at.must("./violstream check large.run -", 3, refusal(11, 1), ["refused (11): line 1 of standard input"], data=b"x\n")
+    said = at.shell("./violstream explain --svg picture.svg large.run")
+    for (start, end), line in zip(detours, figures.split(b"\n")[3:]):
+        if b" detour %d,%d buys %d\n" % (start, end, int(line.split(b",")[2])) not in said[0] or said[1:] != ("", 0):
+            raise Wrong(f"explain says {said}, and not what detour {start},{end} buys")
+    at.must("./violstream record --by me vault large.run examples/VX0041.run", 0, b"sheet=large.run\n" + plan + b"sheet=examples/VX0041.run\n" + PLAN, silent=True)
+    at.must("./violstream audit vault | head -n 3", 0, b"entries=2\nplans=2\nrefusals=0\n", silent=True)
+    at.must("./violstream audit vault --tape LARGE --file 4 | grep -c '^found=000001,.*,45,me$'", 0, b"1\n", silent=True)
+    at.must("sed -i 's/^detour=4,4$/detour=5,5/' vault/000001.record; ./violstream audit vault > said; ended=$?; head -n 1 said; exit $ended", 3, b"wrong=000001\n", silent=True)
+
+
+def without_room(at):
+    """A command that was compiled before the library was there keeps the answer of the program, and says what to do."""
+    at.write("large.run", large_run())
+    for line in ("plan --any", "buys --any", "check", "explain"):
+        at.must(f"./violstream {line} large.run{' examples/VX0041.plan' if line == 'check' else ''}", 3, refusal(9),
+                [f"large.run: refused (9): 64 wants with 1024 reads in all ask for 64 * 64 * 1025 = 4198400 words of working room; {line} has {SOME}"])
+    for command in ("plan", "buys"):
+        at.must(f"./violstream {command}", 3, refusal(9), [f"there are 5120, and {command} --any has {SOME}"], data=sheet_of(64, 1024))
+    at.must("./violstream record vault large.run", 3, refusal(9), [f"plan --any has {SOME}"])
+    at.must("./violstream audit vault | head -n 3", 0, b"entries=1\nplans=0\nrefusals=1\n", silent=True)
+
+
+def without_library(at):
+    """The same command, compiled here without the library; what it has put into a book the one with the library finds right."""
+    if not LINKED:
+        return
+    made = os.path.join(programs.ROOT, "target/command/made")
+    subprocess.run(["cargo", "build", "-q", "--release", "--target-dir", os.path.join(made, "target")], cwd=os.path.join(made, "crate"), check=True)
+    os.rename(at.path(BUILT), at.path("linked"))
+    shutil.copy(os.path.join(made, "target/release/violstream"), at.path(BUILT))
+    without_room(at)
+    os.replace(at.path("linked"), at.path(BUILT))
+    at.must("./violstream audit vault | head -n 3", 0, b"entries=1\nplans=0\nrefusals=1\n", silent=True)
+    at.must("./violstream record vault large.run > large.plan && ./violstream check large.run large.plan", 0, b"formed=yes\nwalk=yes\nleast=yes\n", silent=True)
+    at.must("./violstream audit vault | head -n 3", 0, b"entries=2\nplans=1\nrefusals=1\n", silent=True)
 
 
 def figures(at):
@@ -207,9 +311,8 @@ def pairs(at):
     at.must("sed 's/^detours=1/detours=0/; /^detour=/d' examples/mounted-3.plan | ./violstream price examples/mounted-3.run - | ./violstream check examples/mounted-3.run -", 3, b"formed=yes\nwalk=yes\nleast=no,18\n", silent=True)
     at.write("large.run", sheet_of(64, 159))
     at.must("./violstream plan --any large.run > large.plan && ./violstream check large.run large.plan && ./violstream price large.run large.plan | cmp - large.plan", 0, yes, silent=True)
-    at.write("too-large.run", sheet_of(64, 160))
-    at.must("./violstream check too-large.run large.plan", 3, refusal(9), ["ask for 64 * 64 * 161 = 659456 words of working room; check has 655360 (5 MiB), and no command has more\n"])
-    at.must("./violstream price too-large.run large.plan | sed -n 3p", 0, b"reads=160\n", silent=True)
+    at.write("larger.run", sheet_of(64, 160))
+    at.must("./violstream price larger.run large.plan | sed -n 3p", 0, b"reads=160\n", silent=True)
     for words in ("check", "price"):
         at.must(f"sed 's/^head=.*/head=1099511627777/' {run} | ./violstream {words} - {plan}", 3, refusal(7), ['refused (7): the head (line 2, "head=1099511627777") stands above 1099511627776 (2^40)\n'])
     at.must(f"./violstream check {run} {plan} > /dev/full", 1, b"", ["cannot write to standard output"])
@@ -513,7 +616,8 @@ def nothing_lost(at):
     at.must(f"set -o pipefail; (sleep 0.2; exec {sheet}) | true", 141, b"", silent=True)
     at.must("./violstream help > /dev/full", 1, b"", ["cannot write to standard output"])
     at.must(f"./violstream ltfs VX0041 {LABEL} {INDEX} > /dev/full", 1, b"", ["cannot write to standard output"])
-    at.must("./violstream plan < /", 1, b"", ["cannot read standard input: Is a directory"])
+    for words in ("plan", "plan --any", "month", "desk examples/day.run"):
+        at.must(f"./violstream {words} < /", 1, None, ["cannot read standard input: Is a directory"])
     at.must("./violstream plan <&-", 1, b"", ["cannot read standard input: it is closed"])
     at.must("./violstream plan /dev/stdin <&-", 1, b"", ["cannot read /dev/stdin"])
     at.must("./violstream plan <&- >&- 2>&-", 1, b"")
@@ -941,7 +1045,7 @@ def installing(at):
 
     at.must(f"umask 077 && ./violstream install {prefix}", 0, silent=True)
     whole = files()
-    for name in ("bin/violstream", "libexec/violstream/cmd_plan", "libexec/violstream/cmd_plan_any", "share/man/man1/violstream.1", "share/doc/violstream/OPERATOR.md", "share/doc/violstream/examples/VX0041.run",
+    for name in ("bin/violstream", "libexec/violstream/cmd_plan", "libexec/violstream/cmd_plan_any", "share/man/man1/violstream.1", "share/doc/violstream/OPERATOR.md", "share/doc/violstream/RULES.md", "share/doc/violstream/examples/VX0041.run",
                  "share/bash-completion/completions/violstream", "lib/libviolstream.a", "lib/libviolstream.so", "lib/pkgconfig/violstream.pc", "include/violstream.h",
                  "lib/python3/dist-packages/violstream.py", "share/violstream/violstream.rs", "lib/systemd/system/violstream-desk@.service"):
         if name not in whole or not os.stat(os.path.join(prefix, name)).st_mode & 0o004 or not os.stat(os.path.dirname(os.path.join(prefix, name))).st_mode & 0o001:
@@ -1014,6 +1118,11 @@ def packaged(at):
             raise Wrong(f"the package has no {name}")
     at.must("find unpacked ! -perm -044 ! -type l", 0, b"")
     at.must("grep '^libdir=' unpacked/usr/lib/x86_64-linux-gnu/pkgconfig/violstream.pc", 0, b"libdir=${prefix}/lib/x86_64-linux-gnu\n")
+    # dpkg puts it in place, below a folder that is a system to it, and removes it.
+    if os.getuid() == 0 and shutil.which("dpkg"):
+        at.must("mkdir -p system/var/lib/dpkg/info system/var/lib/dpkg/updates system/var/lib/dpkg/triggers && touch system/var/lib/dpkg/status && "
+                "dpkg --root=$PWD/system --force-depends --log=/dev/null -i target/command/deb/*.deb 2> said && system/usr/bin/violstream plan examples/VX0041.run > plan && "
+                "dpkg --root=$PWD/system --log=/dev/null -r violstream 2>> said && cmp plan examples/VX0041.plan && test ! -e system/usr", 0, None, silent=True)
     if shutil.which("lintian") and os.path.exists(archive):
         found = at.shell("mkdir theirs && TMPDIR=$PWD/theirs lintian --allow-root target/command/deb/*.deb")[0]
         if b"E: " in found:
@@ -1344,6 +1453,17 @@ def sources():
         yield from (os.path.relpath(os.path.join(folder, name), programs.ROOT) for name in names)
 
 
+def linked_anew(at):
+    """build ends with the command compiled with the library that it has made; then there is nothing left to do."""
+    if not LINKED:
+        return
+    uncompiled(at)
+    for _ in range(2):
+        at.must("./violstream build && cmp target/command/linked.a target/staticlib/libviolstream.a", 0, b"", ["violstream: built: what plan, "])
+        if all_calls(at).count("compiled") != 2:
+            raise Wrong(f"build has called cargo so: {all_calls(at)}")
+
+
 def surrounded(at):
     """No name of the environment reaches into the command: every one that a script uses is set to something hostile, and all is as without."""
     asked = re.findall(r'env::var(?:_os)?\("(\w+)"\)', "".join(contents(name).decode() for name in sources()))
@@ -1403,8 +1523,8 @@ def until(true, otherwise):
     raise Wrong(otherwise)
 
 
-TESTS = (answers, any_run, fielding, figures, pairs, explained, timed, rewriting, mending, monthly, desk, replaying, statuses, help_and_version, nothing_lost, closed, odd_ends, quick, broken_program, several, ltfs_inputs, words_of_sheets, words_of_damaged_sheets,
-         words_of_tapes, keyboard, transcripts, manual, interrupted, manners, as_json, installing, packaged, limits, other_user, without_compiler, building, building_fails, building_twice, building_interrupted, beside, surrounded)
+TESTS = (answers, any_run, every_run, every_run_judged, without_library, fielding, figures, pairs, explained, timed, rewriting, mending, monthly, desk, replaying, statuses, help_and_version, nothing_lost, closed, odd_ends, quick, broken_program, several, ltfs_inputs, words_of_sheets, words_of_damaged_sheets,
+         words_of_tapes, keyboard, transcripts, manual, interrupted, manners, as_json, installing, packaged, limits, other_user, without_compiler, building, building_fails, building_twice, building_interrupted, beside, linked_anew, surrounded)
 
 
 def built():

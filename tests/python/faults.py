@@ -15,13 +15,13 @@ import sys
 import tempfile
 
 import programs
-from command import ARCHIVE, BUILT, INDEX, LABEL, Checkout, built, contents, forget_built, unbuilt
+from command import ARCHIVE, BUILT, INDEX, LABEL, Checkout, built, contents, forget_built, large_run, unbuilt
 
 KINDS = {"read": errno.EIO, "write": errno.ENOSPC, "open": errno.EMFILE, "close": errno.EIO, "poll": errno.ENOMEM, "pipe2": errno.EMFILE, "fork": errno.EAGAIN,
          "waitpid": errno.ECHILD, "dup2": errno.EMFILE, "execvp": errno.EACCES, "fcntl": errno.EBADF, "flock": errno.ENOLCK, "rename": errno.EXDEV, "fsync": errno.EIO, "linkat": errno.EPERM,
          "mkdir": errno.EACCES, "unlink": errno.EACCES, "symlink": errno.EPERM, "fchmod": errno.EPERM, "readlink": errno.EACCES}
 RUN, PLAN = "examples/VX0041.run", "examples/VX0041.plan"
-CALLS = (f"plan {RUN}", "plan --any examples/mounted.run", f"plan {RUN} examples/no-wants.run", f"field {RUN}", f"buys --json {RUN}", f"price {RUN} examples/VX0041.list", f"check {RUN} {PLAN}",
+CALLS = (f"plan {RUN}", "plan --any examples/mounted.run", "plan --any large.run", f"plan {RUN} examples/no-wants.run", f"field {RUN}", f"buys --json {RUN}", f"price {RUN} examples/VX0041.list", f"check {RUN} {PLAN}",
          f"explain {RUN} --svg picture", "rewrite examples/no-wants.run", "mend loose.run", "month may.month", f"month {RUN} examples/retired-rule.run",
          f"ltfs VX0041 {LABEL} {INDEX}", "desk examples/day.run examples/day.events", "desk --replay day.journal", f"plan {PLAN}", f"price {RUN} {RUN}", f"record vault {RUN} examples/retired-rule.run",
          "audit ledger", "audit --tape VX0041 --html page ledger", "version", "help", "plan --help")
@@ -112,6 +112,7 @@ def main():
             at.write("may.month", handle.read())
         with open(at.path(RUN), "rb") as handle:
             at.write("loose.run", handle.read().replace(b"turn=1\n", b"turn=\n"))
+        at.write("large.run", large_run())
         sheet, events = contents("examples/day.run"), contents("examples/day.events")
         at.write("day.journal", b"%d\n" % len(sheet) + sheet + b"# early\n" + events)
         os.makedirs(at.path("target/staticlib"))

@@ -72,9 +72,11 @@ def runs():
 def sheets():
     sheet, plan = contents("VX0041.run"), contents("VX0041.plan")
     must("answer", violstream.answer(sheet), plan)
+    must("buys", violstream.buys(sheet), b"tape=VX0041\nsum=367\ndetours=1\nbuys=2,2,40\n")
     must("check", violstream.check(sheet, plan), b"formed=yes\nwalk=yes\nleast=yes\n")
     must("check of a damaged plan", violstream.check(sheet, contents("VX0041-damaged.plan")).split(b"\n")[1][:8], b"walk=no,")
     refused("answer of no sheet", 11, 1, violstream.answer, b"x\n")
+    refused("figures of no sheet", 11, 1, violstream.buys, b"x\n")
     refused("check of a long plan", 12, 0, violstream.check, sheet, b"x" * 16385)
     refused("answer by the retired rule", 19, 4, violstream.answer, contents("retired-rule.run"))
     must("mend of a good sheet", violstream.mend(sheet), violstream.Mended(sheet, b""))

@@ -251,8 +251,7 @@ def replayed(server, model):
     for number in range(1, min(boardings, 12) + 1):
         run, plan = (os.path.join(keep, f"{number}.{kind}") for kind in ("run", "plan"))
         checked = called("check", run, plan)
-        refused = checked.stdout == b"refused=9\nplace=0\n"
-        must(refused or checked.stdout == b"formed=yes\nwalk=yes\nleast=yes\n", lambda: f"check says of {contents(run)!r} and {contents(plan)!r}: {checked.stdout!r}")
+        must(checked.stdout == b"formed=yes\nwalk=yes\nleast=yes\n", lambda: f"check says of {contents(run)!r} and {contents(plan)!r}: {checked.stdout!r}")
     must(called("desk", "--replay", server.journal, "--keep", keep).returncode == (1 if boardings else 0), "sheets that are there are written over")
 
 

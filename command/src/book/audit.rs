@@ -4,7 +4,7 @@ use super::entry::{written, Entry};
 use super::shelf::{self, Taken};
 use super::{digest, NOTHING};
 use crate::answers::{lines, refusal, says_no, Refusal};
-use crate::commands::{frame_pair, Call, SHEET};
+use crate::commands::{Call, SHEET};
 use crate::programs::Program;
 use crate::say::say;
 use crate::status::{failed, Stop};
@@ -119,14 +119,15 @@ impl Judge<'_> {
     fn fault(&mut self, entry: &Entry, refused: Option<&Refusal>) -> Result<Option<String>, Stop> {
         let name = written(entry.number);
         if refused.is_some() {
-            let answer = ask(&mut self.plan, "cmd_plan_any", start_of(entry.run), self.call)?;
+            // By the room of the program itself: who recorded a 9 had no more.
+            let answer = Program::kept(&mut self.plan, "cmd_plan_any", self.call)?.ask_alone(start_of(entry.run)).or_else(failed)?.answer;
             let now = refusal(&answer).map_or("a plan".to_string(), |now| format!("refusal {} at place {}", now.number, now.place));
             return Ok((answer != entry.plan).then(|| format!("the run of entry {name} is not refused as the entry says; the answer to it is {now}")));
         }
         if entry.plan.len() >= SHEET {
             return Ok(Some(format!("the plan sheet of entry {name} is longer than any")));
         }
-        let answer = ask(&mut self.check, "cmd_check", &frame_pair(start_of(entry.run), entry.plan), self.call)?;
+        let answer = Program::kept(&mut self.check, "cmd_check", self.call)?.ask_pair(start_of(entry.run), entry.plan).or_else(failed)?.answer;
         if let Some(refused) = refusal(&answer) {
             let words = words::table::words(refused.number);
             return Ok(Some(format!("entry {name} is refused by check ({} at place {}: {words})", refused.number, refused.place)));
@@ -145,14 +146,4 @@ fn no_of(answer: &[u8]) -> String {
     let said: Vec<String> = lines(answer).map(|line| String::from_utf8_lossy(line).into_owned()).collect();
     let told = |(key, words): &(&str, &str)| Some(format!("{words} ({})", said.iter().find(|line| line.starts_with(key))?));
     known.iter().filter_map(told).collect::<Vec<_>>().join("; ")
-}
-
-fn ask(kept: &mut Option<Program>, name: &'static str, text: &[u8], call: &Call) -> Result<Vec<u8>, Stop> {
-    let program = match kept.take() {
-        Some(program) => program,
-        None => Program::ready(name, call)?,
-    };
-    let printed = program.ask(text);
-    *kept = Some(program);
-    printed.map(|printed| printed.answer).or_else(failed)
 }

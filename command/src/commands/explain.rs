@@ -1,6 +1,6 @@
 //! explain: what the programs print of a run, arranged for a person.
 
-use super::{frame_pair, say_refused, told, Call, Explain, SHEET};
+use super::{say_refused, told, Call, Explain, SHEET};
 use crate::answers::refusal;
 use crate::explain::picture::Beside;
 use crate::explain::schedule::{self, Names};
@@ -23,10 +23,10 @@ pub fn answer(asked: &Explain, call: &Call) -> Result<Status, Stop> {
         Ok(texts) => texts,
         Err(sentence) => return Ok(told(&sentence)),
     };
-    let framed = frame_pair(&sheet, b"");
     let mut answers = Vec::new();
-    for (name, text) in [("cmd_plan_any", &sheet), ("cmd_buys_any", &sheet), ("cmd_price", &framed)] {
-        let answer = match Program::ready(name, call)?.ask(text) {
+    for name in ["cmd_plan_any", "cmd_buys_any", "cmd_price"] {
+        let program = Program::ready(name, call)?;
+        let answer = match if name == "cmd_price" { program.ask_pair(&sheet, b"") } else { program.ask(&sheet) } {
             Ok(printed) => printed.answer,
             Err(sentence) => return Ok(told(&sentence)),
         };

@@ -113,12 +113,10 @@ pub fn answer(asked: &Asked, call: &Call) -> Result<Status, Stop> {
         Asked::Test => Ok(if build::test(call)? { Status::Answered } else { Status::Failed }),
         Asked::Install { prefix } => {
             build::everything(call)?;
-            build::linked(call)?;
             install::install(prefix.as_deref(), call)
         }
         Asked::Deb => {
             build::everything(call)?;
-            build::linked(call)?;
             deb::make(call)
         }
         Asked::Uninstall { prefix } => install::uninstall(prefix.as_deref(), call),

@@ -1,6 +1,6 @@
 //! price and check: a run sheet, and a list or a plan sheet beside it.
 
-use super::{frame_pair, say_refused, told, Call, SHEET};
+use super::{say_refused, told, Call, SHEET};
 use crate::answers::{refusal, says_no, Refusal};
 use crate::input::take;
 use crate::json;
@@ -21,7 +21,7 @@ pub fn answer(command: &str, run: &OsStr, other: &OsStr, as_json: bool, call: &C
         }
     };
     let program = Program::ready(if command == "price" { "cmd_price" } else { "cmd_check" }, call)?;
-    let answer = match program.ask(&frame_pair(&sheet, &list)) {
+    let answer = match program.ask_pair(&sheet, &list) {
         Ok(printed) => printed.answer,
         Err(sentence) => return Ok(told(&sentence)),
     };
@@ -50,7 +50,7 @@ fn words_of(refused: &Refusal, sheet: &[u8], list: &[u8], name: &str, call: &Cal
     let of_list = match refused.number {
         10 => true,
         11 | 12 => {
-            let alone = Program::ready("cmd_price", call)?.ask(&frame_pair(sheet, b""));
+            let alone = Program::ready("cmd_price", call)?.ask_pair(sheet, b"");
             alone.map_or(true, |printed| refusal(&printed.answer).as_ref() != Some(refused))
         }
         _ => false,

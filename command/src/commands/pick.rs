@@ -4,7 +4,7 @@ use super::{say_refused, told, Call};
 use crate::answers::Refusal;
 use crate::build;
 use crate::input::{whole, Bytes};
-use crate::library::{pick, Picked, Picking, PICKS};
+use crate::library::{pick, Picked, Picking, LINKED};
 use crate::output::put;
 use crate::say::{reason, shown};
 use crate::status::{failed, Status, Stop};
@@ -83,7 +83,7 @@ fn ready(call: &Call) -> Result<(), Stop> {
     if !call.places.installed {
         build::linked(call)?;
     }
-    if PICKS {
+    if LINKED {
         return Ok(());
     }
     failed("this command was compiled without the library's call for files by name, which is for x86-64")

@@ -1,14 +1,14 @@
 //! recall: who gets which file when. It picks, plans any run, and prints a table in the order in which the files are read.
 
 use super::pick::Pick;
-use super::{frame_pair, say_refused, told, Call};
-use crate::answers::Refusal;
+use super::{say_refused, told, Call};
+use crate::answers::{refusal, Refusal};
 use crate::book::Book;
 use crate::explain::picture::{self, Beside};
 use crate::explain::schedule::{self, Names, Speed};
 use crate::explain::{Plan, Texts};
 use crate::json;
-use crate::library::{plan, Picked};
+use crate::library::{in_room, Picked};
 use crate::output::put;
 use crate::programs::Program;
 use crate::say::{quoted, reason, shown};
@@ -43,13 +43,11 @@ pub fn answer(asked: &Recall, call: &Call) -> Result<Status, Stop> {
     };
     let book = asked.book.as_ref().map(|book| Book::of(book, None, call)).transpose()?;
     let add = |answer: &[u8]| book.as_ref().map_or(Ok(0), |book| book.add(&picked.run, answer));
-    let sheet = match plan(&picked.run) {
-        Ok(sheet) => sheet,
-        Err(refused) => {
-            add(&refused.text()).or_else(failed)?;
-            return asked.refuse(&refused, &words::of_plan(&refused, &picked.run, By::PlanAny));
-        }
-    };
+    let sheet = in_room("cmd_plan_any", &picked.run, b"").expect("the library that picks plans too");
+    if let Some(refused) = refusal(&sheet) {
+        add(&sheet).or_else(failed)?;
+        return asked.refuse(&refused, &words::of_plan(&refused, &picked.run, By::PlanAny));
+    }
     let table = match asked.table(&picked, &sheet, call)? {
         Ok(table) => table,
         Err(sentence) => return Ok(told(&sentence)),
@@ -83,7 +81,7 @@ impl Recall {
     /// What is printed, once the picture is written; or why that is not.
     fn table(&self, picked: &Picked, sheet: &[u8], call: &Call) -> Result<Result<String, String>, Stop> {
         let sweep = match self.picture {
-            Some(_) => Program::ready("cmd_price", call)?.ask(&frame_pair(&picked.run, b"")).or_else(failed)?.answer,
+            Some(_) => Program::ready("cmd_price", call)?.ask_pair(&picked.run, b"").or_else(failed)?.answer,
             None => Vec::new(),
         };
         let plan = Plan::read(&Texts { run: &picked.run, plan: sheet, buys: b"", sweep: &sweep });

@@ -26,12 +26,7 @@ fn one(file: &OsStr, book: &Book, sheets: &Sheets, program: &mut Option<Program>
         Ok(run) => run,
         Err(sentence) => return Ok(told(&sentence)),
     };
-    let ready = match program.take() {
-        Some(ready) => ready,
-        None => Program::ready("cmd_plan_any", sheets.call)?,
-    };
-    let printed = ready.ask(&run[..run.len().min(SHEET)]);
-    *program = Some(ready);
+    let printed = Program::kept(program, "cmd_plan_any", sheets.call)?.ask(&run[..run.len().min(SHEET)]);
     match printed.and_then(|printed| book.add(&run, &printed.answer).map(|_| printed)) {
         Ok(printed) => Ok(sheets.put_aside(file, &printed.aside).and(sheets.give(file, &run[..run.len().min(SHEET)], &printed.answer)?)),
         Err(sentence) => Ok(told(&sentence)),

@@ -2,7 +2,7 @@
 //! and the plan sheet of each boarding are left for check.
 
 use super::desk::{Day, Events};
-use super::{frame_pair, say_refused, told, Call, SHEET};
+use super::{say_refused, told, Call, SHEET};
 use crate::answers::refusal;
 use crate::boarding::{boards, Boarding};
 use crate::input::{self, cannot_read, Input};
@@ -33,7 +33,7 @@ pub fn answer(journal_file: &OsStr, keep: Option<&OsStr>, call: &Call) -> Result
         Err(error) => return Ok(told(&cannot_read(journal_file, &error))),
     };
     let judged = match &sheet {
-        Some(sheet) => program.ask(&frame_pair(sheet, b"")),
+        Some(sheet) => program.ask_pair(sheet, b""),
         // The program says what it is.
         None => program.answer(&held, Some(journal.as_raw_fd())).map_err(|fault| match fault {
             Fault::Program(sentence) => sentence,

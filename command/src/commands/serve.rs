@@ -1,6 +1,6 @@
 //! serve: the sheet is judged by the proved desk, the journal replayed, the windows opened; then the server is at work.
 
-use super::{frame_pair, say_refused, told, Call, Serve, SHEET};
+use super::{say_refused, told, Call, Serve, SHEET};
 use crate::answers::refusal;
 use crate::book::Book;
 use crate::build;
@@ -27,7 +27,7 @@ pub fn answer(asked: &Serve, call: &Call) -> Result<Status, Stop> {
     }
     let groups = [group(&asked.groups[0])?, group(&asked.groups[1])?, group(&asked.groups[2])?];
     let library = library(call)?;
-    let morning = match Program::ready("cmd_desk", call)?.ask(&frame_pair(&sheet, b"")) {
+    let morning = match Program::ready("cmd_desk", call)?.ask_pair(&sheet, b"") {
         Ok(printed) => printed.answer,
         Err(sentence) => return Ok(told(&sentence)),
     };

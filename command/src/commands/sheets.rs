@@ -54,13 +54,8 @@ impl<'a> Sheets<'a> {
             Err(sentence) => return Ok(told(&sentence)),
         };
         // Nothing is built for a call that cannot be answered.
-        let program = match self.program.take() {
-            Some(program) => program,
-            None => Program::ready(program_of(self.command, self.any), self.call)?,
-        };
-        let printed = program.ask(&sheet);
-        self.program = Some(program);
-        match printed {
+        let program = Program::kept(&mut self.program, program_of(self.command, self.any), self.call)?;
+        match program.ask(&sheet) {
             Err(sentence) => Ok(told(&sentence)),
             Ok(printed) => {
                 let aside = self.put_aside(file, &printed.aside);

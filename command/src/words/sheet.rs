@@ -2,15 +2,17 @@
 
 use super::{above, in_quotes, is_number, number_fault, visible};
 use crate::answers::Refusal;
+use crate::library::LINKED;
 
 const LIMIT: &str = "1099511627776";
 pub const FORMS: [&str; 5] = ["tape=NAME", "head=NUMBER", "turn=NUMBER", "rule=least", "files=NUMBER"];
 pub const FILE_FORM: &str = "file=START,LENGTH,AGGREGATE";
 pub const WANT_FORM: &str = "want=FILE,READS";
 
-/// Words of working room that plan and the others have, and those of plan --any and check: 5 MiB.
+/// Words of working room that plan and the others have; that the programs of plan --any and check have by themselves, 5 MiB; and that every run has with the library.
 const ROOM: u64 = 5120;
 const ROOM_ANY: u64 = 655360;
+const ROOM_MOST: u64 = 4198400;
 
 /// What has refused: plan names plan --any, which takes more; plan --any and check have more room.
 #[derive(Clone, Copy, PartialEq, Eq)]
@@ -335,13 +337,14 @@ impl Sheet {
         let reads = self.reads().unwrap_or(0);
         let at_stops = if stops == self.wants as u64 { String::new() } else { format!(" at {stops} stops") };
         let room = match by {
-            By::Plan => format!("there are {ROOM}, and plan --any has {ROOM_ANY}"),
-            By::PlanAny => format!("plan --any has {ROOM_ANY} (5 MiB), and no command has more"),
-            By::Check => format!("check has {ROOM_ANY} (5 MiB), and no command has more"),
-            By::Buys => format!("there are {ROOM}, and buys --any has {ROOM_ANY}"),
-            By::BuysAny => format!("buys --any has {ROOM_ANY} (5 MiB), and no command has more"),
-            By::Explain => format!("explain has {ROOM_ANY} (5 MiB), and no command has more"),
+            By::Plan => format!("there are {ROOM}, and {}", room_of("plan --any")),
+            By::Buys => format!("there are {ROOM}, and {}", room_of("buys --any")),
             By::Another => format!("there are {ROOM}"),
+            _ if LINKED => "there were not so many".to_string(),
+            By::PlanAny => room_of("plan --any"),
+            By::BuysAny => room_of("buys --any"),
+            By::Check => room_of("check"),
+            By::Explain => room_of("explain"),
         };
         format!(
             "{} wants{at_stops} with {reads} reads in all ask for {stops} * {stops} * {} = {} words of working room; {room}",
@@ -350,6 +353,15 @@ impl Sheet {
             stops * stops * (reads + 1)
         )
     }
+}
+
+/// How much room a command has that takes any run, and what to do for more.
+fn room_of(command: &str) -> String {
+    if LINKED {
+        return format!("{command} has {ROOM_MOST}");
+    }
+    let remedy = if cfg!(target_arch = "x86_64") { "./violstream build gives it the library, and with that" } else { "on x86-64, with the library," };
+    format!("{command} has {ROOM_ANY} (5 MiB); {remedy} it has {ROOM_MOST}")
 }
 
 fn is_name(text: &str) -> bool {

@@ -1,2 +1,3 @@
--- What a reader of the program's answer must believe, above what is said of sheets, plans and figures and of `answer_any`.
+-- What a reader of the answer must believe, above what is said of sheets, plans and figures and of `answer_any`: AnyBuys.
 pub mod AnyBuys
+pub mod Private

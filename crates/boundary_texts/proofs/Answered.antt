@@ -20,13 +20,14 @@ use Rattle.sheet_writer.specs.Writing.{rowVerdict, writtenAnswer, writtenRow, H
 use Rattle.sheet_lists.specs.Form.{planFroms, planTos}
 use Rattle.answer_plan.specs.PlannedLists.{TextHanded}
 use Rattle.answer_any.specs.AnyRun.{anyChecks, anyVerdict, PlanAnyOf, NotAnswered, SheetAnswered}
+use Rattle.answer_buys_any.specs.AnyBuys.{BuysAnyOf, SheetFiguredAny}
 use Rattle.answer_check.specs.RunRules.{headAnywhere}
 use Rattle.answer_check.specs.Checking.{checkChecks, VerdictOf, verdictOn, CheckAnswered}
 use Rattle.boundary.specs.Boundary.{codeOf}
 use Rattle.boundary.proofs.AnyPlaces.{judge-any-near}
 use Rattle.promises.proofs.Lengths.{verdict-near}
 use Rattle.promises.proofs.InputLengths.{check-checks-near}
-use Rattle.boundary_texts.specs.Texts.{textVerdict, TextCalled, SheetCalled, AnswerCalled, CheckCalled}
+use Rattle.boundary_texts.specs.Texts.{textVerdict, TextCalled, SheetCalled, AnswerCalled, BuysCalled, CheckCalled}
 use Rattle.boundary_texts.specs.Private.{writtenVerdict, Told}
 
 one-set : (x : ℕ) (row : List ℕ) → 1 ≤ length row → set row 0 x ≡ x ∷ drop 1 row
@@ -175,6 +176,21 @@ module _ {sheet out room : List ℕ} {w : Written} {out′ room′ : List ℕ} (
 module _ {sheet room : List ℕ} {w : Written} {none′ room′ : List ℕ} (p : SheetAnswered sheet [] room w none′ room′) where
   pub answer-short : (u : Verdict) → u ≡ writtenVerdict w → (code : ℕ) → code ≡ cond (isRefusal (u .refusal)) (codeOf u) 8 → (out sizes : List ℕ) → length sizes < 1 → AnswerCalled sheet out room sizes code out room′ sizes
   answer-short u is code code-is out sizes l = record { called = short-called (answers p) code (rw is at code-is) out sizes l; cleared = p .cleared }
+
+-- A run sheet to its figure sheet.
+module _ {sheet out room : List ℕ} {w : Written} {out′ room′ : List ℕ} (p : SheetFiguredAny sheet out room w out′ room′) where
+  figures : Answers (anyVerdict (length room) sheet) (BuysAnyOf (sheetName sheet) (sheetRun sheet)) out w out′
+  figures = record { refused = p .refused; handed = p .figured }
+
+  pub figured-near : (u : Verdict) → u ≡ writtenVerdict w → u .place ≤ placeMost
+  figured-near u is = rw is (place-near figures (any-near (length room) sheet))
+
+  pub buys-called : (sizes : List ℕ) → 1 ≤ length sizes → (u : Verdict) → u ≡ writtenVerdict w → (code : ℕ) (sizes′ : List ℕ) → Told u (w .bytes) sizes code sizes′ → BuysCalled sheet out room sizes code out′ room′ sizes′
+  buys-called sizes one u is code sizes′ told = record { called = called figures sizes one code sizes′ (rw is at told); cleared = p .cleared }
+
+module _ {sheet room : List ℕ} {w : Written} {none′ room′ : List ℕ} (p : SheetFiguredAny sheet [] room w none′ room′) where
+  pub buys-short : (u : Verdict) → u ≡ writtenVerdict w → (code : ℕ) → code ≡ cond (isRefusal (u .refusal)) (codeOf u) 8 → (out sizes : List ℕ) → length sizes < 1 → BuysCalled sheet out room sizes code out room′ sizes
+  buys-short u is code code-is out sizes l = record { called = short-called (figures p) code (rw is at code-is) out sizes l; cleared = p .cleared }
 
 -- A run sheet and a plan sheet to the verdict.
 check-near : (words : ℕ) (sheet plan : List ℕ) → verdictOn words sheet plan .place ≤ placeMost

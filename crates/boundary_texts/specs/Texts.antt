@@ -15,6 +15,7 @@ use Rattle.sheet_writer.specs.Writing.{writtenRow}
 use Rattle.sheet_loose.specs.Reading.{looseVerdict}
 use Rattle.sheet_lists.specs.Form.{planFroms, planTos}
 use Rattle.answer_any.specs.AnyRun.{anyVerdict, PlanAnyOf, roomLeft}
+use Rattle.answer_buys_any.specs.AnyBuys.{BuysAnyOf}
 use Rattle.answer_check.specs.RunRules.{headAnywhere}
 use Rattle.answer_check.specs.Checking.{VerdictOf, verdictOn, roomChecked}
 use Rattle.answer_mend.specs.Mending.{mendedText, changesText, wantsVerdicts}
@@ -46,6 +47,11 @@ pub record SheetCalled (v : Verdict) (Asked : List ℕ → Type 0) (out sizes : 
 -- A run sheet to its plan sheet, and the room as the planner leaves it.
 pub record AnswerCalled (sheet out room sizes : List ℕ) (code : ℕ) (out′ room′ sizes′ : List ℕ) : Type 0 where
   pub called : SheetCalled (anyVerdict (length room) sheet) (PlanAnyOf (sheetName sheet) (sheetRun sheet)) out sizes code out′ sizes′
+  pub cleared : room′ ≡ roomLeft sheet room
+
+-- A run sheet to the figure sheet of its plan, under the same verdict.
+pub record BuysCalled (sheet out room sizes : List ℕ) (code : ℕ) (out′ room′ sizes′ : List ℕ) : Type 0 where
+  pub called : SheetCalled (anyVerdict (length room) sheet) (BuysAnyOf (sheetName sheet) (sheetRun sheet)) out sizes code out′ sizes′
   pub cleared : room′ ≡ roomLeft sheet room
 
 -- A run sheet and a plan sheet to the verdict on the latter.

@@ -6,7 +6,7 @@ ghost use mathlib.Core.Bool.{cond};
 ghost use lib.ListN.{length};
 ghost use Rattle.refusals.specs.Refusals.{isRefusal};
 ghost use Rattle.boundary.specs.Boundary.{codeOf};
-ghost use Rattle.boundary_texts.specs.Texts.{AnswerCalled, CheckCalled, MendCalled};
+ghost use Rattle.boundary_texts.specs.Texts.{AnswerCalled, BuysCalled, CheckCalled, MendCalled};
 ghost use Rattle.boundary_texts.specs.Private.{writtenVerdict, mendedVerdict, Told, BothTold};
 use answer_mend::Mended;
 use refusals::Verdict;
@@ -102,6 +102,25 @@ pub extern "C" fn violstream_answer(
     }
     let written = answer_any::answer(sheet, out, room);
     tell(verdict_of(written), written.bytes, sizes)
+}
+
+// The figure sheet of a run sheet's plan, with the head anywhere.
+#[no_mangle]
+pub extern "C" fn violstream_buys(
+    sheet: &[u8],
+    out: &mut [u8],
+    room: &mut [u64],
+    sizes: &mut [u64],
+) -> u64
+    ensures { λ r. ⌜ BuysCalled (now (sheet .entry)) (now (out .entry)) (now (room .entry)) (now (sizes .entry)) r (now (out .exit)) (now (room .exit)) (now (sizes .exit)) ⌝ }
+{
+    if sizes.len() < 1 {
+        let mut none = [0u8; 0];
+        let unwritten = answer_buys_any::answer(sheet, &mut none, room);
+        return short_code(verdict_of(unwritten));
+    }
+    let figured = answer_buys_any::answer(sheet, out, room);
+    tell(verdict_of(figured), figured.bytes, sizes)
 }
 
 // The verdict on a plan sheet, for a run sheet, with the head anywhere. A `no` is an answer.

@@ -1,4 +1,4 @@
--- Two results of a boarding, of an event, of a run sheet answered or of a plan sheet checked, that fit the call's contract are equal, in the code and in every row.
+-- Two results of a boarding, of an event, of a run sheet answered, of its figures or of a plan sheet checked, that fit the call's contract are equal, in the code and in every row.
 use Prim.Native.Nat.{ℕ}
 use mathlib.Core.Path.{_≡_, refl, sym, ap, _∙_}
 use mathlib.Core.Bool.{true, false, cond}
@@ -24,13 +24,15 @@ use Rattle.sheet_writer.specs.Writing.{writtenRow}
 use Rattle.sheet_lists.specs.Form.{planFroms, planTos}
 use Rattle.answer_any.specs.AnyRun.{anyVerdict, PlanAnyOf}
 use Rattle.answer_any.proofs.Determined.{plan-any-once}
+use Rattle.answer_buys_any.specs.AnyBuys.{BuysAnyOf}
+use Rattle.answer_buys_any.proofs.Determined.{buys-any-once}
 use Rattle.answer_check.specs.RunRules.{headAnywhere}
 use Rattle.answer_check.specs.Checking.{checkText, VerdictOf, verdictOn}
 use Rattle.answer_check.proofs.Determined.{one-least}
 use Rattle.boundary.specs.Boundary.{codeOf, sumsWith}
 use Rattle.boundary_desk.specs.Records.{tableAt, recordsWith, withLasts, withFirst, placesIf}
 use Rattle.boundary_desk.specs.Calls.{boardingOf, boardPlaces, takenWith, BoardCalled, oneLine, dayAt, EventCalled}
-use Rattle.boundary_texts.specs.Texts.{textVerdict, SheetCalled, AnswerCalled, CheckCalled}
+use Rattle.boundary_texts.specs.Texts.{textVerdict, SheetCalled, AnswerCalled, BuysCalled, CheckCalled}
 
 module _ (rows : List (List ℕ)) (lasts : List ℕ) (tape : Tape) (head turn : ℕ) (lent : Rows) (taken sums : List ℕ)
     (code code′ : ℕ) (rows′ rows″ : List (List ℕ)) (after after′ : Rows) (taken′ taken″ sums′ sums″ : List ℕ)
@@ -103,6 +105,13 @@ pub answer-call-determined : (sheet out room sizes : List ℕ) (code code′ : �
     → ((code ≡ code′) × ((out′ ≡ out″) × (sizes′ ≡ sizes″))) × (room′ ≡ room″)
 answer-call-determined sheet out room sizes code code′ out′ out″ room′ room″ sizes′ sizes″ p q = (
   called-once (anyVerdict (length room) sheet) (PlanAnyOf (sheetName sheet) (sheetRun sheet)) (plan-any-once (sheetName sheet) (sheetRun sheet)) out sizes code code′ out′ out″ sizes′ sizes″ (p .called) (q .called),
+  p .cleared ∙ sym (q .cleared),
+)
+
+pub buys-call-determined : (sheet out room sizes : List ℕ) (code code′ : ℕ) (out′ out″ room′ room″ sizes′ sizes″ : List ℕ) → BuysCalled sheet out room sizes code out′ room′ sizes′ → BuysCalled sheet out room sizes code′ out″ room″ sizes″
+    → ((code ≡ code′) × ((out′ ≡ out″) × (sizes′ ≡ sizes″))) × (room′ ≡ room″)
+buys-call-determined sheet out room sizes code code′ out′ out″ room′ room″ sizes′ sizes″ p q = (
+  called-once (anyVerdict (length room) sheet) (BuysAnyOf (sheetName sheet) (sheetRun sheet)) (buys-any-once (sheetName sheet) (sheetRun sheet)) out sizes code code′ out′ out″ sizes′ sizes″ (p .called) (q .called),
   p .cleared ∙ sym (q .cleared),
 )
 

@@ -14,6 +14,7 @@ use Rattle.refusals.specs.declared.Verdict.{Verdict}
 use Rattle.refusals.specs.Refusals.{isRefusal, refuseIf, firstOf, accepted}
 use Rattle.refusals.proofs.Verdicts.{refuses, none-refuses, first-alone}
 use Rattle.runs.specs.Run.{Run, total}
+use Rattle.runs.specs.AnyHead.{judgeAnyOf}
 use Rattle.runs.proofs.Search.{true-or-false}
 use Rattle.planner.specs.Plan.{roomFor}
 use Rattle.sheet_reader.specs.Sheet.{longestSheet, sheetRun, sheetName}
@@ -23,8 +24,9 @@ use Rattle.sheet_loose.specs.Reading.{looseVerdict}
 use Rattle.sheet_lists.specs.Form.{planFroms, planTos}
 use Rattle.sheet_lists.specs.Reading.{planForm}
 use Rattle.answer_plan.specs.Recall.{verdictBy}
-use Rattle.answer_any.specs.AnyRun.{anyChecks, anyVerdict, PlanAnyOf}
+use Rattle.answer_any.specs.AnyRun.{anyChecks, anyVerdict, PlanAnyOf, roomLeft}
 use Rattle.answer_any.proofs.Planned.{room-kept, room-cleared}
+use Rattle.answer_buys_any.specs.AnyBuys.{BuysAnyOf}
 use Rattle.answer_check.specs.RunRules.{headAnywhere}
 use Rattle.answer_check.specs.Checking.{VerdictOf, verdictOn}
 use Rattle.answer_mend.specs.Mending.{mendedText, changesText}
@@ -36,7 +38,7 @@ use Rattle.demands.proofs.Tests.{tells-below, tells-either}
 use Rattle.demands.proofs.Checks.{decides-if, decides-reworded, Finds, finds-none, finds-first, AllRefuse, refused-iff}
 use Rattle.promises.specs.Answers.{roomOrder}
 use Rattle.promises.specs.AnswersAny.{AnyApplies}
-use Rattle.promises.specs.PlanLines.{PlanAnyPrinted}
+use Rattle.promises.specs.PlanLines.{PlanAnyPrinted, FiguresAnyPrinted}
 use Rattle.promises.specs.CheckWhole.{VerdictText}
 use Rattle.promises.specs.ListLines.{PlanFormApplies, formOrder}
 use Rattle.promises.specs.TwoTexts.{EarlyApplies, earlyOrder, PlannedApplies, plannedOrder}
@@ -46,6 +48,7 @@ use Rattle.promises.proofs.Answers.{room-all}
 use Rattle.promises.proofs.AnswersAny.{any-finds, one}
 use Rattle.promises.proofs.AnyLengths.{any-passes}
 use Rattle.promises.proofs.PlanLines.{plan-any-printed}
+use Rattle.promises.proofs.AnyFigures.{figures-printed}
 use Rattle.promises.proofs.Checks.{even-plan}
 use Rattle.promises.proofs.CheckWhole.{whole-text}
 use Rattle.promises.proofs.InputLengths.{check-passes}
@@ -53,7 +56,7 @@ use Rattle.promises.proofs.ListLines.{plan-form-by-the-table}
 use Rattle.promises.proofs.TwoTexts.{early-finds, planned-finds, first-of-sheet, first-of-text, first-of-run}
 use Rattle.promises.proofs.Mender.{long, line, wants, reads, sheet-finds, rows-joined}
 use Rattle.promises_calls.specs.CallRefusals.{CodeSays}
-use Rattle.promises_calls.specs.SheetCalls.{RefusedSo, TextTold, RoomCleared, AnswerCallAnswers, CheckCallAnswers, BothApply, long-text, short-row, MendCallAnswers}
+use Rattle.promises_calls.specs.SheetCalls.{RefusedSo, TextTold, RoomCleared, AnswerTold, AnswerCallAnswers, BuysCallAnswers, CheckCallAnswers, BothApply, long-text, short-row, MendCallAnswers}
 
 -- What a verdict finds of an order decides whether it refuses.
 module _ (Applies : Refusal → ℕ → Type 0) (order : List Refusal) (all : AllRefuse order) (v : Verdict) (finds : Finds Applies order v) where
@@ -103,9 +106,11 @@ module _ (v : Verdict) (Asked : List ℕ → Type 0) (out sizes : List ℕ) (cod
             (says, (holds, counts));
       }
 
--- A run sheet to its plan sheet.
-pub answer-call-answers : AnswerCallAnswers
-answer-call-answers sheet out room sizes code out′ room′ sizes′ called =
+-- A run sheet to a text of its least list.
+answer-told : (Asked Told : List ℕ → Run → List ℕ → Type 0) → ((name : List ℕ) (run : Run) → refuses (judgeAnyOf run) ≡ false → (text : List ℕ) → Asked name run text → Told name run text)
+    → (sheet out room sizes : List ℕ) (code : ℕ) (out′ room′ sizes′ : List ℕ) → SheetCalled (anyVerdict (length room) sheet) (Asked (sheetName sheet) (sheetRun sheet)) out sizes code out′ sizes′
+    → room′ ≡ roomLeft sheet room → AnswerTold Told sheet out room sizes code out′ room′ sizes′
+answer-told Asked Told means sheet out room sizes code out′ room′ sizes′ called cleared =
     let v = anyVerdict (length room) sheet in
     let Applies = AnyApplies (length room) sheet in
     let finds = any-finds (length room) sheet in
@@ -114,14 +119,22 @@ answer-call-answers sheet out room sizes code out′ room′ sizes′ called =
     record {
       refused = λ s.
           let e = some-refuses Applies roomOrder room-all v finds s in
-          refused-so v (PlanAnyOf name run) out sizes code out′ sizes′ (called .called) Applies roomOrder finds e room room′ (called .cleared ∙ room-kept v run room e);
+          refused-so v (Asked name run) out sizes code out′ sizes′ called Applies roomOrder finds e room room′ (cleared ∙ room-kept v run room e);
       answered = λ n.
           let e = none-passes Applies roomOrder room-all v finds n in
           let passes = any-passes (length room) sheet e .1 in (
-            told-text v (PlanAnyOf name run) out sizes code out′ sizes′ (called .called) (PlanAnyPrinted name run) (λ text p. plan-any-printed name run passes text p) e,
-            λ stops s. called .cleared ∙ room-cleared v run room e ∙ ap (λ (m : ℕ). replicate m 0 ++ drop m room) (sym (one (length room) sheet stops passes s)),
+            told-text v (Asked name run) out sizes code out′ sizes′ called (Told name run) (means name run passes) e,
+            λ stops s. cleared ∙ room-cleared v run room e ∙ ap (λ (m : ℕ). replicate m 0 ++ drop m room) (sym (one (length room) sheet stops passes s)),
           );
     }
+
+pub answer-call-answers : AnswerCallAnswers
+answer-call-answers sheet out room sizes code out′ room′ sizes′ called =
+    answer-told PlanAnyOf PlanAnyPrinted plan-any-printed sheet out room sizes code out′ room′ sizes′ (called .called) (called .cleared)
+
+pub buys-call-answers : BuysCallAnswers
+buys-call-answers sheet out room sizes code out′ room′ sizes′ called =
+    answer-told BuysAnyOf FiguresAnyPrinted (λ name run passes text p. figures-printed run passes (p .list) (p .least) name text (p .says)) sheet out room sizes code out′ room′ sizes′ (called .called) (called .cleared)
 
 -- A run sheet and a plan sheet to the verdict.
 module _ (sheet plan out room sizes : List ℕ) (code : ℕ) (out′ room′ sizes′ : List ℕ) (called : CheckCalled sheet plan out room sizes code out′ room′ sizes′) where

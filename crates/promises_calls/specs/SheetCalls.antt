@@ -1,4 +1,4 @@
--- Demand 1 at the calls that take sheets: violstream_answer, violstream_check and violstream_mend. Each code is that of the first refusal that applies, by its own
+-- Demand 1 at the calls that take sheets: violstream_answer, violstream_buys, violstream_check and violstream_mend. Each code is that of the first refusal that applies, by its own
 -- condition, and then every row is as it was; where none of the sheets' applies, the text that was asked for stands in front of its row and its length in front of
 -- the row of sizes, or one of them is too short, which is 8.
 use Prim.Native.Nat.{ℕ, _+_, _*_, _≤_, _<_}
@@ -12,11 +12,11 @@ use Rattle.runs.specs.Run.{Run, total}
 use Rattle.sheet_reader.specs.Sheet.{sheetRun, sheetName}
 use Rattle.sheet_lists.specs.Form.{planFroms, planTos}
 use Rattle.answer_mend.specs.Mending.{mendedText, changesText}
-use Rattle.boundary_texts.specs.Texts.{AnswerCalled, CheckCalled, MendCalled}
+use Rattle.boundary_texts.specs.Texts.{AnswerCalled, BuysCalled, CheckCalled, MendCalled}
 use Rattle.demands.specs.RefusalTable.{HasStops, SomeApplies}
 use Rattle.promises.specs.Answers.{roomOrder}
 use Rattle.promises.specs.AnswersAny.{AnyApplies}
-use Rattle.promises.specs.PlanLines.{PlanAnyPrinted}
+use Rattle.promises.specs.PlanLines.{PlanAnyPrinted, FiguresAnyPrinted}
 use Rattle.promises.specs.CheckWhole.{VerdictText}
 use Rattle.promises.specs.ListLines.{PlanFormApplies, formOrder}
 use Rattle.promises.specs.TwoTexts.{EarlyApplies, earlyOrder, PlannedApplies, plannedOrder}
@@ -42,17 +42,25 @@ abbrev pub RoomCleared : Run → List ℕ → List ℕ → Type 0
 RoomCleared run room room′ =
     (stops : ℕ) → HasStops run stops → room′ ≡ replicate (stops * stops * (total (run .counts) + 1)) 0 ++ drop (stops * stops * (total (run .counts) + 1)) room
 
--- A run sheet to its plan sheet: 12, 11, 19, 1 to 7 and 9.
-pub record AnswerTold (sheet out room sizes : List ℕ) (code : ℕ) (out′ room′ sizes′ : List ℕ) : Type 0 where
+-- A run sheet to a text that was asked for of its least list: 12, 11, 19, 1 to 7 and 9.
+pub record AnswerTold (Asked : List ℕ → Run → List ℕ → Type 0) (sheet out room sizes : List ℕ) (code : ℕ) (out′ room′ sizes′ : List ℕ) : Type 0 where
   pub refused : SomeApplies (AnyApplies (length room) sheet) roomOrder → RefusedSo (AnyApplies (length room) sheet) roomOrder out room sizes code out′ room′ sizes′
   pub answered : (SomeApplies (AnyApplies (length room) sheet) roomOrder → ⊥)
-      → TextTold (PlanAnyPrinted (sheetName sheet) (sheetRun sheet)) out sizes code out′ sizes′ × RoomCleared (sheetRun sheet) room room′
+      → TextTold (Asked (sheetName sheet) (sheetRun sheet)) out sizes code out′ sizes′ × RoomCleared (sheetRun sheet) room room′
 
+-- The plan sheet.
 abbrev pub AnswerCallAnswers : Type 0
 AnswerCallAnswers =
     (sheet out room sizes : List ℕ) (code : ℕ) (out′ room′ sizes′ : List ℕ)
     → AnswerCalled sheet out room sizes code out′ room′ sizes′
-    → AnswerTold sheet out room sizes code out′ room′ sizes′
+    → AnswerTold PlanAnyPrinted sheet out room sizes code out′ room′ sizes′
+
+-- The figure sheet.
+abbrev pub BuysCallAnswers : Type 0
+BuysCallAnswers =
+    (sheet out room sizes : List ℕ) (code : ℕ) (out′ room′ sizes′ : List ℕ)
+    → BuysCalled sheet out room sizes code out′ room′ sizes′
+    → AnswerTold FiguresAnyPrinted sheet out room sizes code out′ room′ sizes′
 
 -- A run sheet and a plan sheet to the verdict: 12, 11 and 19 of the former, 12 and 11 of the latter, 1 to 7 and 9. A `no` is no refusal.
 pub record CheckTold (sheet plan out room sizes : List ℕ) (code : ℕ) (out′ room′ sizes′ : List ℕ) : Type 0 where

@@ -35,11 +35,13 @@ fn runs(library: &mut Library) {
 
 fn sheets(library: &mut Library) {
     assert_eq!(library.answer(RUN).as_deref(), Ok(PLAN));
+    assert_eq!(library.buys(RUN).as_deref(), Ok(&b"tape=VX0041\nsum=367\ndetours=1\nbuys=2,2,40\n"[..]));
     assert_eq!(library.check(RUN, PLAN).as_deref(), Ok(&b"formed=yes\nwalk=yes\nleast=yes\n"[..]));
     let verdict = library.check(RUN, DAMAGED).expect("a no is an answer");
     assert!(verdict.starts_with(b"formed=yes\nwalk=no,"));
     assert_eq!(library.check(RUN, b"x\n"), Err(Refused { number: 11, place: 1 }));
     assert_eq!(library.answer(&RUN[..20]), Err(Refused { number: 11, place: 3 }));
+    assert_eq!(library.buys(&RUN[..20]), Err(Refused { number: 11, place: 3 }));
     assert_eq!(library.mend(RUN), Ok((RUN.to_vec(), Vec::new())));
     let (sheet, changes) = library.mend(b"tape=A\nhead=9\nturn=\nrule=sweep\nfiles=1\nfile=0,9,0\nwants=2\nwant=1,1\nwant=1,2\n").expect("mended");
     assert_eq!(sheet, b"tape=A\nhead=9\nturn=12000\nrule=least\nfiles=1\nfile=0,9,0\nwants=1\nwant=1,3\n");

@@ -8,7 +8,7 @@ use super::entry::written;
 use super::shown;
 use super::wants::{Want, Wants};
 use crate::clock;
-use crate::commands::{frame_pair, Call};
+use crate::commands::Call;
 use crate::explain::measure::{escaped, grouped};
 use crate::explain::{sketch, Plan, Texts};
 use crate::help;
@@ -117,13 +117,8 @@ impl<'a> Page<'a> {
 
     /// The sum without any detour, where the pricer takes the run.
     fn sweep(&mut self, seen: &Seen) -> Result<Option<String>, Stop> {
-        let price = match self.price.take() {
-            Some(price) => price,
-            None => Program::ready("cmd_price", self.call)?,
-        };
-        let printed = price.ask(&frame_pair(seen.entry.run, b""));
-        self.price = Some(price);
-        let answer = String::from_utf8_lossy(&printed.or_else(failed)?.answer).into_owned();
+        let printed = Program::kept(&mut self.price, "cmd_price", self.call)?.ask_pair(seen.entry.run, b"").or_else(failed)?;
+        let answer = String::from_utf8_lossy(&printed.answer).into_owned();
         Ok(answer.lines().find_map(|line| line.strip_prefix("sum=")).map(str::to_string))
     }
 
