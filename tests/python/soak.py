@@ -6,7 +6,8 @@ usage: tests/python/soak.py MINUTES MADE [--cores N] [--seed S]      (tests/soak
        tests/python/soak.py --short MADE                             every kind, a twentieth of a batch each; and that a wrong answer of each is seen
 
 MADE holds the programs of tests/c and tests/rust by their names, libviolstream.so, and `bin`, the proved programs. A batch is a process of its own, so that
-one that is ended by a signal is a difference too. Its draws go by its seed alone: a difference is told with the words that make it again.
+one that is ended by a signal is a difference too. Its draws go by its seed alone: a difference is told with the words that make it again. SIGTERM, or an
+interrupt at the keyboard, ends the whole earlier: what was compared until then is told.
 """
 import argparse
 import collections
@@ -15,6 +16,7 @@ import os
 import random
 import re
 import shutil
+import signal
 import subprocess
 import sys
 import tempfile
@@ -285,14 +287,14 @@ def one_batch(kind, seed, made, share):
 class Soak:
     def __init__(self, made, seed, share=1):
         self.made, self.seed, self.share = made, seed, share
-        self.lock, self.batches, self.differences = threading.Lock(), 0, 0
+        self.lock, self.batches, self.differences, self.until = threading.Lock(), 0, 0, 0
         self.answers, self.refusals = collections.Counter(), collections.Counter()
 
     def words(self, kind, seed, made):
         return ["--batch", kind, str(seed), made] + ["--share", str(self.share)] * (self.share > 1)
 
     def batch(self, kind, seed):
-        done = subprocess.run([sys.executable, os.path.abspath(__file__), *self.words(kind, seed, self.made)], stdout=subprocess.PIPE, stderr=subprocess.PIPE, text=True)
+        done = subprocess.run([sys.executable, os.path.abspath(__file__), *self.words(kind, seed, self.made)], stdout=subprocess.PIPE, stderr=subprocess.PIPE, text=True, start_new_session=True)
         with self.lock:
             if done.returncode != 0:
                 self.differences += 1
@@ -304,9 +306,9 @@ class Soak:
             self.answers.update(answers)
             self.refusals.update(refusals)
 
-    def lane(self, until, taken):
+    def lane(self, taken):
         """Batches, one after the other, until the time is over."""
-        while time.monotonic() < until:
+        while time.monotonic() < self.until:
             with self.lock:
                 turn = next(taken)
             self.batch(TURNS[turn % len(TURNS)], self.seed + turn)
@@ -320,7 +322,13 @@ class Soak:
 
 def soak(minutes, made, cores, seed):
     began, all_of_it, taken = time.monotonic(), Soak(made, seed), iter(range(10**9))
-    lanes = [threading.Thread(target=all_of_it.lane, args=(began + 60 * minutes, taken)) for _ in range(cores)]
+    all_of_it.until = began + 60 * minutes
+
+    def end(*_):
+        all_of_it.until = 0  # the batches that have begun are counted still
+    signal.signal(signal.SIGTERM, end)
+    signal.signal(signal.SIGINT, end)
+    lanes = [threading.Thread(target=all_of_it.lane, args=(taken,)) for _ in range(cores)]
     for lane in lanes:
         lane.start()
     for lane in lanes:
