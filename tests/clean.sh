@@ -159,10 +159,10 @@ make_before() {
     dpkg-deb -R "$package" "$folder/before" || fail "the package cannot be unpacked"
     sed -i 's/^Version: .*/Version: 3.9.9-1/' "$folder/before/DEBIAN/control"
     libraries=$folder/before/usr/lib/x86_64-linux-gnu
-    for name in "$libraries"/libviolstream.so.[0-9]*; do
-        mv "$name" "$libraries/libviolstream.so.3.9.9"
-    done
-    ln -sfn libviolstream.so.3.9.9 "$libraries/libviolstream.so"
+    find "$libraries" -name 'libviolstream.so.*.*' -exec mv {} "$libraries/libviolstream.so.3.9.9" \;
+    find "$libraries" -name 'libviolstream.so*' -type l -delete
+    ln -s libviolstream.so.3.9.9 "$libraries/libviolstream.so.3"
+    ln -s libviolstream.so.3 "$libraries/libviolstream.so"
     sed -i 's/^libviolstream .*/libviolstream 3 violstream/' "$folder/before/DEBIAN/shlibs"
     printf 'a page that is no more\n' > "$folder/before/usr/share/doc/violstream/former"
     printf 'the command of before\n' > "$folder/before/usr/share/doc/violstream/copyright"
@@ -196,10 +196,10 @@ violstream recall --speed 300000000 --begin 2026-11-16T08:00:00 VX0041 examples/
 grep -q "08:00:.*rushes/clip0002.mxf" recalled
 for number in 1 2; do
     mkdir -p windows
-    violstream serve --journal journal --windows windows examples/day.run 2> served &
+    violstream serve --journal journal --windows windows examples/day.run 2> "served$number" &
     server=$!
     tries=0
-    while ! grep -q "serving at" served && [ "$tries" -lt 100 ]; do tries=$((tries + 1)); sleep 0.1; done
+    while ! grep -qs "serving at" "served$number" && [ "$tries" -lt 100 ]; do tries=$((tries + 1)); sleep 0.1; done
     must "ask, the server started $number times" "$(violstream ask windows/office1 file=1,1)" "filed=1,$number"
     kill "$server"
     wait "$server"
@@ -214,9 +214,7 @@ life() {
     inside "$made" root "$2" > "$folder/package.log" 2>&1 || { tail -n 10 "$folder/package.log" >&2; fail "package: $1 failed"; }
     [ "${3:-}" != gone ] || return 0
     inside "$made" "$user" "$use_package" > "$folder/package.log" 2>&1 || { tail -n 10 "$folder/package.log" >&2; fail "package: $1, and then a command failed"; }
-    number=$(inside "$made" "$user" 'violstream version')
-    libraries=$(cd "$made/usr/lib/x86_64-linux-gnu" && printf '%s ' libviolstream.*)
-    say "package, sh is $shell: $1; every command tried answers; $number; $libraries"
+    say "package, sh is $shell: $1; every command tried answers; $(inside "$made" root "dpkg-query -W violstream" | tr '\t' ' '); $(cd "$made/usr/lib/x86_64-linux-gnu" && printf '%s ' libviolstream.*)"
 }
 
 package_life() {
