@@ -10,7 +10,7 @@
 #   package      a root of its own without a compiler and without rt: the package is installed over the version before, used by an ordinary user,
 #                upgraded, removed and purged; then every file, folder and link is as before
 #
-# FOLDER keeps the roots: base as debootstrap made it, and one for the rest of each --sh. What stands there is taken as it is. --sh: busybox in place of dash
+# FOLDER keeps the roots: base as debootstrap made it, and for each --sh one with the clone and one for the package, the last made anew each time. --sh: busybox in place of dash
 # as sh. --package: by default what `./violstream deb` has made in target/command/deb. --before: the package of the version before; by default the same one
 # with another number, another library and a file that the new one has no more.
 #
@@ -86,12 +86,11 @@ apt() {
     inside "$root" root 'apt-get -q update && apt-get -q install -y --no-install-recommends "$@"' "$@" > "$folder/apt.log" 2>&1 || { tail -n 5 "$folder/apt.log" >&2; fail "apt-get could not install $*"; }
 }
 
-# root_of NAME: a copy of the base, with the shell that was asked for.
-root_of() {
+# fresh_root NAME: a copy of the base, with the shell that was asked for.
+fresh_root() {
     made=$folder/$1-$shell
-    [ ! -e "$made/.made" ] || return 0
     rm -rf "${made:?}"
-    cp -a "$folder/base" "$made" || exit 1
+    cp -a "$folder/base" "$made" && rm "$made/.made" || exit 1
     if [ "$shell" = busybox ]; then
         apt "$made" busybox
         ln -sfn busybox "$made/bin/sh"
@@ -107,8 +106,9 @@ readme_packages() {
 # ---- A fresh clone
 
 first() {
-    root_of checkout
+    made=$folder/checkout-$shell
     if [ ! -e "$made/.made" ]; then
+        fresh_root checkout
         [ -n "$(readme_packages)" ] || fail "the README names no packages"
         # shellcheck disable=SC2046  # packages are words
         apt "$made" $(readme_packages)
@@ -217,11 +217,16 @@ life() {
     say "package, sh is $shell: $1; every command tried answers; $(inside "$made" root "dpkg-query -W violstream" | tr '\t' ' '); $(cd "$made/usr/lib/x86_64-linux-gnu" && printf '%s ' libviolstream.*)"
 }
 
+as_before() {
+    everything_in "$made" > "$folder/everything.after"
+    diff "$folder/everything.before" "$folder/everything.after" > "$folder/left" || { head -n 20 "$folder/left" >&2; fail "package: not as before (< before, > after)"; }
+}
+
 package_life() {
     [ -n "$package" ] || package=$(find "$here/target/command/deb" -name 'violstream_*_amd64.deb' 2> /dev/null | sort | tail -n 1)
     [ -f "$package" ] || fail "no package; './violstream deb' makes it"
     [ -n "$before" ] || make_before
-    root_of package
+    fresh_root package
     rm -rf "$made/examples"
     cp -r "$here/examples" "$made/examples"
     cp "$package" "$made/new.deb" && cp "$before" "$made/old.deb" && chmod -R a+rX "$made/examples" "$made/new.deb" "$made/old.deb"
@@ -232,12 +237,10 @@ package_life() {
     life 'installed again' 'dpkg -i /new.deb'
     life 'removed' 'dpkg -r violstream' gone
     life 'purged' 'dpkg -P violstream' gone
-    everything_in "$made" > "$folder/everything.after"
-    left=$(diff "$folder/everything.before" "$folder/everything.after") || fail "package: not as before (< before, > after): $left"
+    as_before
     life 'installed on the clean root' 'dpkg -i /new.deb'
     life 'purged at once' 'dpkg -P violstream' gone
-    everything_in "$made" > "$folder/everything.after"
-    left=$(diff "$folder/everything.before" "$folder/everything.after") || fail "package: not as before (< before, > after): $left"
+    as_before
     ! grep -q '^Package: violstream$' "$made/var/lib/dpkg/status" || fail "package: dpkg still knows it"
     say "package, sh is $shell: removed and purged, nothing is left: $(wc -l < "$folder/everything.before") files, folders, links and sums as before"
 }
