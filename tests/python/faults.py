@@ -85,6 +85,9 @@ class Tries:
     def prepare(self, words):
         if words in MAKING:
             shutil.rmtree(self.prefix, ignore_errors=True)
+        if words.startswith("record"):
+            shutil.rmtree(self.at.path("vault"), ignore_errors=True)
+            shutil.copytree(self.at.path("ledger"), self.at.path("vault"))
         if words.startswith("uninstall"):
             self.call("install PREFIX")
         if words.startswith("first"):
