@@ -1,7 +1,7 @@
 #!/bin/sh
 # The README's commands and the Debian package on a machine that has nothing of ours: fresh Debian roots, made by debootstrap and entered by chroot.
 #
-#   tests/clean.sh [--sh busybox] [--package FILE] [--before FILE] FOLDER STEP...
+#   tests/clean.sh [--sh busybox] [--proved TARGET] [--package FILE] [--before FILE] FOLDER STEP...
 #
 #   first        a fresh clone, an ordinary user, the packages that the README names: `./violstream plan < examples/VX0041.run` prints its plan. Three minutes
 #                on two idle cores
@@ -11,7 +11,7 @@
 #                upgraded, removed and purged; then every file, folder and link is as before
 #
 # FOLDER keeps the roots: base as debootstrap made it, and for each --sh one with the clone and one for the package, the last made anew each time. --sh: busybox in place of dash
-# as sh. --package: by default what `./violstream deb` has made in target/command/deb. --before: the package of the version before; by default the same one
+# as sh. --proved: the folder target/ of another clone, of which what rt has proved and built is taken, so that first and test= need not prove it again. --package: by default what `./violstream deb` has made in target/command/deb. --before: the package of the version before; by default the same one
 # with another number, another library and a file that the new one has no more.
 #
 # It needs root, debootstrap and a mirror of Debian, and 1.5 GB in FOLDER. Mounts are of namespaces of their own, and end with what runs there.
@@ -21,8 +21,8 @@ here=$(cd "$(dirname "$0")/.." && pwd)
 . "$here/tools/machine.sh"
 suite=bookworm
 mirror=http://deb.debian.org/debian
-usage='usage: tests/clean.sh [--sh busybox] [--package FILE] [--before FILE] FOLDER first|test=NAME|package...'
-shell=dash package='' before='' user=reader
+usage='usage: tests/clean.sh [--sh busybox] [--proved TARGET] [--package FILE] [--before FILE] FOLDER first|test=NAME|package...'
+shell=dash proved='' package='' before='' user=reader
 
 fail() {
     printf 'tests/clean.sh: %s\n' "$1" >&2
@@ -36,6 +36,7 @@ say() {
 while [ $# -gt 0 ]; do
     case $1 in
         --sh) [ "${2:-}" = busybox ] || [ "${2:-}" = dash ] || fail "--sh takes dash or busybox" 2; shell=$2 ;;
+        --proved) proved=$(readlink -f "${2:-}") || fail "--proved takes a folder" 2 ;;
         --package) package=$(readlink -f "${2:-}") || fail "--package takes a file" 2 ;;
         --before) before=$(readlink -f "${2:-}") || fail "--before takes a file" 2 ;;
         -*) fail "$usage" 2 ;;
@@ -105,6 +106,15 @@ readme_packages() {
 
 # ---- A fresh clone
 
+# What rt has made, as if it had been made here just now.
+take_proved() {
+    [ -n "$proved" ] || return 0
+    mkdir "$made/home/$user/violstream/target" || exit 1
+    for name in rlib obj bin stamp staticlib; do
+        cp -r "$proved/$name" "$made/home/$user/violstream/target/$name" || exit 1
+    done
+}
+
 first() {
     made=$folder/checkout-$shell
     if [ ! -e "$made/.made" ]; then
@@ -117,12 +127,13 @@ first() {
     fi
     rm -rf "$made/home/$user/violstream"
     git clone -q --no-hardlinks "$here" "$made/home/$user/violstream" || fail "the checkout cannot be cloned"
+    take_proved
     chown -R "$(stat -c %u:%g "$made/home/$user")" "$made/home/$user/violstream"
     began=$(date +%s)
     # shellcheck disable=SC2016  # of the inner shell
     inside "$made" "$user" 'cd violstream && ./violstream plan < examples/VX0041.run > ../plan && cmp ../plan examples/VX0041.plan && ./violstream plan examples/VX0041.run | cmp - examples/VX0041.plan' \
         > "$folder/first.log" 2>&1 || { tail -n 20 "$folder/first.log" >&2; fail "the first call does not print the plan"; }
-    say "first, sh is $shell: ./violstream plan < examples/VX0041.run prints examples/VX0041.plan, after $(($(date +%s) - began)) s"
+    say "first, sh is $shell${proved:+, proved elsewhere}: ./violstream plan < examples/VX0041.run prints examples/VX0041.plan, after $(($(date +%s) - began)) s"
 }
 
 # ---- Tests
