@@ -346,6 +346,15 @@ command_sources() {
     printf 'command_sources: in the layout of rustfmt, nothing found by clippy, its own tests passed\n'
 }
 
+# A little of what tests/soak.sh draws without end, and that it would see a wrong answer.
+soak() {
+    if [ "$emulated" = yes ]; then
+        printf 'soak: left out, the library is not for this processor\n'
+    else
+        step "the soak" "$here/tests/soak.sh" --short
+    fi
+}
+
 # Every shell script, those that others read among them.
 scripts() {
     for script in "$here"/violstream "$here"/.ci/run "$here"/bench/*.sh "$here"/bench/*/*.sh "$here"/tests/*.sh "$here"/tests/*/*.sh "$here"/tools/*.sh; do
@@ -435,10 +444,12 @@ run python/rows
 run python/command
 run python/pictures
 run python/faults
+run python/limits
 run python/recall
 run python/record
 run python/serve
 run python/unit
+run soak
 
 [ "$tests_run" -gt 0 ] || fail "no test is called $only"
 printf 'tests/run.sh: all as it must be; tests run: %d\n' "$tests_run"

@@ -16,10 +16,10 @@ struct line {
     uint64_t files, start, end;
 };
 
-/* The lines in the order of their paths. */
+/* The different lines in the order of their paths, and how many lines the list has. */
 struct lines {
     struct line *rows;
-    size_t count;
+    size_t count, listed;
 };
 
 void fail(const char *what);

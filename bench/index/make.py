@@ -1,11 +1,11 @@
 #!/usr/bin/env python3
 """Writes an LTFS index of many files (schema 2.4, all times, as the drives' software writes it) and a list of paths, for bench/index/run.sh.
 
-usage: bench/index/make.py INDEX LIST [--files N] [--lines N] [--indent N]
+usage: bench/index/make.py INDEX LIST [--files N] [--lines N] [--wanted N] [--indent N]
 
 N files (default 100,000) in folders three deep, each with its five times, its uid and one extent, every tenth with an extended attribute and every
 twentieth with a second extent. --indent N: so many blanks for each element around a line (default 0: all on one line). The list asks for N of the files
-(default 1,000), spread over the index. The same bytes each time.
+(default 1,000), spread over the index; with --wanted so many different files, the lines of which are then asked for again and again. The same bytes each time.
 """
 import argparse
 import random
@@ -130,13 +130,15 @@ def main():
     words.add_argument("list")
     words.add_argument("--files", type=int, default=100000)
     words.add_argument("--lines", type=int, default=1000)
+    words.add_argument("--wanted", type=int)
     words.add_argument("--indent", type=int, default=0)
     words = words.parse_args()
     r = random.Random(2024)
     with open(words.index, "w", encoding="utf-8", newline="\n") as out:
         paths = write_index(Writer(out, words.indent), r, words.files)
+    wanted = r.sample(paths, min(words.wanted or words.lines, len(paths)))
     with open(words.list, "w", encoding="utf-8", newline="\n") as out:
-        out.writelines(path + "\n" for path in r.sample(paths, min(words.lines, len(paths))))
+        out.writelines(wanted[line % len(wanted)] + "\n" for line in range(min(words.lines, len(paths))))
 
 
 main()

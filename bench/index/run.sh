@@ -1,10 +1,11 @@
 #!/bin/sh
 # Times the readers of LTFS indexes beside libexpat, on an index and a list that make.py writes, and prints a line for each.
 #
-#   bench/index/run.sh [--rounds N] [WORDS of make.py: --files N, --lines N, --indent N]
+#   bench/index/run.sh [--rounds N] [--files N,N..] [WORDS of make.py: --lines N, --wanted N, --indent N]
 #
+# --files: of so many files (default 100000); of several indexes all are timed in one run, in turn.
 # A crate of three functions that hand their texts on is made here, in a temporary folder, and compiled for this machine over the proved crates by
-# tools/native.sh: `rt check answer_ltfs tape_picks` comes first. CC and CFLAGS as for bench/run.sh.
+# tools/native.sh, and so is the call violstream_pick: `rt check answer_ltfs boundary_pick` comes first. CC and CFLAGS as for bench/run.sh.
 set -eu
 unset -v CDPATH
 
@@ -17,16 +18,19 @@ fail() {
     exit "${2:-1}"
 }
 
-rounds=5
-if [ "${1:-}" = --rounds ]; then
-    case ${2:-} in '' | *[!0-9]*) fail "--rounds takes a number" 2 ;; esac
-    rounds=$2
+rounds=5 files=100000
+while :; do
+    case ${1:-} in
+        --rounds) case ${2:-} in '' | *[!0-9]*) fail "--rounds takes a number" 2 ;; esac; rounds=$2 ;;
+        --files) case ${2:-} in '' | *[!0-9,]*) fail "--files takes numbers" 2 ;; esac; files=$2 ;;
+        *) break ;;
+    esac
     shift 2
-fi
+done
 for tool in python3 "${CC:-gcc}"; do
     command -v "$tool" > /dev/null || fail "no $tool"
 done
-for crate in answer_ltfs tape_picks; do
+for crate in answer_ltfs boundary_pick; do
     [ -e "$here/target/stamp/$crate" ] || fail "$crate is not proved; 'rt check $crate' proves it"
 done
 
@@ -58,8 +62,12 @@ pub extern "C" fn bench_picks(index: &[u8], list: &[u8], states: &mut [u64], sta
 }
 END
 "$here/tools/native.sh" 'answer_ltfs tape_picks' "$out/readers.a" "$out/above" > "$out/log" || { cat "$out/log" >&2; fail "the readers were not compiled"; }
+"$here/tools/native.sh" boundary_pick "$out/pick.a" > "$out/log" || { cat "$out/log" >&2; fail "the call was not compiled"; }
 # shellcheck disable=SC2086  # flags are words
-"${CC:-gcc}" -std=c11 -D_POSIX_C_SOURCE=200809L ${CFLAGS:--O3} -Wall -Wextra "$here"/bench/index/*.c "$out/readers.a" -lexpat -o "$out/index" \
+"${CC:-gcc}" -std=c11 -D_POSIX_C_SOURCE=200809L ${CFLAGS:--O3} -Wall -Wextra -I "$here/include" "$here"/bench/index/*.c "$out/readers.a" "$out/pick.a" -lexpat -o "$out/index" \
     || fail "no bench: libexpat's header is in Debian's libexpat1-dev"
-python3 "$here/bench/index/make.py" "$out/index.xml" "$out/list" "$@"
-"$out/index" "$out/index.xml" "$out/list" "$rounds"
+for number in $(printf '%s' "$files" | tr ',' ' '); do
+    python3 "$here/bench/index/make.py" "$out/$number.xml" "$out/$number.list" --files "$number" "$@"
+done
+# shellcheck disable=SC2046  # names without blanks
+"$out/index" "$rounds" $(for number in $(printf '%s' "$files" | tr ',' ' '); do printf '%s\n' "$out/$number.xml" "$out/$number.list"; done)

@@ -208,7 +208,7 @@ fn any_newer(folder: &Path, than: SystemTime) -> bool {
         Ok(kind) => kind.is_file() && is_newer(entry.metadata(), than),
         Err(_) => true,
     };
-    fs::read_dir(folder).map_or(true, |entries| entries.flatten().any(is_newer))
+    fs::read_dir(folder).map_or(true, |mut entries| entries.any(|entry| entry.map_or(true, is_newer)))
 }
 
 fn is_newer(about: std::io::Result<Metadata>, than: SystemTime) -> bool {

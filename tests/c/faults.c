@@ -6,16 +6,22 @@
 
    Descriptors above 2 that are not sockets or terminals, and 0 to 2, are all the same here: whatever the command reads and writes may fail. */
 #define _GNU_SOURCE
+#include <dirent.h>
 #include <dlfcn.h>
 #include <errno.h>
 #include <fcntl.h>
 #include <poll.h>
 #include <signal.h>
+#include <spawn.h>
 #include <stdarg.h>
 #include <stdio.h>
 #include <stdlib.h>
 #include <string.h>
 #include <sys/file.h>
+#include <sys/ioctl.h>
+#include <sys/mman.h>
+#include <sys/signalfd.h>
+#include <sys/socket.h>
 #include <sys/stat.h>
 #include <sys/types.h>
 #include <sys/wait.h>
@@ -85,6 +91,69 @@ WRAP(int, unlink, (const char *path), (path))
 WRAP(int, symlink, (const char *to, const char *path), (to, path))
 WRAP(int, fchmod, (int fd, mode_t mode), (fd, mode))
 WRAP(ssize_t, readlink, (const char *path, char *to, size_t size), (path, to, size))
+WRAP(ssize_t, pwrite64, (int fd, const void *from, size_t size, off64_t at_byte), (fd, from, size, at_byte))
+WRAP(int, fdatasync, (int fd), (fd))
+WRAP(int, ftruncate64, (int fd, off64_t size), (fd, size))
+WRAP(off64_t, lseek64, (int fd, off64_t to, int how), (fd, to, how))
+WRAP(int, statx, (int at_folder, const char *path, int how, unsigned what, struct statx *to), (at_folder, path, how, what, to))
+WRAP(int, chmod, (const char *path, mode_t mode), (path, mode))
+WRAP(int, chown, (const char *path, uid_t owner, gid_t group), (path, owner, group))
+WRAP(int, socket, (int family, int type, int protocol), (family, type, protocol))
+WRAP(int, bind, (int fd, const struct sockaddr *to, socklen_t size), (fd, to, size))
+WRAP(int, listen, (int fd, int many), (fd, many))
+WRAP(int, accept4, (int fd, struct sockaddr *from, socklen_t *size, int how), (fd, from, size, how))
+WRAP(int, connect, (int fd, const struct sockaddr *to, socklen_t size), (fd, to, size))
+WRAP(int, getsockopt, (int fd, int level, int what, void *to, socklen_t *size), (fd, level, what, to, size))
+WRAP(int, signalfd, (int fd, const sigset_t *set, int how), (fd, set, how))
+
+/* Of streams alone: by another kind of socket Rust's library hears whether a program that it starts was there, and waits for ever if that fails. */
+ssize_t recv(int fd, void *to, size_t size, int how)
+{
+    NEXT(ssize_t, "recv", (int, void *, size_t, int));
+    int type = 0;
+    socklen_t room = sizeof type;
+    int (*asked)(int, int, int, void *, socklen_t *);
+    *(void **)&asked = dlsym(RTLD_NEXT, "getsockopt");
+    asked(fd, SOL_SOCKET, SO_TYPE, &type, &room);
+    return type == SOCK_STREAM && fails("recv") ? -1 : next(fd, to, size, how);
+}
+
+DIR *opendir(const char *path)
+{
+    NEXT(DIR *, "opendir", (const char *));
+    return fails("opendir") ? NULL : next(path);
+}
+
+struct dirent64 *readdir64(DIR *folder)
+{
+    NEXT(struct dirent64 *, "readdir64", (DIR *));
+    return fails("readdir64") ? NULL : next(folder);
+}
+
+/* Of files alone: memory by itself is another matter. */
+void *mmap64(void *where, size_t size, int use, int how, int fd, off64_t at_byte)
+{
+    NEXT(void *, "mmap64", (void *, size_t, int, int, int, off64_t));
+    return fd >= 0 && fails("mmap") ? MAP_FAILED : next(where, size, use, how, fd, at_byte);
+}
+
+/* It gives the error itself. */
+int posix_spawnp(pid_t *pid, const char *file, const posix_spawn_file_actions_t *actions, const posix_spawnattr_t *about, char *const words[], char *const names[])
+{
+    NEXT(int, "posix_spawnp", (pid_t *, const char *, const posix_spawn_file_actions_t *, const posix_spawnattr_t *, char *const[], char *const[]));
+    return fails("spawn") ? (int)error : next(pid, file, actions, about, words, names);
+}
+
+int ioctl(int fd, unsigned long what, ...)
+{
+    NEXT(int, "ioctl", (int, unsigned long, ...));
+    va_list words;
+    void *word;
+    va_start(words, what);
+    word = va_arg(words, void *);
+    va_end(words);
+    return fails("ioctl") ? -1 : next(fd, what, word);
+}
 
 /* Some errors come only when a file is closed, and it is closed then all the same. */
 int close(int fd)

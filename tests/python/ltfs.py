@@ -65,8 +65,8 @@ def compare(program, texts, met):
     return count
 
 
-def generated(cases):
-    r = random.Random(20919)
+def generated(cases, seed=20919):
+    r = random.Random(seed)
     for i in range(cases):
         label, index = pair(r)
         if i % 2:

@@ -53,8 +53,8 @@ def deep(text):
     return most > 32
 
 
-def drawn(cases):
-    r = random.Random(20926)
+def drawn(cases, seed=20926):
+    r = random.Random(seed)
     for i in range(cases):
         tape = pick_cases.Tape(r)
         label, index, text = tape.label, tape.index, pick_cases.a_list(r, tape.paths)

@@ -69,9 +69,9 @@ class Calls:
                 sys.exit(f"pick_calls.py: code {code}: the row {name} is not as it must be, for\n{case!r}")
 
 
-def large(cases):
+def large(cases, seed=31):
     """Tapes of many files, with long lists."""
-    r, made = random.Random(31), 0
+    r, made = random.Random(seed), 0
     while made < cases:
         tape = pick_cases.Tape(r, r.choice((40, 100, 150)))
         size, data, volume, other, files = by_tree(tape.label, tape.index)

@@ -68,14 +68,12 @@ fn unit(prefix: &Path) -> Vec<u8> {
 
 /// Sheets, lists, days, labels and indexes: what an operator tries.
 fn examples(folder: &Path) -> Result<Vec<String>, Stop> {
-    let entries = match fs::read_dir(folder) {
-        Ok(entries) => entries,
-        Err(error) => return failed(format!("cannot read {}: {}", quoted(folder.as_os_str()), reason(&error))),
-    };
+    let cannot = |error| Stop::Failed(format!("cannot read {}: {}", quoted(folder.as_os_str()), reason(&error)));
     let mut names = Vec::new();
-    for entry in entries.flatten() {
+    for entry in fs::read_dir(folder).map_err(cannot)? {
+        let entry = entry.map_err(cannot)?;
         let name = entry.file_name().to_string_lossy().into_owned();
-        if entry.path().is_dir() {
+        if entry.file_type().map_err(cannot)?.is_dir() {
             names.extend(examples(&entry.path())?.into_iter().map(|inner| format!("{name}/{inner}")));
         } else {
             names.push(name);
