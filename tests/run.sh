@@ -176,6 +176,10 @@ watched_threads() {
 fuzzers() {
     can_watch || { printf 'fuzzers: left out, the compiler has no sanitizers here\n'; return; }
     step "fuzzers" "$here/tests/fuzz/run.sh" --gate
+}
+
+# What the command reads by itself, damaged.
+readers() {
     step "the command's own readers" python3 "$here/tests/fuzz/command.py"
 }
 
@@ -375,7 +379,7 @@ manual() {
 
 # ---- All tests ----
 
-# run TEST WORD...: a program of this folder by the name of its file, with its words; or a function above.
+# run TEST WORD...: a program of this folder by the name of its file, with its words; or a function above. Says how long it took.
 run() {
     name=$1
     shift
@@ -383,73 +387,112 @@ run() {
         '' | "$name") tests_run=$((tests_run + 1)) ;;
         *) return ;;
     esac
+    ran=$name began=$(date +%s)
     case $name in
         c/*) make_c "${name#c/}" && step_built "$name" "$out/$name" "$@" ;;
         rust/*) make_rust "${name#rust/}" && step_built "$name" "$out/$name" "$@" ;;
         python/*) step "$name" python3 "$here/tests/$name.py" "$@" ;;
         *) "$name" "$@" ;;
     esac
+    printf '(%s took %d s)\n' "$ran" "$(($(date +%s) - began))"
 }
 
+# A new test is a file in c/, rust/ or python/ and a line in one of these two lists.
+# First what is proved: the library by its callers, the programs, the pages and the proofs as texts.
+of_the_crates() {
+    run c/threads
+    run c/threads_calls
+    run watched
+    run fuzzers
+    run c/stack
+    run c/stack_desk
+    run bench
+    run c/rules
+    run c/compare ${calls:+--calls "$calls"} --sheets "$out/c.sheets"
+    run rust/compare ${calls:+--calls "$calls"} --sheets "$out/rust.sheets"
+    run rust/any_head ${calls:+--calls "$calls"}
+    run rust/movements
+    run rust/calls
+    run python/plan
+    run python/plan --any
+    run python/field
+    [ -n "$only" ] || run python/field --sheets "$out/c.sheets" --sheets "$out/rust.sheets"
+    run python/buys
+    run python/buys --any
+    run python/check
+    run python/rewrite
+    run python/mend
+    run python/month
+    run python/day
+    run python/ltfs --cases 2000
+    run python/prices
+    run python/figures
+    run python/desk
+    run python/desk_rows
+    run python/pricer_rows
+    run python/reading
+    run python/edits
+    run python/pages
+    run python/paths
+    run python/rows
+    run soak
+}
+
+# Then what a person or a program meets: scripts, the command, the examples, what is installed.
+of_the_command() {
+    run scripts
+    run command_sources
+    run manual
+    run header_example
+    run daemon
+    run installed
+    run python/command
+    run python/pictures
+    run readers
+    run python/faults
+    run python/limits
+    run python/recall
+    run python/record
+    run python/serve
+    run python/unit
+}
+
+# The first list in a folder of its own; its count for the other.
+beside() {
+    out=$out/beside
+    { mkdir "$out" && cp "$library" "$out/"; } || fail "no folder for the tests beside"
+    library=$out/libviolstream.a
+    of_the_crates
+    printf '%d\n' "$tests_run" > "$out/tests"
+}
+
+# A test takes one processor, so the two lists run side by side where there are two; what the first says stands behind the second.
+both() {
+    beside > "$out/beside.said" 2>&1 &
+    lane=$!
+    of_the_command
+    wait "$lane"
+    status=$?
+    lane=
+    cat "$out/beside.said"
+    [ "$status" -eq 0 ] || fail "a test beside did not get what it must; which, stands above"
+    tests_run=$((tests_run + $(cat "$out/beside/tests")))
+}
+
+lane=
 out=$(mktemp -d) || fail "no temporary folder"
-trap 'rm -rf "$out"' EXIT
+trap '[ -z "$lane" ] || kill "$lane" 2> /dev/null; rm -rf "$out"' EXIT
 [ -f "$archive" ] || fail "no archive at $archive; 'tools/build.sh library violstream' makes it"
 library=$out/libviolstream.a
 cp "$archive" "$library" || fail "cannot copy $archive"
 find_tools
 tests_run=0
-
-# A new test is a file in c/, rust/ or python/ and a line here.
-run scripts
-run command_sources
-run manual
-run header_example
-run daemon
-run installed
-run c/threads
-run c/threads_calls
-run watched
-run fuzzers
-run c/stack
-run c/stack_desk
-run bench
-run c/rules
-run c/compare ${calls:+--calls "$calls"} --sheets "$out/c.sheets"
-run rust/compare ${calls:+--calls "$calls"} --sheets "$out/rust.sheets"
-run rust/any_head ${calls:+--calls "$calls"}
-run rust/movements
-run rust/calls
-run python/plan
-run python/plan --any
-run python/field
-[ -n "$only" ] || run python/field --sheets "$out/c.sheets" --sheets "$out/rust.sheets"
-run python/buys
-run python/buys --any
-run python/check
-run python/rewrite
-run python/mend
-run python/month
-run python/day
-run python/ltfs --cases 2000
-run python/prices
-run python/figures
-run python/desk
-run python/desk_rows
-run python/pricer_rows
-run python/reading
-run python/edits
-run python/pages
-run python/paths
-run python/rows
-run python/command
-run python/pictures
-run python/faults
-run python/limits
-run python/recall
-run python/record
-run python/serve
-run python/unit
-run soak
+if [ -z "$only" ] && [ "$(nproc 2> /dev/null || echo 1)" -gt 1 ]; then
+    both
+else
+    of_the_crates
+    of_the_command
+fi
 
 [ "$tests_run" -gt 0 ] || fail "no test is called $only"
 printf 'tests/run.sh: all as it must be; tests run: %d\n' "$tests_run"
