@@ -357,9 +357,16 @@ def stalling(at):
 
 def sleeping(server):
     """Where nobody asks, the server sleeps: also behind an answer, and before a byte that was sent out of the row, which is no text."""
-    def taken():
+    def awake():
+        """On a processor, or waiting for one, in seconds."""
         with open(f"/proc/{server.call.pid}/schedstat") as handle:
-            return int(handle.read().split()[0]) / 1e9
+            return sum(int(part) for part in handle.read().split()[:2]) / 1e9
+
+    def sleeps():
+        time.sleep(0.1)
+        before = awake()
+        time.sleep(0.3)
+        must(awake() - before < 0.1, f"of 0.3 s in which nobody asks the server is awake for {awake() - before:.3f} s")
 
     urgent = server.at("office1")
     for text in (b"", b"wait"):
@@ -368,12 +375,10 @@ def sleeping(server):
             urgent.socket.send(b"!", socket.MSG_OOB)
         except OSError:
             print("serve.py: stalling: this kernel sends no byte out of the row")
-        time.sleep(0.1)
-        before = taken()
-        time.sleep(0.3)
-        must(taken() - before < 0.05, f"in 0.3 s in which nobody asks the server takes {taken() - before:.3f} s of a processor")
+        sleeps()
         urgent.send(b"waiting\n"[len(text):])
         must(b"waiting=" in urgent.answer(), "behind a byte out of the row nobody is answered")
+        sleeps()
 
 
 def crowds(at):
