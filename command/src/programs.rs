@@ -21,7 +21,7 @@ use std::process::{Child, Command, ExitStatus, Stdio};
 use std::time::{Duration, Instant};
 
 /// The refusal of a run for which there is not room enough.
-const NO_ROOM: u64 = 9;
+pub const NO_ROOM: u64 = 9;
 
 /// A program that can be started.
 pub struct Program {

@@ -257,10 +257,14 @@ def without_library(at):
     os.rename(at.path(BUILT), at.path("linked"))
     shutil.copy(os.path.join(made, "target/release/violstream"), at.path(BUILT))
     without_room(at)
+    shutil.copy(at.path(BUILT), at.path("unlinked"))
     os.replace(at.path("linked"), at.path(BUILT))
     at.must("./violstream audit vault | head -n 3", 0, b"entries=1\nplans=0\nrefusals=1\n", silent=True)
     at.must("./violstream record vault large.run > large.plan && ./violstream check large.run large.plan", 0, b"formed=yes\nwalk=yes\nleast=yes\n", silent=True)
     at.must("./violstream audit vault | head -n 3", 0, b"entries=2\nplans=1\nrefusals=1\n", silent=True)
+    # What it has no room to judge it does not call wrong.
+    os.replace(at.path("unlinked"), at.path(BUILT))
+    at.must("./violstream audit vault", 1, b"", ["entry 000002 cannot be judged here: 64 wants with 1024 reads in all", f"check has {SOME}"])
 
 
 def figures(at):

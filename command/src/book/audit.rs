@@ -5,7 +5,7 @@ use super::shelf::{self, Taken};
 use super::{digest, NOTHING};
 use crate::answers::{lines, refusal, says_no, Refusal};
 use crate::commands::{Call, SHEET};
-use crate::programs::Program;
+use crate::programs::{Program, NO_ROOM};
 use crate::say::say;
 use crate::status::{failed, Stop};
 use crate::words;
@@ -129,6 +129,9 @@ impl Judge<'_> {
         }
         let answer = Program::kept(&mut self.check, "cmd_check", self.call)?.ask_pair(start_of(entry.run), entry.plan).or_else(failed)?.answer;
         if let Some(refused) = refusal(&answer) {
+            if refused.number == NO_ROOM {
+                return failed(format!("entry {name} cannot be judged here: {}", words::of_plan(&refused, start_of(entry.run), By::Check)));
+            }
             let words = words::table::words(refused.number);
             return Ok(Some(format!("entry {name} is refused by check ({} at place {}: {words})", refused.number, refused.place)));
         }

@@ -26,7 +26,8 @@ pub fn answer(asked: &Explain, call: &Call) -> Result<Status, Stop> {
     let mut answers = Vec::new();
     for name in ["cmd_plan_any", "cmd_buys_any", "cmd_price"] {
         let program = Program::ready(name, call)?;
-        let answer = match if name == "cmd_price" { program.ask_pair(&sheet, b"") } else { program.ask(&sheet) } {
+        let asked = if name == "cmd_price" { program.ask_pair(&sheet, b"") } else { program.ask(&sheet) };
+        let answer = match asked {
             Ok(printed) => printed.answer,
             Err(sentence) => return Ok(told(&sentence)),
         };
