@@ -106,13 +106,17 @@ readme_packages() {
 
 # ---- A fresh clone
 
-# What rt has made, as if it had been made here just now.
+# What rt has made, as if it had been made here just now; the clone is the user's.
 take_proved() {
-    [ -n "$proved" ] || return 0
-    mkdir "$made/home/$user/violstream/target" || exit 1
-    for name in rlib obj bin stamp staticlib; do
-        cp -r "$proved/$name" "$made/home/$user/violstream/target/$name" || exit 1
-    done
+    clone=$made/home/$user/violstream
+    if [ -n "$proved" ]; then
+        mkdir -p "$clone/target" || exit 1
+        for name in rlib obj bin stamp staticlib; do
+            rm -rf "${clone:?}/target/$name"
+            cp -r "$proved/$name" "$clone/target/$name" || exit 1
+        done
+    fi
+    chown -R "$(stat -c %u:%g "$made/home/$user")" "$clone"
 }
 
 first() {
@@ -128,7 +132,6 @@ first() {
     rm -rf "$made/home/$user/violstream"
     git clone -q --no-hardlinks "$here" "$made/home/$user/violstream" || fail "the checkout cannot be cloned"
     take_proved
-    chown -R "$(stat -c %u:%g "$made/home/$user")" "$made/home/$user/violstream"
     began=$(date +%s)
     # shellcheck disable=SC2016  # of the inner shell
     inside "$made" "$user" 'cd violstream && ./violstream plan < examples/VX0041.run > ../plan && cmp ../plan examples/VX0041.plan && ./violstream plan examples/VX0041.run | cmp - examples/VX0041.plan' \
@@ -145,15 +148,16 @@ run_test() {
         apt "$made" make gcc g++ libc6-dev python3 shellcheck man-db rustfmt rust-clippy binutils git
         touch "$made/.tools"
     fi
+    [ -e "$made/home/$user/violstream/target/staticlib/libviolstream.a" ] || take_proved
     began=$(date +%s)
     if [ "$1" = all ]; then
         words='./violstream test'
     else
         words="tests/run.sh --only $1"
-        [ -e "$made/home/$user/violstream/target/bin/cmd_desk" ] || words="./violstream build && $words"
+        [ -e "$made/home/$user/violstream/target/staticlib/libviolstream.a" ] || words="./violstream build && $words"
     fi
     inside "$made" "$user" "cd violstream && $words" > "$folder/test.log" 2>&1 || { tail -n 20 "$folder/test.log" >&2; fail "$1 failed in the clean root"; }
-    say "test=$1, sh is $shell: $(tail -n 1 "$folder/test.log"), after $(($(date +%s) - began)) s"
+    say "test=$1, sh is $shell${proved:+, proved elsewhere}: $(tail -n 1 "$folder/test.log"), after $(($(date +%s) - began)) s"
 }
 
 # ---- The package

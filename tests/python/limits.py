@@ -186,6 +186,9 @@ def main():
     reader = argparse.ArgumentParser(description=__doc__.split("\n")[0])
     reader.add_argument("--long", action="store_true", help="100,000 files, and filings up to number 65,535")
     long = reader.parse_args().long
+    if os.uname().machine != "x86_64":
+        print("limits.py: left out, an emulator's stack and memory say nothing of the programs")
+        return
     stacks()
     if subprocess.run([COMMAND, "pick", "VX0041", EXAMPLE + ".label.xml", EXAMPLE + ".index.xml", "/dev/null"], stdout=subprocess.DEVNULL, stderr=subprocess.DEVNULL).returncode != 0:
         print("limits.py: memory left out: the command was compiled without the library")
