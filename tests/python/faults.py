@@ -42,7 +42,8 @@ ASKED = "ask windows/office1 file=3,2 waiting"
 EVENTS = (("office1", b"file=3,2"), ("office2", b"file=5,4"), ("office1", b"file=1,1"), ("office1", b"withdraw=1"), ("operator", b"board=70,3"), ("office2", b"file=1,129"), ("office2", b"file=2,1"))
 # Calls that leave something behind, which are put right before each try.
 MAKING = ("install PREFIX", "uninstall PREFIX", f"first plan {RUN}")
-PATIENCE = 20
+# Seconds for a call, and for an answer of a server; a first call starts dozens of programs, and the machine may be busy.
+LIMIT, PATIENCE = 300, 60
 
 
 def chosen(count, many):
@@ -73,10 +74,10 @@ class Tries:
         """What a call prints and says, its status, and how many calls of a kind it made."""
         with self.started(words, kind, number) as running:
             try:
-                out, said = running.communicate(timeout=60)
+                out, said = running.communicate(timeout=LIMIT)
             except subprocess.TimeoutExpired:
                 running.kill()
-                sys.exit(f"faults.py: violstream {words}, with {kind} number {number} failing, has not ended after a minute")
+                sys.exit(f"faults.py: violstream {words}, with {kind} number {number} failing, has not ended after {LIMIT} s")
         return out, said, running.returncode, self.met()
 
     def note(self, words, outcome):
@@ -197,7 +198,7 @@ class Served:
             if running.poll() is None:
                 running.send_signal(signal.SIGTERM)
             try:
-                _, said = running.communicate(timeout=60)
+                _, said = running.communicate(timeout=LIMIT)
             except subprocess.TimeoutExpired:
                 running.kill()
                 sys.exit(f"faults.py: violstream {self.words}, with {kind} number {number} failing, does not end by SIGTERM")
@@ -245,7 +246,7 @@ def try_asking(tries):
         served.ask(running, "operator", b"waiting")
         tries.try_answers(ASKED)
         running.send_signal(signal.SIGTERM)
-        running.communicate(timeout=60)
+        running.communicate(timeout=LIMIT)
     tries.met()
 
 
