@@ -33,7 +33,7 @@ RUN, PLAN = "examples/VX0041.run", "examples/VX0041.plan"
 CALLS = (f"plan {RUN}", "plan --any examples/mounted.run", "plan --any large.run", f"plan {RUN} examples/no-wants.run", f"field {RUN}", f"buys --json {RUN}", f"price {RUN} examples/VX0041.list", f"check {RUN} {PLAN}",
          f"explain {RUN} --svg picture", "rewrite examples/no-wants.run", "mend loose.run", "month may.month", f"month {RUN} examples/retired-rule.run",
          f"ltfs VX0041 {LABEL} {INDEX}", "desk examples/day.run examples/day.events", "desk --replay day.journal", f"plan {PLAN}", f"price {RUN} {RUN}", f"record vault {RUN} examples/retired-rule.run",
-         "audit ledger", "audit --tape VX0041 --html page ledger", "version", "help", "plan --help")
+         "audit ledger", "audit --tape VX0041 --html page ledger", "completions bash", "version", "help", "plan --help")
 # Of the library, which the command has where it was there when it was compiled.
 NAMED = (f"pick --names names VX0041 {LABEL} {INDEX} paths", f"recall --speed 300000000 --begin 2026-11-16T08:00:00 --svg picture VX0041 {LABEL} {INDEX} paths")
 SERVED = ("serve --journal day.journal --windows windows examples/day.run", "serve --journal day.journal --windows windows --book boardings examples/day.run")
@@ -41,7 +41,7 @@ ASKED = "ask windows/office1 file=3,2 waiting"
 # What is asked of a server, in this order.
 EVENTS = (("office1", b"file=3,2"), ("office2", b"file=5,4"), ("office1", b"file=1,1"), ("office1", b"withdraw=1"), ("operator", b"board=70,3"), ("office2", b"file=1,129"), ("office2", b"file=2,1"))
 # Calls that leave something behind, which are put right before each try.
-MAKING = ("install PREFIX", "uninstall PREFIX", f"first plan {RUN}")
+MAKING = ("install PREFIX", "uninstall PREFIX", "deb", f"first plan {RUN}")
 # Seconds for a call, and for an answer of a server; a first call starts dozens of programs, and the machine may be busy.
 LIMIT, PATIENCE = 300, 60
 
@@ -51,9 +51,15 @@ def chosen(count, many):
     return [number for number in range(1, count + 1) if not many or number <= 6 or number > count - 6 or number % 25 == 0]
 
 
+def packed(out):
+    """What is in the package that a call says it has made, but for the times."""
+    listed = subprocess.run(["dpkg-deb", "-c", out.decode().removeprefix("made ").strip("'\n")], stdout=subprocess.PIPE, check=True).stdout.split(b"\n")
+    return [line.split()[:3] + line.split()[5:] for line in listed]
+
+
 class Tries:
     def __init__(self, at, shim):
-        self.at, self.shim, self.table = at, shim, {}
+        self.at, self.shim, self.table, self.packed = at, shim, {}, None
         self.prefix, self.counted = at.path("prefix"), at.path("counted")
 
     def started(self, words, kind, number, **how):
@@ -114,6 +120,7 @@ class Tries:
     def try_call(self, words):
         self.prepare(words)
         whole = self.call(words)
+        self.packed = packed(whole[0]) if words == "deb" else None
         for kind in KINDS:
             self.prepare(words)
             for number in chosen(self.call(words, kind, 0)[3], words in MAKING):
@@ -128,6 +135,8 @@ class Tries:
             if right != 0:
                 sys.exit(f"faults.py: {tell}; and of the book audit says {of_book!r}")
         if status == whole[2] and out == whole[0]:
+            if words == "deb" and packed(out) != self.packed:
+                sys.exit(f"faults.py: {tell}; and the package has not all")
             self.note(words, "whole")
             return
         self.note(words, "told")
@@ -282,7 +291,7 @@ def main():
         tries = Tries(at, shim)
         tries.call(f"record ledger {RUN} examples/retired-rule.run examples/no-wants.run")
         has_library = tries.call(NAMED[0])[2] == 0
-        for words in CALLS + NAMED * has_library + MAKING[:2]:
+        for words in CALLS + NAMED * has_library + MAKING[:2] + MAKING[2:3] * (shutil.which("dpkg-deb") is not None):
             if only is None or only in words:
                 tries.try_call(words)
         for words in SERVED * has_library:
@@ -290,8 +299,8 @@ def main():
                 Served(tries, words).try_all()
         if has_library and (only is None or only in ASKED):
             try_asking(tries)
-        if only is None or only in MAKING[2]:
-            tries.try_call(MAKING[2])
+        if only is None or only in MAKING[3]:
+            tries.try_call(MAKING[3])
     print_table(tries.table)
     if not has_library:
         print("faults.py: pick, recall, serve and ask left out: the command was compiled without the library")
