@@ -1437,7 +1437,7 @@ def at_work(at):
     return found
 
 
-SCRIPTS = ("violstream", "tools/beside.sh", "tools/build.sh", "tools/edits.sh", "tools/machine.sh", "tools/native.sh")
+SCRIPTS = ("violstream", "tools/beside.sh", "tools/build.sh", "tools/edits.sh", "tools/keep.sh", "tools/machine.sh", "tools/native.sh")
 # Names that are the caller's to set, and those of the shell itself.
 OUTSIDE = {"PATH", "TMPDIR", "DESTDIR", "PREFIX", "RATTLE_HOME", "RT_JOBS", "VIOLSTREAM_SILENCE", "VIOLSTREAM_MAINTAINER", "PIPESTATUS", "SECONDS"}
 
@@ -1479,7 +1479,8 @@ def surrounded(at):
         names |= read | emptied
         machine = names_in("tools/machine.sh")[1] if b"/machine.sh\"" in contents(script) else set()
         machine |= names_in("tools/beside.sh")[1] if b"/beside.sh\"" in contents(script) else set()
-        machine |= {"here"} if script == "tools/beside.sh" else set()
+        machine |= names_in("tools/keep.sh")[1] if b"/keep.sh\"" in contents(script) else set()
+        machine |= {"tools/beside.sh": {"here"}, "tools/keep.sh": {"machine"}}.get(script, set())
         if read - emptied - machine:
             raise Wrong(f"{script} reads what it has not emptied first: {sorted(read - emptied - machine)}")
     at.write("month", b"%d\n" % len(RUN) + RUN)
