@@ -9,10 +9,10 @@ use crate::programs::on_path;
 use crate::say::{is_plain, quoted, reason};
 use crate::status::{failed, Status, Stop};
 use std::fs;
-use std::io;
+use std::io::{self, Read};
 use std::os::unix::fs::{symlink, PermissionsExt};
 use std::path::{Path, PathBuf};
-use std::process::Command;
+use std::process::{Command, Stdio};
 
 const LIBRARIES: &str = "lib/x86_64-linux-gnu";
 
@@ -122,12 +122,16 @@ impl Package {
         self.ask(program, words, paths).map(drop)
     }
 
-    /// What a program prints.
+    /// What a program prints; what it says stands on standard error by itself.
     fn ask(&self, program: &str, words: &[&str], paths: &[&Path]) -> Result<String, Stop> {
-        match Command::new(program).args(words).args(paths).output() {
-            Ok(done) if done.status.success() => Ok(String::from_utf8_lossy(&done.stdout).into_owned()),
-            Ok(done) => failed(format!("{program} failed: {}", crate::words::shown(&String::from_utf8_lossy(&done.stderr)))),
-            Err(error) => failed(format!("cannot run {program}: {}", reason(&error))),
+        let started = Command::new(program).args(words).args(paths).stdin(Stdio::null()).stdout(Stdio::piped()).spawn();
+        let mut running = started.or_else(|error| failed(format!("cannot run {program}: {}", reason(&error))))?;
+        let mut printed = Vec::new();
+        let read = running.stdout.take().map_or(Ok(0), |mut out| out.read_to_end(&mut printed));
+        match (read, running.wait()) {
+            (Ok(_), Ok(status)) if status.success() => Ok(String::from_utf8_lossy(&printed).into_owned()),
+            (Ok(_), Ok(status)) => failed(format!("{program} failed: {status}")),
+            (Err(error), _) | (_, Err(error)) => failed(format!("cannot tell what {program} did: {}", reason(&error))),
         }
     }
 
