@@ -1,7 +1,7 @@
 #!/usr/bin/env python3
 """Has each read, write, open, close, poll, pipe, start, rename, socket .. of the command fail, one after the other, and looks at how the call ends.
 
-usage: tests/python/faults.py [--only WORD]    (the command is that in target/command, the programs are those in target/bin)
+usage: tests/python/faults.py [--only WORD] [--long]    (the command is that in target/command, the programs are those in target/bin)
 
 A call must print its whole answer and end as without a fault, or say what went wrong in a sentence and end with status 1. A short answer with status
 0 or 3 is what must never be. A server may also go on, where one asker gets no answer or is told that his event was not kept; whatever it has answered is
@@ -52,9 +52,9 @@ def chosen(count, many):
 
 
 def packed(out):
-    """What is in the package that a call says it has made, but for the times."""
+    """What is in the package that a call says it has made, with its sizes, but for the one file that says when."""
     listed = subprocess.run(["dpkg-deb", "-c", out.decode().removeprefix("made ").strip("'\n")], stdout=subprocess.PIPE, check=True).stdout.split(b"\n")
-    return [line.split()[:3] + line.split()[5:] for line in listed]
+    return [line.split()[:2] + line.split()[5:] + (line.split()[2:3] if b"changelog.Debian" not in line else []) for line in listed]
 
 
 class Tries:
@@ -271,7 +271,9 @@ def print_table(table):
 def main():
     reader = argparse.ArgumentParser(description=__doc__.split("\n")[0])
     reader.add_argument("--only", help="calls that contain this word alone")
-    only = reader.parse_args().only
+    reader.add_argument("--long", action="store_true", help="deb too, which takes minutes")
+    asked = reader.parse_args()
+    only, packing = asked.only, asked.long or asked.only == "deb"
     built()
     with tempfile.TemporaryDirectory() as folder:
         shim = os.path.join(folder, "faults.so")
@@ -291,7 +293,7 @@ def main():
         tries = Tries(at, shim)
         tries.call(f"record ledger {RUN} examples/retired-rule.run examples/no-wants.run")
         has_library = tries.call(NAMED[0])[2] == 0
-        for words in CALLS + NAMED * has_library + MAKING[:2] + MAKING[2:3] * (shutil.which("dpkg-deb") is not None):
+        for words in CALLS + NAMED * has_library + MAKING[:2] + MAKING[2:3] * packing:
             if only is None or only in words:
                 tries.try_call(words)
         for words in SERVED * has_library:
