@@ -30,7 +30,8 @@ use Rattle.demands.specs.RefusalTable.{NamesStop, RunApplies, SomeApplie
 use Rattle.demands.specs.AnyHead.{RunAppliesAny, NothingAppliesAny, TakesWhat01Takes, StartsPast, EntryIsBadAny, ListIsBadAny}
 use Rattle.demands.proofs.Tests.{Tells, tells-below, tells-holds, tells-either, tells-reworded}
 use Rattle.demands.proofs.Checks.{Decides, refused, decides-if, decides-at, decides-alone, decides-reworded, Finds, finds-none, first-of-joined, both-pass, AllRefuse, refused-iff}
-use Rattle.demands.proofs.Judged.{table-finds, wants-find, turn-finds, run-small, runOrder, none-found}
+use Rattle.demands.specs.Judged.{runOrder}
+use Rattle.demands.proofs.Judged.{table-finds, wants-find, turn-finds, run-small, none-found}
 use Rattle.demands.proofs.Listed.{entry-is-bad, names-stop}
 use Rattle.demands.proofs.AnyLifted.{names-down, names-up, entry-down, entry-up}
 

@@ -10,7 +10,7 @@ use Rattle.walk.specs.AnyHead.{runLegs}
 use Rattle.least.specs.AnyHead.{listSumAny}
 use Rattle.demands.specs.AnyLegs.{AreLegsOf}
 use Rattle.demands.specs.AnyHead.{NothingAppliesAny, IsFormedAny}
-use Rattle.demands.specs.AnySums.{FormedAnyMeans, SumAnyMeans, LeastWalkIsLeast}
+use Rattle.demands.specs.AnySums.{FormedAnyMeans, SumAnyMeans, LeastIsFormed, LeastWalkIsLeast}
 use Rattle.demands.proofs.AnyJudged.{nothing-judged-any}
 use Rattle.demands.proofs.AnyLegs.{legs-made}
 use Rattle.demands.proofs.AnyHead.{formed-list-any, is-formed-any, legs-are-one}
@@ -26,6 +26,9 @@ walk-sum r nothing list formed gs are = ap (λ hs. sumOf (r .turn) (headAt (r .h
 
 pub sum-any-means : SumAnyMeans
 sum-any-means r nothing list formed gs are = walk-sum r nothing list formed gs are
+
+pub least-is-formed : LeastIsFormed
+least-is-formed r nothing list least = is-formed-any r (accepted-any r (nothing-judged-any r nothing)) list (least .formed)
 
 pub least-walk-is-least : LeastWalkIsLeast
 least-walk-is-least r nothing list gs are least =

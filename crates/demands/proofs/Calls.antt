@@ -22,11 +22,12 @@ use Rattle.planner.specs.Plan.{roomFor, shortRows}
 use Rattle.planner.specs.Rows.{Rows}
 use Rattle.boundary.specs.Boundary.{shortSums, priceCall, priceReads, priceSums, PriceCalled, leastRule, badRule, planCall, PlanCalled}
 use Rattle.demands.specs.RefusalTable.{RunApplies, ListIsBad, FirstThatApplies, none, here, later}
+use Rattle.demands.specs.Judged.{runOrder}
 use Rattle.demands.specs.Demand1.{PriceApplies, PlanApplies, priceOrder}
 use Rattle.demands.specs.Calls.{PriceCallApplies, PlanCallApplies, planCallOrder, PlanCallAnswers, Demand1PriceCall, Demand1PlanCall, RefusedForItsRule}
 use Rattle.demands.proofs.Tests.{tells-equal, tells-below, tells-not, tells-either}
 use Rattle.demands.proofs.Checks.{decides-if, decides-reworded, Finds, finds-none, finds-first, first-of-joined, AllOfRun, behind-front, past-front, some-reworded}
-use Rattle.demands.proofs.Judged.{run-finds, run-small, runOrder, none-of-run, some-of-run}
+use Rattle.demands.proofs.Judged.{run-finds, run-small, none-of-run, some-of-run}
 use Rattle.demands.proofs.Listed.{decides-list}
 use Rattle.demands.proofs.Demand1.{tells-reads, price-of-run, price-list, ReadsShort, short-reads, reads-short, plan-of-run, IsShort, short-row, row-short, short-room, room-short, tells-short}
 

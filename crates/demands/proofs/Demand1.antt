@@ -23,11 +23,12 @@ use Rattle.runs.proofs.Judged.{GoodRun, accepted-run}
 use Rattle.walk.proofs.Priced.{price-accepted}
 use Rattle.planner.specs.Plan.{roomFor, Plans, shortRows, planVerdict}
 use Rattle.planner.specs.Rows.{Rows, readsIn}
-use Rattle.demands.specs.RefusalTable.{RunApplies, ListIsBad}
+use Rattle.demands.specs.RefusalTable.{RunApplies, ListIsBad, none, here, later}
+use Rattle.demands.specs.Judged.{ListJudged}
 use Rattle.demands.specs.Demand1.{OnlyPlace, ByTheTable, PriceApplies, PlanApplies, priceOrder, planOrder, Demand1Price, Demand1Plan, Demand1PriceIff, Demand1PlanIff}
 use Rattle.demands.proofs.Tests.{Tells, tells-below, tells-either, tells-regrouped}
-use Rattle.demands.proofs.Checks.{refused-iff, decides-if, decides-reworded, Finds, finds-none, finds-first}
-use Rattle.demands.proofs.Judged.{run-finds, run-small}
+use Rattle.demands.proofs.Checks.{Decides, refused, passed, refused-iff, decides-if, decides-reworded, Finds, finds-none, finds-first}
+use Rattle.demands.proofs.Judged.{run-finds, run-small, nothing-judged}
 use Rattle.demands.proofs.Counted.{has-stops, stops-one}
 use Rattle.demands.proofs.Listed.{decides-list}
 
@@ -38,6 +39,17 @@ refusal-only-place v = refl
 -- A row for times or legs that is short.
 pub tells-reads : (k : ℕ) (rows : ReadRows) → Tells (shortReadRows k rows) ((length (rows .times) < k) ⊎ (length (rows .legs) < k))
 tells-reads k rows = tells-either (ltb (length (rows .times)) k) (ltb (length (rows .legs)) k) (tells-below (length (rows .times)) k) (tells-below (length (rows .legs)) k)
+
+-- A list by itself.
+pub list-judged : ListJudged
+list-judged r nothing froms tos = go (decides-list r good froms tos (sym (good .wants .equal)))
+  where
+    good : GoodRun r
+    good = accepted-run r (nothing-judged r nothing)
+
+    go : Decides BadEntry (ListIsBad r froms tos) (listVerdict (stopsOf r) froms tos) → Finds (λ kind. ListIsBad r froms tos) (BadEntry ∷ []) (listVerdict (stopsOf r) froms tos)
+    go (refused p e h) = rw e (here h)
+    go (passed e n) = rw e (later n none)
 
 -- The pricer.
 module _ (r : Run) (froms tos : List ℕ) (rows : ReadRows) where

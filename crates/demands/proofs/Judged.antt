@@ -18,6 +18,7 @@ use Rattle.runs.specs.Judging.{badFile, badWant, tableChecks, wantsChecks, head
 use Rattle.refusals.proofs.Verdicts.{refuses, first-refuses, first-passes, none-refuses}
 use Rattle.runs.proofs.Judged.{GoodTable, GoodWants, accepted-table, accepted-wants}
 use Rattle.demands.specs.RefusalTable.{FirstBad, FileIsBad, WantIsBad, RunApplies, NothingApplies, SomeApplies}
+use Rattle.demands.specs.Judged.{runOrder, JudgedByTheTable}
 use Rattle.demands.proofs.Tests.{tells-below, tells-either}
 use Rattle.demands.proofs.Checks.{Decides, decides-if, decides-at, decides-reworded, Finds, finds-none, finds-first, first-of-joined, both-pass, AllRefuse, refused-iff}
 use Rattle.demands.proofs.Conditions.{WantedBeyond, rows-unfit, table-rows-unfit, file-is-bad, want-is-bad, head-left-of-end}
@@ -133,10 +134,6 @@ module _ (r : Run) (applies : Refusal → ℕ → Type 0) (there : (k : Refusal)
       (head-decides (accepted-table (r .starts) (r .lengths) (r .aggregates) a) (accepted-wants (length (r .starts)) (r .numbers) (r .counts) b))
       (λ c. others (both-pass table (wants ∷ head ∷ []) a (both-pass wants (head ∷ []) b (both-pass head [] c refl)))))))
 
--- The order of 1 to 7.
-abbrev pub runOrder : List Refusal
-runOrder = FileRows ∷ BadFile ∷ WantRows ∷ BadWant ∷ TooManyReads ∷ TurnPrice ∷ HeadPlace ∷ []
-
 -- A check that finds the first of an order passes where none of the order applies.
 pub none-found : (applies : Refusal → ℕ → Type 0) {order : List Refusal} (v : Verdict) → Finds applies order (firstOf (v ∷ [])) → AllRefuse order → (SomeApplies applies order → ⊥) → refuses v ≡ false
 none-found applies {order} v finds all none = go (refuses v) refl
@@ -201,3 +198,11 @@ module _ (r : Run) where
       let found : Finds (RunApplies r) (FileRows ∷ BadFile ∷ []) accepted = rw (first-passes table [] e) at table-found in
       let none : SomeApplies (RunApplies r) (FileRows ∷ BadFile ∷ []) → ⊥ = λ s. refused-iff (RunApplies r) found (refl, (refl, tt)) .1 s refl in
       (λ p h. none (inl (p, h)), λ p h. none (inr (inl (p, h))))
+
+-- The verdict itself is the first that applies.
+pub judged-by-the-table : JudgedByTheTable
+judged-by-the-table r = go (refuses (judgeOf r)) refl
+  where
+    go : (b : Bool) → refuses (judgeOf r) ≡ b → Finds (RunApplies r) runOrder (judgeOf r)
+    go true e = rw (← first-refuses (judgeOf r) [] e) at (judged-finds r)
+    go false e = rw (judged-accepted r e) (rw (first-passes (judgeOf r) [] e) at (judged-finds r))

@@ -1,5 +1,5 @@
 -- Strings, texts and keys, digits, numbers, names and lines by their conditions.
-use Prim.Native.Nat.{ℕ, zero, suc, _+_, _^_, _≤_, _<_}
+use Prim.Native.Nat.{ℕ, zero, suc, _+_, _-_, _*_, _^_, _≤_, _<_}
 use mathlib.Core.Path.{_≡_, refl, sym, ap, _∙_}
 use mathlib.Core.Bool.{Bool, true, false, not, _&&_, _||_, true≢false}
 use mathlib.Core.Logic.{_⊎_, _↔_, inl, inr}
@@ -9,13 +9,13 @@ use lib.ListN.{length, getD}
 use lib.Dec.{leb, ltb, eqb}
 use borrow.Author.Tests.{lt-ltb, ltb-true, leb-true, le-leb, eq-eqb, ne-eqb, eqb-true}
 use Rattle.runs.proofs.Search.{or-false-both}
-use Rattle.text_bytes.specs.Text.{lineFeed, has, before, behind, startsWith, isText, allOf, between, isDigit, isNameByte, isEmpty, leadingZero, isNumber, isName, valueOf, decimalIn, decimal}
+use Rattle.text_bytes.specs.Text.{lineFeed, has, before, behind, startsWith, isText, allOf, between, isDigit, isNameByte, isEmpty, leadingZero, isNumber, isName, valueFrom, valueOf, decimalIn, decimal}
 use Rattle.text_bytes.proofs.Bytes.{and-true-both}
 use Rattle.text_bytes.proofs.Split.{whole-key, before-here, behind-here}
 use Rattle.text_bytes.proofs.Decimals.{has-append, decimal-value, decimal-number}
 use Rattle.text_lines.specs.Lines.{lineOf, afterLines}
 use Rattle.sheet_writer.proofs.Reread.{key-begins, key-value}
-use Rattle.demands.specs.Letters.{BytesOfLetters, TextsAreCompared, KeysAreSpelled, Digits, IsTextOfANumber, NumbersAreTexts, IsTapeName, NamesByTheirBytes, Without, NoFeed, TextsAreCut, LinesByTheirFeeds}
+use Rattle.demands.specs.Letters.{BytesOfLetters, TextsAreCompared, KeysAreSpelled, Digits, ValuesOfDigits, IsTextOfANumber, NumbersAreTexts, IsTapeName, NamesByTheirBytes, Without, NoFeed, TextsAreCut, LinesByTheirFeeds}
 use Rattle.demands.proofs.Canonical.{decimal-step, number-text}
 use Rattle.demands.proofs.Lines.{behind-none}
 
@@ -101,6 +101,15 @@ one-digit (suc n) l = rw (lt-ltb (suc n) 10 l)
 
 pub digits : Digits
 digits = record { one = one-digit; more = λ n d some small. decimal-step n d (omega arith) small }
+
+value-more : (n : ℕ) (text : List ℕ) (d : ℕ) → valueFrom n (text ++ ((48 + d) ∷ [])) ≡ valueFrom n text * 10 + d
+unfolding valueFrom
+value-more n [] d = omega arith
+value-more n (b ∷ text) d = value-more (n * 10 + (b - 48)) text d
+
+pub values-of-digits : ValuesOfDigits
+unfolding valueFrom
+values-of-digits = record { none = refl; more = λ text d small. value-more 0 text d }
 
 word-value : (text : List ℕ) → isNumber text ≡ true → valueOf text < 2 ^ 64
 unfolding isNumber

@@ -28,7 +28,7 @@ use Rattle.answer_rewrite.specs.Rewriting.{priceIsEmpty, rewritten, rewriteVerd
 use Rattle.answer_rewrite.proofs.Meaning.{upper, rest-is, old-cut, new-cut, unchanged, keeps}
 use Rattle.demands.specs.RefusalTable.{FirstBad}
 use Rattle.demands.specs.Lines.{LineIsBad, linesDue}
-use Rattle.demands.specs.Turns.{EmptyPrice, GivenPrice, DrivesOwnPrice, ReadsButThePrice, OtherReaders, RewrittenBytes, RewrittenMeans, RewrittenOnce, UnreadApplies, ResultApplies, RewriteFinds, unread, result, Demand1Rewrite}
+use Rattle.demands.specs.Turns.{EmptyPrice, GivenPrice, DrivesOwnPrice, ReadsButThePrice, OtherReaders, RewrittenBytes, RewrittenMeans, RewrittenOnce, UnreadApplies, SheetJudged, ResultApplies, RewriteFinds, unread, result, Demand1Rewrite}
 use Rattle.demands.proofs.Tests.{Tells, tells-below}
 use Rattle.demands.proofs.Checks.{decides-if, decides-reworded, Finds, finds-none, finds-first}
 use Rattle.demands.proofs.FirstLine.{decides-line}
@@ -302,6 +302,9 @@ module _ (sheet : List ℕ) where
     verdict-finds : (b : Bool) → refuses (sheetVerdict sheet) ≡ b → RewriteFinds sheet row (rewriteVerdict sheet row .refusal) (rewriteVerdict sheet row .place)
     verdict-finds true e = rw (verdict-refused e) (unread (λ k. true≢false (sym e ∙ ap isRefusal k)) unread-finds)
     verdict-finds false e = rw (verdict-passed e) (result (rw (accepted-sheet sheet e) at unread-finds) (result-finds e))
+
+pub sheet-judged : SheetJudged
+sheet-judged sheet = unread-finds sheet
 
 pub demand1-rewrite : Demand1Rewrite
 unfolding rewriteVerdict

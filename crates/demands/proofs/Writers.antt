@@ -27,7 +27,7 @@ use Rattle.sheet_figures.specs.FigureSheet.{figureText, figureSheetVerdict}
 use Rattle.sheet_figures.specs.AnyHead.{figureAnyText, figureAnySheetVerdict}
 use Rattle.demands.specs.Sheets.{writeOrder, listSheetOrder, WriteApplies, ListSheetApplies}
 use Rattle.demands.specs.AnyHead.{RunAppliesAny, ListIsBadAny}
-use Rattle.demands.specs.Writers.{WritesItsSheet, RunSheetWriter, PlanSheetWriter, FigureSheetWriter, ListSheetAnyApplies, PlanAnySheetWriter, FigureAnySheetWriter}
+use Rattle.demands.specs.Writers.{WritesItsSheet, RowsAreLeft, RunSheetWriter, PlanSheetWriter, FigureSheetWriter, ListSheetAnyApplies, PlanAnySheetWriter, FigureAnySheetWriter}
 use Rattle.demands.proofs.Tests.{tells-false, tells-below}
 use Rattle.demands.proofs.Checks.{decides-if, decides-reworded, Finds, finds-none, finds-first}
 use Rattle.demands.proofs.AnyJudged.{any-small, run-any-finds, decides-list-any}
@@ -63,6 +63,10 @@ module _ (applies : Refusal → ℕ → Type 0) (order : List Refusal) (vs : Lis
         counted = λ a. ap (λ (w : Written). w .bytes) (is-written (written-passes (firstOf vs) sheet answer (says .answer) a));
         behind = stays-behind (refuses (firstOf vs)) refl;
       }
+
+pub rows-are-left : RowsAreLeft
+unfolding writtenRow
+rows-are-left v text row = record { written = λ e. rw e; kept = λ e. rw e }
 
 pub run-sheet-writer : RunSheetWriter
 unfolding writeVerdict

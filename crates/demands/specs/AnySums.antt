@@ -25,5 +25,9 @@ SumAnyMeans =
     → AreLegsOf r list gs
     → listSumAny (r .turn) (r .head) (stopsOf r) list ≡ sumOf (r .turn) (headAt (r .head)) gs (stopsOf r)
 
+-- What is least is one of the well-formed lists.
+abbrev pub LeastIsFormed : Type 0
+LeastIsFormed = (r : Run) → NothingAppliesAny r → (list : List Detour) → LeastAny r list → IsFormedAny r list
+
 abbrev pub LeastWalkIsLeast : Type 0
 LeastWalkIsLeast = (r : Run) → NothingAppliesAny r → (list : List Detour) (gs : List Leg) → AreLegsOf r list gs → IsLeastWalk r list gs → LeastAny r list

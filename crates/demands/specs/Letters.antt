@@ -54,6 +54,11 @@ pub record Digits : Type 0 where
   pub one : (n : ℕ) → n < 10 → decimal n ≡ (48 + n) ∷ []
   pub more : (n d : ℕ) → 0 < n → d < 10 → decimal (n * 10 + d) ≡ decimal n ++ ((48 + d) ∷ [])
 
+-- The value of a row of digits, a leading 0 or none: of no digit 0; of one digit more ten times the value before it, and the digit.
+pub record ValuesOfDigits : Type 0 where
+  pub none : valueOf [] ≡ 0
+  pub more : (text : List ℕ) (d : ℕ) → d < 10 → valueOf (text ++ ((48 + d) ∷ [])) ≡ valueOf text * 10 + d
+
 -- A number is the text of one below 2^64, and that is its value.
 pub record IsTextOfANumber (text : List ℕ) : Type 0 where
   pub n : ℕ

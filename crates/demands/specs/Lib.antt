@@ -1,6 +1,7 @@
 -- The three demands, in document 01's order, the table of worked cases, and the promises of requests but for those in the crate `promises`. Each
 -- statement is a type; proofs/ has its proof.
 pub mod RefusalTable
+pub mod Judged
 pub mod Numbers
 pub mod Formed
 pub mod Demand1

@@ -13,7 +13,7 @@ use Rattle.text_bytes.specs.Text.{lineFeed, valueOf}
 use Rattle.sheet_reader.specs.declared.Reading.{Reading}
 use Rattle.text_lines.specs.Lines.{afterLines}
 use Rattle.sheet_reader.specs.Lines.{turnKey}
-use Rattle.sheet_reader.specs.Reading.{RunRows, ReadWith, SheetRead, readName}
+use Rattle.sheet_reader.specs.Reading.{sheetVerdict, RunRows, ReadWith, SheetRead, readName}
 use Rattle.sheet_writer.specs.declared.Written.{Written}
 use Rattle.answer_rewrite.specs.Rewriting.{SheetRewritten}
 use Rattle.demands.specs.RefusalTable.{FirstBad, FirstThatApplies}
@@ -140,3 +140,7 @@ Demand1Rewrite =
     (sheet row : List ℕ) (answer : Written) (out : List ℕ)
     → SheetRewritten sheet row answer out
     → RewriteAnswers sheet row answer out
+
+-- The check that every reader of a sheet begins with: the first of 12 and 11 that applies, with its line.
+abbrev pub SheetJudged : Type 0
+SheetJudged = (sheet : List ℕ) → UnreadFirst sheet (sheetVerdict sheet .refusal) (sheetVerdict sheet .place)

@@ -2,15 +2,17 @@
 -- of the table that applies, and nothing written; or the sheet in the row's first bytes, and the later bytes as they were.
 use Prim.Native.Nat.{ℕ, _<_}
 use mathlib.Core.Path.{_≡_}
-use mathlib.Core.Bool.{false}
-use mathlib.Core.List.{List}
+use mathlib.Core.Bool.{true, false}
+use mathlib.Core.List.{List, _++_}
 use lib.ListN.{length, take, drop}
 use Rattle.refusals.specs.declared.Refusal.{Refusal}
 use Rattle.refusals.specs.declared.Refusal.the-variants.{Accepted, ShortRow, BadEntry, BadName}
+use Rattle.refusals.specs.declared.Verdict.{Verdict}
+use Rattle.refusals.specs.Refusals.{isRefusal}
 use Rattle.runs.specs.Run.{Run}
 use Rattle.text_bytes.specs.Text.{isName}
 use Rattle.sheet_writer.specs.declared.Written.{Written}
-use Rattle.sheet_writer.specs.Writing.{sheetText, SheetWritten}
+use Rattle.sheet_writer.specs.Writing.{sheetText, writtenRow, SheetWritten}
 use Rattle.sheet_writer.specs.PlanSheet.{planText, PlanWritten}
 use Rattle.sheet_writer.specs.AnyHead.{planAnyText, PlanAnyWritten}
 use Rattle.sheet_figures.specs.FigureSheet.{figureText, FigureWritten}
@@ -23,6 +25,14 @@ pub record WritesItsSheet (applies : Refusal → ℕ → Type 0) (order : List R
   pub holds : answer .refusal ≡ Accepted → take (answer .bytes) out ≡ sheet
   pub counted : answer .refusal ≡ Accepted → answer .bytes ≡ length sheet
   pub behind : drop (answer .bytes) out ≡ drop (answer .bytes) row
+
+-- The row that a verdict leaves, whoever writes: accepted the text, and later bytes as they were; on a refusal the row as it was.
+pub record RowIsLeft (v : Verdict) (text row : List ℕ) : Type 0 where
+  pub written : isRefusal (v .refusal) ≡ false → writtenRow v text row ≡ text ++ drop (length text) row
+  pub kept : isRefusal (v .refusal) ≡ true → writtenRow v text row ≡ row
+
+abbrev pub RowsAreLeft : Type 0
+RowsAreLeft = (v : Verdict) (text row : List ℕ) → RowIsLeft v text row
 
 abbrev pub RunSheetWriter : Type 0
 RunSheetWriter =
