@@ -33,7 +33,7 @@ use Rattle.answer_any.specs.AnyRun.{anyChecks}
 use Rattle.answer_any.proofs.Planned.{room-kept, room-cleared}
 use Rattle.answer_check.specs.RunRules.{headAnywhere}
 use Rattle.answer_check.specs.Pricing.{pricingVerdict, priceText}
-use Rattle.answer_check.specs.Checking.{verdictOn, VerdictOf, SheetChecked, CheckAnswered}
+use Rattle.answer_check.specs.Checking.{verdictOn, roomChecked, VerdictOf, SheetChecked, CheckAnswered}
 use Rattle.answer_check.proofs.Determined.{one-least, answer-once}
 use Rattle.demands.specs.RefusalTable.{FirstBad, SomeApplies}
 use Rattle.demands.specs.AnyHead.{RunAppliesAny, ListIsBadAny}
@@ -46,10 +46,11 @@ use Rattle.demands.proofs.AnyJudged.{any-small, run-any-finds, decides-list-any
 use Rattle.demands.proofs.Lines.{tells-sweep}
 use Rattle.demands.proofs.FirstLine.{decides-line}
 use Rattle.promises.specs.Answers.{WordsApply, short-room, twoLines}
+use Rattle.promises.specs.Rooms.{RoomOfPlan}
 use Rattle.promises.specs.Lengths.{checkRow}
 use Rattle.promises.specs.CheckWhole.{VerdictText}
 use Rattle.promises.specs.ListLines.{PlanFormApplies, ListFormApplies, formOrder}
-use Rattle.promises.specs.TwoTexts.{EarlyApplies, earlyOrder, PricedApplies, pricedOrder, PlannedApplies, plannedOrder, InThreeStages, PriceByTheTable, CheckByTheTable, AsPrinted, RoomAfterwards, CallerIsTold}
+use Rattle.promises.specs.TwoTexts.{EarlyApplies, earlyOrder, PricedApplies, pricedOrder, PlannedApplies, plannedOrder, InThreeStages, PriceByTheTable, CheckByTheTable, AsPrinted, RoomAfterwards, CheckLeavesTheRoom, CallerIsTold}
 use Rattle.promises.proofs.Checks.{put-whole}
 use Rattle.promises.proofs.DeskSteps.{not-accepted}
 use Rattle.promises.proofs.Answers.{lines-are}
@@ -182,6 +183,29 @@ module _ (OfSheet OfText OfRun : Refusal → ℕ → Type 0) (order : List Refus
       (λ e. ⊎-elim (λ f. absurd (m (some-text f))) (λ f. moved OfRun order (firstOf others) (v-run e f) run) (true-or-false (refuses form)))
       (true-or-false (refuses e₀))
 
+  -- Refused exactly where one of them applies.
+  pub some-refuses : AllRefuse order → SomeApplies OfSheet earlyOrder ⊎ (SomeApplies OfText formOrder ⊎ SomeApplies OfRun order) → refuses v ≡ true
+  some-refuses all s =
+      ⊎-elim (λ (e : refuses e₀ ≡ true). ap refuses (sym (v-early e)) ∙ e)
+      (λ (e : refuses e₀ ≡ false).
+      ⊎-elim (λ (f : refuses form ≡ true). ap refuses (sym (v-form e f)) ∙ f)
+      (λ (f : refuses form ≡ false).
+      ap refuses (sym (v-run e f))
+      ∙ ⊎-elim (λ h. absurd (none-so e h)) (λ t. ⊎-elim (λ h. absurd (none-text f h)) (λ h. not-accepted (firstOf others .refusal) (refused-iff OfRun run all .1 h)) t) s)
+      (true-or-false (refuses form)))
+      (true-or-false (refuses e₀))
+
+  pub none-passes : AllRefuse order → (SomeApplies OfSheet earlyOrder → ⊥) → (SomeApplies OfText formOrder → ⊥) → (SomeApplies OfRun order → ⊥) → refuses v ≡ false
+  none-passes all a b c =
+      ⊎-elim (λ (e : refuses e₀ ≡ true). absurd (a (some-so e)))
+      (λ (e : refuses e₀ ≡ false).
+      ⊎-elim (λ (f : refuses form ≡ true). absurd (b (some-text f)))
+      (λ (f : refuses form ≡ false).
+      ap refuses (sym (v-run e f))
+      ∙ ⊎-elim (λ (g : refuses (firstOf others) ≡ true). absurd (c (refused-iff OfRun run all .0 (λ is. true≢false (sym g ∙ ap isRefusal is))))) (λ g. g) (true-or-false (refuses (firstOf others))))
+      (true-or-false (refuses form)))
+      (true-or-false (refuses e₀))
+
   -- None of them is 8, where none of their orders has it.
   pub never-eight : NoEight order → numberOf (v .refusal) ≡ 8 → ⊥
   never-eight none is =
@@ -226,6 +250,47 @@ check-by-the-table sheet plan row room n row′ room′ c wide =
     in-stages (EarlyApplies sheet) (PlanFormApplies plan) (PlannedApplies (length room) (sheetRun sheet)) plannedOrder sheet (planForm plan) (anyChecks (length room) (sheetRun sheet)) (early-finds sheet)
     (plan-form-by-the-table plan) (planned-finds (length room) (sheetRun sheet)) _ (take n row′)
     (λ e. whole ∙ g .answers .refused e) (λ e. check-prints-all sheet plan row room n row′ room′ c wide e)
+
+-- The room.
+all-planned : AllRefuse plannedOrder
+all-planned = (refl, (refl, (refl, (refl, (refl, (refl, (refl, (refl, tt))))))))
+
+module _ (sheet plan room room′ : List ℕ) (is : room′ ≡ roomChecked sheet plan room) where
+  abbrev judging : Verdict
+  judging = verdictOn (length room) sheet plan
+
+  abbrev OfRoom : Refusal → ℕ → Type 0
+  OfRoom = PlannedApplies (length room) (sheetRun sheet)
+
+  is-refused : SomeApplies (EarlyApplies sheet) earlyOrder ⊎ (SomeApplies (PlanFormApplies plan) formOrder ⊎ SomeApplies OfRoom plannedOrder) → refuses judging ≡ true
+  unfolding verdictBy
+  is-refused =
+      some-refuses (EarlyApplies sheet) (PlanFormApplies plan) OfRoom plannedOrder sheet (planForm plan) (anyChecks (length room) (sheetRun sheet)) (early-finds sheet) (plan-form-by-the-table plan)
+      (planned-finds (length room) (sheetRun sheet)) (λ t. Unit {0}) [] all-planned
+
+  is-accepted : (SomeApplies (EarlyApplies sheet) earlyOrder → ⊥) → (SomeApplies (PlanFormApplies plan) formOrder → ⊥) → (SomeApplies OfRoom plannedOrder → ⊥) → refuses judging ≡ false
+  unfolding verdictBy
+  is-accepted =
+      none-passes (EarlyApplies sheet) (PlanFormApplies plan) OfRoom plannedOrder sheet (planForm plan) (anyChecks (length room) (sheetRun sheet)) (early-finds sheet) (plan-form-by-the-table plan)
+      (planned-finds (length room) (sheetRun sheet)) (λ t. Unit {0}) [] all-planned
+
+  room-by-stops : refuses judging ≡ false → RoomOfPlan (sheetRun sheet) room room′
+  room-by-stops e =
+      let run = sheetRun sheet in
+      let passes = check-passes (length room) sheet plan e .1 in
+      let has = stops-down run (has-stops (lifted run) (accepted-any run passes .run)) in
+      record {
+        stops = length (stopsOf (lifted run));
+        are = has;
+        left = is ∙ room-cleared judging run room e ∙ ap (λ m. replicate m 0 ++ drop m room) (sym (one (length room) sheet (length (stopsOf (lifted run))) passes has));
+      }
+
+pub check-leaves-the-room : CheckLeavesTheRoom
+check-leaves-the-room sheet plan row room n row′ room′ c =
+    record {
+      kept = λ some. c .cleared ∙ room-kept (verdictOn (length room) sheet plan) (sheetRun sheet) room (is-refused sheet plan room room′ (c .cleared) some);
+      cleared = λ a b d. room-by-stops sheet plan room room′ (c .cleared) (is-accepted sheet plan room room′ (c .cleared) a b d);
+    }
 
 -- For a caller.
 planned-none : NoEight plannedOrder
