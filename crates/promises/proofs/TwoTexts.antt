@@ -361,7 +361,7 @@ module _ (sheet plan row room out : List ℕ) (w : Written) (row′ room′ : Li
         let front : take (w .bytes) row′ ≡ asked .text = ap (λ x. take (x .bytes) row′) says ∙ ap (take (length (asked .text))) holds ∙ take-append-seam (asked .text) (drop (length (asked .text)) row) in
         record {
           text = λ is. (front ∙ one-text, check-prints-all sheet plan out room n out′ room″ d wide e);
-          counted = λ is. ap (λ x. x .bytes) says ∙ ap length one-text;
+          counted = λ is. (ap (λ x. x .bytes) says ∙ ap length one-text, ap (λ x. x .place) says);
           short = λ is. absurd (apart (sym is ∙ ap (λ x. x .refusal) says));
           lines = λ a b. absurd (a (ap (λ x. x .refusal) says));
           unwritten = λ a. absurd (a (ap (λ x. x .refusal) says));

@@ -87,7 +87,7 @@ CheckByTheTable =
 -- shorter than that, and then nothing else is refused; or the refusal whose two lines are printed. By any refusal the row is as it was. A `no` is no refusal.
 pub record AsPrinted (Asked : List ℕ → Type 0) (row : List ℕ) (w : Written) (row′ printed : List ℕ) : Type 0 where
   pub text : w .refusal ≡ Accepted → (take (w .bytes) row′ ≡ printed) × Asked printed
-  pub counted : w .refusal ≡ Accepted → w .bytes ≡ length printed
+  pub counted : w .refusal ≡ Accepted → (w .bytes ≡ length printed) × (w .place ≡ 0)
   pub short : w .refusal ≡ ShortRow → (w .place ≡ 0) × (length row < length printed) × Asked printed
   pub lines : (w .refusal ≡ Accepted → ⊥) → (w .refusal ≡ ShortRow → ⊥) → printed ≡ twoLines (w .refusal) (w .place)
   pub unwritten : (w .refusal ≡ Accepted → ⊥) → (w .bytes ≡ 0) × (row′ ≡ row)
