@@ -67,9 +67,9 @@ row-long : (ts : List Ticket) (l : Lasts) (tape : Tape) (room out : List ℕ) (e
 row-long ts l tape room out e r exit room′ out′ f served =
     elim (decLt (length ts) 32) [
       | yes short ↦
-        let eight = short-rows-answered ts l tape room out e r exit room′ out′ f short
-        (not-none (length ts) tape (dayOf (tableIn ts) l) room out e (f .answered) room′ out′ (f .answers) (ap (λ (y : Told). y .verdict .refusal) (sym (f .says)) ∙ served)) in
-        absurd (true≢false (ap (λ (v : Verdict). isRefusal (v .refusal)) (sym eight) ∙ ap isRefusal served))
+          let eight = short-rows-answered ts l tape room out e r exit room′ out′ f short
+          (not-none (length ts) tape (dayOf (tableIn ts) l) room out e (f .answered) room′ out′ (f .answers) (ap (λ (y : Told). y .verdict .refusal) (sym (f .says)) ∙ served)) in
+          absurd (true≢false (ap (λ (v : Verdict). isRefusal (v .refusal)) (sym eight) ∙ ap isRefusal served))
       | no long ↦ omega arith
     ]
 
