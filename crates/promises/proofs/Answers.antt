@@ -7,6 +7,7 @@ use mathlib.Core.List.{List, [], _∷_, _++_, append-assoc}
 use native.Mathlib.Omega.{arith}
 use lib.ListN.{length, getD}
 use lib.Dec.{ltb}
+use borrow.Author.Tests.{le-ltb, lt-ltb}
 use Rattle.refusals.specs.declared.Refusal.{Refusal}
 use Rattle.refusals.specs.declared.Refusal.the-variants.{Accepted, FileRows, BadFile, WantRows, BadWant, TooManyReads, TurnPrice, HeadPlace, ShortRoom, BadLine, LongSheet, RetiredRule, OverEightWants}
 use Rattle.refusals.specs.declared.Verdict.{Verdict}
@@ -23,6 +24,8 @@ use Rattle.sheet_reader.specs.Lines.{sweepText}
 use Rattle.sheet_reader.specs.Sheet.{longestSheet, saysSweep, firstBadLine, sheetRun, sheetName}
 use Rattle.sheet_reader.specs.Reading.{sheetVerdict, ruleVerdict}
 use Rattle.text_bytes.specs.Text.{lineFeed, decimal}
+use Rattle.sheet_writer.specs.declared.Written.{Written}
+use Rattle.sheet_writer.specs.Writing.{rowVerdict, writtenAnswer, writtenRow, Handed}
 use Rattle.sheet_writer.specs.RefusalLines.{refusedKey, placeKey, refusalText}
 use Rattle.answer_plan.specs.Recall.{runChecks, roomWords, verdictBy, recallVerdict}
 use Rattle.answer_plan.proofs.Planned.{handed-bytes, handed-row}
@@ -36,7 +39,7 @@ use Rattle.demands.proofs.Judged.{run-finds, table-finds, run-small, want-rows-
 use Rattle.demands.proofs.Counted.{has-stops, stops-one}
 use Rattle.demands.proofs.Lines.{tells-sweep}
 use Rattle.demands.proofs.FirstLine.{decides-line}
-use Rattle.promises.specs.Answers.{SheetRunApplies, AnswerApplies, too-long, bad-line, retired-rule, run, engine, RoomApplies, short-room, EightApplies, over-eight, roomOrder, eightOrder, twoLines, RefusalByItsLines, PrintedByTheTable, PlanByTheTable, FieldByTheTable, BuysByTheTable}
+use Rattle.promises.specs.Answers.{SheetRunApplies, AnswerApplies, too-long, bad-line, retired-rule, run, engine, RoomApplies, short-room, EightApplies, over-eight, roomOrder, eightOrder, twoLines, RefusalByItsLines, LinesHanded, RefusalIsHanded, PrintedByTheTable, PlanByTheTable, FieldByTheTable, BuysByTheTable}
 use Rattle.promises.specs.BuysLines.{FiguresOf}
 use Rattle.promises.specs.PlanLines.{PlanPrinted}
 use Rattle.promises.proofs.BuysLines.{figures-of}
@@ -55,6 +58,17 @@ lines-are v = regrouped refusedKey (decimal (numberOf (v .refusal))) (lineFeed �
 pub refusal-by-its-lines : RefusalByItsLines
 refusal-by-its-lines v row w row′ h near wide =
     put-whole (refusalText v) row (w .bytes) row′ (handed-bytes (refusalText v) row w row′ h) (handed-row (refusalText v) row w row′ h) (omega (arith, refusal-short v near)) ∙ lines-are v
+
+handed-lines : (text row : List ℕ) (w : Written) (row′ : List ℕ) → Handed (rowVerdict text row) text row w row′ → LinesHanded text row w row′
+unfolding rowVerdict writtenAnswer writtenRow
+handed-lines text row w row′ h =
+    record {
+      held = λ l. (rw (le-ltb (length row) (length text) l) at (h .answer), rw (le-ltb (length row) (length text) l) at (h .left));
+      short = λ l. (rw (lt-ltb (length row) (length text) l) at (h .answer), rw (lt-ltb (length row) (length text) l) at (h .left));
+    }
+
+pub refusal-is-handed : RefusalIsHanded
+refusal-is-handed v row w row′ h = subst (λ (text : List ℕ). LinesHanded text row w row′) (lines-are v) (handed-lines (refusalText v) row w row′ h)
 
 -- From a verdict that finds the first of an order, and a text that is the refusal's lines or begins as no such lines do, to what is printed.
 module _ (applies : Refusal → ℕ → Type 0) (order : List Refusal) (all : AllRefuse order) (v : Verdict) (finds : Finds applies order v) (passes : refuses v ≡ false → v ≡ accepted)

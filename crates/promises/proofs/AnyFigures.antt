@@ -10,7 +10,7 @@ use mir.Syntax.{w64}
 use mir.Val.{SFits}
 use Rattle.refusals.specs.declared.Refusal.{Refusal}
 use Rattle.refusals.specs.declared.Refusal.the-variants.{HeadPlace, ShortRoom}
-use Rattle.refusals.specs.Refusals.{isRefusal}
+use Rattle.refusals.specs.Refusals.{numberOf, isRefusal}
 use Rattle.refusals.proofs.Verdicts.{refuses}
 use Rattle.runs.specs.Run.{Run, stopsOf}
 use Rattle.runs.specs.Lists.{Detour, listOf}
@@ -31,7 +31,7 @@ use Rattle.sheet_figures.specs.AnyHead.{figureAnyText}
 use Rattle.answer_plan.specs.Recall.{recallVerdict, Answers}
 use Rattle.answer_plan.proofs.Determined.{answers-once}
 use Rattle.answer_any.specs.AnyRun.{anyChecks, anyVerdict}
-use Rattle.answer_buys_any.specs.AnyBuys.{BuysAnyOf}
+use Rattle.answer_buys_any.specs.AnyBuys.{BuysAnyOf, SheetBoughtAny}
 use Rattle.answer_buys_any.proofs.Determined.{buys-any-once}
 use Rattle.answer_buys_any.proofs.Same.{bought-same}
 use Rattle.sheet_lists.proofs.AnyTrip.{any-small}
@@ -44,7 +44,7 @@ use Rattle.demands.proofs.AnyBuys.{bought-any}
 use Rattle.promises.specs.Lengths.{buysRow}
 use Rattle.promises.specs.Answers.{WordsApply, roomOrder, twoLines, PrintedByTheTable}
 use Rattle.promises.specs.AnswersAny.{AnyApplies}
-use Rattle.promises.specs.AnyFigures.{BuysAnyByTheTable, BuysAnyIsWhole, AnyPrintsAsBuys}
+use Rattle.promises.specs.AnyFigures.{BuysAnyByTheTable, BuysAnyIsWhole, FiguresToldAny, AnyPrintsAsBuys}
 use Rattle.promises.specs.PlanLines.{FiguresAnyPrinted}
 use Rattle.promises.proofs.BuysLines.{figures-said}
 use Rattle.promises.proofs.Checks.{put-whole}
@@ -52,6 +52,8 @@ use Rattle.promises.proofs.Lengths.{some-begun, refusal-short, refusal-
 use Rattle.promises.proofs.Answers.{lines-are, by-the-table, sheet-accepts, room-all}
 use Rattle.promises.proofs.AnyLengths.{any-near, any-passes}
 use Rattle.promises.proofs.AnswersAny.{any-few, words-own, any-finds}
+use Rattle.promises.proofs.AnyRecord.{not-eight, no-eight}
+use Rattle.promises.proofs.TwoTexts.{caller-told}
 
 -- The least list of an accepted run, in two rows.
 module _ (r : Run) (run : refuses (judgeAnyOf r) ≡ false) (list : List Detour) (least : LeastAny r list) where
@@ -145,6 +147,27 @@ buys-any-by-the-table sheet row room n row′ room′ c wide =
     (sheet-accepts RunAppliesAny any-few (WordsApply (length room)) (words-own (length room)) sheet (anyChecks (length room)))
     (FiguresAnyPrinted (sheetName sheet) (sheetRun sheet)) (g .text) (figures-begun (sheetName sheet) (sheetRun sheet) (g .text)) (g .answers .refused)
     (λ e. let p = g .answers .planned e in figures-printed (sheetRun sheet) (any-passes (length room) sheet e .1) (p .list) (p .least) (sheetName sheet) (g .text) (p .says)))
+
+-- For a caller.
+module _ (sheet room out : List ℕ) (n : ℕ) (out′ room″ : List ℕ) (d : SheetBoughtAny sheet out room n out′ room″) (wide : buysRow ≤ length out) where
+  whole : take n out′ ≡ d .given .text
+  whole = let g = d .given in let h = figures-held (length room) sheet (g .text) (g .answers) in put-whole (g .text) out n out′ (g .bytes) (g .left) (omega (arith, h .0))
+
+  asked-for : refuses (anyVerdict (length room) sheet) ≡ false → FiguresAnyPrinted (sheetName sheet) (sheetRun sheet) (take n out′)
+  asked-for e =
+      let p = d .given .answers .planned e in
+      figures-printed (sheetRun sheet) (any-passes (length room) sheet e .1) (p .list) (p .least) (sheetName sheet) (take n out′) (whole ∙ p .says)
+
+pub figures-told-any : FiguresToldAny
+figures-told-any sheet row room out w row′ room′ n out′ room″ c d wide =
+    let is = whole sheet room out n out′ room″ d wide in
+    let told = caller-told (BuysAnyOf (sheetName sheet) (sheetRun sheet)) (FiguresAnyPrinted (sheetName sheet) (sheetRun sheet)) sheet (anyVerdict (length room) sheet)
+    (λ eight. not-eight (AnyApplies (length room) sheet) roomOrder no-eight (any-finds (length room) sheet) (ap numberOf eight)) row room w row′ room′ (take n out′) (c .refused) (c .figured) (c .cleared)
+    (λ e. is ∙ d .given .answers .refused e)
+    (λ e. buys-any-once (sheetName sheet) (sheetRun sheet) (c .figured e .text) (d .given .text) (c .figured e .asked) (d .given .answers .planned e) ∙ sym is)
+    (asked-for sheet room out n out′ room″ d wide)
+    (λ e. any-passes (length room) sheet e .1) in
+    (told .0, (told .1, c .cleared ∙ sym (d .cleared)))
 
 -- What `buys` prints other than 7 and 9.
 pub any-prints-as-buys : AnyPrintsAsBuys

@@ -46,7 +46,7 @@ abbrev pub NoEight : List Refusal → Type 0
 NoEight [] = Unit {0}
 NoEight (k ∷ ks) = (numberOf k ≡ 8 → ⊥) × NoEight ks
 
-no-eight : NoEight roomOrder
+pub no-eight : NoEight roomOrder
 no-eight = (λ e. omega arith, (λ e. omega arith, (λ e. omega arith, (λ e. omega arith, (λ e. omega arith, (λ e. omega arith, (λ e. omega arith, (λ e. omega arith, (λ e. omega arith, (λ e. omega arith, (λ e. omega arith, tt)))))))))))
 
 pub not-eight : (applies : Refusal → ℕ → Type 0) {kind : Refusal} {place : ℕ} (order : List Refusal) → NoEight order → FirstThatApplies applies order kind place → numberOf kind ≡ 8 → ⊥

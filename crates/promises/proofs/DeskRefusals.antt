@@ -29,7 +29,7 @@ use Rattle.demands.specs.RefusalTable.{FirstBad}
 use Rattle.demands.proofs.Tests.{Tells, tells-equal, tells-below, tells-at-most, tells-not, tells-either, tells-both, tells-reworded}
 use Rattle.demands.proofs.Checks.{Decides, decides-if, decides-at, decides-reworded, Finds, finds-none, finds-first, first-of-joined, refused-iff}
 use Rattle.demands.proofs.Demand1.{demand1-plan}
-use Rattle.promises.specs.DeskRefusals.{Within, IsTicketOf, Follows, RecordIsBad, RowApplies, short-row, bad-record, rowOrder, InRange, FilingApplies, records, out-of-range, office-full, numbers-spent, filingOrder, FilingAnswers, IsAmong, IsWaiting, WithdrawalApplies, of-the-row, not-waiting, withdrawalOrder, WithdrawalAnswers, BoardingAnswers, IsTableOf, BadRecordIsFirstSuch}
+use Rattle.promises.specs.DeskRefusals.{Within, IsTicketOf, Follows, RecordIsBad, RowApplies, short-row, bad-record, rowOrder, RowJudged, InRange, FilingApplies, records, out-of-range, office-full, numbers-spent, filingOrder, FilingAnswers, IsAmong, IsWaiting, WithdrawalApplies, of-the-row, not-waiting, withdrawalOrder, WithdrawalAnswers, BoardingAnswers, IsTableOf, BadRecordIsFirstSuch}
 use Rattle.promises.proofs.DeskSteps.{not-accepted}
 
 tells-within : (most n : ℕ) → Tells (upTo most n) (Within most n)
@@ -96,6 +96,9 @@ module _ (len : ℕ) (row : List Ticket) (l : Lasts) where
   row-finds =
       finds-first (RowApplies len row l) (refuseAt (firstWhere (badRecord l row) allPlaces) BadRecord ∷ []) refl decides-short
       (λ a. finds-first (RowApplies len row l) [] refl decides-bad (λ b. finds-none (RowApplies len row l)))
+
+pub row-judged : RowJudged
+row-judged = row-finds
 
 module _ (len : ℕ) (row : List Ticket) (f : Filing) where
   short-filed : (p : ℕ) → FilingApplies len row f ShortRow p → RowApplies len row (f .lasts) ShortRow p

@@ -19,6 +19,7 @@ pub mod DeskReplay
 pub mod DeskTaken
 pub mod DeskVerdicts
 pub mod DeskBeside
+pub mod DeskEvents
 pub mod DeskDayCases
 pub mod DeskCases
 pub mod Gathered

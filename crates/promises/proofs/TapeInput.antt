@@ -23,8 +23,8 @@ use Rattle.sheet_writer.specs.RefusalLines.{refusalText}
 use Rattle.sheet_writer.specs.Writing.{rowVerdict}
 use Rattle.sheet_writer.proofs.Reread.{line-behind, key-value}
 use Rattle.tape_markup.specs.Tree.{treeOf}
-use Rattle.tape_files.specs.Index.{some, indexFiles}
-use Rattle.answer_ltfs.specs.TapeTable.{inSeveral, areFar, someOverlap, rangesIn, tapeTable, areGoodTexts, ltfsSheet, ltfsVerdict, ltfsReport, ltfsRow, tapeVerdict}
+use Rattle.tape_files.specs.Index.{some, dataPartitionOf, indexFiles}
+use Rattle.answer_ltfs.specs.TapeTable.{inSeveral, isEmptyFile, liesElsewhere, howMany, areFar, someOverlap, rangesIn, tapeTable, areGoodTexts, ltfsSheet, ltfsVerdict, ltfsReport, ltfsRow, tapeVerdict}
 use Rattle.answer_ltfs.specs.Input.{mostTapeInput, labelKey, indexKey, isCounted, countedText, afterCounted, isFramed, framedLabel, framedIndex, badFrame, tapeInputVerdict, answerText, leftOutText, reportText}
 use Rattle.answer_ltfs.specs.Framed.{inputText}
 use Rattle.answer_ltfs.proofs.Apart.{input-taken-apart}
@@ -240,7 +240,7 @@ module _ (name label index out : List ℕ) (n : isName name ≡ true) (few : len
         let same : w ≡ accepted = sym joined-is ∙ first-passes v (rowVerdict (ltfsSheet name label index) out ∷ []) e ∙ rw row in
         let t = input-taken-apart name label index n (omega (arith, parts-few .0)) (omega (arith, parts-few .1)) in
         let sheet : answerText input ≡ ltfsSheet name label index = rw (verdict-is, e, t .same-name, t .same-label, t .same-index) in
-        let report : reportText input ≡ leftOutLines (ltfsReport accepted name label index) = rw (verdict-is, e, t .same-label, t .same-index) in
+        let report : reportText input ≡ leftOutLines (howMany isEmptyFile (indexFiles (treeOf index))) (howMany (liesElsewhere (dataPartitionOf (treeOf label))) (indexFiles (treeOf index))) = rw (verdict-is, e, t .same-label, t .same-index) in
         record {
           kind = Accepted;
           place = 0;

@@ -29,11 +29,11 @@ use Rattle.sheet_lists.specs.Form.{planFroms, planTos, listFroms, listTos}
 use Rattle.sheet_lists.specs.Reading.{planForm, listForm}
 use Rattle.answer_plan.specs.Recall.{verdictBy}
 use Rattle.answer_plan.specs.PlannedLists.{TextHanded}
-use Rattle.answer_any.specs.AnyRun.{anyChecks}
+use Rattle.answer_any.specs.AnyRun.{anyChecks, roomAfter, NotAnswered}
 use Rattle.answer_any.proofs.Planned.{room-kept, room-cleared}
 use Rattle.answer_check.specs.RunRules.{headAnywhere}
 use Rattle.answer_check.specs.Pricing.{pricingVerdict, priceText}
-use Rattle.answer_check.specs.Checking.{verdictOn, VerdictOf, SheetChecked, CheckAnswered}
+use Rattle.answer_check.specs.Checking.{verdictOn, roomChecked, VerdictOf, SheetChecked, CheckAnswered}
 use Rattle.answer_check.proofs.Determined.{one-least, answer-once}
 use Rattle.demands.specs.RefusalTable.{FirstBad, SomeApplies}
 use Rattle.demands.specs.AnyHead.{RunAppliesAny, ListIsBadAny}
@@ -46,10 +46,11 @@ use Rattle.demands.proofs.AnyJudged.{any-small, run-any-finds, decides-list-any
 use Rattle.demands.proofs.Lines.{tells-sweep}
 use Rattle.demands.proofs.FirstLine.{decides-line}
 use Rattle.promises.specs.Answers.{WordsApply, short-room, twoLines}
+use Rattle.promises.specs.Rooms.{RoomOfPlan}
 use Rattle.promises.specs.Lengths.{checkRow}
 use Rattle.promises.specs.CheckWhole.{VerdictText}
 use Rattle.promises.specs.ListLines.{PlanFormApplies, ListFormApplies, formOrder}
-use Rattle.promises.specs.TwoTexts.{EarlyApplies, earlyOrder, PricedApplies, pricedOrder, PlannedApplies, plannedOrder, InThreeStages, PriceByTheTable, CheckByTheTable, AsPrinted, RoomAfterwards, CallerIsTold}
+use Rattle.promises.specs.TwoTexts.{EarlyApplies, earlyOrder, PricedApplies, pricedOrder, PlannedApplies, plannedOrder, InThreeStages, PriceByTheTable, CheckByTheTable, AsPrinted, RoomAfterwards, CheckLeavesTheRoom, CallerIsTold}
 use Rattle.promises.proofs.Checks.{put-whole}
 use Rattle.promises.proofs.DeskSteps.{not-accepted}
 use Rattle.promises.proofs.Answers.{lines-are}
@@ -182,6 +183,29 @@ module _ (OfSheet OfText OfRun : Refusal → ℕ → Type 0) (order : List Refus
       (λ e. ⊎-elim (λ f. absurd (m (some-text f))) (λ f. moved OfRun order (firstOf others) (v-run e f) run) (true-or-false (refuses form)))
       (true-or-false (refuses e₀))
 
+  -- Refused exactly where one of them applies.
+  pub some-refuses : AllRefuse order → SomeApplies OfSheet earlyOrder ⊎ (SomeApplies OfText formOrder ⊎ SomeApplies OfRun order) → refuses v ≡ true
+  some-refuses all s =
+      ⊎-elim (λ (e : refuses e₀ ≡ true). ap refuses (sym (v-early e)) ∙ e)
+      (λ (e : refuses e₀ ≡ false).
+      ⊎-elim (λ (f : refuses form ≡ true). ap refuses (sym (v-form e f)) ∙ f)
+      (λ (f : refuses form ≡ false).
+      ap refuses (sym (v-run e f))
+      ∙ ⊎-elim (λ h. absurd (none-so e h)) (λ t. ⊎-elim (λ h. absurd (none-text f h)) (λ h. not-accepted (firstOf others .refusal) (refused-iff OfRun run all .1 h)) t) s)
+      (true-or-false (refuses form)))
+      (true-or-false (refuses e₀))
+
+  pub none-passes : AllRefuse order → (SomeApplies OfSheet earlyOrder → ⊥) → (SomeApplies OfText formOrder → ⊥) → (SomeApplies OfRun order → ⊥) → refuses v ≡ false
+  none-passes all a b c =
+      ⊎-elim (λ (e : refuses e₀ ≡ true). absurd (a (some-so e)))
+      (λ (e : refuses e₀ ≡ false).
+      ⊎-elim (λ (f : refuses form ≡ true). absurd (b (some-text f)))
+      (λ (f : refuses form ≡ false).
+      ap refuses (sym (v-run e f))
+      ∙ ⊎-elim (λ (g : refuses (firstOf others) ≡ true). absurd (c (refused-iff OfRun run all .0 (λ is. true≢false (sym g ∙ ap isRefusal is))))) (λ g. g) (true-or-false (refuses (firstOf others))))
+      (true-or-false (refuses form)))
+      (true-or-false (refuses e₀))
+
   -- None of them is 8, where none of their orders has it.
   pub never-eight : NoEight order → numberOf (v .refusal) ≡ 8 → ⊥
   never-eight none is =
@@ -227,54 +251,76 @@ check-by-the-table sheet plan row room n row′ room′ c wide =
     (plan-form-by-the-table plan) (planned-finds (length room) (sheetRun sheet)) _ (take n row′)
     (λ e. whole ∙ g .answers .refused e) (λ e. check-prints-all sheet plan row room n row′ room′ c wide e)
 
--- For a caller.
+-- The room.
+all-planned : AllRefuse plannedOrder
+all-planned = (refl, (refl, (refl, (refl, (refl, (refl, (refl, (refl, tt))))))))
+
+module _ (sheet plan room room′ : List ℕ) (is : room′ ≡ roomChecked sheet plan room) where
+  abbrev judging : Verdict
+  judging = verdictOn (length room) sheet plan
+
+  abbrev OfRoom : Refusal → ℕ → Type 0
+  OfRoom = PlannedApplies (length room) (sheetRun sheet)
+
+  is-refused : SomeApplies (EarlyApplies sheet) earlyOrder ⊎ (SomeApplies (PlanFormApplies plan) formOrder ⊎ SomeApplies OfRoom plannedOrder) → refuses judging ≡ true
+  unfolding verdictBy
+  is-refused =
+      some-refuses (EarlyApplies sheet) (PlanFormApplies plan) OfRoom plannedOrder sheet (planForm plan) (anyChecks (length room) (sheetRun sheet)) (early-finds sheet) (plan-form-by-the-table plan)
+      (planned-finds (length room) (sheetRun sheet)) (λ t. Unit {0}) [] all-planned
+
+  is-accepted : (SomeApplies (EarlyApplies sheet) earlyOrder → ⊥) → (SomeApplies (PlanFormApplies plan) formOrder → ⊥) → (SomeApplies OfRoom plannedOrder → ⊥) → refuses judging ≡ false
+  unfolding verdictBy
+  is-accepted =
+      none-passes (EarlyApplies sheet) (PlanFormApplies plan) OfRoom plannedOrder sheet (planForm plan) (anyChecks (length room) (sheetRun sheet)) (early-finds sheet) (plan-form-by-the-table plan)
+      (planned-finds (length room) (sheetRun sheet)) (λ t. Unit {0}) [] all-planned
+
+  room-by-stops : refuses judging ≡ false → RoomOfPlan (sheetRun sheet) room room′
+  room-by-stops e =
+      let run = sheetRun sheet in
+      let passes = check-passes (length room) sheet plan e .1 in
+      let has = stops-down run (has-stops (lifted run) (accepted-any run passes .run)) in
+      record {
+        stops = length (stopsOf (lifted run));
+        are = has;
+        left = is ∙ room-cleared judging run room e ∙ ap (λ m. replicate m 0 ++ drop m room) (sym (one (length room) sheet (length (stopsOf (lifted run))) passes has));
+      }
+
+pub check-leaves-the-room : CheckLeavesTheRoom
+check-leaves-the-room sheet plan row room n row′ room′ c =
+    record {
+      kept = λ some. c .cleared ∙ room-kept (verdictOn (length room) sheet plan) (sheetRun sheet) room (is-refused sheet plan room room′ (c .cleared) some);
+      cleared = λ a b d. room-by-stops sheet plan room room′ (c .cleared) (is-accepted sheet plan room room′ (c .cleared) a b d);
+    }
+
+-- For a caller, beside what is printed of the same sheet: the refusal whose lines are printed, or the text that is printed, of which there is one.
 planned-none : NoEight plannedOrder
 planned-none = (λ e. omega arith, (λ e. omega arith, (λ e. omega arith, (λ e. omega arith, (λ e. omega arith, (λ e. omega arith, (λ e. omega arith, (λ e. omega arith, tt))))))))
 
 apart : ShortRow ≡ Accepted → ⊥
 apart is = let z : _≡_ {A = ℕ} 8 0 = ap numberOf is in omega arith
 
-module _ (sheet plan row room out : List ℕ) (w : Written) (row′ room′ : List ℕ) (n : ℕ) (out′ room″ : List ℕ) (c : CheckAnswered sheet plan row room w row′ room′)
-    (d : SheetChecked sheet plan out room n out′ room″) (wide : checkRow ≤ length out) where
-  abbrev said : Verdict
-  said = verdictOn (length room) sheet plan
-
-  abbrev Asks : List ℕ → Type 0
-  Asks = VerdictText (sheetName sheet) (sheetRun sheet) plan (planFroms plan) (planTos plan)
-
-  whole : take n out′ ≡ d .given .text
-  whole = let g = d .given in let h = check-fits (length room) sheet plan (g .text) (g .answers) in put-whole (g .text) out n out′ (g .holds .bytes) (g .holds .left) (omega (arith, h .0))
-
-  not-short : said .refusal ≡ ShortRow → ⊥
-  unfolding verdictBy
-  not-short is =
-      never-eight (EarlyApplies sheet) (PlanFormApplies plan) (PlannedApplies (length room) (sheetRun sheet)) plannedOrder sheet (planForm plan) (anyChecks (length room) (sheetRun sheet)) (early-finds sheet)
-      (plan-form-by-the-table plan) (planned-finds (length room) (sheetRun sheet)) Asks [] planned-none (ap numberOf is)
-
-  told-refusal : refuses said ≡ true → AsPrinted Asks row w row′ (take n out′)
+module _ (Of Asks : List ℕ → Type 0) (sheet : List ℕ) (said : Verdict) (not-short : said .refusal ≡ ShortRow → ⊥) (row room : List ℕ) (w : Written) (row′ room′ printed : List ℕ)
+    (refused : refuses said ≡ true → NotAnswered said row w row′) (handed : refuses said ≡ false → TextHanded Of row w row′) (is-left : room′ ≡ roomAfter said (sheetRun sheet) room)
+    (lines : refuses said ≡ true → printed ≡ refusalText said) (one-text : (e : refuses said ≡ false) → handed e .text ≡ printed) (asks : refuses said ≡ false → Asks printed)
+    (judged : refuses said ≡ false → refuses (judgeAnyOf (sheetRun sheet)) ≡ false) where
+  told-refusal : refuses said ≡ true → AsPrinted Asks row w row′ printed
   told-refusal e =
-      let p = c .refused e in
+      let p = refused e in
       let kind : w .refusal ≡ said .refusal = ap (λ x. x .refusal) (p .says) in
       record {
         text = λ is. absurd (true≢false (sym e ∙ ap isRefusal (sym kind ∙ is)));
         counted = λ is. absurd (true≢false (sym e ∙ ap isRefusal (sym kind ∙ is)));
         short = λ is. absurd (not-short (sym kind ∙ is));
-        lines = λ a b. whole ∙ d .given .answers .refused e ∙ lines-are said ∙ ap (λ x. twoLines (x .refusal) (x .place)) (sym (p .says));
+        lines = λ a b. lines e ∙ lines-are said ∙ ap (λ x. twoLines (x .refusal) (x .place)) (sym (p .says));
         unwritten = λ a. (ap (λ x. x .bytes) (p .says), p .kept);
         behind = ap (drop (w .bytes)) (p .kept);
       }
 
   module _ (e : refuses said ≡ false) where
-    abbrev asked : TextHanded (VerdictOf headAnywhere (sheetName sheet) (sheetRun sheet) plan (planFroms plan) (planTos plan)) row w row′
-    asked = c .checked e
+    abbrev asked : TextHanded Of row w row′
+    asked = handed e
 
-    one-text : asked .text ≡ take n out′
-    one-text =
-        answer-once headAnywhere one-least said (sheetName sheet) (sheetRun sheet) plan (planFroms plan) (planTos plan) (asked .text) (d .given .text)
-        (record { refused = λ q. absurd (true≢false (sym q ∙ e)); checked = λ q. asked .asked }) (d .given .answers)
-        ∙ sym whole
-
-    told-short : ltb (length row) (length (asked .text)) ≡ true → AsPrinted Asks row w row′ (take n out′)
+    told-short : ltb (length row) (length (asked .text)) ≡ true → AsPrinted Asks row w row′ printed
     unfolding rowVerdict writtenAnswer writtenRow
     told-short t =
         let says : w ≡ record { refusal = ShortRow; place = 0; bytes = 0 } = asked .handed .answer ∙ rw t in
@@ -282,21 +328,21 @@ module _ (sheet plan row room out : List ℕ) (w : Written) (row′ room′ : Li
         record {
           text = λ is. absurd (apart (sym (ap (λ x. x .refusal) says) ∙ is));
           counted = λ is. absurd (apart (sym (ap (λ x. x .refusal) says) ∙ is));
-          short = λ is. (ap (λ x. x .place) says, subst (λ x. length row < length x) one-text (ltb-true (length row) (length (asked .text)) t), check-prints-all sheet plan out room n out′ room″ d wide e);
+          short = λ is. (ap (λ x. x .place) says, subst (λ x. length row < length x) (one-text e) (ltb-true (length row) (length (asked .text)) t), asks e);
           lines = λ a b. absurd (b (ap (λ x. x .refusal) says));
           unwritten = λ a. (ap (λ x. x .bytes) says, stays);
           behind = ap (drop (w .bytes)) stays;
         }
 
-    told-text : ltb (length row) (length (asked .text)) ≡ false → AsPrinted Asks row w row′ (take n out′)
+    told-text : ltb (length row) (length (asked .text)) ≡ false → AsPrinted Asks row w row′ printed
     unfolding rowVerdict writtenAnswer writtenRow
     told-text t =
         let says : w ≡ record { refusal = Accepted; place = 0; bytes = length (asked .text) } = asked .handed .answer ∙ rw t in
         let holds : row′ ≡ asked .text ++ drop (length (asked .text)) row = asked .handed .left ∙ rw t in
         let front : take (w .bytes) row′ ≡ asked .text = ap (λ x. take (x .bytes) row′) says ∙ ap (take (length (asked .text))) holds ∙ take-append-seam (asked .text) (drop (length (asked .text)) row) in
         record {
-          text = λ is. (front ∙ one-text, check-prints-all sheet plan out room n out′ room″ d wide e);
-          counted = λ is. ap (λ x. x .bytes) says ∙ ap length one-text;
+          text = λ is. (front ∙ one-text e, asks e);
+          counted = λ is. (ap (λ x. x .bytes) says ∙ ap length (one-text e), ap (λ x. x .place) says);
           short = λ is. absurd (apart (sym is ∙ ap (λ x. x .refusal) says));
           lines = λ a b. absurd (a (ap (λ x. x .refusal) says));
           unwritten = λ a. absurd (a (ap (λ x. x .refusal) says));
@@ -315,29 +361,52 @@ module _ (sheet plan row room out : List ℕ) (w : Written) (row′ room′ : Li
 
   room-left : (b : Bool) → refuses said ≡ b → RoomAfterwards (sheetRun sheet) (w .refusal) room room′
   room-left true e =
-      let kind : w .refusal ≡ said .refusal = ap (λ x. x .refusal) (c .refused e .says) in
+      let kind : w .refusal ≡ said .refusal = ap (λ x. x .refusal) (refused e .says) in
       record {
-        kept = λ a b. c .cleared ∙ room-kept said (sheetRun sheet) room e;
+        kept = λ a b. is-left ∙ room-kept said (sheetRun sheet) room e;
         cleared = λ stops s is. absurd (⊎-elim (λ x. true≢false (sym e ∙ ap isRefusal (sym kind ∙ x))) (λ x. not-short (sym kind ∙ x)) is);
       }
   room-left false e =
       record {
         kept = λ a b. absurd (⊎-elim a b (or-short e));
         cleared = λ stops s is.
-            c .cleared ∙ room-cleared said (sheetRun sheet) room e
-            ∙ ap (λ m. replicate m 0 ++ drop m room) (sym (one (length room) sheet stops (check-passes (length room) sheet plan e .1) s));
+            is-left ∙ room-cleared said (sheetRun sheet) room e
+            ∙ ap (λ m. replicate m 0 ++ drop m room) (sym (one (length room) sheet stops (judged e) s));
       }
 
+  as-printed : (b : Bool) → refuses said ≡ b → AsPrinted Asks row w row′ printed
+  as-printed true e = told-refusal e
+  as-printed false e = ⊎-elim (told-short e) (told-text e) (true-or-false (ltb (length row) (length (handed e .text))))
+
+  pub caller-told : AsPrinted Asks row w row′ printed × RoomAfterwards (sheetRun sheet) (w .refusal) room room′
+  caller-told = (as-printed (refuses said) refl, room-left (refuses said) refl)
+
+module _ (sheet plan room out : List ℕ) (n : ℕ) (out′ room″ : List ℕ) (d : SheetChecked sheet plan out room n out′ room″) (wide : checkRow ≤ length out) where
+  abbrev checked : Verdict
+  checked = verdictOn (length room) sheet plan
+
+  whole : take n out′ ≡ d .given .text
+  whole = let g = d .given in let h = check-fits (length room) sheet plan (g .text) (g .answers) in put-whole (g .text) out n out′ (g .holds .bytes) (g .holds .left) (omega (arith, h .0))
+
+  not-short : checked .refusal ≡ ShortRow → ⊥
+  unfolding verdictBy
+  not-short is =
+      never-eight (EarlyApplies sheet) (PlanFormApplies plan) (PlannedApplies (length room) (sheetRun sheet)) plannedOrder sheet (planForm plan) (anyChecks (length room) (sheetRun sheet)) (early-finds sheet)
+      (plan-form-by-the-table plan) (planned-finds (length room) (sheetRun sheet)) (λ t. Unit {0}) [] planned-none (ap numberOf is)
+
+  one-verdict : refuses checked ≡ false → (text : List ℕ) → VerdictOf headAnywhere (sheetName sheet) (sheetRun sheet) plan (planFroms plan) (planTos plan) text → text ≡ take n out′
+  one-verdict e text asked =
+      answer-once headAnywhere one-least checked (sheetName sheet) (sheetRun sheet) plan (planFroms plan) (planTos plan) text (d .given .text)
+      (record { refused = λ q. absurd (true≢false (sym q ∙ e)); checked = λ q. asked }) (d .given .answers)
+      ∙ sym whole
+
 pub caller-is-told : CallerIsTold
-caller-is-told sheet plan row room out w row′ room′ n out′ room″ c d wide = (
-  go (refuses (verdictOn (length room) sheet plan)) refl,
-  (room-left sheet plan row room out w row′ room′ n out′ room″ c d wide (refuses (verdictOn (length room) sheet plan)) refl, c .cleared ∙ sym (d .cleared)),
-)
-  where
-    go : (b : Bool) → refuses (verdictOn (length room) sheet plan) ≡ b → AsPrinted (VerdictText (sheetName sheet) (sheetRun sheet) plan (planFroms plan) (planTos plan)) row w row′ (take n out′)
-    go true e = told-refusal sheet plan row room out w row′ room′ n out′ room″ c d wide e
-    go false e =
-        ⊎-elim
-        (λ (t : ltb (length row) (length (c .checked e .text)) ≡ true). told-short sheet plan row room out w row′ room′ n out′ room″ c d wide e t)
-        (λ (t : ltb (length row) (length (c .checked e .text)) ≡ false). told-text sheet plan row room out w row′ room′ n out′ room″ c d wide e t)
-        (true-or-false (ltb (length row) (length (c .checked e .text))))
+caller-is-told sheet plan row room out w row′ room′ n out′ room″ c d wide =
+    let told = caller-told (VerdictOf headAnywhere (sheetName sheet) (sheetRun sheet) plan (planFroms plan) (planTos plan))
+    (VerdictText (sheetName sheet) (sheetRun sheet) plan (planFroms plan) (planTos plan)) sheet (verdictOn (length room) sheet plan) (not-short sheet plan room out n out′ room″ d wide) row room w row′ room′ (take n out′)
+    (c .refused) (c .checked) (c .cleared)
+    (λ e. whole sheet plan room out n out′ room″ d wide ∙ d .given .answers .refused e)
+    (λ e. one-verdict sheet plan room out n out′ room″ d wide e (c .checked e .text) (c .checked e .asked))
+    (λ e. check-prints-all sheet plan out room n out′ room″ d wide e)
+    (λ e. check-passes (length room) sheet plan e .1) in
+    (told .0, (told .1, c .cleared ∙ sym (d .cleared)))

@@ -4,9 +4,9 @@ use Prim.Native.Nat.{ℕ, _+_, _*_, _^_, _≤_, _<_}
 use mathlib.Core.Path.{_≡_}
 use mathlib.Core.Logic.{_↔_}
 use mathlib.Core.List.{List, [], _∷_, _++_}
-use lib.ListN.{length, take}
+use lib.ListN.{length, take, drop}
 use Rattle.refusals.specs.declared.Refusal.{Refusal}
-use Rattle.refusals.specs.declared.Refusal.the-variants.{Accepted, FileRows, BadFile, WantRows, BadWant, TooManyReads, TurnPrice, HeadPlace, ShortRoom, BadLine, LongSheet, RetiredRule, OverEightWants}
+use Rattle.refusals.specs.declared.Refusal.the-variants.{Accepted, FileRows, BadFile, WantRows, BadWant, TooManyReads, TurnPrice, HeadPlace, ShortRow, ShortRoom, BadLine, LongSheet, RetiredRule, OverEightWants}
 use Rattle.refusals.specs.declared.Verdict.{Verdict}
 use Rattle.refusals.specs.Refusals.{numberOf}
 use Rattle.runs.specs.Run.{Run, total}
@@ -63,6 +63,14 @@ RefusalByItsLines =
     → v .place < 2 ^ 64
     → refusalRow ≤ length row
     → take (w .bytes) row′ ≡ twoLines (v .refusal) (v .place)
+
+-- And in any row: its lines in the first bytes, the later ones as they were, and no refusal; 8 where the row is shorter, which is then as it was.
+pub record LinesHanded (text row : List ℕ) (w : Written) (row′ : List ℕ) : Type 0 where
+  pub held : length text ≤ length row → (w ≡ record { refusal = Accepted; place = 0; bytes = length text }) × (row′ ≡ text ++ drop (length text) row)
+  pub short : length row < length text → (w ≡ record { refusal = ShortRow; place = 0; bytes = 0 }) × (row′ ≡ row)
+
+abbrev pub RefusalIsHanded : Type 0
+RefusalIsHanded = (v : Verdict) (row : List ℕ) (w : Written) (row′ : List ℕ) → RefusalWritten v row w row′ → LinesHanded (twoLines (v .refusal) (v .place)) row w row′
 
 -- What is printed goes by the table: the two lines of the first refusal that applies, where one does; else what was asked for. It is two such lines if and only
 -- if some refusal applies.

@@ -13,7 +13,7 @@ use Rattle.desk_tickets.specs.declared.Filing.{Filing}
 use Rattle.desk_tickets.specs.declared.FiledRow.{FiledRow}
 use Rattle.desk_tickets.specs.declared.Withdrawal.{Withdrawal}
 use Rattle.desk_tickets.specs.declared.WithdrawnRow.{WithdrawnRow}
-use Rattle.desk_tickets.specs.WaitingTable.{noTicket, lastOf, officeAt, waiting}
+use Rattle.desk_tickets.specs.WaitingTable.{noTicket, lastOf, officeAt, waiting, recordsVerdict}
 use Rattle.desk_tickets.specs.Filings.{fileRow}
 use Rattle.desk_tickets.specs.Withdrawals.{withdrawRow}
 use Rattle.planner.specs.Rows.{Rows}
@@ -56,6 +56,10 @@ pub data RowApplies (len : ℕ) (row : List Ticket) (l : Lasts) : Refusal → �
 
 abbrev pub rowOrder : List Refusal
 rowOrder = ShortRow ∷ BadRecord ∷ []
+
+-- A lent row is judged so, whatever is then asked of it.
+abbrev pub RowJudged : Type 0
+RowJudged = (len : ℕ) (row : List Ticket) (l : Lasts) → FirstThatApplies (RowApplies len row l) rowOrder (recordsVerdict len row l .refusal) (recordsVerdict len row l .place)
 
 -- The place of 26 is the first p such that no table has these first p records: none has, and for each number below p one has.
 abbrev pub IsTableOf : Lasts → List Ticket → Type 0

@@ -7,12 +7,12 @@ use mathlib.Core.List.{List, [], _++_}
 use lib.ListN.{length, take}
 use Rattle.refusals.specs.declared.Refusal.{Refusal}
 use Rattle.refusals.specs.declared.Refusal.the-variants.{Accepted}
-use Rattle.refusals.specs.Refusals.{accepted}
 use Rattle.text_bytes.specs.Text.{bytes, isName, decimal}
 use Rattle.sheet_reader.specs.Lines.{tapeKey}
-use Rattle.answer_ltfs.specs.declared.Report.{Report}
 use Rattle.answer_ltfs.specs.declared.Told.{Told}
-use Rattle.answer_ltfs.specs.TapeTable.{ltfsSheet, ltfsReport}
+use Rattle.tape_markup.specs.Tree.{treeOf}
+use Rattle.tape_files.specs.Index.{dataPartitionOf, indexFiles}
+use Rattle.answer_ltfs.specs.TapeTable.{isEmptyFile, liesElsewhere, howMany, ltfsSheet}
 use Rattle.answer_ltfs.specs.Input.{InputAnswered}
 use Rattle.demands.specs.RefusalTable.{FirstThatApplies}
 use Rattle.demands.specs.Lines.{Stands, Name}
@@ -20,9 +20,9 @@ use Rattle.demands.specs.Tapes.{TapeApplies, tapeOrder}
 use Rattle.promises.specs.Lengths.{sheetRow, reportRow}
 use Rattle.promises.specs.Answers.{twoLines}
 
--- The two lines of the report: how many files were left out, empty or in the other partition, as `ltfsReport` counts them.
-abbrev pub leftOutLines : Report → List ℕ
-leftOutLines r = (bytes "empty=" ++ decimal (r .empty) ++ bytes "\n") ++ (bytes "other=" ++ decimal (r .other) ++ bytes "\n")
+-- The two lines of the report: how many files were left out, empty or in the other partition.
+abbrev pub leftOutLines : ℕ → ℕ → List ℕ
+leftOutLines empty other = (bytes "empty=" ++ decimal empty ++ bytes "\n") ++ (bytes "other=" ++ decimal other ++ bytes "\n")
 
 -- Name, label and index put together: a line with the name; a line with the label's number of bytes, and the label; so the index, and nothing behind it.
 abbrev pub putTogether : List ℕ → List ℕ → List ℕ → List ℕ
@@ -40,7 +40,8 @@ pub record TapePrinted (name label index row printed noted : List ℕ) : Type 0 
   pub refused : (kind ≡ Accepted → ⊥) → printed ≡ twoLines kind place
   pub asked : kind ≡ Accepted → printed ≡ ltfsSheet name label index
   pub silent : (kind ≡ Accepted → ⊥) → noted ≡ []
-  pub left-out : kind ≡ Accepted → noted ≡ leftOutLines (ltfsReport accepted name label index)
+  pub left-out : kind ≡ Accepted
+      → noted ≡ leftOutLines (howMany isEmptyFile (indexFiles (treeOf index))) (howMany (liesElsewhere (dataPartitionOf (treeOf label))) (indexFiles (treeOf index)))
 
 -- The first bytes of rows as long as the program's are printed.
 abbrev pub TapeByItsTable : Type 0

@@ -21,6 +21,7 @@ use Rattle.sheet_reader.specs.Reading.{sheetVerdict, ruleVerdict}
 use Rattle.demands.specs.RefusalTable.{FirstBad, HasStops, FirstThatApplies, SomeApplies}
 use Rattle.demands.specs.AnyHead.{RunAppliesAny, ListIsBadAny}
 use Rattle.demands.specs.Lines.{LineIsBad, linesDue, Ruled}
+use Rattle.promises.specs.Rooms.{RoomOfPlan}
 use Rattle.promises.specs.Lengths.{priceRow, checkRow}
 use Rattle.promises.specs.Answers.{WordsApply, twoLines, exampleSheet}
 use Rattle.promises.specs.CheckWhole.{VerdictText}
@@ -86,7 +87,7 @@ CheckByTheTable =
 -- shorter than that, and then nothing else is refused; or the refusal whose two lines are printed. By any refusal the row is as it was. A `no` is no refusal.
 pub record AsPrinted (Asked : List ℕ → Type 0) (row : List ℕ) (w : Written) (row′ printed : List ℕ) : Type 0 where
   pub text : w .refusal ≡ Accepted → (take (w .bytes) row′ ≡ printed) × Asked printed
-  pub counted : w .refusal ≡ Accepted → w .bytes ≡ length printed
+  pub counted : w .refusal ≡ Accepted → (w .bytes ≡ length printed) × (w .place ≡ 0)
   pub short : w .refusal ≡ ShortRow → (w .place ≡ 0) × (length row < length printed) × Asked printed
   pub lines : (w .refusal ≡ Accepted → ⊥) → (w .refusal ≡ ShortRow → ⊥) → printed ≡ twoLines (w .refusal) (w .place)
   pub unwritten : (w .refusal ≡ Accepted → ⊥) → (w .bytes ≡ 0) × (row′ ≡ row)
@@ -97,6 +98,18 @@ pub record RoomAfterwards (run : Run) (kind : Refusal) (room room′ : List ℕ)
   pub kept : (kind ≡ Accepted → ⊥) → (kind ≡ ShortRow → ⊥) → room′ ≡ room
   pub cleared : (stops : ℕ) → HasStops run stops → (kind ≡ Accepted) ⊎ (kind ≡ ShortRow)
       → room′ ≡ replicate (stops * stops * (total (run .counts) + 1)) 0 ++ drop (stops * stops * (total (run .counts) + 1)) room
+
+-- Behind the program's answer, in a row of any length: where a refusal applies as it was, else as the plan leaves it.
+pub record RoomOfCheck (sheet plan room room′ : List ℕ) : Type 0 where
+  pub kept : SomeApplies (EarlyApplies sheet) earlyOrder ⊎ (SomeApplies (PlanFormApplies plan) formOrder ⊎ SomeApplies (PlannedApplies (length room) (sheetRun sheet)) plannedOrder)
+      → room′ ≡ room
+  pub cleared : (SomeApplies (EarlyApplies sheet) earlyOrder → ⊥)
+      → (SomeApplies (PlanFormApplies plan) formOrder → ⊥)
+      → (SomeApplies (PlannedApplies (length room) (sheetRun sheet)) plannedOrder → ⊥)
+      → RoomOfPlan (sheetRun sheet) room room′
+
+abbrev pub CheckLeavesTheRoom : Type 0
+CheckLeavesTheRoom = (sheet plan row room : List ℕ) (n : ℕ) (row′ room′ : List ℕ) → SheetChecked sheet plan row room n row′ room′ → RoomOfCheck sheet plan room room′
 
 -- In the same room, which both leave alike.
 abbrev pub CallerIsTold : Type 0
