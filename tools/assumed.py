@@ -4,7 +4,7 @@
     tools/assumed.py MODULE.ll ATTRIBUTE > CHECKED.ll
 
 What C's own sanitizer calls undefined is found by C's front end, which such a module has never seen. But the module says itself what never happens: a sum, difference, product or
-narrowing that loses a bit (nuw), a number out of a range (!range), a division by 0, a shift by too much, a place that is not reached. Each of these becomes a check here that ends the
+narrowing that loses a bit (nuw; of numbers with a sign nsw), a number out of a range (!range), a division by 0, a shift by too much, a place that is not reached. Each of these becomes a check here that ends the
 program by a signal, at `llvm.trap`. A word of the kind that is not known here is refused. What is read and written is not looked at: that is the address sanitizer's, which watches
 functions that have the ATTRIBUTE `sanitize_address` (`sanitize_thread` for the thread sanitizer, `nounwind` for none): every function is given it.
 """
@@ -16,6 +16,7 @@ OPERATION = re.compile(rf"^  ({NAME}) = (add|sub|mul|trunc|udiv|urem|shl|lshr)((
 LOAD = re.compile(rf"^  ({NAME}) = load (i\d+), .*!range !(\d+)")
 RANGE = re.compile(r"^!(\d+) = !\{i\d+ (\d+), i\d+ (\d+)\}$", re.M)
 OTHERS = re.compile(r"\b(nsw|exact|disjoint|nneg|samesign|nusw|fast|poison|undef|sdiv|srem|ashr|inttoptr|indirectbr|invoke)\b|!nonnull|!dereferenceable|!align|@llvm\.assume|noalias|nonnull|dereferenceable")
+SIGNED = ("add", "sub", "mul")
 CHECK = """
 define internal void @violated(i1 %wrong) alwaysinline {
   br i1 %wrong, label %stop, label %go
@@ -28,22 +29,27 @@ go:
 """
 
 
+def intrinsic(what, flags):
+    """LLVM's own word for an operation that says whether it lost anything: of numbers with a sign, and of products."""
+    return "s" + what if "nsw" in flags else "umul" if what == "mul" and "nuw" in flags else None
+
+
 def checks(number, name, what, flags, width, left, right):
     """The lines that stand for an operation: itself without its word, and whether the word was true."""
     plain, wrong = f"  {name} = {what} {width} {left}, {right}", f"%wrong.{number}"
-    if "nsw" in flags or "exact" in flags or what == "shl" and flags:
+    if "exact" in flags or what == "shl" and flags or "nsw" in flags and ("nuw" in flags or what not in SIGNED):
         sys.exit(f"assumed.py: not known here: {name} = {what} {' '.join(flags)}")
     if what in ("udiv", "urem", "shl", "lshr"):
         bound = f"eq {width} {right}, 0" if what in ("udiv", "urem") else f"uge {width} {right}, {width[1:]}"
         return [f"  {wrong} = icmp {bound}", f"  call void @violated(i1 {wrong})", plain]
-    if "nuw" not in flags:
+    if not flags:
         return None
     if what == "trunc":
         back = f"%back.{number}"
         return [f"  {name} = trunc {width} {left} to {right}", f"  {back} = zext {right} {name} to {width}", f"  {wrong} = icmp ne {width} {back}, {left}", f"  call void @violated(i1 {wrong})"]
-    if what == "mul":
+    if intrinsic(what, flags):
         pair, over = f"%pair.{number}", f"{{ {width}, i1 }}"
-        return [f"  {pair} = call {over} @llvm.umul.with.overflow.{width}({width} {left}, {width} {right})", f"  {name} = extractvalue {over} {pair}, 0",
+        return [f"  {pair} = call {over} @llvm.{intrinsic(what, flags)}.with.overflow.{width}({width} {left}, {width} {right})", f"  {name} = extractvalue {over} {pair}, 0",
                 f"  {wrong} = extractvalue {over} {pair}, 1", f"  call void @violated(i1 {wrong})"]
     bound = f"{name}, {left}" if what == "add" else f"{left}, {right}"
     return [plain, f"  {wrong} = icmp ult {width} {bound}", f"  call void @violated(i1 {wrong})"]
@@ -58,9 +64,10 @@ def checked(text, attribute):
             name, what, flags, width, left, right = found.groups()
             lines = checks(number, name, what, flags.split(), width, left, right)
             if lines:
-                counts[what] = counts.get(what, 0) + 1
-                if what == "mul":
-                    widths.add(width)
+                kind = what + " with a sign" * ("nsw" in flags)
+                counts[kind] = counts.get(kind, 0) + 1
+                if intrinsic(what, flags.split()):
+                    widths.add((intrinsic(what, flags.split()), width))
         elif loaded:
             low, high = ranges[loaded[3]]
             if low != 0:
@@ -74,7 +81,7 @@ def checked(text, attribute):
             sys.exit(f"assumed.py: not known here: {line}")
         done += lines or [line]
     declared = "" if "declare void @llvm.trap()" in text else "declare void @llvm.trap()\n"
-    text = "\n".join(done) + CHECK + declared + "".join(f"declare {{ {width}, i1 }} @llvm.umul.with.overflow.{width}({width}, {width})\n" for width in sorted(widths))
+    text = "\n".join(done) + CHECK + declared + "".join(f"declare {{ {width}, i1 }} @llvm.{word}.with.overflow.{width}({width}, {width})\n" for word, width in sorted(widths))
     if sum(counts.values()) == 0:
         sys.exit("assumed.py: the module assumes nothing")
     print(f"assumed.py: checked {', '.join(f'{what} {times}' for what, times in sorted(counts.items()))}", file=sys.stderr)

@@ -16,6 +16,9 @@ KINDS = [
     ("add", "  %r = add nuw i64 %a, %b", (2**64 - 2, 1), (2**64 - 2, 2)),
     ("sub", "  %r = sub nuw i64 %a, %b", (7, 7), (7, 8)),
     ("mul", "  %r = mul nuw i64 %a, %b", (2**32, 2**32 - 1), (2**32, 2**32)),
+    ("add_signed", "  %r = add nsw i64 %a, %b", (2**63 - 2, 1), (2**63 - 1, 1)),
+    ("sub_signed", "  %r = sub nsw i64 %a, %b", (2**63 + 1, 1), (2**63, 1)),
+    ("mul_signed", "  %r = mul nsw i64 %a, %b", (2**31, 2**31), (2**32, 2**31)),
     ("trunc", "  %t = trunc nuw i64 %a to i8\n  %r = zext i8 %t to i64", (255, 0), (256, 0)),
     ("udiv", "  %r = udiv i64 %a, %b", (7, 1), (7, 0)),
     ("urem", "  %r = urem i64 %a, %b", (7, 1), (7, 0)),
@@ -24,7 +27,7 @@ KINDS = [
     ("range", "  %p = alloca i8, align 1\n  %t = trunc i64 %a to i8\n  store i8 %t, ptr %p, align 1\n  %l = load i8, ptr %p, align 1, !range !2, !noundef !1\n  %r = zext i8 %l to i64", (1, 0), (2, 0)),
     ("unreachable", "  %c = icmp eq i64 %a, 0\n  br i1 %c, label %never, label %on\nnever:\n  unreachable\non:\n  %r = add i64 %a, 1", (1, 0), (0, 0)),
 ]
-UNKNOWN = ["  %r = add nsw i64 %a, %b", "  %r = or disjoint i64 %a, %b", "  %r = sdiv i64 %a, %b", "  %r = add nuw <2 x i64> %a, %b"]
+UNKNOWN = ["  %r = add nuw nsw i64 %a, %b", "  %t = trunc nsw i64 %a to i8\n  %r = zext i8 %t to i64", "  %r = or disjoint i64 %a, %b", "  %r = sdiv i64 %a, %b", "  %r = add nuw <2 x i64> %a, %b"]
 
 
 def function(name, body):
