@@ -59,7 +59,7 @@ pub refusal-by-its-lines : RefusalByItsLines
 refusal-by-its-lines v row w row′ h near wide =
     put-whole (refusalText v) row (w .bytes) row′ (handed-bytes (refusalText v) row w row′ h) (handed-row (refusalText v) row w row′ h) (omega (arith, refusal-short v near)) ∙ lines-are v
 
-handed-lines : (text row : List ℕ) (w : Written) (row′ : List ℕ) → Handed (rowVerdict text row) text row w row′ → LinesHanded text row w row′
+pub handed-lines : (text row : List ℕ) (w : Written) (row′ : List ℕ) → Handed (rowVerdict text row) text row w row′ → LinesHanded text row w row′
 unfolding rowVerdict writtenAnswer writtenRow
 handed-lines text row w row′ h =
     record {

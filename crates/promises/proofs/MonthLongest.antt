@@ -24,13 +24,12 @@ use Rattle.answer_plan.specs.Recall.{recallVerdict}
 use Rattle.answer_outcome.specs.declared.Outcome.{Outcome}
 use Rattle.answer_outcome.specs.declared.Longest.{Longest}
 use Rattle.answer_outcome.specs.Outcomes.{nameIn, longer, longestFrom, longestOf, refusedOutcome, plannedOutcome, PlannedAs, OutcomeOf}
-use Rattle.answer_outcome.proofs.Plans.{times-long}
 use Rattle.answer_month.specs.declared.Month.{Month}
 use Rattle.answer_month.specs.Month.{emptyMonth, addedAll}
 use Rattle.promises.specs.Months.{Every, OneByOne, Outcomes, longestTime, NoneRead, FirstLongest}
 use Rattle.promises.specs.MonthLongest.{FirstOfLongest, LongestInside, NoneLonger, NoWantIsLonger, OrderWithoutReads}
 use Rattle.promises.proofs.MonthTotals.{month-counts}
-use Rattle.promises.proofs.MonthNames.{judged, no-reads-no-name}
+use Rattle.promises.proofs.MonthNames.{no-reads-no-name}
 use Rattle.promises.proofs.MonthOrder.{sheets-length, order-is-tie}
 
 -- A scan either keeps what it had, since no time is longer, or finds the first of the longest.
@@ -85,26 +84,31 @@ module _ (most : Longest) (f t : ℕ) (fs ts : List ℕ) (l : Longest) where
   kept le (inl (same, all)) = inl (same, behind (most .time) le all)
   kept le (inr b) = inr (record { above = b .above; first = one-on (omega (arith, le, b .above)) (b .first) })
 
-scan : (most : Longest) (files times : List ℕ) → length files ≡ length times → Unbeaten most files times (longestFrom most files times) ⊎ Beyond most files times (longestFrom most files times)
+scan : (most : Longest) (files times : List ℕ) → Unbeaten most files times (longestFrom most files times) ⊎ Beyond most files times (longestFrom most files times)
 unfolding longestFrom
-scan most [] times e = inl (refl, λ i l. absurd (omega arith))
-scan most (f ∷ fs) [] e = absurd (omega arith)
-scan most (f ∷ fs) (t ∷ ts) e =
+scan most [] times = inl (refl, λ i l. absurd (omega arith))
+scan most (f ∷ fs) [] = inl (refl, λ i l. omega arith)
+scan most (f ∷ fs) (t ∷ ts) =
     ⊎-elim
-    (λ (q : ltb (most .time) t ≡ true). rw q (inr (taken most f t fs ts _ (ltb-true (most .time) t q) (scan (record { time = t; file = f }) fs ts (omega (arith, e))))))
-    (λ (q : ltb (most .time) t ≡ false). rw q (kept most f t fs ts _ (omega (arith, ltb-false (most .time) t q)) (scan most fs ts (omega (arith, e)))))
+    (λ (q : ltb (most .time) t ≡ true). rw q (inr (taken most f t fs ts _ (ltb-true (most .time) t q) (scan (record { time = t; file = f }) fs ts))))
+    (λ (q : ltb (most .time) t ≡ false). rw q (kept most f t fs ts _ (omega (arith, ltb-false (most .time) t q)) (scan most fs ts)))
     (true-or-false (ltb (most .time) t))
 
 -- So of a row of times from nothing on.
-none-longer : (files times : List ℕ) → length files ≡ length times → (i : ℕ) → i < length files → getD times i 0 ≤ longestOf files times .time
-none-longer files times e i h =
-    ⊎-elim (λ u. omega (arith, u .1 i h)) (λ (b : Beyond (record { time = 0; file = 0 }) files times (longestOf files times)). b .first .longest i h)
-    (scan (record { time = 0; file = 0 }) files times e)
+module _ (files times : List ℕ) where
+  abbrev nothing : Longest
+  nothing = record { time = 0; file = 0 }
 
-first-longest : (files times : List ℕ) → length files ≡ length times → 0 < longestOf files times .time → FirstOfLongest files times (longestOf files times .time) (longestOf files times .file)
-first-longest files times e some =
-    ⊎-elim (λ u. absurd (omega (arith, some, ap (λ x. x .time) (u .0)))) (λ (b : Beyond (record { time = 0; file = 0 }) files times (longestOf files times)). b .first)
-    (scan (record { time = 0; file = 0 }) files times e)
+  pub none-longer : (i : ℕ) → i < length files → getD times i 0 ≤ longestOf files times .time
+  none-longer i h = ⊎-elim (λ u. omega (arith, u .1 i h)) (λ (b : Beyond nothing files times (longestOf files times)). b .first .longest i h) (scan nothing files times)
+
+  pub first-longest : 0 < longestOf files times .time → FirstOfLongest files times (longestOf files times .time) (longestOf files times .file)
+  first-longest some =
+      ⊎-elim (λ u. absurd (omega (arith, some, ap (λ x. x .time) (u .0)))) (λ (b : Beyond nothing files times (longestOf files times)). b .first) (scan nothing files times)
+
+  pub no-longest : longestOf files times .time ≡ 0 → longestOf files times .file ≡ 0
+  no-longest none =
+      ⊎-elim (λ u. ap (λ x. x .file) (u .0)) (λ (b : Beyond nothing files times (longestOf files times)). absurd (omega (arith, none, b .above))) (scan nothing files times)
 
 -- The plan of an accepted sheet's outcome, by the list that it is least by.
 passes : (sheet : List ℕ) (o : Outcome) → OutcomeOf sheet o → o .refusal ≡ Accepted → isRefusal (recallVerdict sheet .refusal) ≡ false
@@ -126,9 +130,6 @@ module _ (sheet : List ℕ) (o : Outcome) (list : List Detour) (p : OutcomeOf sh
   pub is : o ≡ plannedOutcome (sheetName sheet) run list
   is = planned-by (sheetName sheet) run o list (p .planned (passes sheet o p e)) least
 
-  long : length (run .numbers) ≡ length (pricedTimes run list)
-  long = sym (times-long run list (judged sheet (passes sheet o p e)))
-
   time-is : o .time ≡ longestOf (run .numbers) (pricedTimes run list) .time
   unfolding plannedOutcome
   time-is = ap (λ x. x .time) is
@@ -145,7 +146,7 @@ pub longest-inside : LongestInside
 unfolding pricedTimes
 longest-inside sheet o list p e some least =
     record {
-      want = rw (time-is sheet o list p e least, file-is sheet o list p e least) (first-longest (sheetRun sheet .numbers) (pricedTimes (sheetRun sheet) list) (long sheet o list p e least) (rw (time-is sheet o list p e least) at some));
+      want = rw (time-is sheet o list p e least, file-is sheet o list p e least) (first-longest (sheetRun sheet .numbers) (pricedTimes (sheetRun sheet) list) (rw (time-is sheet o list p e least) at some));
       tape = tape-is sheet o list p e least;
     }
 
@@ -178,7 +179,7 @@ each-shorter bound [] (r ∷ runs) o e = absurd o
 each-shorter bound (s ∷ sheets) [] o e = absurd o
 each-shorter bound (s ∷ sheets) (r ∷ runs) o e = (
   λ accepts list least want h.
-      omega (arith, none-longer (sheetRun s .numbers) (pricedTimes (sheetRun s) list) (long s r list (o .0) accepts least) want h, time-is s r list (o .0) accepts least, accepted-time r accepts, e .0),
+      omega (arith, none-longer (sheetRun s .numbers) (pricedTimes (sheetRun s) list) want h, time-is s r list (o .0) accepts least, accepted-time r accepts, e .0),
   each-shorter bound sheets runs (o .1) (e .1),
 )
 
