@@ -69,3 +69,4 @@ pub mod PlanChecked
 pub mod AnyRecord
 pub mod TwoTexts
 pub mod Callers
+pub mod CallersRead

@@ -12,7 +12,7 @@ use borrow.Author.Tests.{ltb-false}
 use Rattle.refusals.specs.declared.Refusal.{Refusal}
 use Rattle.refusals.specs.declared.Refusal.the-variants.{Accepted, WantRows, TooManyReads, ShortRow, BadLine, LongSheet}
 use Rattle.refusals.specs.declared.Verdict.{Verdict}
-use Rattle.refusals.specs.Refusals.{isRefusal, accepted, refuseIf, refuseAt, firstOf}
+use Rattle.refusals.specs.Refusals.{numberOf, isRefusal, accepted, refuseIf, refuseAt, firstOf}
 use Rattle.refusals.proofs.Verdicts.{refuses, all-accept, none-refuses, first-alone, accepts-if, accepts-at}
 use Rattle.runs.specs.Run.{mostWants, mostReads}
 use Rattle.runs.proofs.Search.{true-or-false}
@@ -26,6 +26,7 @@ use Rattle.answer_mend.specs.Mending.{sheetRemaining, mendedText, changesText, 
 use Rattle.demands.specs.RefusalTable.{FirstBad, FirstThatApplies, here, later, SomeApplies}
 use Rattle.demands.proofs.Tests.{tells-below, tells-either}
 use Rattle.demands.proofs.Checks.{decides-if, decides-reworded, Finds, finds-none, finds-first, first-of-joined, refused-iff}
+use Rattle.promises.specs.ListLines.{formOrder}
 use Rattle.promises.specs.Mender.{FileLine, NotMended, WantsRemain, CountsFrom, SheetApplies, long-sheet, bad-line, many-wants, many-reads, sheetOrder, TextsApply, long-text, short-row, textsOrder, MenderRefuses, TopStands, OneFileTooMany, OldPartsAreRead, LongTextIsMended}
 use Rattle.promises.proofs.DeskSteps.{not-accepted}
 use Rattle.promises.proofs.MenderLines.{decides-line}
@@ -79,6 +80,21 @@ module _ (sheet : List ℕ) where
     where
       described : refuses line ≡ false → firstBadLoose sheet ≡ 0
       described b = accepts-at (firstBadLoose sheet) BadLine refl b
+
+  -- 12 and 11 alone, as the reader of a loose sheet has them.
+  pub form-finds : Finds (SheetApplies sheet) formOrder (looseVerdict sheet)
+  unfolding looseVerdict
+  form-finds =
+      finds-first (SheetApplies sheet) (line ∷ []) refl (decides-reworded long-there long-back (decides-if (ltb longestSheet (length sheet)) LongSheet (tells-below longestSheet (length sheet))))
+      (λ a. finds-first (SheetApplies sheet) [] refl
+      (decides-reworded (λ p h. bad-line h) line-back (decides-line sheet (ltb-false longestSheet (length sheet) (accepts-if (ltb longestSheet (length sheet)) LongSheet refl a))))
+      (λ b. finds-none (SheetApplies sheet)))
+
+  pub not-eight : (k : Refusal) (p : ℕ) → SheetApplies sheet k p → numberOf k ≡ 8 → ⊥
+  not-eight k p (long-sheet l) e = omega arith
+  not-eight k p (bad-line f) e = omega arith
+  not-eight k p (many-wants w) e = omega arith
+  not-eight k p (many-reads c l) e = omega arith
 
 -- The texts'.
 module _ (text changes out notes : List ℕ) where

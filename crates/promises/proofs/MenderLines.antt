@@ -89,7 +89,7 @@ module _ (sheet : List ℕ) where
   unfolding looseWantsText fileText
   tail-behind = after-both F 5 (5 + F) sheet refl
 
-  body-behind : looseWantText sheet ≡ afterLines (6 + F) sheet
+  pub body-behind : looseWantText sheet ≡ afterLines (6 + F) sheet
   unfolding looseWantText
   body-behind = ap (afterLines 1) tail-behind ∙ after-both 1 (5 + F) (6 + F) sheet (omega arith)
 

@@ -43,3 +43,4 @@ pub mod InputTexts
 pub mod TapeInput
 pub mod TwoTexts
 pub mod Callers
+pub mod CallersRead
