@@ -70,3 +70,4 @@ pub mod AnyRecord
 pub mod TwoTexts
 pub mod Callers
 pub mod CallersRead
+pub mod CallersLists

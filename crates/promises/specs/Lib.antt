@@ -44,3 +44,4 @@ pub mod TapeInput
 pub mod TwoTexts
 pub mod Callers
 pub mod CallersRead
+pub mod CallersLists
