@@ -26,7 +26,7 @@ import sys
 AUDIT = "docs/AUDIT.md"
 STATEMENTS = ("crates/demands/specs/*.antt", "crates/promises/specs/*.antt", "crates/promises_calls/specs/*.antt",
               "crates/answer_ltfs/specs/Promises.antt", "crates/answer_pick/specs/Promises.antt", "crates/answer_pick/specs/Applies.antt",
-              "crates/sheet_picks/specs/Promises.antt", "crates/tape_spans/specs/Promises.antt")
+              "crates/sheet_picks/specs/Promises.antt", "crates/tape_markup/specs/Promises.antt", "crates/tape_spans/specs/Promises.antt")
 ROOTS = ["crates/demands/specs/Demand%d.antt" % n for n in (1, 2, 3)]
 CUT_OFF = {"Plans", "priceAnswer", "priceRows"}
 DEFINES = re.compile(r"^(?:pub |abbrev |unfoldable |record |data )+([^\s:{(]+)")
