@@ -12,7 +12,8 @@ A file with lines 'wrong: NAME' holds several wrong programs, for one check. rt 
 be. Each changes a function that has a proof of its own and that none of the others changes. rt's log (target/must-fail, which 'rt ci'
 and 'rt must-fail' write) must be of that text, and must have an error in that proof that neither follows from another nor says that the
 proof file names what the code no longer has; or, of a function that rt proves without a file, say that it no longer finds the proof.
-Of several wrong statements each has a line 'law: FILE NAME': the error must be in the proof of that law, which no other of them names.
+Of several wrong statements each has a line 'law: FILE NAME': the error must be in the proof of that law, which no other of them names. One may
+stand beside wrong programs where no contract of the crate rests on the file that it changes.
 """
 import collections
 import glob
@@ -71,6 +72,23 @@ def shared(triple):
     """Whether a change is of a definition or of a contract, and so not of one function alone."""
     file, old, new = triple
     return file.startswith("specs/") or any(word + " {" in text for word in ("ensures", "requires") for text in (old, new))
+
+
+def under_contracts(crate):
+    """The files of specs/ that contracts of a crate rest on: those that its code cites, and what these cite of their own crate."""
+    cites = re.compile(rf"^(?:ghost )?use Rattle\.{crate}\.specs\.([\w.]+)\.\{{", re.M)
+    todo, found = glob.glob(f"crates/{crate}/src/**/*.rt", recursive=True), set()
+    while todo:
+        path = todo.pop()
+        if path not in found and os.path.isfile(path):
+            found.add(path)
+            todo += [f"crates/{crate}/specs/{module.replace('.', '/')}.antt" for module in cites.findall(open(path, encoding="utf-8").read())]
+    return found
+
+
+def misplaced(crate, triples, several):
+    """Whether a statement stands beside programs and changes what contracts rest on, so that it could break these."""
+    return not all(law for _, _, law in several) and any(f"crates/{crate}/{file}" in under_contracts(crate) for file, _, _ in triples)
 
 
 def proof_of(crate, function):
@@ -133,7 +151,7 @@ def main():
             proofs.append((wrong, {law} if law else {proof_of(crate, function) for function in functions}))
             found += [] if triples else [f"{wrong} changes nothing"]
             found += [f"{wrong} is there twice in {crate}"] if names[crate, wrong] > 1 else []
-            found += [f"{wrong}: programs and statements in one file"] if bool(law) != bool(several[0][2]) or law and functions else []
+            found += [f"{wrong}: a statement that changes code, or what programs beside it rest on"] if law and (functions or misplaced(crate, triples, several)) else []
             found += [f"{wrong} changes what its callers rest on"] if len(several) > 1 and not law and any(map(shared, triples)) else []
         if "/more/" in edit:
             more += len(several)
