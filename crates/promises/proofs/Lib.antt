@@ -71,3 +71,4 @@ pub mod TwoTexts
 pub mod Callers
 pub mod CallersRead
 pub mod CallersLists
+pub mod CallersCases

@@ -15,6 +15,7 @@ use Rattle.runs.specs.Rows.{stopAt}
 use Rattle.runs.specs.AnyHead.{judgeAnyOf}
 use Rattle.engine_stops.specs.declared.Joined.{Joined}
 use Rattle.engine_stops.specs.Joining.{JoinRows, joinAnswer, joinRowsOf}
+use Rattle.sheet_reader.specs.Sheet.{sheetRun}
 use Rattle.sheet_writer.specs.declared.Written.{Written}
 use Rattle.sheet_writer.specs.Writing.{writtenOf, writtenAnswer, rowVerdict, Handed}
 use Rattle.answer_outcome.specs.declared.Outcome.{Outcome}
@@ -26,7 +27,7 @@ use Rattle.demands.specs.RefusalTable.{HasStops, RunApplies, FirstThatApplies}
 use Rattle.demands.specs.Judged.{runOrder}
 use Rattle.demands.specs.AnyHead.{RunAppliesAny}
 use Rattle.promises.specs.MonthLongest.{FirstOfLongest}
-use Rattle.promises.specs.Answers.{LinesHanded}
+use Rattle.promises.specs.Answers.{exampleSheet, LinesHanded}
 
 -- What is handed out for a verdict: so many bytes where it accepts; of a refusal its kind and place, and no bytes.
 pub record ToldFor (v : Verdict) (n : ℕ) (w : Written) : Type 0 where
@@ -83,6 +84,17 @@ JoinTells =
     → answer ≡ joinAnswer r before
     → after ≡ joinRowsOf r before
     → JoinAnswers r before answer after
+
+-- The stops of the sheet of document 01 in rows of four entries.
+abbrev pub fourRows : List ℕ → List ℕ → List ℕ → List ℕ → JoinRows
+fourRows firsts lefts spans reads = record { firsts = firsts; lefts = lefts; spans = spans; reads = reads }
+
+abbrev pub JoinsTheExample : Type 0
+JoinsTheExample =
+    (answer : Joined) (after : JoinRows)
+    → answer ≡ joinAnswer (sheetRun exampleSheet) (fourRows (6 ∷ 6 ∷ 6 ∷ 6 ∷ []) (7 ∷ 7 ∷ 7 ∷ 7 ∷ []) (8 ∷ 8 ∷ 8 ∷ 8 ∷ []) (9 ∷ 9 ∷ 9 ∷ 9 ∷ []))
+    → after ≡ joinRowsOf (sheetRun exampleSheet) (fourRows (6 ∷ 6 ∷ 6 ∷ 6 ∷ []) (7 ∷ 7 ∷ 7 ∷ 7 ∷ []) (8 ∷ 8 ∷ 8 ∷ 8 ∷ []) (9 ∷ 9 ∷ 9 ∷ 9 ∷ []))
+    → (answer .stops ≡ 3) × (after ≡ fourRows (1 ∷ 2 ∷ 3 ∷ 6 ∷ []) (0 ∷ 10 ∷ 20 ∷ 7 ∷ []) (10 ∷ 4 ∷ 30 ∷ 8 ∷ []) (1 ∷ 3 ∷ 1 ∷ 9 ∷ []))
 
 -- The longest of some times, of any two rows: a file without a time counts as one with 0, and a time without a file not at all. None is longer; where it is above 0,
 -- it is the first of the longest; else there is no file.

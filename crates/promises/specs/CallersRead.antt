@@ -8,7 +8,7 @@ use mathlib.Core.List.{List, [], _∷_, _++_}
 use lib.ListN.{length, getD, drop}
 use Rattle.refusals.specs.declared.Refusal.{Refusal}
 use Rattle.refusals.specs.declared.Refusal.the-variants.{Accepted, BadLine, LongSheet, ShortRow}
-use Rattle.text_bytes.specs.Text.{decimal}
+use Rattle.text_bytes.specs.Text.{bytes, decimal}
 use Rattle.text_lines.specs.Lines.{afterLines}
 use Rattle.sheet_reader.specs.Lines.{turnKey, filesKey, wantsKey, sweepText}
 use Rattle.sheet_lists.specs.declared.ListReading.{ListReading}
@@ -65,6 +65,22 @@ ListReaderTells =
     (list starts ends : List ℕ) (r : ListReading) (starts′ ends′ : List ℕ)
     → ListRead list starts ends r starts′ ends′
     → ListReaderAnswers (ListFormApplies list) (OnList list) starts ends r starts′ ends′
+
+-- Two lines read into rows of three entries; and 8 where one of the rows has one entry.
+abbrev pub twoEntries : List ℕ
+twoEntries = bytes "detour=3,3\ndetour=2,2\n"
+
+abbrev pub ReadsTwoEntries : Type 0
+ReadsTwoEntries =
+    (r : ListReading) (starts′ ends′ : List ℕ)
+    → ListRead twoEntries (7 ∷ 8 ∷ 9 ∷ []) (4 ∷ 5 ∷ 6 ∷ []) r starts′ ends′
+    → (r .detours ≡ 2) × (starts′ ≡ 3 ∷ 2 ∷ 9 ∷ []) × (ends′ ≡ 3 ∷ 2 ∷ 6 ∷ [])
+
+abbrev pub ShortForTwoEntries : Type 0
+ShortForTwoEntries =
+    (r : ListReading) (starts′ ends′ : List ℕ)
+    → ListRead twoEntries (7 ∷ 8 ∷ 9 ∷ []) (4 ∷ []) r starts′ ends′
+    → r .verdict ≡ record { refusal = ShortRow; place = 0 }
 
 -- A loose sheet: more want lines come than a row has entries.
 pub record WantsTooMany (sheet wanted counts : List ℕ) : Type 0 where

@@ -1,6 +1,6 @@
 -- What each call for tickets is refused for, and that a refusal changes nothing.
 use Prim.Native.Nat.{ℕ, _+_, _*_, _≤_, _<_}
-use mathlib.Core.Path.{_≡_, refl, sym, ap, _∙_}
+use mathlib.Core.Path.{_≡_, refl, sym, ap, _∙_, subst}
 use mathlib.Core.Bool.{Bool, true, false, not, cond}
 use mathlib.Core.Logic.{⊎-elim, _⊎_, _↔_, inl, inr}
 use mathlib.Core.List.{List, [], _∷_}
@@ -9,10 +9,10 @@ use lib.ListN.{length}
 use lib.Dec.{ltb}
 use borrow.Author.Tests.{lt-ltb, le-ltb, ltb-true, ltb-false, eqb-false}
 use Rattle.refusals.specs.declared.Refusal.{Refusal}
-use Rattle.refusals.specs.declared.Refusal.the-variants.{Accepted, BadTicket, OfficeFull, NumbersSpent, NotWaiting}
+use Rattle.refusals.specs.declared.Refusal.the-variants.{Accepted, BadTicket, OfficeFull, NumbersSpent, NotWaiting, ShortRow}
 use Rattle.refusals.specs.declared.Verdict.{Verdict}
 use Rattle.refusals.specs.Refusals.{numberOf, isRefusal, accepted, refuseIf}
-use Rattle.refusals.proofs.Verdicts.{refuses, none-refuses}
+use Rattle.refusals.proofs.Verdicts.{refuses, none-refuses, first-passes, last-if}
 use Rattle.runs.proofs.Search.{true-or-false}
 use Rattle.planner.specs.Rows.{Rows}
 use Rattle.desk_tickets.specs.declared.Ticket.{Ticket}
@@ -30,16 +30,19 @@ use Rattle.desk_tickets.specs.WaitingTable.{recordsVerdict}
 use Rattle.desk_tickets.specs.Filings.{inRange, isFull, isSpent, fileVerdict}
 use Rattle.desk_tickets.specs.Withdrawals.{isWaiting, withdrawVerdict}
 use Rattle.boundary_desk.proofs.Calling.{filing-verdict, withdrawal-verdict}
-use Rattle.sheet_writer.specs.Writing.{rowVerdict}
+use Rattle.sheet_writer.specs.declared.Written.{Written}
+use Rattle.sheet_writer.specs.Writing.{rowVerdict, Handed}
 use Rattle.desk_waits.specs.Waits.{waitingText, anyLasts, waitingVerdict}
 use Rattle.demands.specs.RefusalTable.{SomeApplies}
 use Rattle.demands.proofs.Checks.{AllRefuse}
+use Rattle.demands.proofs.Writers.{rows-are-left}
 use Rattle.promises.specs.DeskRefusals.{RowApplies, rowOrder}
+use Rattle.promises.proofs.Callers.{texts-are-handed, text-is-handed-out}
 use Rattle.promises.proofs.Desk.{refusal-keeps}
 use Rattle.promises.proofs.DeskDays.{accepts, refused-event-changes-nothing}
 use Rattle.promises.proofs.DeskRefusals.{row-finds, filing-answers, withdrawal-answers, boarding-answers}
 use Rattle.promises.proofs.DeskVerdicts.{event-verdicts}
-use Rattle.promises_calls.specs.CallRefusals.{ShortCounts, BoardCounts, CodeSays, FileCallAnswers, WithdrawCallAnswers, BoardCallAnswers, EventCallAnswers, anyNumbers, WaitingCallAnswers, RefusedFileKeeps, RefusedWithdrawKeeps, RefusedBoardKeeps, RefusedEventKeeps}
+use Rattle.promises_calls.specs.CallRefusals.{ShortCounts, BoardCounts, CodeSays, FileCallAnswers, WithdrawCallAnswers, BoardCallAnswers, EventCallAnswers, anyNumbers, WaitingCallAnswers, WaitingTextTold, WaitingIsTold, RefusedFileKeeps, RefusedWithdrawKeeps, RefusedBoardKeeps, RefusedEventKeeps}
 use Rattle.promises_calls.proofs.SheetCalls.{some-refuses, none-passes, says-so}
 
 counts-few : (least : ℕ) (words : List ℕ) (len : ℕ) → (placesIf least words len < 32) ↔ ((length words < least) ⊎ (len < 32))
@@ -124,6 +127,27 @@ module _ (len : ℕ) (row : List Ticket) (out : List ℕ) where
     by-none : length (waitingText row) ≤ length out → codeOf (waitingVerdict len row out) ≡ 0
     unfolding waitingVerdict rowVerdict
     by-none l = rw (passes, le-ltb (length out) (length (waitingText row)) l) refl
+
+    by-text : waitingVerdict len row out ≡ rowVerdict (waitingText row) out
+    unfolding waitingVerdict rowVerdict
+    by-text = first-passes ofRecords (refuseIf (ltb (length out) (length (waitingText row))) ShortRow ∷ []) passes ∙ sym (last-if {x = ltb (length out) (length (waitingText row))} ShortRow refl refl refl)
+
+  module _ (w : Written) (out′ : List ℕ) (h : Handed (waitingVerdict len row out) (waitingText row) out w out′) where
+    waiting-text-told : WaitingTextTold len row out w out′
+    waiting-text-told =
+        record {
+          of-records = λ s.
+              let e : refuses (waitingVerdict len row out) ≡ true = ap refuses (by-records s) ∙ some-refuses (RowApplies len row anyNumbers) rowOrder both-refuse ofRecords (row-finds len row anyNumbers) s in
+              let says = h .answer ∙ texts-are-handed (waitingVerdict len row out) (waitingText row) .refused e in (
+                rw (says, by-records s) (row-finds len row anyNumbers),
+                ap (λ x. x .bytes) says,
+                h .left ∙ rows-are-left (waitingVerdict len row out) (waitingText row) out .kept e,
+              );
+          of-text = λ n. text-is-handed-out (waitingText row) out w out′ (subst (λ v. Handed v (waitingText row) out w out′) (by-text n) h);
+        }
+
+pub waiting-is-told : WaitingIsTold
+waiting-is-told len row out w out′ h = waiting-text-told len row out w out′ h
 
 pub waiting-call-answers : WaitingCallAnswers
 waiting-call-answers rows out out′ sizes sizes′ code called =

@@ -17,9 +17,11 @@ use Rattle.text_lines.specs.Lines.{lineOf}
 use Rattle.desk_tickets.specs.declared.Ticket.{Ticket}
 use Rattle.desk_tickets.specs.declared.Lasts.{Lasts}
 use Rattle.answer_desk.specs.Events.{eventOf}
-use Rattle.desk_waits.specs.Waits.{waitingText}
+use Rattle.sheet_writer.specs.declared.Written.{Written}
+use Rattle.desk_waits.specs.Waits.{waitingText, WaitingTold}
 use Rattle.boundary_desk.specs.Calls.{FileCalled, WithdrawCalled, boardingOf, boardPlaces, BoardCalled, oneLine, EventCalled, WaitingCalled}
 use Rattle.demands.specs.RefusalTable.{FirstThatApplies, SomeApplies}
+use Rattle.promises.specs.Answers.{LinesHanded}
 use Rattle.promises.specs.DeskRefusals.{RowApplies, rowOrder, FilingApplies, filingOrder, WithdrawalApplies, withdrawalOrder, BoardAnswers}
 use Rattle.promises.specs.DeskVerdicts.{OwnVerdict, RowTooShort}
 use Rattle.promises_calls.specs.DeskCalls.{dayInC}
@@ -86,6 +88,15 @@ WaitingCallAnswers =
     (rows : List (List ℕ)) (out out′ sizes sizes′ : List ℕ) (code : ℕ)
     → WaitingCalled rows out sizes code out′ sizes′
     → WaitingRefusals (placesIf 1 sizes (length rows)) (tableAt rows) out code
+
+-- The same for a caller in Rattle, as a record: by the records' refusals no bytes and the row as it was; else the text in any row, or 8.
+pub record WaitingTextTold (len : ℕ) (row : List Ticket) (out : List ℕ) (w : Written) (out′ : List ℕ) : Type 0 where
+  pub of-records : SomeApplies (RowApplies len row anyNumbers) rowOrder
+      → FirstThatApplies (RowApplies len row anyNumbers) rowOrder (w .refusal) (w .place) × (w .bytes ≡ 0) × (out′ ≡ out)
+  pub of-text : (SomeApplies (RowApplies len row anyNumbers) rowOrder → ⊥) → LinesHanded (waitingText row) out w out′
+
+abbrev pub WaitingIsTold : Type 0
+WaitingIsTold = (len : ℕ) (row : List Ticket) (out : List ℕ) (w : Written) (out′ : List ℕ) → WaitingTold len row out w out′ → WaitingTextTold len row out w out′
 
 -- Refused, nothing that was lent has changed.
 abbrev pub RefusedFileKeeps : Type 0
