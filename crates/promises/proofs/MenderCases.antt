@@ -17,12 +17,13 @@ use Rattle.sheet_reader.specs.Sheet.{longestSheet, mostSheetFiles, sheetTurn, s
 use Rattle.sheet_reader.specs.Reading.{readRow}
 use Rattle.text_pages.specs.Printing.{pairLines}
 use Rattle.sheet_loose.specs.Loose.{looseFiles, looseWantsText, looseWantText, looseWants, looseEnd, wantsSaid, priceLeftOut, firstBadLooseTop, firstBadLooseBelow, firstBadLoose, wantedFiles, wantedCounts}
-use Rattle.sheet_loose.specs.Reading.{looseVerdict}
+use Rattle.sheet_loose.specs.Reading.{looseVerdict, wantRowsVerdict, looseParts}
 use Rattle.answer_mend.specs.declared.Mended.{Mended}
 use Rattle.answer_mend.specs.Wants.{sumBelow, enter, remaining, readsInAll, readsOfWant, readsEach, sameAbove, higherAbove, fateOf}
 use Rattle.answer_mend.specs.Mending.{sheetRemaining, sheetReads, mendedText, fateLines, changesText, mendVerdict, refusedMending}
 use Rattle.promises.specs.Mends.{WasMended}
 use Rattle.promises.specs.Mender.{disordered, inOrder, listed, MendsADisorderedSheet, RefusedCases}
+use Rattle.promises.specs.CallersRead.{ReadsTheDisorderedSheet}
 use Rattle.promises.proofs.Again.{come-so-many}
 use Rattle.promises.proofs.Taken.{empty-price}
 use Rattle.promises.proofs.Mends.{mended-rows}
@@ -129,6 +130,19 @@ taken = rw (described, remain, counted, mended, changes)
 
 pub mends-a-disordered-sheet : MendsADisorderedSheet
 mends-a-disordered-sheet = (was-mended disordered inOrder listed mended taken, changes)
+
+-- Its parts, as they are read.
+loose-taken : looseVerdict disordered ≡ accepted
+unfolding looseVerdict
+loose-taken = rw described
+
+pub reads-the-disordered-sheet : ReadsTheDisorderedSheet
+unfolding wantRowsVerdict looseParts readRow fileText afterLines behind
+reads-the-disordered-sheet p wanted′ counts′ h = (
+  h .answer ∙ rw (loose-taken, wants-four, files-two, said .0, said .1, price, empty .0, empty .1, tail-text, body-text),
+  h .files ∙ rw (loose-taken, wants-four, named),
+  h .reads ∙ rw (loose-taken, wants-four, counted),
+)
 
 -- 11, and 5.
 abbrev second : List ℕ

@@ -8,6 +8,7 @@ use mathlib.Core.List.{List, [], _∷_, _++_}
 use lib.ListN.{length, getD, drop}
 use Rattle.refusals.specs.declared.Refusal.{Refusal}
 use Rattle.refusals.specs.declared.Refusal.the-variants.{Accepted, BadLine, LongSheet, ShortRow}
+use Rattle.refusals.specs.Refusals.{accepted}
 use Rattle.text_bytes.specs.Text.{bytes, decimal}
 use Rattle.text_lines.specs.Lines.{afterLines}
 use Rattle.sheet_reader.specs.Lines.{turnKey, filesKey, wantsKey, sweepText}
@@ -18,7 +19,7 @@ use Rattle.sheet_loose.specs.Reading.{LooseRead}
 use Rattle.demands.specs.RefusalTable.{FirstThatApplies}
 use Rattle.demands.specs.Lines.{Stands, Ruled}
 use Rattle.demands.specs.SheetLines.{PriceText}
-use Rattle.promises.specs.Mender.{WantLine, Come, FileLines, Asks, SheetApplies}
+use Rattle.promises.specs.Mender.{WantLine, Come, FileLines, Asks, SheetApplies, disordered}
 use Rattle.promises.specs.ListLines.{PlanFormApplies, ListFormApplies, IsPlanSheet}
 use Rattle.promises.specs.ListEntries.{OnPlanSheet, OnBareList}
 
@@ -133,3 +134,12 @@ LooseReaderTells =
     (sheet wanted counts : List ℕ) (p : Parts) (wanted′ counts′ : List ℕ)
     → LooseRead sheet wanted counts p wanted′ counts′
     → LooseReaderAnswers sheet wanted counts p wanted′ counts′
+
+-- The disordered sheet of the mender, read into rows of five entries.
+abbrev pub ReadsTheDisorderedSheet : Type 0
+ReadsTheDisorderedSheet =
+    (p : Parts) (wanted′ counts′ : List ℕ)
+    → LooseRead disordered (7 ∷ 7 ∷ 7 ∷ 7 ∷ 7 ∷ []) (8 ∷ 8 ∷ 8 ∷ 8 ∷ 8 ∷ []) p wanted′ counts′
+    → (p ≡ record { verdict = accepted; third = 17; turn = 12000; empty = true; sweep = true; listed = 3; table = 42; files = 2; tail = 67; asked = 9; body = 75; wants = 4 })
+    × (wanted′ ≡ 2 ∷ 1 ∷ 1 ∷ 2 ∷ 7 ∷ [])
+    × (counts′ ≡ 1 ∷ 0 ∷ 2 ∷ 3 ∷ 8 ∷ [])
