@@ -176,6 +176,8 @@ def main():
             replay.one(call, text)
         except SystemExit as difference:
             sys.exit(f"{name}: {difference}")
+    if replay.calls:
+        replay.calls.close()
     print(f"replay.py: {call}: {len(files)} inputs as the model has them, {replay.left_out} of them left out")
 
 

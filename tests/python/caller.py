@@ -4,6 +4,7 @@ The program lends every row in memory that ends at a page which cannot be touche
 the rows that have changed, and whether every pattern is whole. Calls go to it in batches: no call here waits for the answer of another, since the model says what that must leave.
 """
 import collections
+import resource
 import struct
 import subprocess
 import sys
@@ -120,12 +121,22 @@ class Caller:
     def told(self, call, many):
         return struct.unpack(f"<{many}Q", self.read(call, 8 * many))
 
-    def finish(self, must_meet):
-        """The calls that are still to be made; how many there were; that these were met."""
+    def close(self):
+        """The calls that are still to be made, and the end of the program: a sanitizer may have found something then."""
         self.flush()
+        self.program.stdin.close()
+        if self.program.wait() != 0:
+            sys.exit(f"{self.test}: the program ended with status {self.program.returncode}, after its last call")
+
+    def finish(self, must_meet):
+        """The end, how many calls there were, and that these were met."""
+        self.close()
         if not must_meet <= set(self.met):
             sys.exit(f"{self.test}: never met: {sorted(must_meet - set(self.met))}")
         by_call = {}
         for (name, number), times in sorted(self.met.items()):
             by_call.setdefault(name, {})[number] = times
-        print("\n".join(f"{self.test}: {sum(found.values())} calls of violstream_{name}: " + ", ".join(f"{number}: {times}" for number, times in found.items()) for name, found in by_call.items()))
+        for name, found in by_call.items():
+            print(f"{self.test}: {sum(found.values())} calls of violstream_{name}: " + ", ".join(f"{number}: {times}" for number, times in found.items()))
+        used = [resource.getrusage(who) for who in (resource.RUSAGE_SELF, resource.RUSAGE_CHILDREN)]
+        print(f"{self.test}: as the models, {sum(one.ru_utime + one.ru_stime for one in used):.0f} s of processor time")

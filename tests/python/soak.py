@@ -192,7 +192,7 @@ def calls_for_paths(batch):
 
 
 def note_met(batch, calls):
-    calls.flush()
+    calls.close()
     for (call, refusal), times in calls.met.items():
         batch.note("violstream_" + call, refusal != 0, times)
 
