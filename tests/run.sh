@@ -133,14 +133,6 @@ compare_calls() {
     step "the call for files by path ($1)" python3 "$here/tests/python/pick_calls.py" "$out/$1/caller" ${long:---cases "$4"}
 }
 
-# planted FOLDER FAULT WORDS: a fault in three calls (c/caller_planted), which each comparison must find, as that of its call, with these words in what it says.
-planted() {
-    for pair in desk_calls:file answer_calls:answer pick_calls:pick; do
-        ! FAULT=$2 timeout 60 python3 "$here/tests/python/${pair%:*}.py" "$out/$1/caller_planted" > "$out/planted.said" 2>&1 || fail "${pair%:*}.py does not find the fault '$2'"
-        grep -q "^${pair%:*}.py: call [0-9]*, violstream_${pair#*:}: .*$3" "$out/planted.said" || { head -c 3000 "$out/planted.said" >&2; fail "${pair%:*}.py does not find the fault '$2' as it must"; }
-    done
-}
-
 # The calls for tickets, sheets and files by path, made in C, against the models in Python.
 calls() {
     if [ "$emulated" = yes ]; then
@@ -148,13 +140,7 @@ calls() {
         return
     fi
     make_c caller caller_planted
-    planted c behind 'behind the \(end of the \)*row \(given\|sizes\)'
-    planted c before 'before or behind the row \(given\|sizes\) has changed'
-    planted c refusal 'with code [1-9][0-9]*: the row \(given\|sizes\) is'
-    planted c code 'must be'
-    planted c beyond 'ended by signal 11, 0 bytes behind the end of the row \(tickets\|sheet\|tape\)'
-    planted c trap 'ended by signal 4'
-    printf 'calls: six faults in each of three calls are found\n'
+    step "faults in the calls" python3 "$here/tests/python/planted_calls.py" "$out/c/caller_planted"
     compare_calls c 30000 6000 600
 }
 
@@ -178,8 +164,7 @@ watched() {
     stopped "a row one word short" 'SUMMARY: AddressSanitizer: heap-buffer-overflow .* in [a-z_]*::' "$out/address/short_row"
     a_day "daemon (library watched)" "$out/address/daemon"
     step "c/compare (library watched)" "$out/address/compare" --apart --calls "$((many > 0 ? 5 * many : 20000))"
-    planted address beyond 'stopped by a sanitizer'
-    planted address behind 'stopped by a sanitizer'
+    step "faults in the calls (caller watched)" env ASAN_OPTIONS=symbolize=0 python3 "$here/tests/python/planted_calls.py" "$out/address/caller_planted" --watched
     compare_calls address 4000 3000 200
     watched_threads
 }

@@ -45,10 +45,11 @@ def shown(argument):
 
 class Caller:
     """`test` is the name by which differences are told; `met` says how often a call gave which number."""
+    errors = None  # where the program's own words go, by default to where those of the test go
 
     def __init__(self, test, program, draw):
         self.test, self.draw, self.met = test, draw, collections.Counter()
-        self.program = subprocess.Popen([program], stdin=subprocess.PIPE, stdout=subprocess.PIPE)
+        self.program = subprocess.Popen([program], stdin=subprocess.PIPE, stdout=subprocess.PIPE, stderr=self.errors)
         self.batch, self.requests, self.lent, self.made = [], [], 0, 0
 
     def lend(self, name, contents, unit=8):
