@@ -27,7 +27,6 @@
 enum { NUMBER = 0, ROW = 1, FILLED = 256 };
 enum { ANSWERED = 0, ENDED = 1 };
 enum { SAME = 0, BROKEN = 2 };
-enum { PAGE = 4096 };
 
 static const unsigned char *at, *end; /* what is left of the batch */
 static volatile sig_atomic_t calling;

@@ -7,6 +7,7 @@
 #include <stdint.h>
 
 enum { ARGUMENTS = 14 }; /* the most that a call has; a row and its length are one */
+enum { PAGE = 4096 };    /* bytes that cannot be touched behind the memory of a row */
 
 struct argument {
     uint64_t number;             /* of an argument that is a number */

@@ -11,7 +11,7 @@
 #define ASAN_UNPOISON_MEMORY_REGION(at, bytes) ((void)(at))
 #endif
 
-enum { PAGE = 4096, FRONT = 64, PATTERN = 0xA5 };
+enum { FRONT = 64, PATTERN = 0xA5 };
 
 static void keep(struct argument *row, size_t bytes)
 {
