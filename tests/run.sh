@@ -125,11 +125,23 @@ stopped() {
     printf '%s: found, in the library\n' "$1"
 }
 
-# from_python WHAT TEST WORD...: a comparison in Python on the library that the address sanitizer watches.
-from_python() {
-    what=$1 test=$2
-    shift 2
-    step "$what" env LD_PRELOAD="$("$cc" -print-file-name=libasan.so)" ASAN_OPTIONS=detect_leaks=0 python3 "$here/tests/python/$test.py" "$out/address/libviolstream.so" "$@"
+# compare_calls FOLDER TICKETS SHEETS TAPES: the calls that the caller in a folder makes, against the models; so many of them, or with --calls 100000 so many of each call.
+compare_calls() {
+    if [ "${calls:-0}" -ge 100000 ]; then long=--long; else long=; fi
+    step "the calls for tickets ($1)" python3 "$here/tests/python/desk_calls.py" "$out/$1/caller" ${long:---calls "$2"}
+    step "the calls for sheets ($1)" python3 "$here/tests/python/answer_calls.py" "$out/$1/caller" ${long:---calls "$3"}
+    step "the call for files by path ($1)" python3 "$here/tests/python/pick_calls.py" "$out/$1/caller" ${long:---cases "$4"}
+}
+
+# The calls for tickets, sheets and files by path, made in C, against the models in Python.
+calls() {
+    if [ "$emulated" = yes ]; then
+        printf 'calls: left out, the library is not for this processor\n'
+        return
+    fi
+    make_c caller caller_planted
+    step "faults in the calls" python3 "$here/tests/python/planted_calls.py" "$out/c/caller_planted"
+    compare_calls c 30000 6000 600
 }
 
 # watched_by SANITIZER KIND NAME...: the library, watched (tools/watched.sh), and callers of it in C, in $out/KIND.
@@ -147,16 +159,13 @@ watched() {
     can_watch || { printf 'watched: left out, the compiler has no sanitizers here\n'; return; }
     [ -d "$here/target/staticlib/modules" ] || fail "no modules beside the archive; 'tools/build.sh library violstream modules' makes them"
     many=${calls:-0}
-    if [ "$many" -ge 100000 ]; then long=--long; else long=; fi
     step "what the library assumes is checked" python3 "$here/tests/python/assumptions.py"
-    watched_by address,undefined address short_row compare daemon
-    step "building libviolstream.so, watched" "$cc" -shared -fsanitize=address -Wl,--whole-archive "$out/address/library.a" -Wl,--no-whole-archive -o "$out/address/libviolstream.so"
+    watched_by address,undefined address short_row compare daemon caller caller_planted
     stopped "a row one word short" 'SUMMARY: AddressSanitizer: heap-buffer-overflow .* in [a-z_]*::' "$out/address/short_row"
     a_day "daemon (library watched)" "$out/address/daemon"
     step "c/compare (library watched)" "$out/address/compare" --apart --calls "$((many > 0 ? 5 * many : 20000))"
-    from_python "the calls for tickets (library watched)" desk_calls ${long:---calls 4000}
-    from_python "the calls for sheets (library watched)" answer_calls ${long:---calls 3000}
-    from_python "the call for files by path (library watched)" pick_calls --cases "$((many > 0 ? many / 3 : 200))"
+    step "faults in the calls (caller watched)" env ASAN_OPTIONS=symbolize=0 python3 "$here/tests/python/planted_calls.py" "$out/address/caller_planted" --watched
+    compare_calls address 4000 3000 200
     watched_threads
 }
 
@@ -294,9 +303,6 @@ shared_installed() {
     else
         step "the shared library from Python" python3 "$here/tests/python/library.py" "$prefix/lib/libviolstream.so"
         step "the module for Python, where it was installed" python3 "$here/tests/python/module.py" "$prefix/lib/libviolstream.so" "$prefix/lib/python3/dist-packages"
-        step "the calls for tickets against a model" python3 "$here/tests/python/desk_calls.py" "$prefix/lib/libviolstream.so" --calls 30000
-        step "the calls for sheets against models" python3 "$here/tests/python/answer_calls.py" "$prefix/lib/libviolstream.so"
-        step "the call for files by path against readers" python3 "$here/tests/python/pick_calls.py" "$prefix/lib/libviolstream.so"
     fi
 }
 
@@ -445,6 +451,7 @@ of_the_command() {
     run manual
     run header_example
     run daemon
+    run calls
     run installed
     run python/command
     run python/pictures

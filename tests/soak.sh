@@ -44,9 +44,8 @@ made=${kept:-$(mktemp -d)} || fail "no temporary folder"
 mkdir -p "$made/bin" && made=$(cd "$made" && pwd) || exit 1
 [ -n "$kept" ] || trap 'rm -rf "$made"' EXIT
 cp "$archive" "$made/libviolstream.a" || exit 1
-make -s -C "$here/tests/c" ARCHIVE="$made/libviolstream.a" OUT="$made" compare || fail "the comparison in C was not built"
+make -s -C "$here/tests/c" ARCHIVE="$made/libviolstream.a" OUT="$made" compare caller || fail "the callers in C were not built"
 mv "$made/compare" "$made/compare_c"
-"$cc" -shared -Wl,--whole-archive "$made/libviolstream.a" -Wl,--no-whole-archive -o "$made/libviolstream.so" || fail "the shared library was not linked"
 for name in compare any_head movements; do
     rustc -O --edition 2021 "$here/tests/rust/$name/$name.rs" -L native="$made" -l static=violstream -o "$made/$name" || fail "rust/$name was not built"
 done

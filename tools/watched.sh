@@ -7,7 +7,7 @@
 #   thread     two threads that touch one place are seen (thread sanitizer)
 #   coverage   as `address`, and every edge that is gone and every comparison are told to a fuzzer: for AFL++'s afl-compiler-rt.o
 #
-# OUT: an archive; a name that ends in .so: a shared library. MODULE: .bc files, by default those of the library, which `tools/build.sh library violstream modules`
+# OUT: an archive. MODULE: .bc files, by default those of the library, which `tools/build.sh library violstream modules`
 # leaves in target/staticlib/modules; `tools/native.sh CRATE OUT.bc` makes that of a program. The program that is linked to OUT brings the sanitizer's own library:
 # gcc or clang, with -fsanitize=address,undefined or -fsanitize=thread.
 #
@@ -51,8 +51,5 @@ for module in "$@"; do
     nm "$work/$name.o" | grep -q "__$(printf '%s' "$attribute" | sed 's/sanitize_address/asan_report/; s/sanitize_thread/tsan_read/')" || fail "$module was not watched by what it should be"
 done
 rm -f "$out"
-case $out in
-    *.so) "${CC:-gcc}" -shared -fsanitize="${attribute#sanitize_}" "$work"/*.o -o "$out" ;;
-    *) ar rcs "$out" "$work"/*.o ;;
-esac
+ar rcs "$out" "$work"/*.o
 printf 'watched.sh: %s, watched for %s\n' "$out" "$kind"

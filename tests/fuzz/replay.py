@@ -1,7 +1,7 @@
 #!/usr/bin/env python3
 """Puts inputs that a fuzzer has kept to the call and to the outside model of it, and compares every byte.
 
-    tests/fuzz/replay.py CALL LIBRARY FILE...    (answer, check, mend, event, pick: a libviolstream.so; ltfs: the program, target/bin/cmd_ltfs)
+    tests/fuzz/replay.py CALL PROGRAM FILE...    (answer, check, mend, event, pick: tests/c/caller, linked to the library; ltfs: target/bin/cmd_ltfs)
 
 The models are those of tests/python: plan, check, mend, desk and day, pick_readers, ltfs_readers. Rows are lent as answer_calls.py, desk_calls.py and pick_calls.py lend them, at pages that
 cannot be touched. Left out, and counted, are inputs that a model has no answer for: plans of more than eight stops, whose search would take long.
@@ -26,7 +26,8 @@ import pick_calls
 import pick_readers
 import plan
 import sheets
-from desk_calls import packed, words
+from caller import words
+from desk_calls import packed
 from runs import Refused, stops
 
 SEPARATOR = b"\x1e"
@@ -54,15 +55,23 @@ def can_be_searched(sheet):
         return True
 
 
+CALLS = {"answer": answer_calls.Calls, "check": answer_calls.Calls, "mend": answer_calls.Calls, "event": desk_calls.Calls, "pick": pick_calls.Calls}
+
+
 class Replay:
-    def __init__(self, library):
-        self.library, self.draw, self.left_out, self.met = library, random.Random(8), 0, {}
+    def __init__(self, call, program):
+        self.program, self.left_out, self.met = program, 0, {}
+        self.calls = CALLS[call](program, random.Random(8)) if call in CALLS else None
+
+    def one(self, call, text):
+        getattr(self, call)(text)
+        if self.calls:
+            self.calls.flush()
 
     def with_sheets(self, call, lent, text):
         if text in (None, b"refused=9\nplace=0\n"):
             self.left_out += 1
             return
-        self.calls = getattr(self, "calls", None) or answer_calls.Calls(self.library, self.draw)
         for _ in range(3):
             getattr(self.calls, call)(lent, text)
 
@@ -82,22 +91,18 @@ class Replay:
         tape, unit, head, turn, label, index, listed = texts_of(text, 7)
         blocks, head, turn = unit != b"b", *(None if digits == b"" else number(digits) for digits in (head, turn))
         must = pick_readers.answer(tape, pick_readers.by_tree, label, index, listed, blocks, head, turn)
-        self.calls = getattr(self, "calls", None) or pick_calls.Calls(self.library, self.draw)
         for _ in range(3):
-            self.calls.hold((tape, label, index, listed, blocks, head, turn), must)
+            self.calls.pick((tape, label, index, listed, blocks, head, turn), must)
 
     def ltfs(self, text):
         if SEPARATOR in text:
             text = ltfs_readers.framed(*texts_of(text, 3))
         must = ltfs_readers.expected(text, self.met)
-        done = subprocess.run([self.library], input=text, capture_output=True)
+        done = subprocess.run([self.program], input=text, capture_output=True)
         if (done.stdout, done.stderr) != must or done.returncode != 0:
             sys.exit(f"replay.py: the program writes {done.stdout[:300]!r} and {done.stderr!r}, must be {must[0][:300]!r} and {must[1]!r}")
 
     def event(self, text):
-        if not hasattr(self, "calls"):
-            self.calls = desk_calls.Calls(self.library, self.draw)
-            self.calls.rows["line"] = desk_calls.Lent(1 << 20, 1)
         Day(self.calls).go(text)
 
 
@@ -133,10 +138,12 @@ class Day:
         model = day.Desk(self.tape)
         model.waiting = {office: [(ticket[0], ticket[3], ticket[1], ticket[2]) for ticket in waiting[office]] for office in (1, 2)}
         model.last = {office: min(last, day.MOST) for office, last in self.lasts.items()}  # no day goes beyond; a table that is handed in may
+        before = {office: list(model.waiting[office]) for office in (1, 2)}
         said = model.answer(line[:-1])
         refused = re.match(rb"refused=(\d+)\n(?:place=(\d+)\n)?", said)
         if refused:
             return int(refused[1]) + 256 * int(refused[2] or 0), b""
+        self.room = desk_calls.room_left(line, self.tape, before, model.waiting)
         self.after = desk.records_of({office: [(t[0], t[2], t[3], t[1]) for t in model.waiting[office]] for office in (1, 2)}), {office: max(self.lasts[office], model.last[office]) for office in (1, 2)}
         return 0, said
 
@@ -145,13 +152,9 @@ class Day:
         before, lasts = packed(self.records), words(self.lasts[1], self.lasts[2])
         if code == 0:
             self.records, self.lasts = self.after
-        calls, out, sizes = self.calls, bytes([9]) * 2677, words(7)
-        must = {"tickets": packed(self.records), "lasts": words(self.lasts[1], self.lasts[2]), "out": text + out[len(text):], "sizes": sizes if code else words(len(text))}
-        lent = calls.lend("tickets", before) + calls.lend("lasts", lasts)
-        for name, at in (("starts", 0), ("lengths", 1), ("aggregates", 2)):
-            lent += calls.lend(name, words(*(entry[at] for entry in self.tape)))
-        lent += calls.lend("line", line) + calls.lend("out", out) + calls.lend("room", bytes(65600 * 8)) + calls.lend("sizes", sizes)
-        calls.hold("event", lambda: calls.calls["event"](*lent), code, must)
+        out, sizes = bytes([9]) * 2677, words(7)
+        must = {} if code else {"tickets": packed(self.records), "lasts": words(self.lasts[1], self.lasts[2]), "out": text + out[len(text):], "sizes": words(len(text)), "room": self.room}
+        self.calls.hold_event(before, lasts, self.tape, line, out, sizes, code, must)
 
     def go(self, text):
         lines = re.findall(rb"[^\n]*\n|[^\n]+", text)[:LINES]
@@ -163,16 +166,18 @@ class Day:
 
 def main():
     if len(sys.argv) < 3:
-        sys.exit("usage: tests/fuzz/replay.py CALL LIBRARY FILE...")
-    call, library, files = sys.argv[1], sys.argv[2], sys.argv[3:]
-    replay = Replay(library)
+        sys.exit("usage: tests/fuzz/replay.py CALL PROGRAM FILE...")
+    call, program, files = sys.argv[1], sys.argv[2], sys.argv[3:]
+    replay = Replay(call, program)
     for name in files:
         with open(name, "rb") as file:
             text = file.read()
         try:
-            getattr(replay, call)(text)
+            replay.one(call, text)
         except SystemExit as difference:
             sys.exit(f"{name}: {difference}")
+    if replay.calls:
+        replay.calls.close()
     print(f"replay.py: {call}: {len(files)} inputs as the model has them, {replay.left_out} of them left out")
 
 

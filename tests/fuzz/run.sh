@@ -10,7 +10,7 @@
 #
 # Needed: what `tools/build.sh library violstream modules` leaves; for ltfs that cmd_ltfs is proved; AFL++ and its clang (Debian: afl++).
 set -eu
-unset -v CDPATH call calls dict fault file flags found from here kept made number out so
+unset -v CDPATH call calls dict fault file flags found from here kept made number out
 here=$(cd "$(dirname "$0")/../.." && pwd)
 calls='answer check mend event pick ltfs'
 made=$here/target/fuzz/made
@@ -58,15 +58,15 @@ harness() { # address|coverage
     fi
 }
 
-# What is asked of the model, and from where: the library, watched; or the program as it was built.
+# What is asked of the model, and of what: a caller of the library, both watched; or the program as it was built.
 by_model() { # FILE...
     if [ "$call" = ltfs ]; then
         python3 "$here/tests/fuzz/replay.py" ltfs "$here/target/bin/cmd_ltfs" "$@"
         return
     fi
-    so=$made/address.so
-    newer "$so" "$here"/target/staticlib/modules/*.bc || "$here/tools/watched.sh" address "$so" > "$made/log" 2>&1 || { cat "$made/log" >&2; fail "the library was not compiled to be watched"; }
-    LD_PRELOAD=$(gcc -print-file-name=libasan.so) ASAN_OPTIONS=detect_leaks=0 python3 "$here/tests/fuzz/replay.py" "$call" "$so" "$@"
+    watched address
+    make -s -C "$here/tests/c" CC=gcc ARCHIVE="$made/address.a" OUT="$made" CFLAGS='-O1 -g -fsanitize=address,undefined -fno-sanitize-recover=all' caller
+    python3 "$here/tests/fuzz/replay.py" "$call" "$made/caller" "$@"
 }
 
 corpus() {

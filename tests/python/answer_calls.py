@@ -1,27 +1,24 @@
 #!/usr/bin/env python3
 """Compares the library's calls that take sheets (violstream_answer, violstream_buys, violstream_check, violstream_mend) with the models of plan.py, buys.py, check.py and mend.py.
 
-usage: tests/python/answer_calls.py LIBRARY [--calls N] [--long]    (a libviolstream.so that this machine's own processor can load)
+usage: tests/python/answer_calls.py CALLER [--calls N] [--long]    (the program tests/c/caller, linked to the library)
 
-The sheets are those that these tests try, each answered once by its model and lent in N calls of each kind (6,000; --long: 100,000), every sheet at least once. Every row
-that is lent ends at a page that cannot be touched, or has a pattern behind it; what stands before it is a pattern too. Rows are of just the length that an answer needs,
-longer, one byte or one word shorter, or empty. After each call the code, every row and the patterns are looked at.
+The sheets are those that these tests try, each answered once by its model and lent in N calls of each kind (6,000; --long: 100,000), every sheet at least once. Rows are of
+just the length that an answer needs, longer, one byte or one word shorter, or empty. After each call the code is looked at, every row, and what stands around the rows (caller.py).
 """
 import argparse
-import ctypes
 import random
 import re
-import sys
 
 import buys
 import check
 import mend
 import plan
-from desk_calls import Lent, words
+from caller import Caller, words
 from runs import Refused, stops
 from sheets import read
 
-MARK = b"\7"
+MARK, NO_ROOM = b"\7", b"refused=9\nplace=0\n"
 
 
 def refusal_in(text):
@@ -36,36 +33,15 @@ def room_of(sheet):
     return len(stops(table, asked)) ** 2 * (sum(count for _, count in asked) + 1)
 
 
-class Calls:
-    def __init__(self, library, draw):
-        library = ctypes.CDLL(library)
-        self.draw, self.met = draw, {}
-        self.calls = {name: getattr(library, "violstream_" + name) for name in ("answer", "buys", "check", "mend")}
-        for call in self.calls.values():
-            call.restype = ctypes.c_uint64
-        self.rows = {name: Lent(most, unit) for name, most, unit in (
-            ("sheet", 1 << 17, 1), ("plan", 1 << 17, 1), ("out", 1 << 17, 1), ("changes", 1 << 17, 1), ("room", 700000 * 8, 8), ("sizes", 64, 8))}
-
-    def hold(self, name, lent, code, must):
-        """A call with some rows, and what each of them must be afterwards."""
-        arguments = []
-        for row, contents in lent:
-            unit = self.rows[row].unit
-            arguments += self.rows[row].lay(contents, self.draw.choice((0, 0, unit, 5 * unit)))
-        found = self.calls[name](*arguments)
-        key = f"{name} {code % 256}"
-        self.met[key] = self.met.get(key, 0) + 1
-        if found != code:
-            sys.exit(f"answer_calls.py: {name} gives {found % 256} at {found // 256}, must be {code % 256} at {code // 256}, for {lent[0][1][:600]!r}")
-        for row, contents in lent:
-            if self.rows[row].now() != must.get(row, contents):
-                sys.exit(f"answer_calls.py: {name} ({code}): the row {row} is not as it must be, for {lent[0][1][:600]!r}")
+class Calls(Caller):
+    def __init__(self, program, draw):
+        super().__init__("answer_calls.py", program, draw)
 
     def length(self, text):
         return max(0, len(text) + self.draw.choice((0, 0, 0, 1, 7, 300, -1, -len(text))))
 
     def with_room(self, name, sheets, sheet, text):
-        """One text, one length and the room: violstream_answer, violstream_buys and violstream_check."""
+        """One text, one length and the room: violstream_answer, violstream_buys and violstream_check. `sheets` are those that the call reads."""
         draw, code = self.draw, refusal_in(text)
         if code is None:
             need = room_of(sheet)
@@ -84,16 +60,16 @@ class Calls:
             must["room"] = bytes(8 * need) + room[8 * need:]
         if code == 0:
             must["out"], must["sizes"] = text + out[len(text):], words(len(text)) + sizes[8:]
-        self.hold(name, sheets + [("out", out), ("room", room), ("sizes", sizes)], code, must)
+        self.hold(name, sheets + [self.lend("out", out, 1), self.lend("room", room), self.lend("sizes", sizes)], code, must)
 
     def answer(self, sheet, text):
-        self.with_room("answer", [("sheet", sheet)], sheet, text)
+        self.with_room("answer", [self.lend("sheet", sheet, 1)], sheet, text)
 
     def buys(self, sheet, text):
-        self.with_room("buys", [("sheet", sheet)], sheet, text)
+        self.with_room("buys", [self.lend("sheet", sheet, 1)], sheet, text)
 
     def check(self, sheets, text):
-        self.with_room("check", [("sheet", sheets[0]), ("plan", sheets[1])], sheets[0], text)
+        self.with_room("check", [self.lend("sheet", sheets[0], 1), self.lend("plan", sheets[1], 1)], sheets[0], text)
 
     def mend(self, sheet, texts):
         draw = self.draw
@@ -107,7 +83,8 @@ class Calls:
             code, must = (0 if fits else 8), {}
             if fits:
                 must = {"out": texts[0] + out[len(texts[0]):], "changes": texts[1] + changes[len(texts[1]):], "sizes": words(*map(len, texts)) + sizes[16:]}
-        self.hold("mend", [("sheet", sheet), ("out", out), ("changes", changes), ("sizes", sizes)], code, must)
+        texts = [self.lend(name, contents, 1) for name, contents in (("sheet", sheet), ("out", out), ("changes", changes))]
+        self.hold("mend", [*texts, self.lend("sizes", sizes)], code, must)
 
 
 def mended(sheet):
@@ -117,29 +94,37 @@ def mended(sheet):
         return refusal
 
 
+def answered(sheets, model):
+    """Each sheet with its text, by a model; without those that this has no text for, or that the program behind it has no room for."""
+    return (case for case in ((sheet, model(sheet)) for sheet in sheets) if case[1] not in (None, NO_ROOM))
+
+
+def try_all(call, cases, many, draw):
+    """Every case once, and then drawn ones, up to so many calls; most of these are answered. Gives the cases."""
+    tried = []
+    for case in cases:
+        call(*case)
+        tried.append(case)
+    good = [case for case in tried if not isinstance(case[1], Refused) and (isinstance(case[1], tuple) or refusal_in(case[1]) is None)]
+    for _ in range(many - len(tried)):
+        call(*draw.choice(good if draw.random() < 0.7 else tried))
+    return tried
+
+
 def main():
     reader = argparse.ArgumentParser(description=__doc__.split("\n")[0])
-    reader.add_argument("library")
+    reader.add_argument("caller")
     reader.add_argument("--calls", type=int, default=6000, metavar="N")
     reader.add_argument("--long", action="store_true")
     given = reader.parse_args()
-    draw = random.Random(4)
-    calls = Calls(given.library, draw)
-    many = 100000 if given.long else given.calls
-    sheets = [(sheet, text) for sheet, text in ((sheet, plan.answer(sheet, True)) for sheet in plan.cases_anywhere()) if text not in (None, b"refused=9\nplace=0\n")]
-    figures = [(sheet, buys.answer(sheet, True)[0]) for sheet, _ in sheets]
-    plans = [(pair, text) for pair, text in ((pair, check.check_answer(*pair)) for pair in check.check_cases()) if text != b"refused=9\nplace=0\n"]
-    mail = [(sheet, mended(sheet)) for sheet in mend.cases()]
-    for call, cases in ((calls.answer, sheets), (calls.buys, figures), (calls.check, plans), (calls.mend, mail)):
-        good = [case for case in cases if not isinstance(case[1], Refused) and (isinstance(case[1], tuple) or refusal_in(case[1]) is None)]
-        for case in cases:
-            call(*case)
-        for _ in range(many - len(cases)):
-            call(*draw.choice(good if draw.random() < 0.7 else cases))
-    must_meet = {f"{name} {n}" for name in ("answer", "buys") for n in (0, 2, 4, 7, 8, 9, 11, 12, 19)} | {f"check {n}" for n in (0, 7, 8, 9, 11, 12, 19)} | {f"mend {n}" for n in (0, 3, 5, 8, 11, 12)}
-    if not must_meet <= set(calls.met):
-        sys.exit(f"answer_calls.py: never met: {sorted(must_meet - set(calls.met))}")
-    print("answer_calls.py: " + ", ".join(f"{kind}: {times}" for kind, times in sorted(calls.met.items(), key=lambda item: (item[0].split()[0], int(item[0].split()[1])))))
+    draw, many = random.Random(4), 100000 if given.long else given.calls
+    calls = Calls(given.caller, draw)
+    planned = try_all(calls.answer, answered(plan.cases_anywhere(), lambda sheet: plan.answer(sheet, True)), many, draw)
+    try_all(calls.buys, ((sheet, buys.answer(sheet, True)[0]) for sheet, _ in planned), many, draw)
+    try_all(calls.check, answered(check.check_cases(), lambda pair: check.check_answer(*pair)), many, draw)
+    try_all(calls.mend, ((sheet, mended(sheet)) for sheet in mend.cases()), many, draw)
+    met = {"answer": (0, 2, 4, 7, 8, 9, 11, 12, 19), "buys": (0, 2, 4, 7, 8, 9, 11, 12, 19), "check": (0, 7, 8, 9, 11, 12, 19), "mend": (0, 3, 5, 8, 11, 12)}
+    calls.finish({(name, number) for name, numbers in met.items() for number in numbers})
 
 
 if __name__ == "__main__":

@@ -5,12 +5,13 @@ usage: tests/python/soak.py MINUTES MADE [--cores N] [--seed S]      (tests/soak
        tests/python/soak.py --batch KIND SEED MADE [--share N]       one batch of one kind; --share: an N-th of it
        tests/python/soak.py --short MADE                             every kind, a twentieth of a batch each; and that a wrong answer of each is seen
 
-MADE holds the programs of tests/c and tests/rust by their names, libviolstream.so, and `bin`, the proved programs. A batch is a process of its own, so that
+MADE holds the programs of tests/c and tests/rust by their names, and `bin`, the proved programs. A batch is a process of its own, so that
 one that is ended by a signal is a difference too. Its draws go by its seed alone: a difference is told with the words that make it again. SIGTERM, or an
 interrupt at the keyboard, ends the whole earlier: what was compared until then is told.
 """
 import argparse
 import collections
+import glob
 import json
 import os
 import random
@@ -94,8 +95,8 @@ class Batch:
         self.answers[name] += count
         self.refusals[name] += count * bool(refused)
 
-    def library(self):
-        return os.path.join(self.made, "libviolstream.so")
+    def caller(self):
+        return os.path.join(self.made, "caller")
 
     def program(self, crate):
         return [os.path.join(self.made, "bin", crate)]
@@ -151,7 +152,7 @@ def by_summary(batch, name, said):
 
 
 def calls_for_tickets(batch):
-    calls = desk_calls.Calls(batch.library(), batch.draw)
+    calls = desk_calls.Calls(batch.caller(), batch.draw)
     for _ in range(batch.many(6000)):
         calls.file()
         calls.withdraw()
@@ -159,12 +160,12 @@ def calls_for_tickets(batch):
         calls.board()
     for _ in range(batch.many(30)):
         calls.events(40)
-    note_met(batch, {tuple(key.split()): times for key, times in calls.met.items()})
+    note_met(batch, calls)
 
 
 def calls_for_sheets(batch):
     draw = batch.draw
-    calls = answer_calls.Calls(batch.library(), draw)
+    calls = answer_calls.Calls(batch.caller(), draw)
     for _ in range(batch.many(250)):
         sheet = any_sheet(draw, 5)
         must = plan.answer(sheet, True)
@@ -176,23 +177,24 @@ def calls_for_sheets(batch):
             calls.answer(sheet, must)
             calls.check(pair, verdict)
             calls.mend(mail, mended)
-    note_met(batch, {tuple(key.split()): times for key, times in calls.met.items()})
+    note_met(batch, calls)
 
 
 def calls_for_paths(batch):
-    calls = pick_calls.Calls(batch.library(), batch.draw)
+    calls = pick_calls.Calls(batch.caller(), batch.draw)
     for cases in (pick.drawn(batch.many(400), batch.seed), pick_calls.large(batch.many(20), batch.seed)):
         for case in cases:
             tape, label, index, listed, blocks, head, turn = case
             must = picked(tape, by_tree, label, index, listed, blocks, head, turn)
             for _ in range(3):
-                calls.hold(case, must)
-    note_met(batch, {("pick", str(number)): times for number, times in calls.met.items()})
+                calls.pick(case, must)
+    note_met(batch, calls)
 
 
-def note_met(batch, met):
-    for (call, refusal), times in met.items():
-        batch.note("violstream_" + call, refusal != "0", times)
+def note_met(batch, calls):
+    calls.close()
+    for (call, refusal), times in calls.met.items():
+        batch.note("violstream_" + call, refusal != 0, times)
 
 
 def plans(batch):
@@ -346,7 +348,8 @@ def planted(made, folder):
         os.symlink("/bin/cat", os.path.join(folder, "bin", crate))
     calls = re.findall(r"^uint64_t (violstream_\w+)\(", open(os.path.join(programs.ROOT, "include/violstream.h"), encoding="utf-8").read(), re.M)
     source = "".join(f"unsigned long {call}(void) {{ return 0; }}\n" for call in calls)
-    subprocess.run([os.environ.get("CC", "cc"), "-shared", "-fPIC", "-x", "c", "-", "-o", os.path.join(folder, "libviolstream.so")], input=source.encode(), check=True)
+    own = glob.glob(os.path.join(programs.ROOT, "tests/c/caller/*.c"))
+    subprocess.run([os.environ.get("CC", "cc"), "-I", os.path.join(programs.ROOT, "include"), *own, "-x", "c", "-", "-o", os.path.join(folder, "caller")], input=source.encode(), check=True)
     for name in ("compare_c", "compare_rust", "any_head", "movements"):
         shutil.copy("/bin/false", os.path.join(folder, name))
 
