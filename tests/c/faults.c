@@ -144,6 +144,24 @@ int posix_spawnp(pid_t *pid, const char *file, const posix_spawn_file_actions_t 
     return fails("spawn") ? (int)error : next(pid, file, actions, about, words, names);
 }
 
+/* Of a child, on its way to become another program: its caller is ended just then. */
+int prctl(int what, ...)
+{
+    NEXT(int, "prctl", (int, ...));
+    va_list words;
+    unsigned long word;
+    pid_t caller = getppid();
+    va_start(words, what);
+    word = va_arg(words, unsigned long);
+    va_end(words);
+    if (fails("prctl")) {
+        kill(caller, SIGKILL);
+        while (getppid() == caller)
+            usleep(1000);
+    }
+    return next(what, word);
+}
+
 int ioctl(int fd, unsigned long what, ...)
 {
     NEXT(int, "ioctl", (int, unsigned long, ...));

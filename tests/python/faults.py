@@ -21,7 +21,7 @@ import tempfile
 import time
 
 import programs
-from command import ARCHIVE, BUILT, INDEX, LABEL, Checkout, built, contents, forget_built, large_run, unbuilt
+from command import ARCHIVE, BUILT, INDEX, LABEL, Checkout, built, contents, faulty, forget_built, large_run, unbuilt
 
 KINDS = {"read": errno.EIO, "write": errno.ENOSPC, "open": errno.EMFILE, "close": errno.EIO, "poll": errno.ENOMEM, "pipe2": errno.EMFILE, "fork": errno.EAGAIN,
          "waitpid": errno.ECHILD, "dup2": errno.EMFILE, "execvp": errno.EACCES, "fcntl": errno.EBADF, "flock": errno.ENOLCK, "rename": errno.EXDEV, "fsync": errno.EIO, "linkat": errno.EPERM,
@@ -276,9 +276,7 @@ def main():
     only, packing = asked.only, asked.long or asked.only == "deb"
     built()
     with tempfile.TemporaryDirectory() as folder:
-        shim = os.path.join(folder, "faults.so")
-        source = os.path.join(programs.ROOT, "tests/c/faults.c")
-        subprocess.run([os.environ.get("CC", "cc"), "-O1", "-Wall", "-Wextra", "-Werror", "-shared", "-fPIC", source, "-o", shim, "-ldl"], check=True)
+        shim = faulty(folder)
         at = Checkout(folder)
         with open(os.path.join(programs.ROOT, "crates/cmd_month/stdin"), "rb") as handle:
             at.write("may.month", handle.read())
