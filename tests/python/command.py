@@ -1435,6 +1435,37 @@ def beside(at):
     beside_ended(at)
 
 
+def failed_once(at):
+    """Where Debian's libraries are not there cargo asks the network for them, and waits. The next calls say the same at once; it is tried again where something has changed."""
+    uncompiled(at)
+    at.surroundings.update(CARGO_FAULT="no such crate")
+    sheet, again = "./violstream plan examples/VX0041.run", "so said cargo when it last tried"
+
+    def must(line, status, out, says, tried):
+        before = all_calls(at).count("cargo")
+        at.must(line, status, out, ["error: no such crate", *says])
+        if all_calls(at).count("cargo") - before != tried:
+            raise Wrong(f"{line} has called cargo {all_calls(at).count('cargo') - before} times, and must {tried} times")
+
+    at.must("sed -i \"s|^registry=.*|registry='$PWD/registry'|\" violstream", 0)
+    must(sheet, 0, PLAN, ["so the proved program answers by itself"], 1)
+    for line, status, out, says in ((sheet, 0, PLAN, "so the proved program answers by itself"), ("./violstream plan -", 3, refusal(11, 1), "answers by itself"), ("./violstream help", 1, b"", "the command itself is needed")):
+        must(line, status, out, [again, "./violstream build has it try again", says], 0)
+    for change in ("mkdir -p registry/clap-3.2.0", "printf '\\n' >> command/src/main.rs", "cp stand-in/cargo another && mv another stand-in/cargo", "printf '#!/bin/sh\\n' > stand-in/cc && chmod 755 stand-in/cc"):
+        at.must(change, 0)
+        must(sheet, 0, PLAN, [], 1)
+        must(sheet, 0, PLAN, [again], 0)
+    must("./violstream build", 1, b"", ["the command itself is needed"], 1)
+    must(sheet, 0, PLAN, [again], 0)
+    # With the libraries nobody waits, and what has failed may have been the disk.
+    at.must("mkdir registry/clap-4.0.32", 0)
+    must(sheet, 0, PLAN, [], 1)
+    must(sheet, 0, PLAN, [], 1)
+    at.surroundings.update(CARGO_FAULT="")
+    at.must(sheet, 0, PLAN)
+    at.must(f"test ! -e target/command/failed && {sheet}", 0, PLAN, silent=True)
+
+
 def beside_ended(at):
     """A call that cannot be answered, or is ended, leaves neither at work."""
     forget_compiled(at)
@@ -1564,7 +1595,7 @@ def until(true, otherwise):
 
 
 TESTS = (answers, any_run, every_run, every_run_judged, without_library, fielding, figures, pairs, explained, timed, rewriting, mending, monthly, desk, replaying, statuses, help_and_version, nothing_lost, closed, odd_ends, quick, broken_program, several, ltfs_inputs, words_of_sheets, words_of_damaged_sheets,
-         words_of_tapes, keyboard, transcripts, manual, interrupted, orphaned, manners, as_json, installing, packaged, limits, other_user, without_compiler, building, building_fails, building_twice, building_interrupted, beside, linked_anew, surrounded)
+         words_of_tapes, keyboard, transcripts, manual, interrupted, orphaned, manners, as_json, installing, packaged, limits, other_user, without_compiler, building, building_fails, building_twice, building_interrupted, beside, failed_once, linked_anew, surrounded)
 
 
 def built():
