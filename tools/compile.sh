@@ -33,14 +33,14 @@ failed_before() {
 }
 
 # With the library where it is there, for this processor, and has every call that the command makes; the newest tells. Of other bytes it stands in another folder, so that cargo sees that
-# there is something to do. What was there is kept beside the command, which knows by it whether to be compiled again.
+# there is something to do. What was there is kept beside the command, which knows by it whether to be compiled again. Returns 1 where cargo fails, and 2 where nothing can be written.
 compile() {
     stand=$(standing)
     library=$made/linked.$$
-    if [ -f "$archive" ]; then cp "$archive" "$library"; else : > "$library"; fi || return 1
+    if [ -f "$archive" ]; then cp "$archive" "$library"; else : > "$library"; fi || return 2
     set --
     if [ "$(uname -m)" = x86_64 ] && grep -q violstream_buys "$library"; then
-        sum=$(cksum < "$library") && sum=$made/library.${sum%% *} && mkdir -p "$sum" && cp "$library" "$sum/libviolstream.a" || return 1
+        sum=$(cksum < "$library") && sum=$made/library.${sum%% *} && mkdir -p "$sum" && cp "$library" "$sum/libviolstream.a" || return 2
         set -- --features library -- -L "native=$sum"
     fi
     # What would have cargo build something else, or write elsewhere.
@@ -49,5 +49,5 @@ compile() {
     (cd "$made/crate" && exec $ending nice -n 19 "$cargo" rustc --release --target-dir "$made/target" "$@") > "$made/log" 2>&1 || { tell_why; rm -f "$library"; return 1; }
     rm -f "$built".[0-9]* "$failed"
     # At once, and whole.
-    cp "$made/target/release/violstream" "$built.$$" && mv -f "$built.$$" "$built" && mv -f "$library" "${built%/*}/linked.a"
+    cp "$made/target/release/violstream" "$built.$$" && mv -f "$built.$$" "$built" && mv -f "$library" "${built%/*}/linked.a" || return 2
 }
