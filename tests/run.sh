@@ -253,6 +253,7 @@ command_installed() {
 server_installed() {
     mkdir "$out/windows" || fail "no folder for windows"
     for must in 'filed=1,1' 'filed=1,2'; do
+        : > "$out/serve.said" # what the one before has said is not taken for this one's
         env -u RATTLE_HOME PATH="${path%:}" "$prefix/bin/violstream" serve --journal "$out/journal" --windows "$out/windows" "$here/examples/day.run" 2> "$out/serve.said" &
         server=$!
         tries=0
