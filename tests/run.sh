@@ -262,6 +262,7 @@ command_installed() {
 server_installed() {
     mkdir "$out/windows" || fail "no folder for windows"
     for must in 'filed=1,1' 'filed=1,2'; do
+        : > "$out/serve.said" # what the one before has said is not taken for this one's
         env -u RATTLE_HOME PATH="${path%:}" "$prefix/bin/violstream" serve --journal "$out/journal" --windows "$out/windows" "$here/examples/day.run" 2> "$out/serve.said" &
         server=$!
         tries=0
@@ -349,11 +350,14 @@ bench() {
 command_sources() {
     step "building the command" "$here/violstream" version
     made=$here/target/command/made
+    found=$(grep -rlw -e unsafe -e 'allow(unsafe_code)' "$here/command/src")
+    [ "$found" = "$here/command/src/violstream.rs" ] || fail "unsafe may stand in command/src/violstream.rs alone, and stands in: $found"
+    grep -qx '#!\[deny(unsafe_code)\]' "$here/command/src/main.rs" || fail "command/src/main.rs does not refuse unsafe in other files"
     step "the layout of the command's sources" cargo fmt --check --manifest-path "$here/command/Cargo.toml"
     (cd "$made/crate" && step "clippy" cargo clippy -q --release --target-dir "$made/target" -- -D warnings) || exit 1
     (cd "$made/crate" && step "clippy, with the library" cargo clippy -q --release --features library --target-dir "$made/target" -- -D warnings) || exit 1
     (cd "$made/crate" && step "the command's own tests" cargo test -q --release --target-dir "$made/target" > "$out/cargo.log") || exit 1
-    printf 'command_sources: in the layout of rustfmt, nothing found by clippy, its own tests passed\n'
+    printf 'command_sources: one file with unsafe, in the layout of rustfmt, nothing found by clippy, its own tests passed\n'
 }
 
 # A little of what tests/soak.sh draws without end, and that it would see a wrong answer.

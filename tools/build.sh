@@ -161,7 +161,8 @@ library() {
         [ "${2:-}" != modules ] || mv -f "$rooms/module.bc" "target/staticlib/modules/$crate.bc" || return
     done
     { echo "create $rooms/all.a"; printf 'addlib target/staticlib/lib%s.a\n' "${order[@]}"; echo save; echo end; } | "$ar" -M || return
-    mv -f "$rooms/all.a" "target/staticlib/lib$1.a"
+    # From another disk it is copied, and a copy that was cut off would be newer than every source: aside first, and then at once.
+    cp "$rooms/all.a" "target/staticlib/lib$1.part" && mv -f "target/staticlib/lib$1.part" "target/staticlib/lib$1.a"
 }
 
 case $1 in

@@ -75,11 +75,11 @@ pub fn linked(call: &Call) -> Result<(), Stop> {
     }
     let (script, built) = (call.places.root.join("violstream"), call.places.root.join(BUILT));
     let removed = fs::remove_file(&built).or_else(|error| if error.kind() == ErrorKind::NotFound { Ok(()) } else { Err(error) });
-    let error = match removed {
-        Ok(()) => Command::new(&script).args(std::env::args_os().skip(1)).exec(),
-        Err(error) => error,
+    let (path, error) = match removed {
+        Ok(()) => (&script, Command::new(&script).args(std::env::args_os().skip(1)).exec()),
+        Err(error) => (&built, error),
     };
-    failed(format!("cannot compile this command with the library: {}: {}", quoted(script.as_os_str()), reason(&error)))
+    failed(format!("cannot compile this command with the library: {}: {}", quoted(path.as_os_str()), reason(&error)))
 }
 
 /// The gate, alone in this checkout.

@@ -27,16 +27,14 @@ mod programs;
 mod say;
 mod serve;
 mod status;
-#[allow(unsafe_code)]
 mod system;
 mod usage;
-#[allow(unsafe_code)]
 mod violstream;
 mod words;
 
 use status::{Status, Stop};
 
-/// The whole of a call; the number with which it ends. `system` calls this once it has looked at what it was given.
+/// The whole of a call; the number with which it ends. It is called once `system` has looked at what was given.
 #[cfg_attr(test, allow(dead_code))]
 fn run(began: system::Began) -> i32 {
     answer(began).unwrap_or_else(tell).number()

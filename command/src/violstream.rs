@@ -1,7 +1,11 @@
 //! The library for C, from Rust: its calls as violstream.h declares them, and `Library`, which makes them safely. Every row is lent with its own length, and a row
-//! that an answer needs is made here. Of the command this is, beside `system`, the only file with `unsafe` in it; a program of your own takes it as it is and
-//! links libviolstream.a or libviolstream.so.
+//! that an answer needs is made here. A program of your own takes this file as it is and links libviolstream.a or libviolstream.so.
+//!
+//! Of the command this is the only file with `unsafe` in it. So what the command itself needs `unsafe` for stands here too, at the end, in `host`. That part is
+//! there with the command's own feature alone: no other program has it.
+#![allow(unsafe_code)]
 #![allow(dead_code)] // the command makes some of the calls, other programs others
+#![allow(unknown_lints, unexpected_cfgs)] // nor has any other program the feature
 
 pub const PLACES: usize = 32;
 pub const VERSION: u64 = 40000;
@@ -405,5 +409,58 @@ impl Library {
             calls::violstream_waiting(desk.tickets.as_ptr(), PLACES, self.out.as_mut_ptr(), self.out.len(), sizes.as_mut_ptr(), sizes.len())
         })?;
         Ok(self.text(sizes[0]))
+    }
+}
+
+// ---- For the command alone ----
+
+/// What the command asks of the system that neither Rust's own library nor nix has without `unsafe`.
+#[cfg(feature = "violstream-host")]
+pub mod host {
+    use memmap2::Mmap;
+    use nix::libc;
+    use nix::sys::signal::{signal, SigHandler, Signal};
+    use nix::unistd::{getpid, getppid};
+    use std::fs::File;
+    use std::io;
+    use std::os::unix::process::CommandExt;
+    use std::process::Command;
+
+    /// The call begins here and not in Rust's own start, which opens /dev/null for a descriptor that is closed, and ignores a broken pipe,
+    /// before anybody could ask.
+    #[cfg(not(test))]
+    #[no_mangle]
+    pub extern "C" fn main(_count: libc::c_int, _words: *const *const libc::c_char) -> libc::c_int {
+        crate::run(crate::system::begin())
+    }
+
+    /// Has a signal ignored, or do what it does by itself; whether it was ignored before.
+    pub fn ignore(number: Signal, ignored: bool) -> bool {
+        let how = if ignored { SigHandler::SigIgn } else { SigHandler::SigDfl };
+        // SAFETY: neither is a function that the signal could call, and there was none before.
+        unsafe { signal(number, how) == Ok(SigHandler::SigIgn) }
+    }
+
+    /// A file as it lies in memory, whatever its length. Whoever cuts it off while it is looked at ends this call.
+    pub fn map(file: &File) -> io::Result<Mmap> {
+        // SAFETY: it is looked at as bytes alone, and nothing that is found there is taken for granted.
+        unsafe { Mmap::map(file) }
+    }
+
+    /// The program gets the signal when this process ends, however it ends.
+    pub fn end_with_caller(command: &mut Command, number: Signal) {
+        let caller = getpid();
+        let in_child = move || {
+            // SAFETY: no memory is handed over.
+            unsafe { libc::prctl(libc::PR_SET_PDEATHSIG, number as libc::c_int) };
+            // The caller may have ended before it was asked.
+            if getppid() == caller {
+                Ok(())
+            } else {
+                Err(io::Error::from_raw_os_error(libc::ESRCH))
+            }
+        };
+        // SAFETY: both calls are allowed between fork and exec; nothing is allocated there, and no lock taken.
+        unsafe { command.pre_exec(in_child) };
     }
 }

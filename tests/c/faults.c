@@ -2,7 +2,7 @@
    the N-th of one kind in the process called `violstream`, and in no other:
 
        VIOLSTREAM_FAULT=KIND:N:ERRNO      the N-th fails; with N = 0 none does; with a signal below 0 for ERRNO the process gets that in its place
-       VIOLSTREAM_FAULT_COUNT=FILE        the number of calls of that kind is written there at the end
+       VIOLSTREAM_FAULT_COUNT=FILE        the number of calls of that kind is written there at the end; where a call becomes another program, the most of both
 
    Descriptors above 2 that are not sockets or terminals, and 0 to 2, are all the same here: whatever the command reads and writes may fail. */
 #define _GNU_SOURCE
@@ -30,10 +30,12 @@
 static char kind[32];
 static long at, error, met;
 static int active;
+static pid_t process;
 
 __attribute__((constructor)) static void begin(void)
 {
     const char *fault = getenv("VIOLSTREAM_FAULT");
+    process = getpid();
     active = fault && !strcmp(program_invocation_short_name, "violstream") && sscanf(fault, "%31[a-z0-9_]:%ld:%ld", kind, &at, &error) == 3;
 }
 
@@ -41,9 +43,16 @@ __attribute__((destructor)) static void end(void)
 {
     const char *name = getenv("VIOLSTREAM_FAULT_COUNT");
     FILE *count;
+    long before = 0;
     if (!active || !name)
         return;
     active = 0;
+    count = fopen(name, "r");
+    if (count) {
+        if (fscanf(count, "%ld", &before) == 1 && before > met)
+            met = before;
+        fclose(count);
+    }
     count = fopen(name, "w");
     if (count) {
         fprintf(count, "%ld\n", met);
@@ -81,7 +90,6 @@ WRAP(int, pipe2, (int ends[2], int how), (ends, how))
 WRAP(pid_t, fork, (void), ())
 WRAP(pid_t, waitpid, (pid_t pid, int *status, int how), (pid, status, how))
 WRAP(int, dup2, (int from, int to), (from, to))
-WRAP(int, execvp, (const char *file, char *const words[]), (file, words))
 WRAP(int, flock, (int fd, int how), (fd, how))
 WRAP(int, rename, (const char *from, const char *to), (from, to))
 WRAP(int, fsync, (int fd), (fd))
@@ -97,6 +105,8 @@ WRAP(int, ftruncate64, (int fd, off64_t size), (fd, size))
 WRAP(off64_t, lseek64, (int fd, off64_t to, int how), (fd, to, how))
 WRAP(int, statx, (int at_folder, const char *path, int how, unsigned what, struct statx *to), (at_folder, path, how, what, to))
 WRAP(int, chmod, (const char *path, mode_t mode), (path, mode))
+WRAP(int, access, (const char *path, int what), (path, what))
+WRAP(int, utimensat, (int folder, const char *path, const struct timespec times[2], int how), (folder, path, times, how))
 WRAP(int, chown, (const char *path, uid_t owner, gid_t group), (path, owner, group))
 WRAP(int, socket, (int family, int type, int protocol), (family, type, protocol))
 WRAP(int, bind, (int fd, const struct sockaddr *to, socklen_t size), (fd, to, size))
@@ -142,6 +152,36 @@ int posix_spawnp(pid_t *pid, const char *file, const posix_spawn_file_actions_t 
 {
     NEXT(int, "posix_spawnp", (pid_t *, const char *, const posix_spawn_file_actions_t *, const posix_spawnattr_t *, char *const[], char *const[]));
     return fails("spawn") ? (int)error : next(pid, file, actions, about, words, names);
+}
+
+int execvp(const char *file, char *const words[])
+{
+    NEXT(int, "execvp", (const char *, char *const[]));
+    if (fails("execvp"))
+        return -1;
+    if (active && getpid() == process) {
+        end();
+        active = 1;
+    }
+    return next(file, words);
+}
+
+/* Of a child, on its way to become another program: its caller is ended just then. */
+int prctl(int what, ...)
+{
+    NEXT(int, "prctl", (int, ...));
+    va_list words;
+    unsigned long word;
+    pid_t caller = getppid();
+    va_start(words, what);
+    word = va_arg(words, unsigned long);
+    va_end(words);
+    if (fails("prctl")) {
+        kill(caller, SIGKILL);
+        while (getppid() == caller)
+            usleep(1000);
+    }
+    return next(what, word);
 }
 
 int ioctl(int fd, unsigned long what, ...)

@@ -106,6 +106,13 @@ class Checkout:
             raise Wrong(f"{tell}; it must say why")
 
 
+def faulty(folder):
+    """Loaded before libc, this has one call of the system fail."""
+    shim, source = os.path.join(folder, "faults.so"), os.path.join(programs.ROOT, "tests/c/faults.c")
+    subprocess.run([os.environ.get("CC", "cc"), "-O1", "-Wall", "-Wextra", "-Werror", "-shared", "-fPIC", source, "-o", shim, "-ldl"], check=True)
+    return shim
+
+
 def refusal(number, place=0):
     return b"refused=%d\nplace=%d\n" % (number, place)
 
@@ -677,6 +684,14 @@ def odd_ends(at):
                               preexec_fn=lambda number=number: signal.signal(number, signal.SIG_IGN))
         if (done.stdout, done.returncode) != (PLAN, 0):
             raise Wrong(f"with signal {number} ignored plan gives {done}")
+    # A reader that has gone, where the signal that says so is held back: nobody is told, and the status is the one that it gives.
+    mine, theirs = os.pipe()
+    os.close(mine)
+    done = subprocess.run([at.path(BUILT), "plan", "-"], input=RUN, stdout=theirs, stderr=subprocess.PIPE, env=at.surroundings, timeout=LIMIT,
+                          preexec_fn=lambda: signal.pthread_sigmask(signal.SIG_BLOCK, [signal.SIGPIPE]))
+    os.close(theirs)
+    if (done.stderr, done.returncode) != (b"", 128 + signal.SIGPIPE):
+        raise Wrong(f"with SIGPIPE blocked, and nobody to read, plan gives {done}")
 
 
 def quick(at):
@@ -952,6 +967,25 @@ def interrupted(at):
                 if call.returncode != -number or said or time.monotonic() - began > 5 or os.listdir(at.temporary):
                     raise Wrong(f"{words} ended by signal {number}: status {call.returncode}, said {said!r}, left {os.listdir(at.temporary)}")
                 until(lambda: not in_session(call.pid), f"{words} ended by signal {number}: a program goes on")
+
+
+def orphaned(at):
+    """A call that is ended on its way to start a program: the program does not begin."""
+    if not LINKED:
+        return
+    shim, started = faulty(at.root), at.path("started")
+    os.remove(at.path("target/bin/cmd_plan"))
+    at.write("target/bin/cmd_plan", b"#!/bin/sh\ntouch started\n")
+    os.chmod(at.path("target/bin/cmd_plan"), 0o755)
+    for fault, ended, begins in (("prctl:0:0", 1, True), ("prctl:1:0", -signal.SIGKILL, False)):
+        call = subprocess.Popen([at.path(BUILT), "plan", "examples/VX0041.run"], cwd=at.root, stdout=subprocess.DEVNULL, stderr=subprocess.DEVNULL,
+                                env=dict(at.surroundings, LD_PRELOAD=shim, VIOLSTREAM_FAULT=fault), start_new_session=True)
+        call.wait(LIMIT)
+        until(lambda: not in_session(call.pid), f"with {fault} something goes on")
+        if (call.returncode, os.path.exists(started)) != (ended, begins):
+            raise Wrong(f"with {fault} the call ended with {call.returncode}, and the program {'began' if os.path.exists(started) else 'did not begin'}")
+        if begins:
+            os.remove(started)
 
 
 def in_session(session):
@@ -1330,6 +1364,7 @@ def building_interrupted(at):
         if call.returncode != -number:
             raise Wrong(f"signal {number}: status {call.returncode}")
         until(lambda: not os.listdir(at.temporary), f"signal {number}: left {os.listdir(at.temporary)}")
+        until(lambda: not at_work(at), f"signal {number}: still at work: {at_work(at)}")
         shutil.rmtree(at.path("target/stamp"), ignore_errors=True)
     at.must("./violstream plan examples/VX0041.run", 0, PLAN, ["building cmd_plan"])
 
@@ -1398,6 +1433,37 @@ def beside(at):
     forget_compiled(at)
     at.must(f"CARGO_FAULT='no such crate' FAULT='error: it is not so' {sheet}", 1, b"", ["error: no such crate", "'rt check cmd_plan' failed"])
     beside_ended(at)
+
+
+def failed_once(at):
+    """Where Debian's libraries are not there cargo asks the network for them, and waits. The next calls say the same at once; it is tried again where something has changed."""
+    uncompiled(at)
+    at.surroundings.update(CARGO_FAULT="no such crate")
+    sheet, again = "./violstream plan examples/VX0041.run", "so said cargo when it last tried"
+
+    def must(line, status, out, says, tried):
+        before = all_calls(at).count("cargo")
+        at.must(line, status, out, ["error: no such crate", *says])
+        if all_calls(at).count("cargo") - before != tried:
+            raise Wrong(f"{line} has called cargo {all_calls(at).count('cargo') - before} times, and must {tried} times")
+
+    at.must("sed -i \"s|^registry=.*|registry='$PWD/registry'|\" violstream", 0)
+    must(sheet, 0, PLAN, ["so the proved program answers by itself"], 1)
+    for line, status, out, says in ((sheet, 0, PLAN, "so the proved program answers by itself"), ("./violstream plan -", 3, refusal(11, 1), "answers by itself"), ("./violstream help", 1, b"", "the command itself is needed")):
+        must(line, status, out, [again, "./violstream build has it try again", says], 0)
+    for change in ("mkdir -p registry/clap-3.2.0", "printf '\\n' >> command/src/main.rs", "cp stand-in/cargo another && mv another stand-in/cargo", "printf '#!/bin/sh\\n' > stand-in/cc && chmod 755 stand-in/cc"):
+        at.must(change, 0)
+        must(sheet, 0, PLAN, [], 1)
+        must(sheet, 0, PLAN, [again], 0)
+    must("./violstream build", 1, b"", ["the command itself is needed"], 1)
+    must(sheet, 0, PLAN, [again], 0)
+    # With the libraries nobody waits, and what has failed may have been the disk.
+    at.must("mkdir registry/clap-4.0.32", 0)
+    must(sheet, 0, PLAN, [], 1)
+    must(sheet, 0, PLAN, [], 1)
+    at.surroundings.update(CARGO_FAULT="")
+    at.must(sheet, 0, PLAN)
+    at.must(f"test ! -e target/command/failed && {sheet}", 0, PLAN, silent=True)
 
 
 def beside_ended(at):
@@ -1529,7 +1595,7 @@ def until(true, otherwise):
 
 
 TESTS = (answers, any_run, every_run, every_run_judged, without_library, fielding, figures, pairs, explained, timed, rewriting, mending, monthly, desk, replaying, statuses, help_and_version, nothing_lost, closed, odd_ends, quick, broken_program, several, ltfs_inputs, words_of_sheets, words_of_damaged_sheets,
-         words_of_tapes, keyboard, transcripts, manual, interrupted, manners, as_json, installing, packaged, limits, other_user, without_compiler, building, building_fails, building_twice, building_interrupted, beside, linked_anew, surrounded)
+         words_of_tapes, keyboard, transcripts, manual, interrupted, orphaned, manners, as_json, installing, packaged, limits, other_user, without_compiler, building, building_fails, building_twice, building_interrupted, beside, failed_once, linked_anew, surrounded)
 
 
 def built():

@@ -6,7 +6,8 @@ usage: tests/python/faults.py [--only WORD] [--long]    (the command is that in 
 A call must print its whole answer and end as without a fault, or say what went wrong in a sentence and end with status 1. A short answer with status
 0 or 3 is what must never be. A server may also go on, where one asker gets no answer or is told that his event was not kept; whatever it has answered is
 in its journal, and the next server goes on from there. A book is right after each try. The faults are made by tests/c/faults.c, loaded before libc; of
-all tries a table is printed.
+all tries a table is printed. Where a call builds what it needs, stand-ins for rt, cargo and tools/build.sh do it at once; of tools/build.sh and violstream
+themselves, each program that they start fails in turn.
 """
 import argparse
 import collections
@@ -21,14 +22,14 @@ import tempfile
 import time
 
 import programs
-from command import ARCHIVE, BUILT, INDEX, LABEL, Checkout, built, contents, forget_built, large_run, unbuilt
+from command import ARCHIVE, BUILT, INDEX, LABEL, PROGRAMS, Checkout, built, contents, faulty, forget_built, large_run, uncompiled
 
 KINDS = {"read": errno.EIO, "write": errno.ENOSPC, "open": errno.EMFILE, "close": errno.EIO, "poll": errno.ENOMEM, "pipe2": errno.EMFILE, "fork": errno.EAGAIN,
          "waitpid": errno.ECHILD, "dup2": errno.EMFILE, "execvp": errno.EACCES, "fcntl": errno.EBADF, "flock": errno.ENOLCK, "rename": errno.EXDEV, "fsync": errno.EIO, "linkat": errno.EPERM,
          "mkdir": errno.EACCES, "unlink": errno.EACCES, "symlink": errno.EPERM, "fchmod": errno.EPERM, "readlink": errno.EACCES, "pwrite64": errno.ENOSPC, "fdatasync": errno.EIO,
          "ftruncate64": errno.EIO, "lseek64": errno.EIO, "statx": errno.EIO, "chmod": errno.EPERM, "chown": errno.EPERM, "socket": errno.EMFILE, "bind": errno.EACCES, "listen": errno.EADDRINUSE,
          "accept4": errno.EMFILE, "connect": errno.ECONNREFUSED, "getsockopt": errno.ENOBUFS, "recv": errno.ECONNRESET, "signalfd": errno.EMFILE, "opendir": errno.EMFILE, "readdir64": errno.EIO,
-         "mmap": errno.ENOMEM, "spawn": errno.EAGAIN, "ioctl": errno.EIO}
+         "mmap": errno.ENOMEM, "spawn": errno.EAGAIN, "ioctl": errno.EIO, "access": errno.EACCES, "utimensat": errno.EPERM}
 RUN, PLAN = "examples/VX0041.run", "examples/VX0041.plan"
 CALLS = (f"plan {RUN}", "plan --any examples/mounted.run", "plan --any large.run", f"plan {RUN} examples/no-wants.run", f"field {RUN}", f"buys --json {RUN}", f"price {RUN} examples/VX0041.list", f"check {RUN} {PLAN}",
          f"explain {RUN} --svg picture", "rewrite examples/no-wants.run", "mend loose.run", "month may.month", f"month {RUN} examples/retired-rule.run",
@@ -41,7 +42,34 @@ ASKED = "ask windows/office1 file=3,2 waiting"
 # What is asked of a server, in this order.
 EVENTS = (("office1", b"file=3,2"), ("office2", b"file=5,4"), ("office1", b"file=1,1"), ("office1", b"withdraw=1"), ("operator", b"board=70,3"), ("office2", b"file=1,129"), ("office2", b"file=2,1"))
 # Calls that leave something behind, which are put right before each try.
-MAKING = ("install PREFIX", "uninstall PREFIX", "deb", f"first plan {RUN}")
+MAKING = ("install PREFIX", "uninstall PREFIX", "deb")
+# Calls that build first: a program; a program and the library; and the command itself, with a library that is new.
+BUILDING = (f"first plan {RUN}", "first build", "relinked build")
+ANOTHER, CRATES = ARCHIVE + b"another\n", b"refusals:\nruns: refusals\nwalk: refusals runs\ncmd_plan: runs walk\n"
+# A stand-in for tools/build.sh.
+BUILD = """#!/bin/sh
+printf '%s\\n' 'rooms=/no-such' 'rt: runs proved (unchanged since it was last proved)' 'rt: walk proved (7 s)'
+mkdir -p target/bin target/stamp target/staticlib || exit
+case $1 in
+check) cp "kept/$2" target/bin/ && echo > "target/stamp/$2" ;;
+library) printf '!<arch>\\n' > target/staticlib/libviolstream.a ;;
+esac
+"""
+# Programs that tools/build.sh starts for a program, and for the library; and violstream itself, where it compiles the command. Each counts its starts, and fails
+# when it is told to. A copy is then cut short, as on a full disk, also by mv from another folder.
+STARTED = {BUILDING[0]: "chmod dirname env grep ln mkdir mkfifo mktemp rm rt sed", BUILDING[1]: "ar chmod cp dirname mktemp mv rm rt uname",
+           BUILDING[2]: "cksum cp find grep ln ls mkdir mv rm setpriv uname"}
+FAILING = """#!/bin/sh
+name=${0##*/} PATH=%s
+printf '%%s\\n' "$name" >> %s
+if [ "$(wc -l < %s)" -eq "$VIOLSTREAM_FAILING" ]; then
+    for word; do from=${to:-} to=$word; done
+    case $name in cp | mv) [ "$name,${from%%/*}" = "mv,${to%%/*}" ] || head -c 4 "$from" > "$to" ;; esac
+    printf '%%s: error: planted\\n' "$name" >&2
+    exit 1
+fi
+exec "$name" "$@"
+"""
 # Seconds for a call, and for an answer of a server; a first call starts dozens of programs, and the machine may be busy.
 LIMIT, PATIENCE = 300, 60
 
@@ -60,12 +88,13 @@ def packed(out):
 class Tries:
     def __init__(self, at, shim):
         self.at, self.shim, self.table, self.packed = at, shim, {}, None
-        self.prefix, self.counted = at.path("prefix"), at.path("counted")
+        self.prefix, self.counted, self.starts = at.path("prefix"), at.path("counted"), None
 
     def started(self, words, kind, number, **how):
         surroundings = dict(self.at.surroundings, LD_PRELOAD=self.shim, VIOLSTREAM_FAULT=f"{kind}:{number}:{KINDS.get(kind, 0)}", VIOLSTREAM_FAULT_COUNT=self.counted)
-        words = [self.prefix if word == "PREFIX" else word for word in words.removeprefix("first ").split()]
-        return subprocess.Popen([self.at.path(BUILT), *words], cwd=self.at.root, stdin=subprocess.DEVNULL, stdout=subprocess.PIPE, stderr=subprocess.PIPE, env=surroundings, **how)
+        command = "./violstream" if words in BUILDING else self.at.path(BUILT)
+        words = [self.prefix if word == "PREFIX" else word for word in words.removeprefix("first ").removeprefix("relinked ").split()]
+        return subprocess.Popen([command, *words], cwd=self.at.root, stdin=subprocess.DEVNULL, stdout=subprocess.PIPE, stderr=subprocess.PIPE, env=surroundings, **how)
 
     def met(self):
         """How many calls of a kind there were in the process that has ended."""
@@ -97,11 +126,39 @@ class Tries:
             shutil.copytree(self.at.path("ledger"), self.at.path("vault"))
         if words.startswith("uninstall"):
             self.call("install PREFIX")
-        if words.startswith("first"):
-            # Nothing is built, and a stand-in for rt is there to build it.
-            if not os.path.exists(self.at.path("kept")):
-                unbuilt(self.at)
-            forget_built(self.at)
+        if words in BUILDING:
+            self.unbuild(words)
+
+    def unbuild(self, words):
+        """What the call needs is not built, and stand-ins are there to build it."""
+        at = self.at
+        if not os.path.exists(at.path("kept")):
+            uncompiled(at)
+            os.rename(at.path("tools/build.sh"), at.path("tools/build.kept"))
+            at.write("tools/build.stand-in", BUILD.encode())
+            os.chmod(at.path("tools/build.stand-in"), 0o755)
+            at.write("crates.txt", CRATES)
+            os.utime(at.path("crates.txt"), (0, 0))
+        forget_built(at)
+        shutil.copy(at.path("command.kept"), at.path(BUILT))
+        shutil.copy(at.path("tools/build.kept" if self.starts else "tools/build.stand-in"), at.path("tools/build.sh"))
+        at.write("target/command/linked.a", ARCHIVE)
+        if words != BUILDING[0]:
+            for folder in ("bin", "stamp", "staticlib"):
+                os.makedirs(at.path(f"target/{folder}"))
+            for name in PROGRAMS[0 if words == BUILDING[2] or self.starts else 1:]:
+                os.link(at.path(f"kept/{name}"), at.path(f"target/bin/{name}"))
+                at.write(f"target/stamp/{name}", b"\n")
+        if words == BUILDING[2]:
+            at.write("target/staticlib/libviolstream.a", ANOTHER)
+
+    def unfinished(self, words):
+        """What such a call has not left as it must be."""
+        must = {f"target/bin/{name}": contents(f"target/bin/{name}") for name in PROGRAMS[:1 if words == BUILDING[0] else None]}
+        must.update({f"target/stamp/{name}": b"\n" for name in PROGRAMS[:1 if words == BUILDING[0] else None]})
+        if words != BUILDING[0]:
+            must.update({name: ANOTHER if words == BUILDING[2] else ARCHIVE for name in ("target/staticlib/libviolstream.a", "target/command/linked.a")})
+        return [name for name, data in must.items() if not os.path.exists(self.at.path(name)) or open(self.at.path(name), "rb").read() != data]
 
     def try_answers(self, words):
         """A call whose answers go on from try to try: how many there are, and of what kind."""
@@ -123,7 +180,7 @@ class Tries:
         self.packed = packed(whole[0]) if words == "deb" else None
         for kind in KINDS:
             self.prepare(words)
-            for number in chosen(self.call(words, kind, 0)[3], words in MAKING):
+            for number in chosen(self.call(words, kind, 0)[3], words in MAKING + BUILDING):
                 self.prepare(words)
                 out, said, status, _ = self.call(words, kind, number)
                 self.judge(words, f"{kind} number {number}", whole, out, said, status)
@@ -137,6 +194,8 @@ class Tries:
         if status == whole[2] and out == whole[0]:
             if words == "deb" and packed(out) != self.packed:
                 sys.exit(f"faults.py: {tell}; and the package has not all")
+            if words in BUILDING and self.unfinished(words):
+                sys.exit(f"faults.py: {tell}; and {self.unfinished(words)} are not as they must be")
             self.note(words, "whole")
             return
         self.note(words, "told")
@@ -146,8 +205,8 @@ class Tries:
             sys.exit(f"faults.py: {tell}; it must say why")
         if words.startswith("install"):
             self.removable(tell)
-        if words.startswith("first") and self.call(words)[:3:2] != whole[:3:2]:
-            sys.exit(f"faults.py: {tell}; and the next call does not answer")
+        if words in BUILDING and (self.call(words)[:3:2] != whole[:3:2] or self.unfinished(words)):
+            sys.exit(f"faults.py: {tell}; and the next call does not answer, or leaves {self.unfinished(words)} not as it must be")
 
     def removable(self, tell):
         """Whatever an installation that has failed has left can be removed."""
@@ -158,6 +217,40 @@ class Tries:
         left = [name for _, _, names in os.walk(self.prefix) for name in names]
         if left:
             sys.exit(f"faults.py: {tell}; and {left} stay after uninstall")
+
+
+    def try_starts(self, words):
+        """tools/build.sh and the script violstream as they are, with each program that they start failing in turn."""
+        self.starts = self.at.path("starts")
+        self.prepare(words)
+        inside, before = self.at.path("failing"), dict(self.at.surroundings)
+        os.makedirs(inside, exist_ok=True)
+        for name in STARTED[words].split():
+            with open(os.path.join(inside, name), "w") as handle:
+                handle.write(FAILING % (before["PATH"], self.starts, self.starts))
+            os.chmod(os.path.join(inside, name), 0o755)
+        self.at.surroundings.update(PATH=inside + ":" + before["PATH"], RT_JOBS="1", RATTLE_HOME=self.at.temporary)
+        self.call_started(words, 0) # makes folders that stay
+        self.prepare(words)
+        whole, started = self.call_started(words, 0)
+        if set(started) != set(STARTED[words].split()):
+            sys.exit(f"faults.py: for {words} the scripts start {sorted(set(started))}, and not {STARTED[words]}")
+        for number in range(1, len(started) + 1):
+            self.prepare(words)
+            tried, _ = self.call_started(words, number)
+            self.at.surroundings.update(VIOLSTREAM_FAILING="0")
+            self.judge(words, f"start number {number} of the scripts ({started[number - 1]})", whole, *tried[:3])
+        self.at.surroundings, self.starts = before, None
+        self.table[f"{words}, what the scripts start"] = self.table.pop(words)
+        shutil.rmtree(inside)
+
+    def call_started(self, words, number):
+        """A call with a start of that number failing; and the programs that were started."""
+        open(self.starts, "w").close()
+        self.at.surroundings.update(VIOLSTREAM_FAILING=str(number))
+        tried = self.call(words)
+        with open(self.starts) as handle:
+            return tried, handle.read().split()
 
 
 class Served:
@@ -220,7 +313,8 @@ class Served:
             sys.exit(f"faults.py: violstream {self.words} without a fault: {whole}")
         for kind in KINDS:
             self.prepare()
-            for number in range(1, self.day(kind, 0)[3] + 1):
+            # Behind an answer it looks for the next line again and again, for a while.
+            for number in chosen(self.day(kind, 0)[3], kind == "poll"):
                 self.prepare()
                 self.judge(f"{kind} number {number}", whole, *self.day(kind, number)[:3])
 
@@ -276,9 +370,7 @@ def main():
     only, packing = asked.only, asked.long or asked.only == "deb"
     built()
     with tempfile.TemporaryDirectory() as folder:
-        shim = os.path.join(folder, "faults.so")
-        source = os.path.join(programs.ROOT, "tests/c/faults.c")
-        subprocess.run([os.environ.get("CC", "cc"), "-O1", "-Wall", "-Wextra", "-Werror", "-shared", "-fPIC", source, "-o", shim, "-ldl"], check=True)
+        shim = faulty(folder)
         at = Checkout(folder)
         with open(os.path.join(programs.ROOT, "crates/cmd_month/stdin"), "rb") as handle:
             at.write("may.month", handle.read())
@@ -293,7 +385,7 @@ def main():
         tries = Tries(at, shim)
         tries.call(f"record ledger {RUN} examples/retired-rule.run examples/no-wants.run")
         has_library = tries.call(NAMED[0])[2] == 0
-        for words in CALLS + NAMED * has_library + MAKING[:2] + MAKING[2:3] * packing:
+        for words in CALLS + NAMED * has_library + MAKING[:2] + MAKING[2:] * packing:
             if only is None or only in words:
                 tries.try_call(words)
         for words in SERVED * has_library:
@@ -301,8 +393,12 @@ def main():
                 Served(tries, words).try_all()
         if has_library and (only is None or only in ASKED):
             try_asking(tries)
-        if only is None or only in MAKING[3]:
-            tries.try_call(MAKING[3])
+        for words in STARTED:
+            if only is None or only in words:
+                tries.try_starts(words)
+        for words in BUILDING:
+            if only is None or only in words:
+                tries.try_call(words)
     print_table(tries.table)
     if not has_library:
         print("faults.py: pick, recall, serve and ask left out: the command was compiled without the library")
