@@ -12,8 +12,8 @@ Plans, priceAnswer and priceRows are not followed either: they are the contracts
 have them as premises alone, "whatever answer fits the contract", and say of such an answer all that an auditor must know. That for every
 input an answer fits is proved: demands/proofs/Fits.
 
-With --all: every definition that some statement rests on, each with its file and with what docs/AUDIT.md says of it. Read are all
-definitions of STATEMENTS, and the contracts of the functions in AUDIT's table of formulas. Each name there is followed as above, but not past a
+With --all: every definition that some statement or public contract rests on, each with its file and with what docs/AUDIT.md says of it. Read are
+all definitions of STATEMENTS, and the contracts of all public functions of crates/*/src but main. Each name there is followed as above, but not past a
 name of those tables of AUDIT whose first column a statement determines ("pinned"): whatever such a definition says, the statement named
 beside it holds of it. What is met must be pinned or be on AUDIT's list of what must be read; `neither` is a word that nobody has
 looked at. Structs and enums of the code are not listed: they have fields and variants, and mean nothing by themselves.
@@ -34,11 +34,11 @@ TYPE = re.compile(r"^pub (struct|enum) (\w+)")
 IMPORT = re.compile(r"^use Rattle·(\w+)[·.]specs\.(?:specs\.)?([\w.-]+)\.\{([^}]*)\}", re.M)
 DECLARED = re.compile(r"declared\.(?:\w+\.)*?(\w+)(\.the-variants)?$")
 WORD = re.compile(r"(?:(\w+)::)?([A-Za-z][\w′-]*)")
-# With --all: a word that is no field (` .field`, `Type.Variant`); a constructor of a data type; what a program of the code cites; a function of AUDIT's table.
+# With --all: a word that is no field (` .field`, `Type.Variant`); a constructor of a data type; what a program of the code cites; a public function up to its body.
 CITED = re.compile(r"(?<![\w.:′-])(?<! \.)([A-Za-z][\w′-]*)")
 CONSTRUCTOR = re.compile(r"^  ([A-Za-z][\w′-]*) :")
 GHOST = re.compile(r"^ghost use Rattle·(\w+)[·.]specs\.(?:specs\.)?([\w.]+)\.\{([^}]*)\}", re.M)
-FUNCTION = re.compile(r"`(?:([a-z_]+)::)?([a-z_]+)`")
+CONTRACT = re.compile(r"^pub (?:extern \"C\" )?fn (?!main\b).*?^\{", re.M | re.S)
 
 
 def with_comment(lines, first, end, mark):
@@ -156,13 +156,13 @@ class Specs:
             elif word in names and names[word][0].endswith(".antt"):
                 yield self.definition(*names[word])
 
-    def in_contract(self, crate, function):
-        """The definitions that the contract of a function cites; crate None: of any crate."""
-        for path in sorted(glob.glob("crates/%s/src/*.rt" % (crate or "boundary*"))):
+    def in_contracts(self):
+        """The definitions that the contracts of public functions cite."""
+        for path in sorted(glob.glob("crates/*/src/*.rt")):
             text = open(path, encoding="utf-8").read()
             names = {name: ("crates/%s/specs/%s.antt" % (at, module.replace(".", "/")), name)
                      for at, module, imported in GHOST.findall(text) for name in re.split(r",\s*", imported) if not module.startswith("declared")}
-            for contract in re.findall(r"^pub (?:extern \"C\" )?fn %s\b.*?^\{" % function, text, re.M | re.S):
+            for contract in CONTRACT.findall(text):
                 for word in set(CITED.findall(" ".join(re.findall(r"^ +(?:ensures|requires) .*", contract, re.M)))) & set(names):
                     yield self.definition(*names[word])
 
@@ -201,7 +201,7 @@ def all_words():
     """Every definition that is met, with what cites it; those that are pinned, and those that must be read; the files of which all is listed."""
     specs, (formulas, must) = Specs(), in_audit()
     pinned, read = listed(specs, formulas), listed(specs, must)
-    todo = [(found, "a contract") for cell in cells(formulas, 1) for crate, name in FUNCTION.findall(cell) for found in specs.in_contract(crate, name)]
+    todo = [(found, "a contract") for found in specs.in_contracts()]
     todo += [((path, name), path) for pattern in STATEMENTS for path in sorted(glob.glob(pattern)) for name in specs.file(path)[0]]
     statements, met = {found for found, by in todo if by != "a contract"}, {}
     while todo:

@@ -5,9 +5,9 @@ usage: tests/python/reading.py
 
 Fails where tools/reading.py counts 500 lines or more for demands 1 to 3; where that reading passes through a file Private, which holds what no
 statement cites; where a file of demands/specs or promises/specs holds a proof and not statements alone; where two public files of specs/, of
-any crates, define one name; where a word that some statement rests on is neither in AUDIT's tables of what a statement says by conditions nor in
-its list of what must be read; where a word stands there that no statement rests on, that stands in both, or that the statements beside it do not
-cite; and where the list misstates its lines.
+any crates, define one name; where a word that some statement or the contract of a public function rests on is neither in AUDIT's tables of what a
+statement says by conditions nor in its list of what must be read; where a word stands there that neither rests on, that stands in both, or that the
+statements beside it do not cite; and where the list misstates its lines.
 
 So that a reader that sees nothing does not pass, each of these is then planted in a copy, and must be found.
 """
@@ -69,8 +69,8 @@ def words_unlisted():
 def words_uncited():
     _, met, pinned, read, whole = reading.all_words()
     named = pinned | {word for word in read if word[0] not in whole}
-    found = [f"{reading.AUDIT} lists {name} in {path}, on which no statement rests" for path, name in sorted(named - set(met))]
-    found += [f"{reading.AUDIT} lists {path}, on which no statement rests" for path in sorted(whole - {path for path, _ in met})]
+    found = [f"{reading.AUDIT} lists {name} in {path}, on which no statement and no public contract rests" for path, name in sorted(named - set(met))]
+    found += [f"{reading.AUDIT} lists {path}, on which no statement and no public contract rests" for path in sorted(whole - {path for path, _ in met})]
     return found + [f"{reading.AUDIT} lists {name} in {path} as said and as to be read" for path, name in sorted(pinned & read) if path not in whole]
 
 
@@ -97,6 +97,7 @@ PLANTED = (
     (words_unlisted, reading.AUDIT, [("| `runs/specs/Lists`: `Detour`, ", "| `runs/specs/Lists`: ")]),
     (words_unlisted, DEMAND, [("use Rattle.runs.specs.Run.", "use Rattle.runs.specs.Judging.{headChecks}\nuse Rattle.runs.specs.Run."),
                               ("    → AsksNoLess first second\n", "    → headChecks 0 0 0 ≡ headChecks 0 0 0\n")]),
+    (words_unlisted, "crates/runs/src/any_head.rt", [("AnyHead.{smaller, liftedHead}", "AnyHead.{pulled, liftedHead}"), ("⌜ r ≡ smaller start head ⌝", "⌜ r ≡ pulled start head ⌝")]),
     (words_uncited, reading.AUDIT, [("`text_bytes/specs/Text`: `lineFeed`, `comma`", "`text_bytes/specs/Text`: `lineFeed`, `comma`, `decimalIn`")]),
     (words_uncited, reading.AUDIT, [("| `walk/specs/Walk`; ", "| `walk/specs/Walk`; `least/specs/Slopes`; ")]),
     (words_uncited, reading.AUDIT, [("| `runs/specs/Lists`: `Detour`, ", "| `text_bytes/specs/Text`: `comma`; `runs/specs/Lists`: `Detour`, ")]),
