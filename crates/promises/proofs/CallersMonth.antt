@@ -1,7 +1,7 @@
 -- The parts of a month, of every month and every text: short laws over those of the outcome, of the longest time and of the numbers.
-use Prim.Native.Nat.{ℕ, _-_, _≤_, _<_}
+use Prim.Native.Nat.{ℕ, _-_, _≤_}
 use mathlib.Core.Path.{_≡_, refl, sym, ap, _∙_}
-use mathlib.Core.Bool.{Bool, true, false, cond, _&&_, true≢false}
+use mathlib.Core.Bool.{true, false, _&&_, true≢false}
 use mathlib.Core.Logic.{⊎-elim}
 use mathlib.Core.List.{List, [], _∷_, _++_}
 use native.Mathlib.Omega.{arith}
@@ -9,31 +9,29 @@ use lib.ListN.{length, replicate, length-append, length-replicate}
 use lib.Dec.{leb}
 use borrow.Author.Tests.{le-leb, lt-leb}
 use Rattle.refusals.specs.declared.Refusal.the-variants.{Accepted}
-use Rattle.refusals.proofs.Verdicts.{refuses, all-accept}
-use Rattle.runs.specs.Run.{Run}
+use Rattle.refusals.proofs.Verdicts.{all-accept}
 use Rattle.runs.specs.Lists.{Detour}
 use Rattle.runs.proofs.Search.{true-or-false}
 use Rattle.walk.specs.Price.{pricedTimes}
 use Rattle.least.specs.Least.{LeastForRun}
-use Rattle.text_bytes.specs.Text.{lineFeed, isEmpty, has, before, behind, isNumber, valueOf, decimal}
+use Rattle.text_bytes.specs.Text.{lineFeed, isEmpty, has, before, behind, isNumber, decimal}
 use Rattle.text_bytes.proofs.Bytes.{and-true-both}
 use Rattle.text_bytes.proofs.Split.{split-at}
 use Rattle.text_bytes.proofs.Decimals.{decimal-value, decimal-number, decimal-without}
 use Rattle.sheet_reader.specs.Sheet.{sheetRun, sheetName}
 use Rattle.sheet_reader.specs.Reading.{sheetVerdict, ruleVerdict}
 use Rattle.sheet_reader.proofs.Good.{good-name}
-use Rattle.answer_plan.specs.Recall.{runChecks, verdictBy, recallVerdict}
+use Rattle.answer_plan.specs.Recall.{runChecks, verdictBy}
 use Rattle.answer_outcome.specs.declared.Outcome.{Outcome}
 use Rattle.answer_outcome.specs.Outcomes.{nameIn, plannedOutcome, OutcomeOf}
 use Rattle.answer_outcome.proofs.Plans.{name-fits}
-use Rattle.answer_month.specs.declared.Part.{Part}
-use Rattle.answer_month.specs.declared.Part.the-variants.{End, Sheet, Bad}
+use Rattle.answer_month.specs.declared.Part.the-variants.{Sheet, Bad}
 use Rattle.answer_month.specs.Month.{added}
 use Rattle.answer_month.specs.Parts.{isCount, countOf, partOf, inputVerdict}
 use Rattle.demands.proofs.Letters.{numbers-are-texts}
 use Rattle.promises.specs.MonthLongest.{timesByWalk}
 use Rattle.promises.specs.Callers.{IsLongestOf}
-use Rattle.promises.specs.CallersMonth.{SheetIsAdded, OutcomeNames, AcceptedNames, CountLine, PartIsTold, InputIsJudged}
+use Rattle.promises.specs.CallersMonth.{SheetIsAdded, AcceptedNames, CountLine, PartIsTold, InputIsJudged}
 use Rattle.promises.proofs.MonthInput.{whole-count}
 use Rattle.promises.proofs.MonthLongest.{passes, is}
 use Rattle.promises.proofs.MonthRuns.{sheets-come-to}

@@ -6,7 +6,6 @@ use mathlib.Core.Bool.{true, false}
 use mathlib.Core.List.{List, [], _∷_, _++_}
 use lib.ListN.{length, replicate}
 use Rattle.refusals.specs.declared.Refusal.the-variants.{Accepted, BadSheetCount}
-use Rattle.refusals.specs.declared.Verdict.{Verdict}
 use Rattle.runs.specs.Lists.{Detour}
 use Rattle.least.specs.Least.{LeastForRun}
 use Rattle.text_bytes.specs.Text.{lineFeed, decimal}

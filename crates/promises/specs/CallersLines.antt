@@ -1,0 +1,62 @@
+-- Readers of single lines for a caller in Rattle, at any byte of any text; and the neighbours of a table that overlap, in any two rows.
+use Prim.Native.Nat.{ℕ, suc, _+_, _≤_, _<_}
+use mathlib.Core.Path.{_≡_}
+use mathlib.Core.Bool.{true, false}
+use mathlib.Core.Logic.{_⊎_, _↔_}
+use mathlib.Core.List.{List, _∷_, _++_}
+use lib.ListN.{length, getD, drop}
+use Rattle.text_bytes.specs.Text.{lineFeed}
+use Rattle.text_lines.specs.declared.NumberLine.{NumberLine}
+use Rattle.text_lines.specs.Found.{NumberLineFound}
+use Rattle.sheet_reader.specs.declared.NameLine.{NameLine}
+use Rattle.sheet_reader.specs.declared.RuleLine.{RuleLine}
+use Rattle.sheet_reader.specs.Lines.{tapeKey, turnKey, ruleKey, sweepText, leastText, isTurnLine, turnIn}
+use Rattle.sheet_reader.specs.Found.{NameLineFound, RuleLineFound}
+use Rattle.tape_ranges.specs.Ranges.{rangesFrom, neighbourOverlap}
+use Rattle.demands.specs.Lines.{Name, NumberOrNothing, RuleName}
+use Rattle.demands.specs.SheetLines.{PriceText}
+
+-- From a byte of a text on stand this key, a value of this kind and an LF; the next line starts behind that.
+pub record StandsAt (key : List ℕ) (Kind : List ℕ → Type 0) (text : List ℕ) (at next : ℕ) : Type 0 where
+  pub value : List ℕ
+  pub is : drop at text ≡ key ++ value ++ (lineFeed ∷ drop next text)
+  pub within : next ≤ length text
+  pub kind : Kind value
+
+-- No such line stands there, whatever follows it.
+abbrev pub NoLineAt : List ℕ → (List ℕ → Type 0) → List ℕ → ℕ → Type 0
+NoLineAt key Kind text at = (next : ℕ) → StandsAt key Kind text at next → ⊥
+
+-- The price of a turn: nothing, which is the drives' own, or a number.
+abbrev pub TurnLineTold : List ℕ → ℕ → NumberLine → Type 0
+TurnLineTold text at (NumberLine.Value turn next) = StandsAt turnKey (λ value. NumberOrNothing value × PriceText turn value) text at next
+TurnLineTold text at NumberLine.Bad = NoLineAt turnKey NumberOrNothing text at
+
+abbrev pub TurnLineIsRead : Type 0
+TurnLineIsRead = (text : List ℕ) (at : ℕ) (line : NumberLine) → NumberLineFound isTurnLine turnIn text at line → TurnLineTold text at line
+
+-- The rule: the retired one, or the least.
+abbrev pub RuleLineTold : List ℕ → ℕ → RuleLine → Type 0
+RuleLineTold text at (RuleLine.Value sweep next) = StandsAt ruleKey (λ value. ((value ≡ sweepText) × (sweep ≡ true)) ⊎ ((value ≡ leastText) × (sweep ≡ false))) text at next
+RuleLineTold text at RuleLine.Bad = NoLineAt ruleKey RuleName text at
+
+abbrev pub RuleLineIsRead : Type 0
+RuleLineIsRead = (text : List ℕ) (at : ℕ) (line : RuleLine) → RuleLineFound text at line → RuleLineTold text at line
+
+-- The tape's name, at the front of a text: where it ends, behind the five bytes of its key.
+abbrev pub TapeLineTold : List ℕ → NameLine → Type 0
+TapeLineTold text (NameLine.Name end next) = StandsAt tapeKey (λ value. Name value × (end ≡ 5 + length value)) text 0 next
+TapeLineTold text NameLine.Bad = NoLineAt tapeKey Name text 0
+
+abbrev pub TapeLineIsRead : Type 0
+TapeLineIsRead = (text : List ℕ) (line : NameLine) → NameLineFound text line → TapeLineTold text line
+
+-- Two neighbours that both rows have: the earlier one ends behind the start of the later one.
+pub record NeighboursOverlap (starts lengths : List ℕ) : Type 0 where
+  pub earlier : ℕ
+  pub first : suc earlier < length starts
+  pub second : suc earlier < length lengths
+  pub over : getD starts (suc earlier) 0 < getD starts earlier 0 + getD lengths earlier 0
+
+abbrev pub OverlapIsTold : Type 0
+OverlapIsTold = (starts lengths : List ℕ) → (neighbourOverlap (rangesFrom starts lengths) ≡ true) ↔ NeighboursOverlap starts lengths
