@@ -1,5 +1,5 @@
--- Readers of single lines for a caller in Rattle, at any byte of any text; and the neighbours of a table that overlap, in any two rows.
-use Prim.Native.Nat.{ℕ, suc, _+_, _≤_, _<_}
+-- Readers of single lines for a caller in Rattle, at any byte of any text; and of a tape's table, in any two rows, neighbours that overlap and one file more.
+use Prim.Native.Nat.{ℕ, suc, _+_, _*_, _^_, _≤_, _<_}
 use mathlib.Core.Path.{_≡_}
 use mathlib.Core.Bool.{true, false}
 use mathlib.Core.Logic.{_⊎_, _↔_}
@@ -12,7 +12,9 @@ use Rattle.sheet_reader.specs.declared.NameLine.{NameLine}
 use Rattle.sheet_reader.specs.declared.RuleLine.{RuleLine}
 use Rattle.sheet_reader.specs.Lines.{tapeKey, turnKey, ruleKey, sweepText, leastText, isTurnLine, turnIn}
 use Rattle.sheet_reader.specs.Found.{NameLineFound, RuleLineFound}
-use Rattle.tape_ranges.specs.Ranges.{rangesFrom, neighbourOverlap}
+use Rattle.tape_ranges.specs.declared.File.{File}
+use Rattle.tape_ranges.specs.declared.Tally.{Tally}
+use Rattle.tape_ranges.specs.Ranges.{fileStart, keptTally, keptRow, rangesFrom, neighbourOverlap}
 use Rattle.demands.specs.Lines.{Name, NumberOrNothing, RuleName}
 use Rattle.demands.specs.SheetLines.{PriceText}
 
@@ -60,3 +62,48 @@ pub record NeighboursOverlap (starts lengths : List ℕ) : Type 0 where
 
 abbrev pub OverlapIsTold : Type 0
 OverlapIsTold = (starts lengths : List ℕ) → (neighbourOverlap (rangesFrom starts lengths) ≡ true) ↔ NeighboursOverlap starts lengths
+
+-- A file that can be kept: it ends at 2 to the 40 or before, and both rows have an entry behind those in use.
+pub record CanBeKept (tally : Tally) (start bytes : ℕ) (starts lengths : List ℕ) : Type 0 where
+  pub near : start + bytes ≤ 2 ^ 40
+  pub first : tally .kept < length starts
+  pub second : tally .kept < length lengths
+
+-- Its place among the entries in use: before the first that starts behind it.
+pub record PlaceAmong (kept start : ℕ) (starts : List ℕ) (place : ℕ) : Type 0 where
+  pub within : place ≤ kept
+  pub earlier : (i : ℕ) → i < place → getD starts i 0 ≤ start
+  pub later : place < kept → start < getD starts place 0
+
+-- A value put in there: the entries in use from there on move up by one, every other one is as it was.
+pub record PutIn (kept place value : ℕ) (row row′ : List ℕ) : Type 0 where
+  pub long : length row′ ≡ length row
+  pub before : (i : ℕ) → i < place → getD row′ i 0 ≡ getD row i 0
+  pub here : getD row′ place 0 ≡ value
+  pub moved : (i : ℕ) → place ≤ i → i < kept → getD row′ (suc i) 0 ≡ getD row i 0
+  pub behind : (i : ℕ) → kept < i → getD row′ i 0 ≡ getD row i 0
+
+-- One file more in two rows.
+pub record OneFileMore (tally : Tally) (start bytes : ℕ) (starts lengths : List ℕ) (tally′ : Tally) (starts′ lengths′ : List ℕ) : Type 0 where
+  pub place : ℕ
+  pub among : PlaceAmong (tally .kept) start starts place
+  pub left : PutIn (tally .kept) place start starts starts′
+  pub right : PutIn (tally .kept) place bytes lengths lengths′
+  pub counted : tally′ ≡ record { good = tally .good; several = tally .several; far = tally .far; kept = suc (tally .kept); empty = tally .empty; other = tally .other }
+
+-- Else it is far, and both rows are as they were.
+pub record NoFileMore (tally : Tally) (starts lengths : List ℕ) (tally′ : Tally) (starts′ lengths′ : List ℕ) : Type 0 where
+  pub left : starts′ ≡ starts
+  pub right : lengths′ ≡ lengths
+  pub told : tally′ ≡ record { good = tally .good; several = tally .several; far = true; kept = tally .kept; empty = tally .empty; other = tally .other }
+
+pub record FileTold (tally : Tally) (start bytes : ℕ) (starts lengths : List ℕ) (tally′ : Tally) (starts′ lengths′ : List ℕ) : Type 0 where
+  pub kept : CanBeKept tally start bytes starts lengths → OneFileMore tally start bytes starts lengths tally′ starts′ lengths′
+  pub far : (CanBeKept tally start bytes starts lengths → ⊥) → NoFileMore tally starts lengths tally′ starts′ lengths′
+
+-- A file starts at its block times the block size and its offset.
+abbrev pub FileIsKept : Type 0
+FileIsKept =
+    (tally : Tally) (f : File) (size : ℕ) (starts lengths : List ℕ)
+    → FileTold tally (f .block * size + f .offset) (f .count) starts lengths (keptTally tally f size starts lengths)
+    (keptRow tally f size starts lengths (fileStart f size) starts) (keptRow tally f size starts lengths (f .count) lengths)
