@@ -121,7 +121,7 @@ tells-overlap (s ∷ (t ∷ starts)) (l ∷ (m ∷ lengths)) =
     tells-reworded there back (tells-either (ltb t (s + l)) _ (tells-below t (s + l)) (tells-overlap (t ∷ starts) (m ∷ lengths)))
   where
     there : (t < s + l) ⊎ NeighboursOverlap (t ∷ starts) (m ∷ lengths) → NeighboursOverlap (s ∷ (t ∷ starts)) (l ∷ (m ∷ lengths))
-    there (inl h) = record { earlier = 0; first = omega arith; second = omega arith; over = h }
+    there (inl h) = record { earlier = 0; first = omega arith; second = omega arith; over = omega (arith, h) }
     there (inr n) = one-on s l (t ∷ starts) (m ∷ lengths) n
 
     at-place : (j : ℕ) → suc j < length (s ∷ (t ∷ starts)) → suc j < length (l ∷ (m ∷ lengths)) → getD (s ∷ (t ∷ starts)) (suc j) 0 < getD (s ∷ (t ∷ starts)) j 0 + getD (l ∷ (m ∷ lengths)) j 0
