@@ -3,7 +3,7 @@ use Prim.Native.Nat.{ℕ, suc, _+_, _*_, _^_, _≤_, _<_}
 use mathlib.Core.Path.{_≡_}
 use mathlib.Core.Bool.{true, false}
 use mathlib.Core.Logic.{_⊎_, _↔_}
-use mathlib.Core.List.{List, _∷_, _++_}
+use mathlib.Core.List.{List, [], _∷_, _++_}
 use lib.ListN.{length, getD, drop}
 use Rattle.text_bytes.specs.Text.{lineFeed}
 use Rattle.text_lines.specs.declared.NumberLine.{NumberLine}
@@ -107,3 +107,10 @@ FileIsKept =
     (tally : Tally) (f : File) (size : ℕ) (starts lengths : List ℕ)
     → FileTold tally (f .block * size + f .offset) (f .count) starts lengths (keptTally tally f size starts lengths)
     (keptRow tally f size starts lengths (fileStart f size) starts) (keptRow tally f size starts lengths (f .count) lengths)
+
+-- Two files of ten bytes each that touch; that overlap by a byte; and a third one without its length, which is no neighbour.
+abbrev pub NeighboursWorked : Type 0
+NeighboursWorked =
+    (neighbourOverlap (rangesFrom (0 ∷ 10 ∷ []) (10 ∷ 10 ∷ [])) ≡ false)
+    × (neighbourOverlap (rangesFrom (0 ∷ 9 ∷ []) (10 ∷ 10 ∷ [])) ≡ true)
+    × (neighbourOverlap (rangesFrom (0 ∷ 10 ∷ 15 ∷ []) (10 ∷ 10 ∷ [])) ≡ false)

@@ -8,7 +8,7 @@ use lib.ListN.{length, replicate}
 use Rattle.refusals.specs.declared.Refusal.the-variants.{Accepted, BadSheetCount}
 use Rattle.runs.specs.Lists.{Detour}
 use Rattle.least.specs.Least.{LeastForRun}
-use Rattle.text_bytes.specs.Text.{lineFeed, decimal}
+use Rattle.text_bytes.specs.Text.{bytes, lineFeed, decimal}
 use Rattle.sheet_reader.specs.Sheet.{sheetRun, sheetName}
 use Rattle.answer_outcome.specs.declared.Outcome.{Outcome}
 use Rattle.answer_outcome.specs.Outcomes.{OutcomeOf}
@@ -75,3 +75,8 @@ pub record InputTold (m : Month) : Type 0 where
 
 abbrev pub InputIsJudged : Type 0
 InputIsJudged = (m : Month) → InputTold m
+
+-- The line `12` behind 999 sheets and behind 1,000; with a byte behind its LF; and no line behind 1,000.
+abbrev pub LinesOfAMonth : Type 0
+LinesOfAMonth =
+    (partOf 999 (bytes "12\n") ≡ Sheet 12) × (partOf 1000 (bytes "12\n") ≡ Bad) × (partOf 0 (bytes "12\nt") ≡ Bad) × (partOf 1000 [] ≡ End)
