@@ -135,7 +135,7 @@ pub longest-is-first : LongestIsFirst
 longest-is-first files times = record { longest = none-longer files times; some = first-longest files times; none = no-longest files times }
 
 -- One outcome more.
-grows : (total more : ℕ) → Grows total more (grown total more)
+pub grows : (total more : ℕ) → Grows total more (grown total more)
 unfolding grown
 grows total more = record { within = grown-fits total more; beyond = λ l. rw (le-leb (2 ^ 64) (total + more) l) }
 

@@ -1,6 +1,6 @@
 -- The proofs of the promises. Requests L6 and L7: by single calls (DeskSteps), by days (Desk), their refusals, wants and worked cases. Request L11: laws
 -- of what is gathered, copied and read again, then its promises (Mends) and its refusals (Mender). Request L13: totals, names, the input's division, the order of the sheets. The
--- auditor's commands: Checks. All programs: Lengths, Answers. A caller in Rattle: Callers, CallersRead, CallersLists, CallersTable.
+-- auditor's commands: Checks. All programs: Lengths, Answers. A caller in Rattle: Callers, CallersRead, CallersMonth, CallersLines, CallersLists, CallersTable.
 pub mod DeskSteps
 pub mod Desk
 pub mod DeskRefusals
@@ -70,6 +70,8 @@ pub mod AnyRecord
 pub mod TwoTexts
 pub mod Callers
 pub mod CallersRead
+pub mod CallersMonth
+pub mod CallersLines
 pub mod CallersLists
 pub mod CallersTable
 pub mod CallersCases

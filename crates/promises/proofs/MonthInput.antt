@@ -78,7 +78,7 @@ no-count : (line : List ℕ) → has lineFeed line ≡ false → countOf line �
 unfolding countOf isCount
 no-count line e = rw e refl
 
-whole-count : (front : List ℕ) → has lineFeed front ≡ false → countOf (front ++ (lineFeed ∷ [])) ≡ cond (isNumber front) (Sheet (valueOf front)) Bad
+pub whole-count : (front : List ℕ) → has lineFeed front ≡ false → countOf (front ++ (lineFeed ∷ [])) ≡ cond (isNumber front) (Sheet (valueOf front)) Bad
 unfolding countOf isCount
 whole-count front e = rw (has-here lineFeed front [], behind-here lineFeed front [] e, before-here lineFeed front [] e) refl
 

@@ -111,7 +111,7 @@ module _ (files times : List ℕ) where
       ⊎-elim (λ u. ap (λ x. x .file) (u .0)) (λ (b : Beyond nothing files times (longestOf files times)). absurd (omega (arith, none, b .above))) (scan nothing files times)
 
 -- The plan of an accepted sheet's outcome, by the list that it is least by.
-passes : (sheet : List ℕ) (o : Outcome) → OutcomeOf sheet o → o .refusal ≡ Accepted → isRefusal (recallVerdict sheet .refusal) ≡ false
+pub passes : (sheet : List ℕ) (o : Outcome) → OutcomeOf sheet o → o .refusal ≡ Accepted → isRefusal (recallVerdict sheet .refusal) ≡ false
 unfolding refusedOutcome
 passes sheet o p e =
     ⊎-elim (λ t. absurd (true≢false (sym t ∙ ap isRefusal (sym (ap (λ x. x .refusal) (p .refused t)) ∙ e)))) (λ n. n) (true-or-false (isRefusal (recallVerdict sheet .refusal)))

@@ -1,5 +1,5 @@
 -- What requests L6, L7, L11 and L13 promise, what `price` and `check` tell, and what every program prints: a whole answer (Lengths), by the table (Answers). Then what single
--- functions tell a caller in Rattle (Callers, CallersRead, CallersLists, CallersTable).
+-- functions tell a caller in Rattle (Callers, CallersRead, CallersMonth, CallersLines, CallersLists, CallersTable).
 -- Each statement is a type; proofs/ has its proof.
 pub mod Texts
 pub mod Rooms
@@ -44,5 +44,7 @@ pub mod TapeInput
 pub mod TwoTexts
 pub mod Callers
 pub mod CallersRead
+pub mod CallersMonth
+pub mod CallersLines
 pub mod CallersLists
 pub mod CallersTable
