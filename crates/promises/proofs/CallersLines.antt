@@ -127,7 +127,7 @@ tells-overlap (s ∷ (t ∷ starts)) (l ∷ (m ∷ lengths)) =
     at-place : (j : ℕ) → suc j < length (s ∷ (t ∷ starts)) → suc j < length (l ∷ (m ∷ lengths)) → getD (s ∷ (t ∷ starts)) (suc j) 0 < getD (s ∷ (t ∷ starts)) j 0 + getD (l ∷ (m ∷ lengths)) j 0
         → (t < s + l) ⊎ NeighboursOverlap (t ∷ starts) (m ∷ lengths)
     at-place zero a b h = inl h
-    at-place (suc j) a b h = inr (record { earlier = j; first = omega arith; second = omega arith; over = h })
+    at-place (suc j) a b h = inr (record { earlier = j; first = omega arith; second = omega arith; over = omega (arith, h) })
 
     back : NeighboursOverlap (s ∷ (t ∷ starts)) (l ∷ (m ∷ lengths)) → (t < s + l) ⊎ NeighboursOverlap (t ∷ starts) (m ∷ lengths)
     back n = at-place (n .earlier) (n .first) (n .second) (n .over)
