@@ -43,7 +43,7 @@ prove_beside() {
     [ -n "$ending" ] && command -v rt > /dev/null && command -v flock > /dev/null && needed_by "$@" || return 0
     [ ! -e "$here/target/bin/$needed" ] || [ ! -e "$here/target/stamp/$needed" ] || return 0
     take_lock || return 0
-    say "and proving and building $needed beside it, which takes some three to six minutes"
+    say "and proving and building $needed beside it, which takes some two and a half to six minutes on two idle cores"
     [ -e "$here/target/bin/$needed" ] || rm -f "$here/target/stamp/$needed"
     # shellcheck disable=SC2086  # words
     $ending "$here/tools/build.sh" check "$needed" < /dev/null 2>&1 | sed -u -n -e '/(unchanged since /d' -e 's/^rt: /violstream: /p' >&2 8>&- &
