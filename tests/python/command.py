@@ -588,7 +588,7 @@ def statuses(at):
     at.must("./violstream uninstall /no-such", 1, b"", ["nothing that this command knows of is installed below /no-such"])
 
 
-COMMANDS = ("plan", "field", "buys", "price", "check", "explain", "rewrite", "mend", "month", "ltfs", "desk", "serve", "ask", "record", "audit", "build", "test", "install", "deb", "uninstall", "completions", "version", "help")
+COMMANDS = ("plan", "field", "buys", "price", "check", "explain", "rewrite", "mend", "month", "ltfs", "pick", "recall", "desk", "serve", "ask", "record", "audit", "build", "test", "install", "deb", "uninstall", "completions", "version", "help")
 
 
 def help_and_version(at):
