@@ -27,14 +27,14 @@ pub const MOST_TEXT: usize = 2677;
 pub const MOST_ROOM: usize = 65600;
 
 // The waiting table and the last numbers given.
-#[derive(Drop)]
+#[derive(Clone, Copy)]
 pub struct Day {
     pub row: [Ticket; 32],
     pub lasts: Lasts,
 }
 
 // What an event's line holds.
-#[derive(Drop)]
+#[derive(Clone, Copy)]
 pub enum Event {
     File { office: u64, file: u64, count: u64 },
     Withdraw { office: u64, number: u64 },
@@ -43,7 +43,7 @@ pub enum Event {
 }
 
 // The wants of a run, in the first entries of three rows: their files, and when and by which leg each is read.
-#[derive(Drop)]
+#[derive(Clone, Copy)]
 pub struct Reads {
     pub numbers: [u64; 8],
     pub times: [u64; 8],
@@ -51,7 +51,7 @@ pub struct Reads {
 }
 
 // What is answered to an event: the day afterwards, the verdict, and how many bytes the text has. On a refusal the day as it was, and no byte.
-#[derive(Drop)]
+#[derive(Clone, Copy)]
 pub struct Answered {
     pub day: Day,
     pub verdict: Verdict,

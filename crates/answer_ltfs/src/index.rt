@@ -12,20 +12,20 @@ use tape_files::{
 use tape_markup::Place;
 use tape_ranges::File;
 
-#[derive(Drop)]
+#[derive(Clone, Copy)]
 pub(crate) struct FileRead {
     pub file: File,
     pub next: Place,
 }
 
 // Where a reader of the index stands: how many elements it is in that are looked at, 0 outside of all.
-#[derive(Drop)]
+#[derive(Clone, Copy)]
 pub(crate) struct Walk {
     pub depth: usize,
     pub place: Place,
 }
 
-#[derive(Drop)]
+#[derive(Clone, Copy)]
 pub(crate) enum NextFile {
     Found { file: File, walk: Walk },
     Done,

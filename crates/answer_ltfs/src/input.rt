@@ -14,14 +14,14 @@ use text_pages::{put, put_number_line};
 const MOST_INPUT: usize = 524288;
 
 // A text behind a line with its number of bytes: from one position to another.
-#[derive(Drop)]
+#[derive(Clone, Copy)]
 enum Counted {
     Text { from: usize, to: usize },
     Missing,
 }
 
 // The label lies between two positions. The index begins at one, and ends where the input does.
-#[derive(Drop)]
+#[derive(Clone, Copy)]
 enum Texts {
     Both {
         from: usize,

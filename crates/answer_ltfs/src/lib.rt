@@ -10,7 +10,7 @@ pub use input::answer;
 pub use sheet::table_sheet;
 
 // What is answered: the size of the sheet, and how many files were left out. Every number is 0 on a refusal.
-#[derive(Drop)]
+#[derive(Clone, Copy)]
 pub struct Report {
     pub refusal: refusals::Refusal,
     pub place: u64,
@@ -20,7 +20,7 @@ pub struct Report {
 }
 
 // How many bytes the two texts of an answer have: the one for standard output, and the report.
-#[derive(Drop)]
+#[derive(Clone, Copy)]
 pub struct Told {
     pub bytes: u64,
     pub noted: u64,

@@ -21,7 +21,7 @@ pub use wants::Fate;
 use wants::{gather, too_many_reads};
 
 // What the mender answers: the bytes of the mended sheet and those of the changes; on a refusal both are 0.
-#[derive(Drop)]
+#[derive(Clone, Copy)]
 pub struct Mended {
     pub refusal: Refusal,
     pub place: u64,

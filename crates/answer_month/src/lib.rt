@@ -13,7 +13,7 @@ pub use parts::{add_sheet, judge_input, next_part};
 
 // The figures of some sheets: how many they are, the runs accepted, the runs refused by number, reads, summed time, what the plans
 // save, and the longest time with its file and its tape. Where a total would reach 2 to the 64, `over` says so.
-#[derive(Drop)]
+#[derive(Clone, Copy)]
 pub struct Month {
     pub sheets: u64,
     pub accepted: u64,
@@ -29,14 +29,14 @@ pub struct Month {
 }
 
 // A whole part and a remainder.
-#[derive(Drop)]
+#[derive(Clone, Copy)]
 pub struct Mean {
     pub whole: u64,
     pub rest: u64,
 }
 
 // What stands where a part begins: nothing any more, a line with the byte count of a sheet, or neither.
-#[derive(Drop)]
+#[derive(Clone, Copy)]
 pub enum Part {
     End,
     Sheet(u64),
@@ -44,7 +44,7 @@ pub enum Part {
 }
 
 // A month, and whether the sheet's bytes were all there.
-#[derive(Drop)]
+#[derive(Clone, Copy)]
 pub struct Added {
     pub month: Month,
     pub whole: bool,

@@ -15,7 +15,7 @@ use walk::Answer;
 
 // A run refused, or accepted with its reads, its sum, what its plan saves against the empty list, and its longest time, with the
 // file and the tape: so many letters, and zeros behind them.
-#[derive(Drop)]
+#[derive(Clone, Copy)]
 pub struct Outcome {
     pub refusal: Refusal,
     pub reads: u64,
@@ -28,14 +28,14 @@ pub struct Outcome {
 }
 
 // A time and its file.
-#[derive(Drop)]
+#[derive(Clone, Copy)]
 pub struct Longest {
     pub time: u64,
     pub file: u64,
 }
 
 // A plan's answer, and a row with its times.
-#[derive(Drop)]
+#[derive(Clone, Copy)]
 struct Timed {
     plan: Answer,
     times: [u64; 64],

@@ -16,14 +16,14 @@ use text_paths::count_lines;
 use texts::{judge_input, other_if, read_index};
 
 // A number of the refusal table, 0 for none, and the line it speaks of, counted from 1.
-#[derive(Drop)]
+#[derive(Clone, Copy)]
 pub struct Refused {
     pub number: u64,
     pub place: u64,
 }
 
 // What is answered: on a refusal its number and place; else the bytes of the sheet and those of the names.
-#[derive(Drop)]
+#[derive(Clone, Copy)]
 pub struct Picked {
     pub number: u64,
     pub place: u64,

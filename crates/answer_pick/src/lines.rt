@@ -7,7 +7,7 @@ use refusals::{OwnRefusal, Refusal, number, own_number};
 use runs::LAST_PLACE;
 
 // What a line is refused for: no file of its path or several; a file that cannot be read; an end above the limit.
-#[derive(Drop)]
+#[derive(Clone, Copy)]
 enum Test {
     Unknown,
     NoBytes,

@@ -13,7 +13,7 @@ use sheet_runs::{SheetRun, entries};
 use sheet_writer::Written;
 
 // A verdict, and a list where it accepts: so many entries of each row, and zeros behind them.
-#[derive(Drop)]
+#[derive(Clone, Copy)]
 pub struct PlannedList {
     pub verdict: Verdict,
     pub detours: u64,

@@ -12,7 +12,7 @@ use sheet_writer::Written;
 use text_bytes::{Found, find};
 
 // Where a sheet's price stands, whether it is empty, and the bytes of the result.
-#[derive(Drop)]
+#[derive(Clone, Copy)]
 struct Price {
     empty: bool,
     at: usize,

@@ -20,7 +20,7 @@ const AGGREGATES: [u64; 20] = [
 ];
 
 // The table of both offices, the last numbers given, and the number that the answers have gone into.
-#[derive(Drop)]
+#[derive(Clone, Copy)]
 pub struct Day {
     pub table: [Ticket; 32],
     pub lasts: Lasts,

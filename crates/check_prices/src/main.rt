@@ -150,7 +150,7 @@ fn line_taken(cells: [u64; 594], line: &[u8; 1024], n: usize) -> [u64; 594] {
 }
 
 // The cells after the next line, and whether there was one.
-#[derive(Drop)]
+#[derive(Clone, Copy)]
 struct Taken {
     cells: [u64; 594],
     some: bool,

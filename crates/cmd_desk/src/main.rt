@@ -17,7 +17,7 @@ use text_lines::NumberLine;
 const NO_EVENT: u64 = 11;
 
 // A day, how many events it has had, and whether it goes on.
-#[derive(Drop)]
+#[derive(Clone, Copy)]
 struct Step {
     day: Day,
     place: u64,

@@ -5,7 +5,7 @@ use answer_month::{Month, Part};
 use libc::STDOUT_FILENO;
 
 // A month, whether the input was good so far, and whether it has ended.
-#[derive(Drop)]
+#[derive(Clone, Copy)]
 struct Step {
     month: Month,
     good: bool,

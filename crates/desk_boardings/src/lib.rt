@@ -19,7 +19,7 @@ pub const MOST_BOARDERS: usize = 8;
 pub const OWN_PLACES: usize = 4;
 
 // Where the head stands, the price of a turn, and the last numbers given to the offices.
-#[derive(Drop)]
+#[derive(Clone, Copy)]
 pub struct Boarding {
     pub head: u64,
     pub turn: u64,
@@ -27,14 +27,14 @@ pub struct Boarding {
 }
 
 // How many tickets of each office have left.
-#[derive(Drop)]
+#[derive(Clone, Copy)]
 pub struct Taken {
     pub one: usize,
     pub two: usize,
 }
 
 // So many wants, in the first entries of two rows: file numbers and counts. Behind them stand zeros.
-#[derive(Drop)]
+#[derive(Clone, Copy)]
 pub struct Wants {
     pub k: usize,
     pub numbers: [u64; 8],
@@ -43,7 +43,7 @@ pub struct Wants {
 
 // What a boarding answers: the planner's answer, who left, the wants that were planned, whose times and legs are in the lent rows, and the last numbers
 // as they were.
-#[derive(Drop)]
+#[derive(Clone, Copy)]
 pub struct Boarded {
     pub answer: Answer,
     pub taken: Taken,
@@ -52,7 +52,7 @@ pub struct Boarded {
 }
 
 // The same with the row afterwards.
-#[derive(Drop)]
+#[derive(Clone, Copy)]
 pub struct BoardedRow {
     pub boarded: Boarded,
     pub row: [Ticket; 32],

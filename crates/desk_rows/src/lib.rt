@@ -20,7 +20,7 @@ mod journal;
 pub use journal::{is_remark, take_line};
 
 // What is answered to an event beside the row: the last numbers given, the verdict, and how many bytes the text has.
-#[derive(Drop)]
+#[derive(Clone, Copy)]
 pub struct Told {
     pub lasts: Lasts,
     pub verdict: Verdict,
@@ -28,7 +28,7 @@ pub struct Told {
 }
 
 // The same with the table afterwards.
-#[derive(Drop)]
+#[derive(Clone, Copy)]
 pub struct ToldRow {
     pub row: [Ticket; 32],
     pub told: Told,

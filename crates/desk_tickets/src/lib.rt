@@ -24,7 +24,7 @@ pub const MOST_COUNT: u64 = 128;
 pub const MOST_NUMBER: u64 = 65535;
 
 // A record of the waiting table: a ticket, or an empty place, all fields 0.
-#[derive(Drop)]
+#[derive(Clone, Copy)]
 pub struct Ticket {
     pub office: u64,
     pub file: u64,
@@ -33,14 +33,14 @@ pub struct Ticket {
 }
 
 // The last number given to each office; 0: none yet.
-#[derive(Drop)]
+#[derive(Clone, Copy)]
 pub struct Lasts {
     pub one: u64,
     pub two: u64,
 }
 
 // What is filed: a ticket without its number, the number of files of the tape, and the last numbers given.
-#[derive(Drop)]
+#[derive(Clone, Copy)]
 pub struct Filing {
     pub office: u64,
     pub file: u64,
@@ -50,7 +50,7 @@ pub struct Filing {
 }
 
 // What a filing answers: the ticket's number, 0 on a refusal, and the last numbers given.
-#[derive(Drop)]
+#[derive(Clone, Copy)]
 pub struct Filed {
     pub verdict: Verdict,
     pub number: u64,
@@ -58,14 +58,14 @@ pub struct Filed {
 }
 
 // The same with the row afterwards.
-#[derive(Drop)]
+#[derive(Clone, Copy)]
 pub struct FiledRow {
     pub filed: Filed,
     pub row: [Ticket; 32],
 }
 
 // What is withdrawn: the ticket of an office with a number.
-#[derive(Drop)]
+#[derive(Clone, Copy)]
 pub struct Withdrawal {
     pub office: u64,
     pub number: u64,
@@ -73,14 +73,14 @@ pub struct Withdrawal {
 }
 
 // What a withdrawal answers, and the last numbers as they were.
-#[derive(Drop)]
+#[derive(Clone, Copy)]
 pub struct Withdrawn {
     pub verdict: Verdict,
     pub lasts: Lasts,
 }
 
 // The same with the row afterwards.
-#[derive(Drop)]
+#[derive(Clone, Copy)]
 pub struct WithdrawnRow {
     pub withdrawn: Withdrawn,
     pub row: [Ticket; 32],

@@ -11,14 +11,14 @@ use refusals::{Refusal, Verdict, refuse_if, refused};
 use runs::{first_member, judge, last_member};
 
 // What joining answers: the first refusal that applies, or acceptance and the number of stops.
-#[derive(Drop)]
+#[derive(Clone, Copy)]
 pub struct Joined {
     pub verdict: Verdict,
     pub stops: usize,
 }
 
 // Where a stop lies: its first file, its start and its length.
-#[derive(Drop)]
+#[derive(Clone, Copy)]
 struct Place {
     first: u64,
     start: u64,

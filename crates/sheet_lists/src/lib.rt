@@ -18,21 +18,21 @@ pub const MOST_DETOURS: u64 = 63;
 pub const MOST_TIMES: u64 = 64;
 
 // What a reader answers: on a refusal the number of detours is 0.
-#[derive(Drop)]
+#[derive(Clone, Copy)]
 pub struct ListReading {
     pub verdict: Verdict,
     pub detours: u64,
 }
 
 // The first six lines of a plan sheet: the number of detours and where the next line starts; or the first line that is not as described.
-#[derive(Drop)]
+#[derive(Clone, Copy)]
 enum Top {
     Good { detours: u64, next: usize },
     Bad(u64),
 }
 
 // Where the detour lines start and how many they are; or the first line that is not as described.
-#[derive(Drop)]
+#[derive(Clone, Copy)]
 enum Form {
     Good { at: usize, detours: u64 },
     Bad(u64),

@@ -16,7 +16,7 @@ use text_lines::{Lines, NumberLine, fill_pairs, number_line, pair_lines, triple_
 // The parts of a sheet: where its third line starts, the price, whether that is left out, and whether the rule is the retired one; how many file lines
 // `files=` says, where they start and how many there are; where the `wants` line starts, how many want lines it says, where they start and how many
 // there are. On a refusal every number is 0.
-#[derive(Drop)]
+#[derive(Clone, Copy)]
 pub struct Parts {
     pub verdict: Verdict,
     pub third: usize,
@@ -33,7 +33,7 @@ pub struct Parts {
 }
 
 // The first five lines.
-#[derive(Drop)]
+#[derive(Clone, Copy)]
 struct Top {
     third: usize,
     turn: u64,
@@ -43,21 +43,21 @@ struct Top {
     next: usize,
 }
 
-#[derive(Drop)]
+#[derive(Clone, Copy)]
 enum TopRead {
     Good(Top),
     Bad(u64),
 }
 
 // So many lines of one kind, and where the next line starts.
-#[derive(Drop)]
+#[derive(Clone, Copy)]
 struct Block {
     count: u64,
     next: usize,
 }
 
 // The `wants` line and the lines below it: what it says, where the first want line starts and how many there are.
-#[derive(Drop)]
+#[derive(Clone, Copy)]
 enum BelowRead {
     Good {
         said: u64,

@@ -23,7 +23,7 @@ use text_pages::put;
 use text_paths::{count_lines, fill_paths, judge_list};
 
 // What the writer answers: the bytes of the sheet and those of the names; on a refusal both are 0.
-#[derive(Drop)]
+#[derive(Clone, Copy)]
 pub struct Picks {
     pub refusal: Refusal,
     pub place: u64,

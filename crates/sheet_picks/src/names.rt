@@ -10,7 +10,7 @@ use text_pages::{put, put_line, put_pair};
 use text_paths::count_lines;
 
 // An entry: its number, its first start and its last end.
-#[derive(Drop)]
+#[derive(Clone, Copy)]
 struct Entry {
     number: u64,
     first: u64,

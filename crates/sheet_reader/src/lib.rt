@@ -16,21 +16,21 @@ pub const MOST_SHEET_FILES: u64 = 256;
 pub const EMPTY_TURN: u64 = 12000;
 
 // What the first line holds: where the name ends, and where the next line starts.
-#[derive(Drop)]
+#[derive(Clone, Copy)]
 pub enum NameLine {
     Name { end: usize, next: usize },
     Bad,
 }
 
 // Whether the line names the retired rule.
-#[derive(Drop)]
+#[derive(Clone, Copy)]
 pub enum RuleLine {
     Value { sweep: bool, next: usize },
     Bad,
 }
 
 // What the reader answers: on a refusal every number but the place is 0. There is one rule, so none is answered.
-#[derive(Drop)]
+#[derive(Clone, Copy)]
 pub struct Reading {
     pub refusal: refusals::Refusal,
     pub place: u64,

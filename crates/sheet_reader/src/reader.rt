@@ -14,7 +14,7 @@ use text_lines::{
 };
 
 // The first five lines: their values, whether the rule is the retired one, where the name ends and where the next line starts.
-#[derive(Drop)]
+#[derive(Clone, Copy)]
 struct Top {
     end: usize,
     head: u64,
@@ -24,14 +24,14 @@ struct Top {
     next: usize,
 }
 
-#[derive(Drop)]
+#[derive(Clone, Copy)]
 enum TopRead {
     Good(Top),
     Bad(u64),
 }
 
 // The lines below: the number of wants and where the first want line starts.
-#[derive(Drop)]
+#[derive(Clone, Copy)]
 enum BelowRead {
     Good { wants: u64, want_at: usize },
     Bad(u64),
@@ -39,7 +39,7 @@ enum BelowRead {
 
 // What 12 and 11 say of a sheet, its first lines, the number of wants and where the first want line starts.
 // Of a sheet that they refuse every number is 0.
-#[derive(Drop)]
+#[derive(Clone, Copy)]
 struct Judged {
     verdict: Verdict,
     top: Top,

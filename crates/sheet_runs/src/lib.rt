@@ -7,7 +7,7 @@ use refusals::Verdict;
 use sheet_reader::Reading;
 
 // What the reader says of a sheet, and the run that it read: so many entries of each row, and zeros behind them.
-#[derive(Drop)]
+#[derive(Clone, Copy)]
 pub struct SheetRun {
     pub verdict: Verdict,
     pub files: u64,

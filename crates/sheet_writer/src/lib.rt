@@ -13,7 +13,7 @@ pub use refusal::write_refusal;
 pub use writer::write_sheet;
 
 // What a writer answers: the number of bytes of the sheet, 0 on a refusal.
-#[derive(Drop)]
+#[derive(Clone, Copy)]
 pub struct Written {
     pub refusal: refusals::Refusal,
     pub place: u64,

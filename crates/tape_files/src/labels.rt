@@ -11,7 +11,7 @@ use crate::values::{first_field, read_field};
 use crate::{Field, Label, Named};
 use tape_markup::Place;
 
-#[derive(Drop)]
+#[derive(Clone, Copy)]
 struct PartitionRead {
     partition: Field,
     next: Place,

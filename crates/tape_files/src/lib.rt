@@ -17,28 +17,28 @@ pub use values::{is_value, value_in};
 pub use volumes::other_volume;
 
 // An element with its name and where its inside begins; or none is left, and the reader is past the end.
-#[derive(Drop)]
+#[derive(Clone, Copy)]
 pub enum Child {
     Element { from: usize, to: usize, next: Place },
     Done(Place),
 }
 
 // Where the inside of an element of a name begins; or none is left, and the reader is past the end.
-#[derive(Drop)]
+#[derive(Clone, Copy)]
 pub enum Named {
     At(Place),
     Done(Place),
 }
 
 // A byte directly in the element that the reader stands in, and where the reader stands behind it; or none is left, and the reader is past the end.
-#[derive(Drop)]
+#[derive(Clone, Copy)]
 pub enum NextByte {
     Byte { byte: u8, next: Place },
     Over(Place),
 }
 
 // What the elements of one name say: the first counts, and one that is bad spoils all.
-#[derive(Drop)]
+#[derive(Clone, Copy)]
 pub enum Field {
     Missing,
     Value(u64),
@@ -46,14 +46,14 @@ pub enum Field {
 }
 
 // What a label says: the block size, and the letter of the data partition.
-#[derive(Drop)]
+#[derive(Clone, Copy)]
 pub struct Label {
     pub size: Field,
     pub partition: Field,
 }
 
 // What an `extent` element says.
-#[derive(Drop)]
+#[derive(Clone, Copy)]
 pub struct ExtentSaid {
     pub partition: Field,
     pub block: Field,
@@ -61,14 +61,14 @@ pub struct ExtentSaid {
     pub count: Field,
 }
 
-#[derive(Drop)]
+#[derive(Clone, Copy)]
 pub struct ExtentRead {
     pub extent: ExtentSaid,
     pub next: Place,
 }
 
 // What an element of an index is for: its elements are looked at, it is read as a file, or it is passed over.
-#[derive(Drop)]
+#[derive(Clone, Copy)]
 pub enum Use {
     Enter,
     Read,

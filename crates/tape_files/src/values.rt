@@ -12,7 +12,7 @@ use tape_markup::{Place, Step, step_from};
 
 // What is known of the bytes met so far: whether there are any, and more than one, which came first,
 // whether they are digits of a number below 2 to the 64 without a leading zero, and that number.
-#[derive(Drop)]
+#[derive(Clone, Copy)]
 pub(crate) struct Chars {
     pub some: bool,
     pub more: bool,
@@ -21,20 +21,20 @@ pub(crate) struct Chars {
     pub value: u64,
 }
 
-#[derive(Drop)]
+#[derive(Clone, Copy)]
 enum Grown {
     To(u64),
     No,
 }
 
-#[derive(Drop)]
+#[derive(Clone, Copy)]
 struct CharsRead {
     chars: Chars,
     next: Place,
 }
 
 // A value in both forms: as a partition's letter and as a number.
-#[derive(Drop)]
+#[derive(Clone, Copy)]
 pub(crate) struct ValueRead {
     pub letter: Field,
     pub number: Field,

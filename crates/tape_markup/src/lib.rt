@@ -13,7 +13,7 @@ pub const MOST_OPEN: usize = 32;
 
 // Where a reader stands: outside of markup; in the bytes of a CDATA section, which ends, with its `]]>`, at a position;
 // or behind an element by itself, whose end tag with its name is still to be met.
-#[derive(Drop)]
+#[derive(Clone, Copy)]
 pub enum Place {
     Text(usize),
     Plain { at: usize, end: usize },
@@ -21,7 +21,7 @@ pub enum Place {
 }
 
 // What one step meets. A name is the part of the text between two positions. `Past` is markup that says nothing.
-#[derive(Drop)]
+#[derive(Clone, Copy)]
 pub enum Step {
     End,
     Broken,

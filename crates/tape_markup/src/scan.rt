@@ -4,7 +4,7 @@ ghost use Rattle.tape_markup.specs.Markup.{end_behind, tag_end, declaration_end,
 ghost use Rattle.tape_markup.specs.Private.{EndFound, ends_declaration};
 
 // The position behind what was looked for, or that it never ends.
-#[derive(Drop)]
+#[derive(Clone, Copy)]
 pub(crate) enum Ending {
     At(usize),
     Never,

@@ -10,7 +10,7 @@ use crate::scan::{
 use crate::{Place, Step};
 
 // What a `<` can begin.
-#[derive(Drop)]
+#[derive(Clone, Copy)]
 enum Opening {
     Comment,
     Plain,

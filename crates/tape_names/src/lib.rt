@@ -17,7 +17,7 @@ use text_references::{Reading, character_in, encode, read_next};
 
 // What the bytes of a name come to so far: whether a `&` stands behind which neither a `;` nor another `&` came; the range before the last `&`; the range of all of
 // them, with everything behind that `&` standing for itself; and what was read behind it.
-#[derive(Drop)]
+#[derive(Clone, Copy)]
 struct Naming {
     begun: bool,
     before: Range,

@@ -11,13 +11,13 @@ use tape_markup::Place;
 use tape_spans::{Extent, Span};
 
 // What the extents so far come to, and whether all of them are good.
-#[derive(Drop)]
+#[derive(Clone, Copy)]
 pub(crate) struct Ranged {
     pub good: bool,
     pub span: Span,
 }
 
-#[derive(Drop)]
+#[derive(Clone, Copy)]
 pub(crate) struct RangedRead {
     pub file: Ranged,
     pub next: Place,

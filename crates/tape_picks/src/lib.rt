@@ -15,7 +15,7 @@ use text_order::fill_order;
 use text_paths::{count_lines, fill_paths, judge_list};
 
 // How places are counted: unit 0 is bytes, any other blocks; the block size and the data partition of the label.
-#[derive(Drop)]
+#[derive(Clone, Copy)]
 pub struct Tape {
     pub unit: u64,
     pub size: u64,
@@ -23,7 +23,7 @@ pub struct Tape {
 }
 
 // What a line comes to: 0 no file, 1 one that can be read, 2 several, 3 one that cannot; where it starts and ends.
-#[derive(Drop)]
+#[derive(Clone, Copy)]
 pub struct Pick {
     pub state: u64,
     pub start: u64,

@@ -14,7 +14,7 @@ use text_order::{Range, narrow};
 
 // Where a reader of the index stands: how many elements it is in that are looked at, and for each of them, the outermost first, the paths that begin with the names
 // around it; or all of the index is behind it.
-#[derive(Drop)]
+#[derive(Clone, Copy)]
 pub(crate) struct Walk {
     pub over: bool,
     pub depth: usize,
@@ -23,7 +23,7 @@ pub(crate) struct Walk {
 }
 
 // One step further: the paths that begin with the path of the file met, and what its extents come to; no paths where no file is met.
-#[derive(Drop)]
+#[derive(Clone, Copy)]
 pub(crate) struct Met {
     pub walk: Walk,
     pub range: Range,

@@ -8,7 +8,7 @@ ghost use Rattle.tape_spans.specs.Private.{blocks_from, blocks_to, blocks_of_par
 use runs::LAST_PLACE;
 
 // What an extent says.
-#[derive(Drop)]
+#[derive(Clone, Copy)]
 pub struct Extent {
     pub partition: u64,
     pub block: u64,
@@ -17,7 +17,7 @@ pub struct Extent {
 }
 
 // What the extents so far come to: whether one has bytes, whether one of these lies in another partition, the least start and the greatest end.
-#[derive(Drop)]
+#[derive(Clone, Copy)]
 pub struct Span {
     pub some: bool,
     pub elsewhere: bool,

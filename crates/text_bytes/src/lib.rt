@@ -6,13 +6,13 @@ ghost use Rattle.text_bytes.specs.Text.{is_empty, starts_with, is_text, between,
 ghost use Rattle.text_bytes.specs.Found.{FoundIn, NumberFound};
 
 // Where a byte stands first in a text.
-#[derive(Drop)]
+#[derive(Clone, Copy)]
 pub enum Found {
     At(usize),
     Nowhere,
 }
 
-#[derive(Drop)]
+#[derive(Clone, Copy)]
 pub enum Number {
     Value(u64),
     Bad,

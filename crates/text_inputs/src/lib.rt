@@ -7,14 +7,14 @@ use libc::STDIN_FILENO;
 use text_lines::NumberLine;
 
 // Where a sheet stands in an input. What follows it is the other text.
-#[derive(Drop)]
+#[derive(Clone, Copy)]
 pub enum Framed {
     Sheet { from: usize, to: usize },
     Bad,
 }
 
 // How many bytes were kept, and how many there were.
-#[derive(Drop)]
+#[derive(Clone, Copy)]
 pub struct Got {
     pub kept: u64,
     pub all: u64,
@@ -77,7 +77,7 @@ pub fn front(row: &[u8], n: u64) -> &[u8]
 }
 
 // What is read next.
-#[derive(Drop)]
+#[derive(Clone, Copy)]
 enum Next {
     Byte(u8),
     End,

@@ -13,19 +13,19 @@ ghost use Rattle.text_lines.specs.Private.{PairFound, TripleFound};
 use text_bytes::{Found, Number, find, read_number, starts};
 
 // What stands behind a line's key: from and end are positions in the text, and the LF stands at end.
-#[derive(Drop)]
+#[derive(Clone, Copy)]
 pub enum Keyed {
     Text { from: usize, end: usize },
     Bad,
 }
 
-#[derive(Drop)]
+#[derive(Clone, Copy)]
 pub enum NumberLine {
     Value { number: u64, next: usize },
     Bad,
 }
 
-#[derive(Drop)]
+#[derive(Clone, Copy)]
 pub enum PairLine {
     Both {
         first: u64,
@@ -35,7 +35,7 @@ pub enum PairLine {
     Bad,
 }
 
-#[derive(Drop)]
+#[derive(Clone, Copy)]
 pub enum TripleLine {
     All {
         first: u64,
@@ -47,19 +47,19 @@ pub enum TripleLine {
 }
 
 // Where the text after so many lines of one kind starts, or the first of them that is not as described, counted from 1.
-#[derive(Drop)]
+#[derive(Clone, Copy)]
 pub enum Lines {
     End(usize),
     Bad(u64),
 }
 
-#[derive(Drop)]
+#[derive(Clone, Copy)]
 enum Pair {
     Both { first: u64, second: u64 },
     Bad,
 }
 
-#[derive(Drop)]
+#[derive(Clone, Copy)]
 enum Triple {
     All { first: u64, second: u64, third: u64 },
     Bad,

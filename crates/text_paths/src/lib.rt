@@ -14,7 +14,7 @@ use text_lines::{Keyed, Lines, find_value};
 pub const MOST_LINES: usize = 1024;
 
 // Where the path of a line stands: from one position to another, at which the LF stands.
-#[derive(Drop)]
+#[derive(Clone, Copy)]
 pub enum PathLine {
     Path { from: usize, end: usize },
     Bad,

@@ -10,7 +10,7 @@ ghost use Rattle.text_references.specs.Private.{HexDigitFound, long_bytes};
 use text_bytes::is_between;
 
 // What is known of the bytes behind a `&`: the first letters; a `#` alone; a decimal or a hexadecimal number; nothing that can be a reference.
-#[derive(Drop)]
+#[derive(Clone, Copy)]
 pub enum Reading {
     Letters {
         count: u8,
@@ -25,14 +25,14 @@ pub enum Reading {
     Dead,
 }
 
-#[derive(Drop)]
+#[derive(Clone, Copy)]
 enum Digit {
     Value(u64),
     No,
 }
 
 // A character's bytes: so many of these four.
-#[derive(Drop)]
+#[derive(Clone, Copy)]
 pub struct Utf8 {
     pub count: usize,
     pub first: u8,

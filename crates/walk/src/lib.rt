@@ -11,7 +11,7 @@ pub use any_head::price_any;
 pub use pricing::{price, refuse};
 
 // The one answer record: on a refusal every number but the place is 0.
-#[derive(Drop)]
+#[derive(Clone, Copy)]
 pub struct Answer {
     pub refusal: refusals::Refusal,
     pub place: u64,
@@ -21,14 +21,14 @@ pub struct Answer {
     pub detours: u64,
 }
 
-#[derive(Drop)]
+#[derive(Clone, Copy)]
 pub enum Way {
     Leftward,
     Rightward,
 }
 
 // The head: each step consumes the state and returns the next one.
-#[derive(Drop)]
+#[derive(Clone, Copy)]
 pub struct Head {
     pub place: u64,
     pub clock: u64,
@@ -36,14 +36,14 @@ pub struct Head {
 }
 
 // Left to a position, a turn, right to a position.
-#[derive(Drop)]
+#[derive(Clone, Copy)]
 pub struct Leg {
     pub left: u64,
     pub right: u64,
 }
 
 // When a file is read, and which leg reads it, counted from 1.
-#[derive(Drop)]
+#[derive(Clone, Copy)]
 pub struct Read {
     pub time: u64,
     pub leg: u64,
