@@ -107,8 +107,11 @@ def plan():
 
 
 def turn(text, names, fields, comment):
-    """Comments change only between backticks."""
+    """Comments change only between backticks. In src/ and in paths a name in snake case is that of a function or a module, and stays."""
     out = []
+    respelled = {k: v for k, v in names.items() if "-" in k or re.search(r"[a-z0-9'][A-Z]", k)}
+    if comment != "--":
+        names = respelled
     for line in text.split("\n"):
         code, note = line, ""
         at = line.find(comment)
@@ -123,7 +126,7 @@ def turn(text, names, fields, comment):
             if before == "." and m.start() >= 2 and not whole[m.start() - 2].isspace():
                 path = re.search(r"[^\s(){},;]*$", whole[: m.start()]).group(0)
                 if path.startswith("Rattle."):
-                    return names.get(t, t)
+                    return respelled.get(t, t)
                 return fields.get(t, names.get(t, t) if re.match(r"^[A-Z]\w*\.$", path) else t)
             if t in fields and (re.match(r"\s*=\s", whole[m.end() :]) and re.search(r"[{;,]\s*$|^\s*$", whole[: m.start()]) or re.match(r"\s+(pub )?$", whole[: m.start()]) and re.match(r"[^=]* : | :$", whole[m.end() :])):
                 return fields[t]

@@ -54,8 +54,8 @@ fn put_ticket(page: &mut [u8], at: usize, t: Ticket, time: u64, leg: u64) -> usi
     let office_at = put(page, at, b"ticket=");
     let comma_at = put_pair(page, office_at, t.office, t.number);
     let file_at = put(page, comma_at, b",");
-    let count_at_lem = put_number(page, file_at, t.file);
-    put_triple_line(page, count_at_lem, b",", t.count, time, leg)
+    let count_at = put_number(page, file_at, t.file);
+    put_triple_line(page, count_at, b",", t.count, time, leg)
 }
 
 // The same, with the time and the leg of its own file.

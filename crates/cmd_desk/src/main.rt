@@ -21,7 +21,7 @@ const NO_EVENT: u64 = 11;
 struct Step {
     day: Day,
     place: u64,
-    goes_on_lem: bool,
+    goes_on: bool,
 }
 
 fn print_refusal(verdict: Verdict) {
@@ -133,7 +133,7 @@ fn take_event(day: Day, before: u64, starts: &[u64], lengths: &[u64], aggregates
         return Step {
             day,
             place: before,
-            goes_on_lem: false,
+            goes_on: false,
         };
     }
     let place = place_of(before, &line, n);
@@ -152,7 +152,7 @@ fn take_event(day: Day, before: u64, starts: &[u64], lengths: &[u64], aggregates
     Step {
         day: Day { row, lasts },
         place,
-        goes_on_lem: refusals::number(kind) != NO_EVENT,
+        goes_on: refusals::number(kind) != NO_EVENT,
     }
 }
 
@@ -161,7 +161,7 @@ fn hold_day(starts: &[u64], lengths: &[u64], aggregates: &[u64]) {
     let mut turn = Step {
         day: answer_desk::morning(),
         place: 0,
-        goes_on_lem: true,
+        goes_on: true,
     };
     let mut lines: u64 = 0;
     while lines < 18446744073709551615 {

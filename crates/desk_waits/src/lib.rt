@@ -19,8 +19,8 @@ fn put_wait(page: &mut [u8], at: usize, t: Ticket, ahead: u64) -> usize
     let office_at = put(page, at, b"waits=");
     let comma_at = put_pair(page, office_at, t.office, t.number);
     let file_at = put(page, comma_at, b",");
-    let count_at_lem = put_number(page, file_at, t.file);
-    put_triple_line(page, count_at_lem, b",", t.count, ahead, ahead / 4 + 1)
+    let count_at = put_number(page, file_at, t.file);
+    put_triple_line(page, count_at, b",", t.count, ahead, ahead / 4 + 1)
 }
 
 // The lines of n tickets of one office, whose places begin at `first`.

@@ -1,9 +1,10 @@
 // refusals: the numbered table of what is refused, and verdicts: what a check finds. For every crate that judges something.
 // What the words mean stands in specs/; each public function answers every input, and its contract is an equation with a definition there.
-ghost use mathlib.Core.Path.{_≡_};
-ghost use Rattle·refusals·specs.specs.Refusals.{numberOf, own_number_of, is_refusal, refuse_if, refuse_at};
+ghost use Rattle.std.specs.Prelude.{◌≡◌};
+ghost use Rattle.refusals.specs.Refusals.{number_of, own_number_of, is_refusal, refuse_if, refuse_at};
 
 // The kinds of document 01's refusal table and of the requests after it, in the order of their numbers.
+#[derive(Clone, Copy)]
 pub enum Refusal {
     Accepted,
     FileRows,
@@ -36,6 +37,7 @@ pub enum Refusal {
 
 // The kinds of our own part of the table, which begins at 41: they occur in our own commands and calls alone. Kept apart, so that nothing that 01 or a request
 // orders can answer by one of them.
+#[derive(Clone, Copy)]
 pub enum OwnRefusal {
     UnknownPath,
     NoBytes,
@@ -44,6 +46,7 @@ pub enum OwnRefusal {
 }
 
 // What a check finds: a kind, and the file, want, entry or line it speaks of, counted from 1 (0: none).
+#[derive(Clone, Copy)]
 pub struct Verdict {
     pub refusal: Refusal,
     pub place: u64,
@@ -51,7 +54,7 @@ pub struct Verdict {
 
 // The number that the paper gives a kind of refusal; 0 for none.
 pub fn number(kind: Refusal) -> u64
-    ensures { λ r. ⌜ r ≡ numberOf kind ⌝ }
+    ensures { result ≡ number_of kind }
 {
     match kind {
         Refusal::Accepted => 0,
@@ -86,7 +89,7 @@ pub fn number(kind: Refusal) -> u64
 
 // The number of a kind of our own part.
 pub fn own_number(kind: OwnRefusal) -> u64
-    ensures { λ r. ⌜ r ≡ own_number_of kind ⌝ }
+    ensures { result ≡ own_number_of kind }
 {
     match kind {
         OwnRefusal::UnknownPath => 41,
@@ -98,7 +101,7 @@ pub fn own_number(kind: OwnRefusal) -> u64
 
 // Whether a verdict refuses.
 pub fn refused(v: Verdict) -> bool
-    ensures { λ r. ⌜ r ≡ is_refusal (v .refusal) ⌝ }
+    ensures { result ≡ is_refusal v.refusal }
 {
     let kind = v.refusal;
     number(kind) != 0
@@ -106,7 +109,7 @@ pub fn refused(v: Verdict) -> bool
 
 // A check whose refusal has no place of its own.
 pub fn refuse_if(bad: bool, kind: Refusal) -> Verdict
-    ensures { λ r. ⌜ r ≡ refuse_if bad kind ⌝ }
+    ensures { result ≡ refuse_if bad kind }
 {
     if bad {
         return Verdict {
@@ -122,7 +125,7 @@ pub fn refuse_if(bad: bool, kind: Refusal) -> Verdict
 
 // A check that names the first bad file, want, entry or line; place 0 where there is none.
 pub fn refuse_at(place: u64, kind: Refusal) -> Verdict
-    ensures { λ r. ⌜ r ≡ refuse_at place kind ⌝ }
+    ensures { result ≡ refuse_at place kind }
 {
     if place == 0 {
         return Verdict {

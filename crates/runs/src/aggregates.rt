@@ -19,7 +19,7 @@ fn same_aggregate(before: u64, number: u64) -> bool
 }
 
 // Whether the entry at an index goes on with the one before it.
-pub(crate) fn goes_on_lem(aggregates: &[u64], i: usize) -> bool
+pub(crate) fn goes_on(aggregates: &[u64], i: usize) -> bool
     ensures { result ≡ goes_on aggregates.now i }
 {
     if i == 0 {
@@ -89,7 +89,7 @@ fn bad_number(aggregates: &[u64], i: usize, low: u64, high: u64) -> bool
     if number == 0 {
         return false;
     }
-    if goes_on_lem(aggregates, i) {
+    if goes_on(aggregates, i) {
         return false;
     }
     if number < low {

@@ -5,7 +5,7 @@ ghost use Rattle.runs.specs.Run.{goes_on, joined, want_stops};
 ghost use Rattle.runs.specs.Lists.{bad_after, list_verdict};
 ghost use Rattle.runs.specs.Private.{last_file, some_between, row_named, row_alone, row_clash, row_bad};
 
-use crate::aggregates::{goes_on_lem, last_member};
+use crate::aggregates::{goes_on, last_member};
 use refusals::{Refusal, Verdict, refuse_at, refuse_if, refused};
 
 // Whether a number lies between two.
@@ -40,7 +40,7 @@ fn is_later_member(aggregates: &[u64], file: u64) -> bool
     if file == 0 {
         return false;
     }
-    goes_on_lem(aggregates, (file - 1) as usize)
+    goes_on(aggregates, (file - 1) as usize)
 }
 
 // The last file of a file's aggregate.

@@ -9,7 +9,7 @@ ghost use Rattle.sheet_picks.specs.Entries.{last_or, entry_lengths, entry_reads}
 ghost use Rattle.sheet_picks.specs.Sheets.{given_or, picked_sheet};
 ghost use Rattle.sheet_picks.specs.Private.{EntryRows, sheet_most};
 
-use tape_entries::reads_in_lem;
+use tape_entries::reads_in;
 use text_pages::{put_line, put_number_line, put_pair_line, put_triple_line};
 
 // The price of a turn where none is given.
@@ -72,7 +72,7 @@ fn put_wants(page: &mut [u8], at: usize, starts: &[u64], firsts: &[u64], lasts: 
     let mut next = at;
     let mut i: usize = 0;
     while i < firsts.len() {
-        let reads = reads_in_lem(firsts[i], lasts[i], starts);
+        let reads = reads_in(firsts[i], lasts[i], starts);
         next = put_pair_line(page, next, b"want=", i as u64 + 1, reads as u64);
         i += 1;
     }

@@ -3,8 +3,8 @@
 use mathlib.Core.Path.{sym}
 use Rattle.runs.proofs.Members.{goes-on-zero, goes-on-past, goes-on-row}
 use borrow.Author.Rules.{rules}
-use Rattle.runs.proofs.aggregates.goes_on_lem.Statement.{statement}
-use Rattle.runs.proofs.aggregates.goes_on_lem.Tie as tie
+use Rattle.runs.proofs.aggregates.goes_on.Statement.{statement}
+use Rattle.runs.proofs.aggregates.goes_on.Tie as tie
 
 returns : tie.Need-returns
 returns c = rw c.if1.true (sym (goes-on-zero _))
