@@ -1,6 +1,8 @@
 // answer_any: from the bytes of a run sheet to the bytes of the answer, with the head anywhere and in working room that is lent. For a program, which
 // prints the answer, and for a caller, which gets a record. Both go one way: a sheet's run, its list and a text.
 // It stands on the promises of the reader, of the planner and of the writers; the rows that they are lent, but for the room, are on its own stack.
+#![tactic(auto)]
+
 ghost use Rattle.runs.specs.Rows.{run_at};
 ghost use Rattle.sheet_runs.specs.SheetRuns.{run_held};
 ghost use Rattle.sheet_writer.specs.AnyHead.{PlanAnyWritten};

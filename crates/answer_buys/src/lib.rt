@@ -1,5 +1,7 @@
 // answer_buys: from the bytes of a run sheet to the bytes of the figure sheet of its plan. For the program, which reads, calls this and writes.
 // The way is that of answer_plan with another text.
+#![tactic(auto)]
+
 ghost use Rattle.sheet_runs.specs.SheetRuns.{run_held};
 ghost use Rattle.sheet_figures.specs.FigureSheet.{FigureWritten};
 ghost use Rattle.answer_plan.specs.PlannedLists.{WrittenBy};

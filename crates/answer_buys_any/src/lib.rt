@@ -1,5 +1,7 @@
 // answer_buys_any: from the bytes of a run sheet to the bytes of the figure sheet of its plan, with the head anywhere and in working room that is lent. For a
 // program, which prints the answer, and for a caller, which gets a record. The way is that of answer_any with another text.
+#![tactic(auto)]
+
 ghost use Rattle.sheet_runs.specs.SheetRuns.{run_held};
 ghost use Rattle.sheet_figures.specs.AnyHead.{FigureAnyWritten};
 ghost use Rattle.answer_buys_any.specs.AnyBuys.{SheetBoughtAny, SheetFiguredAny};

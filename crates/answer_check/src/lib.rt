@@ -2,6 +2,8 @@
 // same from an input that holds both texts. The head may stand anywhere. For the programs, which print the answer, and for a caller, which gets a
 // record. It stands on the promises of the readers, the pricer, the planner and the writers; the rows that they are lent, but for the planner's room,
 // are on its own stack.
+#![tactic(auto)]
+
 mod checking;
 mod inputs;
 mod pricing;

@@ -2,6 +2,8 @@
 // For the program, which reads a line, calls this and writes. It stands on the promises of the waiting table, of the boarding, of the line readers and
 // of the writers; the rows that a boarding is lent, but for its working room, are on its own stack. A refusal changes nothing: not the day, not the row for
 // the answer, not the room.
+#![tactic(auto)]
+
 ghost use Rattle.std.specs.Prelude.{◌≡◌, min};
 ghost use Rattle.desk_tickets.specs.WaitingTable.{no_ticket};
 ghost use Rattle.desk_boardings.specs.Boardings.{tape_at};

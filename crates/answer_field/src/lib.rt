@@ -1,5 +1,7 @@
 // answer_field: from the bytes of a run sheet to the bytes of the answer, by the plain engine: for the field unit, which has no room to lend.
 // The way is that of answer_plan with another engine; the rows that it is lent are on its own stack.
+#![tactic(auto)]
+
 ghost use Rattle.runs.specs.Rows.{run_at};
 ghost use Rattle.answer_plan.specs.PlannedLists.{RunListed};
 ghost use Rattle.answer_field.specs.Field.{field_checks, SheetFielded};

@@ -1,6 +1,8 @@
 // answer_ltfs: tape tables from LTFS labels and indexes, as run sheets; and from the bytes of an input to the bytes of its answer.
 // For the program and the tools, which see only these contracts. What the words mean stands in specs/; each public function
 // answers every input, and its contract gives the answer and the lent rows by a definition there.
+#![tactic(auto)]
+
 mod index;
 mod input;
 mod sheet;

@@ -1,6 +1,8 @@
 // answer_mend: a run sheet mended, and a line for each change.
 // For the program, which reads, calls this and writes. What the words mean stands in specs/; the contract gives the answer and both lent rows for
 // every input.
+#![tactic(auto)]
+
 mod pages;
 mod wants;
 

@@ -1,5 +1,7 @@
 // answer_month: a month of run sheets in exact numbers: the figures so far and one sheet more, the parts of the input, and the page.
 // For the program, which reads part by part. What the words mean stands in specs/; each public function answers every input.
+#![tactic(auto)]
+
 ghost use Rattle.std.specs.Prelude.{◌≡◌, ◌||◌, ◌<◌};
 ghost use Rattle.answer_month.specs.Month.{too_large, grown, empty_month, with_refused, over_totals, with_totals, with_longest, added};
 ghost use Rattle.answer_month.specs.Private.{zero_month};

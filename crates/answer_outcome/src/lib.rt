@@ -1,5 +1,7 @@
 // answer_outcome: what the program answers to a run sheet, in numbers. For the month's page, which adds them up.
 // It stands on the promises of the reader, of the planner and of the pricer; the rows that they are lent are on its own stack.
+#![tactic(auto)]
+
 ghost use Rattle.std.specs.Prelude.{◌≡◌, true, false, [], ◌++◌, ◌-◌, ◌≤◌, length, replicate};
 ghost use Rattle.refusals.specs.Refusals.{is_refusal};
 ghost use Rattle.runs.specs.Rows.{run_in, run_at};

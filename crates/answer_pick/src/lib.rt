@@ -1,5 +1,7 @@
 // answer_pick: from tape name, label, index and a list of paths to the run sheet of these files, and to their names.
 // For the program and the calls, which see only this contract. What the words mean stands in specs/; the public function answers every input.
+#![tactic(auto)]
+
 mod lines;
 mod texts;
 

@@ -1,6 +1,8 @@
 // answer_plan: from the bytes of a run sheet to the bytes of the answer. For the program, which reads, calls this and writes.
 // The way to an answer is a sheet's run, its list and a text; another engine or another text takes the place of one of these. It stands on the
 // promises of the reader, of the planner and of the writers; the rows that they are lent are on its own stack.
+#![tactic(auto)]
+
 ghost use Rattle.runs.specs.Rows.{run_at};
 ghost use Rattle.sheet_runs.specs.SheetRuns.{run_held};
 ghost use Rattle.sheet_writer.specs.PlanSheet.{PlanWritten};

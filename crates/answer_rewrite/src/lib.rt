@@ -1,6 +1,8 @@
 // answer_rewrite: an old run sheet rewritten so that it goes on meaning what it meant when an empty `turn=` was 0.
 // For the program, which reads, calls this and writes. The sheet's lines are judged as the reader judges them; neither the rule that it names nor
 // the run that it holds is.
+#![tactic(auto)]
+
 ghost use Rattle.std.specs.Prelude.{◌≤◌, ◌<◌, ◌≡◌, true, false, length, get_or};
 ghost use Rattle.refusals.specs.Refusals.{first_of};
 ghost use Rattle.sheet_writer.specs.Writing.{refused_writing};

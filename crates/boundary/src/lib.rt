@@ -1,5 +1,7 @@
 // boundary: the pricer and the planner for programs in C, 01's and those for a head anywhere. Thin: judged and done by the crates below.
 // include/violstream.h tells a C programmer the same in words; parameter order and meaning are fixed there.
+#![tactic(auto)]
+
 ghost use Rattle.std.specs.Prelude.{◌≡◌, List, ℕ, ◌+◌, ◌*◌, ◌≤◌, ◌<◌, length};
 ghost use Rattle.refusals.specs.Refusals.{number_of};
 ghost use Rattle.runs.specs.Rows.{run_at};

@@ -1,6 +1,8 @@
 // boundary_desk: the waiting table of two offices for programs in C: filing, withdrawing, boarding, and an event at the desk, on a row of C's records. Thin:
 // the table is read from the row, the work is done by value in the crates below, and an accepted call writes the table back. A record is four words in the
 // order of `struct violstream_ticket`. include/violstream.h tells a C programmer the same in words; parameter order and meaning are fixed there.
+#![tactic(auto)]
+
 ghost use Rattle.std.specs.Prelude.{◌≡◌, cond, [], ◌∷◌, map, suc, ◌+◌, ◌*◌, ◌≤◌, length, get_or, take, drop, ltb};
 ghost use Rattle.std.proofs.Math.Seq.{paste};
 ghost use Rattle.desk_boardings.specs.Boardings.{tape_at};

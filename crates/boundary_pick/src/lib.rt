@@ -1,5 +1,7 @@
 // boundary_pick: from the bytes of tape name, label, index and a list of paths to those of a run sheet and of the names, for programs in C. Thin: answered by the crate
 // below, in rows that are lent. include/violstream.h tells a C programmer the same in words; parameter order and meaning are fixed there.
+#![tactic(auto)]
+
 ghost use Rattle.std.specs.Prelude.{◌≡◌, ◌≤◌, min};
 ghost use Rattle.boundary_pick.specs.Calls.{place_most, pick_code, PickCalled};
 ghost use Rattle.boundary_pick.specs.Private.{ShortPicked};

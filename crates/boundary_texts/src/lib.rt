@@ -1,5 +1,7 @@
 // boundary_texts: from the bytes of sheets to those of texts for programs in C. Thin: answered by the crates below, in rows and room that are lent.
 // include/violstream.h tells a C programmer the same in words; parameter order and meaning are fixed there.
+#![tactic(auto)]
+
 ghost use Rattle.std.specs.Prelude.{◌≡◌, ◌≤◌, cond, length};
 ghost use Rattle.refusals.specs.Refusals.{is_refusal};
 ghost use Rattle.boundary.specs.Boundary.{code_of};

@@ -1,6 +1,8 @@
 // A long day of two offices at one tape, over the by-value functions of the desk: 1,500 filings, withdrawals and boardings are drawn, on sound rows of
 // records and on damaged ones, and for every fifty of them one number is printed, which all answers and all rows go into. What it must print stands
 // beside it in stdout; tests/python/desk.py draws the same day and works it out from the requests' sentences.
+#![tactic(auto)]
+
 use desk_boardings::{BoardedRow, Boarding};
 use desk_tickets::{Filing, Lasts, Ticket, Withdrawal};
 use libc::STDOUT_FILENO;

@@ -1,5 +1,7 @@
 // Draws 3,000 runs and lists, writes the figure sheet or the refusal of each, and prints for every fifty of them one number, which all their bytes
 // go into. What it must print stands beside it in stdout; tests/python/figures.py draws the same and works the sheets out from the paper's sentences.
+#![tactic(auto)]
+
 ghost use Rattle.std.specs.Prelude.{◌<◌};
 
 use libc::STDOUT_FILENO;

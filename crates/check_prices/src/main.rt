@@ -1,6 +1,8 @@
 // Prices the lists of document 01's worked cases, its limits, the two longest walks and a run with an aggregate, and prints a line for each.
 // The cases stand beside it in stdin: a line for each row of numbers, which stays until another line sets it anew, and a line `price` with a name, which
 // prices what the rows then hold. What it must print stands in stdout; tests/python/prices.py works the same text out from the paper's sentences.
+#![tactic(auto)]
+
 ghost use Rattle.std.specs.Prelude.{◌<◌};
 
 use libc::STDOUT_FILENO;

@@ -1,5 +1,7 @@
 // cmd_check: a run sheet and a plan sheet from standard input, the verdict on the latter to standard output; or two lines that say why not.
 // The answer is proved in `answer_check`; what is read and written here is tested and not proved.
+#![tactic(auto)]
+
 use libc::{STDIN_FILENO, STDOUT_FILENO};
 
 // A long row comes from a function of its own: where it is made and lent in one, the check counts its entries one by one.

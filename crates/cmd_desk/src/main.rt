@@ -2,6 +2,8 @@
 // then one event a line; each event's answer goes to standard output before the next event is read. Lines that begin with # are remarks: they are passed
 // over and not counted, so that a journal is such an input.
 // The answers are proved in `answer_desk`, and on a lent row of records in `desk_rows`; what is read and written here, and the order of it, is tested and not proved.
+#![tactic(auto)]
+
 ghost use Rattle.std.specs.Prelude.{◌≤◌, length};
 ghost use Rattle.answer_desk.specs.Answers.{most_text};
 ghost use Rattle.answer_desk.specs.Days.{most_room};

@@ -1,6 +1,8 @@
 // cmd_ltfs: a tape name, an LTFS label and an LTFS index from standard input, their run sheet to standard output and the report of
 // the files left out to standard error; or two lines that say why not to standard output.
 // The answer is proved in `answer_ltfs`; what is read and written here is tested and not proved.
+#![tactic(auto)]
+
 use libc::{STDERR_FILENO, STDIN_FILENO, STDOUT_FILENO};
 use text_inputs::front;
 

@@ -1,5 +1,7 @@
 // cmd_mend: a run sheet from standard input, the mended sheet to standard output and a line for each change to standard error; or two lines that
 // say why not to standard output. The answer is proved in `answer_mend` and `sheet_writer`; what is read and written here is tested and not proved.
+#![tactic(auto)]
+
 use libc::{STDERR_FILENO, STDIN_FILENO, STDOUT_FILENO};
 use refusals::{Verdict, refused};
 use text_inputs::front;

@@ -1,6 +1,8 @@
 // cmd_month: run sheets from standard input, each behind a line with its byte count, and the month's page to standard output.
 // It reads part by part: of a sheet at most one byte more than a sheet may have is kept, and the rest is passed over. The answer is
 // proved in `answer_outcome` and `answer_month`; what is read and written here is tested and not proved.
+#![tactic(auto)]
+
 use answer_month::{Month, Part};
 use libc::STDOUT_FILENO;
 

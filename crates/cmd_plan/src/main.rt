@@ -1,5 +1,7 @@
 // cmd_plan: a run sheet from standard input, its plan sheet to standard output; or two lines that say why not.
 // The answer is proved in `answer_plan`; what is read and written here is tested and not proved.
+#![tactic(auto)]
+
 use libc::{STDIN_FILENO, STDOUT_FILENO};
 use text_inputs::front;
 

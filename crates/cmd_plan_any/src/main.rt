@@ -1,5 +1,7 @@
 // cmd_plan_any: a run sheet from standard input, its plan sheet to standard output; or two lines that say why not. The head may stand anywhere.
 // The answer is proved in `answer_any`; what is read and written here is tested and not proved.
+#![tactic(auto)]
+
 use libc::{STDIN_FILENO, STDOUT_FILENO};
 use text_inputs::front;
 

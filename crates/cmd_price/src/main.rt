@@ -1,5 +1,7 @@
 // cmd_price: a run sheet and a detour list from standard input, that list's plan sheet to standard output; or two lines that say why not.
 // The answer is proved in `answer_check`; what is read and written here is tested and not proved.
+#![tactic(auto)]
+
 use libc::{STDIN_FILENO, STDOUT_FILENO};
 
 // No answer is longer than 7,644 bytes.

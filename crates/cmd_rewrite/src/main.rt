@@ -1,5 +1,7 @@
 // cmd_rewrite: an old run sheet from standard input, the same sheet with `turn=0` for an empty price to standard output; or two lines that
 // say why not. The answer is proved in `answer_rewrite` and `sheet_writer`; what is read and written here is tested and not proved.
+#![tactic(auto)]
+
 use libc::{STDIN_FILENO, STDOUT_FILENO};
 use refusals::{Verdict, refused};
 use text_inputs::front;

@@ -1,5 +1,7 @@
 // desk_boardings: up to eight waiting tickets leave on one run, planned by the first engine. Who boards, their wants and the row of those that stay are
 // made by value; one function lends the planner's rows. All is judged before the first write.
+#![tactic(auto)]
+
 ghost use Rattle.std.specs.Prelude.{◌≡◌, min};
 ghost use Rattle.planner.specs.Rows.{rows_before, rows_after};
 ghost use Rattle.desk_boardings.specs.Boarders.{share, wants_of};

@@ -1,5 +1,7 @@
 // desk_tickets: the waiting table of two offices, by value: what a sound row of records is, filing, withdrawing, and leaving from the front.
 // What the words mean stands in specs/; each public function answers every input, and its contract is an equation with a definition there.
+#![tactic(auto)]
+
 ghost use Rattle.std.specs.Prelude.{◌≡◌, ◌||◌, ◌<◌, ◌≤◌, length, get_or};
 ghost use Rattle.std.proofs.Math.Seq.{paste};
 ghost use Rattle.refusals.specs.Refusals.{first_where};

@@ -1,4 +1,6 @@
 // desk_waits: who waits, told as a text: from a waiting table to the lines of its tickets. For the window of an office, and for a caller in C.
+#![tactic(auto)]
+
 ghost use Rattle.std.specs.Prelude.{◌+◌, ◌*◌, ◌≤◌, length, take, drop};
 ghost use Rattle.text_pages.specs.Printing.{Wrote};
 ghost use Rattle.sheet_writer.specs.Writing.{row_verdict, Handed};

@@ -1,5 +1,7 @@
 // engine_plain: the plan of a run of at most eight wants without a table: each window of stops is asked for again whenever it is needed. It stands on the
 // joining and on the pricer, and all is judged before the first write.
+#![tactic(auto)]
+
 ghost use Rattle.std.specs.Prelude.{◌≡◌, ◌||◌, ◌-◌, ltb};
 ghost use Rattle.runs.specs.Rows.{run_at};
 ghost use Rattle.engine_plain.specs.Plain.{PlainPlans, plain_rows_before, plain_rows_after};

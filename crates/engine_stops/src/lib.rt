@@ -1,5 +1,7 @@
 // engine_stops: the stops of a run in rows of their own, wants of one aggregate as one, for the engines: first files, starts, lengths and reads.
 // Joining answers every input; all is judged before the first write.
+#![tactic(auto)]
+
 ghost use Rattle.std.specs.Prelude.{◌≡◌, false, ◌||◌, cond, List, ℕ, ◌+◌, ◌-◌, ◌≤◌, ◌<◌, length, ltb};
 ghost use Rattle.runs.specs.Run.{joined, want_stops};
 ghost use Rattle.runs.specs.Rows.{run_at};

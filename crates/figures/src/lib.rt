@@ -1,6 +1,8 @@
 // figures: what each detour of a list buys, the sum without it less the sum with it.
 // It stands on the pricer's promise alone: the list, and the list without one entry, are priced. The head may stand anywhere; 01's figures are those of
 // a run whose head 01 accepts.
+#![tactic(auto)]
+
 ghost use Rattle.std.specs.Prelude.{◌≡◌, ◌++◌, ◌+◌, ◌-◌, ◌≤◌, ◌<◌, ◌^◌, length, get_or, drop, pos, ◌-ℤ◌};
 ghost use Rattle.runs.specs.Rows.{run_in, run_at};
 ghost use Rattle.runs.specs.Lists.{list_of};

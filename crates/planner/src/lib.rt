@@ -1,6 +1,8 @@
 // planner: the plan of a run. It stands on the promises of the joining, of the table engine and of the pricer: the least list over the
 // run's stops, then that list's own price. All is judged before the first write. The head may stand anywhere; 01's plan is the one of a run whose
 // head 01 accepts.
+#![tactic(auto)]
+
 ghost use Rattle.std.specs.Prelude.{◌≡◌, ◌||◌, map, ◌++◌, ℕ, ◌≤◌, ◌<◌, length, get_or, take, drop, ltb};
 ghost use Rattle.runs.specs.Run.{Run};
 ghost use Rattle.runs.specs.Rows.{run_at};

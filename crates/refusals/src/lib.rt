@@ -1,5 +1,7 @@
 // refusals: the numbered table of what is refused, and verdicts: what a check finds. For every crate that judges something.
 // What the words mean stands in specs/; each public function answers every input, and its contract is an equation with a definition there.
+#![tactic(auto)]
+
 ghost use Rattle.std.specs.Prelude.{◌≡◌};
 ghost use Rattle.refusals.specs.Refusals.{number_of, own_number_of, is_refusal, refuse_if, refuse_at};
 

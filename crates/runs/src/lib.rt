@@ -1,6 +1,8 @@
 // runs: what a run is and when it is refused: the limits, aggregates, the judging of a run and of a detour list.
 // For the pricer, the planner, the sheets and the C boundary, which see only these contracts. What the words mean stands in specs/;
 // each public function answers every input, and its contract is an equation with a definition there.
+#![tactic(auto)]
+
 mod aggregates;
 mod any_head;
 mod judging;

@@ -1,6 +1,8 @@
 // sheet_figures: the figure sheet writer: what each detour of the list that it is given buys. The head may stand anywhere; 01's figure sheet is that of
 // a run whose head 01 accepts.
 // For the program and the tools, which see only this contract. What the words mean stands in specs/; the function answers every input.
+#![tactic(auto)]
+
 ghost use Rattle.std.specs.Prelude.{◌≡◌, ◌+◌, ◌*◌, ◌≤◌, length, nat_abs};
 ghost use Rattle.runs.specs.Rows.{run_at};
 ghost use Rattle.text_pages.specs.Printing.{Wrote};

@@ -1,5 +1,7 @@
 // sheet_lists: the readers of a detour list and of a plan sheet handed in, whoever made them. For the pricing of a list and the checking of a plan sheet.
 // What the words mean stands in specs/; each public function answers every input, and its contract gives the answer and both lent rows.
+#![tactic(auto)]
+
 ghost use Rattle.std.specs.Prelude.{◌≡◌, ◌≤◌, length, drop};
 ghost use Rattle.text_lines.specs.Lines.{is_pair_line, is_triple_line};
 ghost use Rattle.runs.specs.Run.{most_wants};

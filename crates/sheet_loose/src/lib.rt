@@ -1,5 +1,7 @@
 // sheet_loose: a run sheet as it comes by mail, before it is mended: its parts, its want lines as two rows, and 12 and 11 for what is not mended.
 // For the mender, which sees only this contract. What the words mean stands in specs/.
+#![tactic(auto)]
+
 ghost use Rattle.std.specs.Prelude.{◌≤◌, ◌≡◌, length};
 ghost use Rattle.text_lines.specs.Lines.{is_pair_line, is_triple_line};
 ghost use Rattle.sheet_reader.specs.Lines.{file_key, want_key};

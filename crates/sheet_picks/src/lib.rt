@@ -1,5 +1,7 @@
 // sheet_picks: the run sheet of files that are wanted by path, and the names of them, as two texts: both or neither.
 // For the reader that finds the files, which sees only these contracts. What the words mean stands in specs/; the public function answers every input.
+#![tactic(auto)]
+
 mod entries;
 mod names;
 mod paths;

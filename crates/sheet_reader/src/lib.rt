@@ -1,6 +1,8 @@
 // sheet_reader: what a run sheet is, its reader, and the readers of the lines that it alone has.
 // For the program and the tools, which see only these contracts. What the words mean stands in specs/; each public function
 // answers every input, and its contract gives the answer and every lent row by a definition there.
+#![tactic(auto)]
+
 mod reader;
 mod top;
 

@@ -1,4 +1,6 @@
 // sheet_runs: the run of a sheet by value. For whoever goes from a sheet to an answer: the reader's rows are lent here and nowhere above.
+#![tactic(auto)]
+
 ghost use Rattle.std.specs.Prelude.{◌≡◌, min, take};
 ghost use Rattle.sheet_runs.specs.SheetRuns.{run_by_value};
 ghost use Rattle.sheet_runs.specs.Private.{said_by};

@@ -2,6 +2,8 @@
 // with the head anywhere, the name's check, the answer to a verdict, and handing a text out.
 // For the program and the tools, which see only these contracts. What the words mean stands in specs/; each public function
 // answers every input, and its contract gives the answer and the lent row by a definition there.
+#![tactic(auto)]
+
 mod page;
 mod plan;
 mod refusal;

@@ -1,6 +1,8 @@
 // tape_files: through the elements of an LTFS label and of an index, from element to element and from value to value.
 // For the makers of tape tables and of sheets by file names, which see only these contracts. What the words mean stands in specs/; each
 // public function answers every input: a place that does not lie in a text is taken for its end.
+#![tactic(auto)]
+
 mod elements;
 mod index;
 mod labels;

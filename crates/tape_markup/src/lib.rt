@@ -1,6 +1,8 @@
 // tape_markup: the tokens of a text one step at a time, and whether they balance.
 // For the reader of LTFS labels and indexes, which sees only these contracts. What the words mean stands in specs/; each public function
 // answers every input, and its contract is an equation with a definition there.
+#![tactic(auto)]
+
 mod balance;
 mod scan;
 mod tokens;

@@ -1,6 +1,8 @@
 // tape_names: which paths go on with the name of a file or a directory in an LTFS index, read byte by byte.
 // For the reader that looks for files by their paths, which sees only this contract. What the words mean stands in text_order and tape_files; the function
 // answers every input, and no order of the paths is asked for.
+#![tactic(auto)]
+
 ghost use Rattle.std.specs.Prelude.{◌≡◌};
 ghost use Rattle.text_references.specs.References.{utf8, decoded};
 ghost use Rattle.tape_markup.specs.Places.{PlaceIn};

@@ -1,5 +1,7 @@
 // tape_picks: what each line of a list of paths comes to in an LTFS index: no file, one, or several, and the range of the one.
 // For the maker of sheets by file names, which sees only this contract. What the words mean stands in specs/; the public function answers every input.
+#![tactic(auto)]
+
 ghost use Rattle.std.specs.Prelude.{◌≡◌, ◌≤◌};
 ghost use Rattle.tape_picks.specs.Picks.{lines_asked, FilesFound};
 

@@ -1,6 +1,8 @@
 // tape_spans: the range of a file on the tape, from its extents one by one, in bytes or in blocks.
 // For the reader of LTFS indexes that looks for files by name, which sees only these contracts. What the words mean stands in specs/; the public function
 // answers every input, and its contract is an equation with a definition there.
+#![tactic(auto)]
+
 ghost use Rattle.std.specs.Prelude.{◌≡◌, cond, ◌+◌, ◌-◌, ◌*◌, ◌/◌, ◌<◌, min, max, eqb};
 ghost use Rattle.tape_spans.specs.Spans.{near, place_start, place_end, span_with};
 ghost use Rattle.tape_spans.specs.Private.{blocks_from, blocks_to, blocks_of_parts};

@@ -1,6 +1,8 @@
 // text_bytes: a byte in a text, a text's beginning, numbers and tape names.
 // For the readers and writers of sheets and the reader of LTFS indexes, which see only these contracts. What the words mean stands in
 // specs/; each function answers every text.
+#![tactic(auto)]
+
 ghost use Rattle.std.specs.Prelude.{◌≡◌, not, ◌&&◌};
 ghost use Rattle.text_bytes.specs.Text.{is_empty, starts_with, is_text, between, leading_zero, is_name_byte, is_name};
 ghost use Rattle.text_bytes.specs.Found.{FoundIn, NumberFound};

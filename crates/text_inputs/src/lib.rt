@@ -1,5 +1,7 @@
 // text_inputs: what programs share that take several texts from one standard input, each behind a line with the number of its bytes.
 // What is read is the system's: contracts say where it is put and how much it can be. How an input that was read is cut, they say in full.
+#![tactic(auto)]
+
 ghost use Rattle.std.specs.Prelude.{◌≡◌, ◌+◌, ◌≤◌, min, length, take};
 ghost use Rattle.text_inputs.specs.Inputs.{framed, framed_behind, part_in, part_place, LineRead, ReadOf};
 

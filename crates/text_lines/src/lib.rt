@@ -2,6 +2,8 @@
 // For the readers of sheets, which see only these contracts. What the words mean stands in specs/. Each takes a text and the position at
 // which the line starts, and answers its value and where the next line starts; a position behind the text's end, or a line without its
 // LF, is answered as a bad line.
+#![tactic(auto)]
+
 ghost use Rattle.std.specs.Prelude.{◌≡◌, ◌+◌, ◌≤◌, ◌<◌, min, length, drop};
 ghost use Rattle.text_bytes.specs.Text.{line_feed};
 ghost use Rattle.text_bytes.specs.Found.{FoundIn};

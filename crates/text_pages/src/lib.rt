@@ -1,6 +1,8 @@
 // text_pages: a page, and texts put on it one behind the other: a text, a number, and lines of a key and a text or numbers.
 // For the writers of sheets, which see only these contracts. What the words mean stands in specs/. Each function answers where the next text
 // goes; a page without room for the longest text of its kind is left alone, and the answer is then the position itself.
+#![tactic(auto)]
+
 ghost use Rattle.std.specs.Prelude.{◌≡◌, ◌+◌, length, ltb};
 ghost use Rattle.text_bytes.specs.Text.{decimal};
 ghost use Rattle.text_pages.specs.Printing.{line, number_line, pair_text, pair_line, triple_line, Put};

@@ -1,6 +1,8 @@
 // text_paths: a list of paths, one on each line: judging it, how many lines it has, and where each path stands in it.
 // For the reader that looks for files by their paths, which sees only these contracts. What the words mean stands in specs/; each public function
 // answers every text.
+#![tactic(auto)]
+
 ghost use Rattle.std.specs.Prelude.{◌≡◌, not, ◌&&◌, ◌+◌, ◌-◌, ◌≤◌, ◌<◌, min, length, drop, take, eqb};
 ghost use Rattle.text_lines.specs.Found.{LinesFound};
 ghost use Rattle.text_paths.specs.Paths.{slash, is_path, slashes_of, is_asked, line_count, paths_verdict};

@@ -1,6 +1,8 @@
 // text_references: the references in a name, read byte by byte, and a character's bytes in UTF-8.
 // For the reader that compares names of an index with paths, which sees only these contracts. What the words mean stands in specs/; each public function
 // answers every input, and its contract is an equation with a definition there.
+#![tactic(auto)]
+
 ghost use Rattle.std.specs.Prelude.{◌≡◌, ◌<◌, ◌≤◌, min};
 ghost use Rattle.text_references.specs.declared.Reading.{Reading};
 ghost use Rattle.text_references.specs.References.{is_character, later_byte, utf8};

@@ -1,6 +1,8 @@
 // walk: the head and its walk, the legs of detour lists and their price.
 // For the planner, the writers and the C boundary, which see only these contracts. What the words mean stands in specs/;
 // each public function answers every input, and its contract is an equation with a definition there.
+#![tactic(auto)]
+
 ghost use Rattle.std.specs.Prelude.{◌≡◌, ◌+◌, ◌≤◌, ◌<◌, ◌^◌};
 ghost use Rattle.walk.specs.Walk.{head_at, run_left, run_right, turned, ready, set_off};
 
